@@ -1,0 +1,248 @@
+use crate::links::idle_link;
+use campaign_cli::{MemoryShelf, MemorySink, USAGE_LINE, campaign};
+use decimal_rank::Text;
+use std::alloc::Global;
+use std::test::Fail;
+
+const RUN: &[u8] = b"1 Q0 A 1 3 t\n1 Q0 B 2 2 t\n1 Q0 C 3 1 t\n";
+
+const QRELS: &[u8] = b"1 0 A 1\n1 0 B 0\n1 0 C 1\n1 0 D 1\n";
+
+const SCORES: &[u8] =
+    b"r.txt\tall\tnum_rel_ret\t2\nr.txt\tall\tmap\t0.5556\nr.txt\tall\tP_10\t0.2000\n";
+
+const RUN_REFUSED: &[u8] = b"input: r.txt\n";
+
+const QRELS_REFUSED: &[u8] = b"input: q.txt\n";
+
+fn text(alloc: Global, bytes: &[u8]) -> Result<Text, Fail> {
+    Ok(Text::new(Vec::from_slice(alloc, bytes)?))
+}
+
+fn words_of(alloc: Global, row: &[&str]) -> Result<Vec<String>, Fail> {
+    let mut words = Vec::new(alloc);
+    for word in row {
+        words.push(String::from_str(alloc, word)?)?;
+    }
+    Ok(words)
+}
+
+// A shelf of r.txt and q.txt, as far as they are given.
+fn shelf_of(
+    alloc: Global,
+    run: Option<&[u8]>,
+    qrels: Option<&[u8]>,
+    fails: Vec<u64>,
+) -> Result<MemoryShelf, Fail> {
+    let mut files = Vec::new(alloc);
+    if let Some(bytes) = run {
+        files.push((text(alloc, b"r.txt")?, text(alloc, bytes)?))?;
+    }
+    if let Some(bytes) = qrels {
+        files.push((text(alloc, b"q.txt")?, text(alloc, bytes)?))?;
+    }
+    Ok(MemoryShelf::new(files, fails))
+}
+
+// The status and what was printed, where the run is scored against the qrels.
+fn scored(
+    rt: &HostRuntime,
+    run: Option<&[u8]>,
+    qrels: Option<&[u8]>,
+) -> Result<(u8, MemorySink), Fail> {
+    let alloc = rt.alloc();
+    let words = words_of(alloc, &["eval", "r.txt", "q.txt"])?;
+    let mut shelf = shelf_of(alloc, run, qrels, Vec::new(alloc))?;
+    let mut out = MemorySink::new(Vec::new(alloc));
+    let status = campaign(
+        rt,
+        alloc,
+        &words,
+        &mut shelf,
+        &mut out,
+        &mut idle_link(alloc),
+    );
+    Ok((status.0, out))
+}
+
+#[test]
+fn a_run_is_scored_against_qrels(rt: HostRuntime) -> Result<(), Fail> {
+    let cases: [(&[u8], &[u8], &[u8]); 6] = [
+        (RUN, QRELS, SCORES),
+        // the last line without its line feed, and white space of each kind
+        (
+            b"\n1\tQ0\x0bA\x0c1 3 t\r\n 1 Q0 B 2 2 t\n\n1 Q0 C 3 1 t",
+            QRELS,
+            SCORES,
+        ),
+        // the rank column and the order of the lines aren't looked at
+        (b"1 Q0 C 1 1 t\n1 Q0 B 1 2 t\n1 Q0 A 9 3 t\n", QRELS, SCORES),
+        (
+            RUN,
+            b"1 0 A 1\n1 0 D 1\n",
+            b"r.txt\tall\tnum_rel_ret\t1\nr.txt\tall\tmap\t0.5000\nr.txt\tall\tP_10\t0.1000\n",
+        ),
+        (
+            RUN,
+            b"1 0 A 0\n",
+            b"r.txt\tall\tnum_rel_ret\t0\nr.txt\tall\tmap\t0.0000\nr.txt\tall\tP_10\t0.0000\n",
+        ),
+        // a topic that the run lacks counts as 0, and one that the qrels lack isn't looked at
+        (
+            b"3 Q0 A 1 1 t\n1 Q0 A 1 2 t\n1 Q0 B 1 2 t\n",
+            b"2 0 A 1\n1 0 A 1\n",
+            b"r.txt\tall\tnum_rel_ret\t1\nr.txt\tall\tmap\t0.2500\nr.txt\tall\tP_10\t0.0500\n",
+        ),
+    ];
+    for (run, qrels, scores) in cases {
+        let (status, out) = scored(&rt, Some(run), Some(qrels))?;
+        assert_eq!(rt; status, 0);
+        assert_eq!(rt; out.written(), scores);
+    }
+    Ok(())
+}
+
+#[test]
+fn a_faulty_file_is_refused(rt: HostRuntime) -> Result<(), Fail> {
+    let runs: [&[u8]; 8] = [
+        b"1 Q0 A 1 3 t\n1 Q0 B 2 2.0 t\n1 Q0 C 3 1 t\n",
+        b"",
+        b"\n \n\t\r\n",
+        b"1 Q0 A 1 3\n",
+        b"a/b Q0 A 1 3 t\n",
+        b"1 Q0 \xc3\xa9 1 3 t\n",
+        b"1 Q0 A 1 1000000000000000000 t\n",
+        b"1 Q0 A 1 3 t\n1 Q0 B 2 2 t\n2 Q0 A 3 1 t\n1 Q0 A 4 0 t\n",
+    ];
+    for run in runs {
+        let (status, out) = scored(&rt, Some(run), Some(b"1 0 A -1\n"))?;
+        assert_eq!(rt; status, 3);
+        assert_eq!(rt; out.written(), RUN_REFUSED);
+    }
+    let qrels: [&[u8]; 6] = [
+        b"1 0 A -1\n",
+        b"1 0 A 256\n",
+        b"1 0 A\n",
+        b"1 0 A 1 1\n",
+        b"",
+        b"1 0 A 1\n2 0 A 1\n1 0 A 0\n",
+    ];
+    for judged in qrels {
+        let (status, out) = scored(&rt, Some(RUN), Some(judged))?;
+        assert_eq!(rt; status, 3);
+        assert_eq!(rt; out.written(), QRELS_REFUSED);
+    }
+    Ok(())
+}
+
+#[test]
+fn a_topic_has_at_most_a_thousand_lines(rt: HostRuntime) -> Result<(), Fail> {
+    let alloc = rt.alloc();
+    let mut run = String::new(alloc);
+    for i in 0u32..1000 {
+        run.push_str(&format!(in alloc; "1 Q0 D{i} 1 {i} t\n")?)?;
+    }
+    let (status, _) = scored(&rt, Some(run.as_bytes()), Some(QRELS))?;
+    assert_eq!(rt; status, 0);
+    run.push_str("1 Q0 E 1 1 t\n")?;
+    let (status, out) = scored(&rt, Some(run.as_bytes()), Some(QRELS))?;
+    assert_eq!(rt; status, 3);
+    assert_eq!(rt; out.written(), RUN_REFUSED);
+    Ok(())
+}
+
+#[test]
+fn a_missing_file_is_told_before_a_faulty_one(rt: HostRuntime) -> Result<(), Fail> {
+    let cases: [(Option<&[u8]>, Option<&[u8]>); 4] = [
+        (None, Some(QRELS)),
+        (Some(RUN), None),
+        (Some(b"1"), None),
+        (None, None),
+    ];
+    for (run, qrels) in cases {
+        let (status, out) = scored(&rt, run, qrels)?;
+        assert_eq!(rt; status, 4);
+        assert_eq!(rt; out.written().len(), 0);
+    }
+    Ok(())
+}
+
+#[test]
+fn other_words_get_the_usage_line(rt: HostRuntime) -> Result<(), Fail> {
+    let alloc = rt.alloc();
+    let rows: [&[&str]; 4] = [
+        &[],
+        &["eval", "r.txt"],
+        &["eval", "r.txt", "q.txt", "q.txt"],
+        &["score", "r.txt", "q.txt"],
+    ];
+    for row in rows {
+        let words = words_of(alloc, row)?;
+        let mut shelf = shelf_of(alloc, Some(RUN), Some(QRELS), Vec::new(alloc))?;
+        let mut out = MemorySink::new(Vec::new(alloc));
+        let status = campaign(
+            &rt,
+            alloc,
+            &words,
+            &mut shelf,
+            &mut out,
+            &mut idle_link(alloc),
+        );
+        assert_eq!(rt; status.0, 2);
+        assert_eq!(rt; out.written(), USAGE_LINE);
+    }
+    Ok(())
+}
+
+#[test]
+fn each_failing_read_is_a_file_that_was_not_read(rt: HostRuntime) -> Result<(), Fail> {
+    let alloc = rt.alloc();
+    let words = words_of(alloc, &["eval", "r.txt", "q.txt"])?;
+    for place in 1..4 {
+        let fails = vec![in alloc; place]?;
+        let mut shelf = shelf_of(alloc, Some(RUN), Some(QRELS), fails)?;
+        let mut out = MemorySink::new(Vec::new(alloc));
+        let status = campaign(
+            &rt,
+            alloc,
+            &words,
+            &mut shelf,
+            &mut out,
+            &mut idle_link(alloc),
+        );
+        // the program reads twice
+        if place < 3 {
+            assert_eq!(rt; status.0, 4);
+            assert_eq!(rt; out.written().len(), 0);
+        } else {
+            assert_eq!(rt; status.0, 0);
+        }
+    }
+    Ok(())
+}
+
+#[test]
+fn a_failing_write_is_told(rt: HostRuntime) -> Result<(), Fail> {
+    let alloc = rt.alloc();
+    let rows: [(&[&str], &[u8]); 3] = [
+        (&["eval", "r.txt", "q.txt"], RUN),
+        (&["eval", "r.txt", "q.txt"], b"1"),
+        (&["eval"], RUN),
+    ];
+    for (row, run) in rows {
+        let words = words_of(alloc, row)?;
+        let mut shelf = shelf_of(alloc, Some(run), Some(QRELS), Vec::new(alloc))?;
+        let mut out = MemorySink::new(vec![in alloc; 1]?);
+        let status = campaign(
+            &rt,
+            alloc,
+            &words,
+            &mut shelf,
+            &mut out,
+            &mut idle_link(alloc),
+        );
+        assert_eq!(rt; status.0, 8);
+        assert_eq!(rt; out.written().len(), 0);
+    }
+    Ok(())
+}

@@ -1,0 +1,9 @@
+//! Tests that cross crates: the program's top call over files, output and links in memory.
+#![tactic(auto)]
+
+#[cfg(test)]
+mod evaluation;
+#[cfg(test)]
+mod links;
+#[cfg(test)]
+mod session;

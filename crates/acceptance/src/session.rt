@@ -1,0 +1,120 @@
+use crate::links::link_of;
+use campaign_cli::{MemoryShelf, MemorySink, campaign};
+use campaign_server::MemoryLink;
+use std::alloc::Global;
+use std::test::Fail;
+
+const SUBMIT: &[u8] =
+    b"POST /runs/X HTTP/1.1\r\nX-Campaign-Key: GROUPGROUPGROUP1\r\nContent-Length: 39\r\n\r\n1 Q0 a 1 3 X\n1 Q0 b 2 2 X\n1 Q0 e 3 1 X\n";
+
+const SUBMITTED: &[u8] =
+    b"HTTP/1.1 201 Created\r\nContent-Type: application/json\r\nContent-Length: 33\r\n\r\n{\"lines\":3,\"run\":\"X\",\"topics\":1}\n";
+
+const TAKEN: &[u8] =
+    b"HTTP/1.1 409 Conflict\r\nContent-Type: application/json\r\nContent-Length: 24\r\n\r\n{\"refusal\":\"tag-taken\"}\n";
+
+const POOL: &[u8] =
+    b"GET /topics/1/pool HTTP/1.1\r\nX-Campaign-Key: ORGANISERORGAN01\r\nContent-Length: 0\r\n\r\n";
+
+const POOL_SHOWN: &[u8] =
+    b"HTTP/1.1 200 OK\r\nContent-Type: application/json\r\nContent-Length: 35\r\n\r\n{\"docs\":[\"a\",\"b\",\"e\"],\"topic\":\"1\"}\n";
+
+const OTHER_POOL: &[u8] =
+    b"GET /topics/9/pool HTTP/1.1\r\nX-Campaign-Key: ORGANISERORGAN01\r\nContent-Length: 0\r\n\r\n";
+
+const UNKNOWN: &[u8] =
+    b"HTTP/1.1 404 Not Found\r\nContent-Type: application/json\r\nContent-Length: 28\r\n\r\n{\"refusal\":\"unknown-topic\"}\n";
+
+const OTHER_TOPIC: &[u8] =
+    b"POST /runs/X HTTP/1.1\r\nX-Campaign-Key: GROUPGROUPGROUP1\r\nContent-Length: 26\r\n\r\n1 Q0 a 1 3 X\n9 Q0 b 2 2 X\n";
+
+const LINE_TOPIC: &[u8] =
+    b"HTTP/1.1 400 Bad Request\r\nContent-Type: application/json\r\nContent-Length: 34\r\n\r\n{\"line\":2,\"refusal\":\"line-topic\"}\n";
+
+const NO_HEAD: &[u8] = b"GET /topics/1/pool\r\n\r\n";
+
+const NO_HEAD_TOLD: &[u8] =
+    b"HTTP/1.1 400 Bad Request\r\nContent-Type: application/json\r\nContent-Length: 17\r\nConnection: close\r\n\r\n{\"fault\":\"head\"}\n";
+
+fn places(alloc: Global, place: u64) -> Result<Vec<u64>, Fail> {
+    let mut places = Vec::new(alloc);
+    if place > 0 {
+        places.push(place)?;
+    }
+    Ok(places)
+}
+
+// The status of a session over two pieces, the output and the link. One read and one write fail, those at the
+// given places; none where the place is 0.
+fn held(
+    rt: &HostRuntime,
+    first: &[u8],
+    second: &[u8],
+    read: u64,
+    write: u64,
+) -> Result<(u8, MemorySink, MemoryLink), Fail> {
+    let alloc = rt.alloc();
+    let mut words = Vec::new(alloc);
+    words.push(String::from_str(alloc, "session")?)?;
+    let mut shelf = MemoryShelf::new(Vec::new(alloc), Vec::new(alloc));
+    let mut out = MemorySink::new(Vec::new(alloc));
+    let mut link = link_of(
+        alloc,
+        first,
+        second,
+        places(alloc, read)?,
+        places(alloc, write)?,
+    )?;
+    let status = campaign(rt, alloc, &words, &mut shelf, &mut out, &mut link);
+    Ok((status.0, out, link))
+}
+
+fn both(alloc: Global, first: &[u8], second: &[u8]) -> Result<Vec<u8>, Fail> {
+    let mut text = Vec::from_slice(alloc, first)?;
+    text.extend_from_slice(second)?;
+    Ok(text)
+}
+
+#[test]
+fn messages_are_answered_in_order(rt: HostRuntime) -> Result<(), Fail> {
+    let cases: [(&[u8], &[u8], u8, &[u8], &[u8]); 8] = [
+        (b"", b"", 0, b"", b""),
+        (SUBMIT, b"", 0, SUBMITTED, b""),
+        (SUBMIT, POOL, 0, SUBMITTED, POOL_SHOWN),
+        (SUBMIT, SUBMIT, 0, SUBMITTED, TAKEN),
+        (OTHER_POOL, b"", 0, UNKNOWN, b""),
+        (OTHER_TOPIC, b"", 0, LINE_TOPIC, b""),
+        // the end comes inside the body
+        (&SUBMIT[..SUBMIT.len() - 1], b"", 11, b"", b""),
+        (SUBMIT, NO_HEAD, 11, SUBMITTED, NO_HEAD_TOLD),
+    ];
+    for (first, second, status, one, other) in cases {
+        let (ended, out, link) = held(&rt, first, second, 0, 0)?;
+        assert_eq!(rt; ended, status);
+        assert!(rt; out.written().is_empty());
+        assert_eq!(rt; link.written(), both(rt.alloc(), one, other)?.as_slice());
+    }
+    Ok(())
+}
+
+#[test]
+fn a_failing_read_ends_the_session(rt: HostRuntime) -> Result<(), Fail> {
+    // the third read finds the end
+    for place in 1u64..4 {
+        let (ended, _, link) = held(&rt, SUBMIT, POOL, place, 0)?;
+        assert_eq!(rt; ended, 10);
+        assert!(rt; link.written().is_empty());
+    }
+    Ok(())
+}
+
+#[test]
+fn a_failing_write_ends_the_session(rt: HostRuntime) -> Result<(), Fail> {
+    let (ended, _, link) = held(&rt, SUBMIT, POOL, 0, 1)?;
+    assert_eq!(rt; ended, 8);
+    assert!(rt; link.written().is_empty());
+    let (ended, _, link) = held(&rt, SUBMIT, POOL, 0, 2)?;
+    assert_eq!(rt; ended, 8);
+    assert_eq!(rt; link.written(), SUBMITTED);
+    Ok(())
+}

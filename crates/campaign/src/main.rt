@@ -1,0 +1,34 @@
+//! The program: the files of the system, standard input and output and the machine's clock, and the
+//! top call over them.
+#![tactic(auto)]
+
+use campaign_cli::{FileShelf, OutputSink, Status, campaign};
+use campaign_server::StreamLink;
+use std::alloc::{AllocError, Global};
+use std::env;
+use std::process::ExitCode;
+
+// The words after the program's name; none where the system doesn't tell them.
+fn words(rt: &HostRuntime, alloc: Global) -> Result<Vec<String>, AllocError> {
+    let mut words = Vec::new(alloc);
+    if let Ok(all) = env::args(rt) {
+        for word in all.skip(1) {
+            words.push(word)?;
+        }
+    }
+    Ok(words)
+}
+
+fn main(rt: HostRuntime) -> ExitCode {
+    let alloc = rt.alloc();
+    let status = match words(&rt, alloc) {
+        Ok(words) => {
+            let mut shelf = FileShelf::new(&rt);
+            let mut out = OutputSink::new(&rt);
+            let mut own = StreamLink::new(&rt);
+            campaign(&rt, alloc, &words, &mut shelf, &mut out, &mut own)
+        }
+        Err(_) => Status(7),
+    };
+    ExitCode::from(status.0)
+}

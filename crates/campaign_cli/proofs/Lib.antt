@@ -1,0 +1,9 @@
+pub mod Exclusive
+pub mod Grades
+pub mod Judged
+pub mod Listed
+pub mod MemoryForms
+pub mod Printed
+pub mod Ranked
+pub mod Tallies
+pub mod Topics

@@ -1,0 +1,75 @@
+-- What a run scores against qrels, from the bytes of the two files.
+use Rattle.std.specs.Prelude.{◌≡◌, ◌⊎◌, ℕ, ◌&&◌, List, [], ◌++◌, Option, map, find, option_map, count_by, bytes_eq, nat_le, nat_lt, codes}
+use Rattle.std.specs.List.{fold}
+use Rattle.std.specs.Option.{option_map_or}
+use Rattle.decimal_rank.specs.Names.{with_name}
+use Rattle.measures.specs.declared.cells.Cell.{Cell}
+use Rattle.measures.specs.Cells.{cell_of}
+use Rattle.measures.specs.Means.{summary_of}
+use Rattle.measures.specs.ScoreLines.{summary_text}
+use Rattle.trec_formats.specs.declared.lists.TopicList.{TopicList}
+use Rattle.trec_formats.specs.declared.qrels.QrelLine.{QrelLine}
+use Rattle.trec_formats.specs.declared.runs.RunLine.{RunLine}
+use Rattle.trec_formats.specs.Faults.{FormatFault, IsTwice}
+use Rattle.trec_formats.specs.Lists.{AreLists, same_document}
+use Rattle.trec_formats.specs.Qrels.{IsQrels, IsQrelsFault}
+use Rattle.trec_formats.specs.Runs.{IsRun, IsRunFault}
+
+-- the grade from which on a document is relevant
+abbrev pub level : ℕ
+level = 1
+
+-- the grade of a document on a topic; none where the qrels don't judge it
+abbrev pub grade_on : List QrelLine → List ℕ → List ℕ → Option ℕ
+grade_on qrels topic doc =
+    option_map (λ line. line.grade) (find (λ line. bytes_eq line.topic topic && bytes_eq line.doc doc) qrels)
+
+-- how many documents of a topic are relevant
+abbrev pub relevant_on : List QrelLine → List ℕ → ℕ
+relevant_on qrels topic = count_by (λ line. bytes_eq line.topic topic && nat_le level line.grade) qrels
+
+-- how many documents of a topic are judged and not relevant
+abbrev pub non_relevant_on : List QrelLine → List ℕ → ℕ
+non_relevant_on qrels topic = count_by (λ line. bytes_eq line.topic topic && nat_lt line.grade level) qrels
+
+-- the run's documents on a topic, by rank; none where the run lacks the topic
+abbrev pub docs_on : List TopicList → List ℕ → List (List ℕ)
+docs_on lists topic = option_map_or (λ list. list.docs) (find (λ list. bytes_eq list.topic topic) lists) []
+
+-- the cell of the run on a topic
+abbrev pub cell_on : List TopicList → List QrelLine → List ℕ → Cell
+cell_on lists qrels topic =
+    cell_of (map (grade_on qrels topic) (docs_on lists topic)) (relevant_on qrels topic) (non_relevant_on qrels topic) level
+
+-- the topics of the qrels, each at its first line
+abbrev pub topics_of : List QrelLine → List (List ℕ)
+topics_of qrels = fold with_name [] (map (λ line. line.topic) qrels)
+
+-- the bytes of a run's file stand for these ranked lists
+abbrev pub HasLists : List ℕ → List TopicList → Type 0
+HasLists bytes lists = (lines : List RunLine) × IsRun bytes lines × AreLists lines lists
+
+-- The fault of a run's file. A document that stands twice on a topic is one where there is no other.
+abbrev pub HasRunFault : List ℕ → FormatFault → Type 0
+HasRunFault bytes fault =
+    IsRunFault bytes fault ⊎ ((lines : List RunLine) × IsRun bytes lines × IsTwice same_document (λ line. line.line) lines fault)
+
+-- the summary of the run over the topics of the qrels
+abbrev pub scores_text : List ℕ → List TopicList → List QrelLine → List ℕ
+scores_text name lists lines = summary_text name (summary_of (map (cell_on lists lines) (topics_of lines)))
+
+-- The text is the summary of the run over the topics of the qrels. Its first field is the run's name.
+abbrev pub IsReport : List ℕ → List ℕ → List ℕ → List ℕ → Type 0
+IsReport name run qrels text =
+    (lists : List TopicList) × (lines : List QrelLine) × HasLists run lists × IsQrels qrels lines
+    × (text ≡ scores_text name lists lines)
+
+abbrev pub input_line : List ℕ → List ℕ
+input_line name = codes "input: " ++ name ++ codes "\n"
+
+-- The text names the file that has a fault: the run's, or else that of the qrels.
+abbrev pub IsInputFault : List ℕ → List ℕ → List ℕ → List ℕ → List ℕ → Type 0
+IsInputFault run_name qrels_name run qrels text =
+    ((fault : FormatFault) × HasRunFault run fault × (text ≡ input_line run_name))
+    ⊎ ((lists : List TopicList) × (fault : FormatFault) × HasLists run lists × IsQrelsFault qrels fault
+    × (text ≡ input_line qrels_name))

@@ -1,0 +1,10 @@
+pub mod Endings
+pub mod Evaluations
+pub mod Findings
+pub mod Plans
+pub mod Requests
+pub mod Sessions
+pub mod Settings
+pub mod Shelves
+pub mod Sinks
+pub mod Tables

@@ -1,0 +1,77 @@
+ghost use Rattle.std.specs.Prelude.{◌≡◌, ◌≤◌, ℕ, List, length, map, All, IfOk};
+ghost use Rattle.measures.specs.Cells.{IsSound};
+ghost use Rattle.campaign_cli.specs.Evaluations.{grade_on, docs_on as listed_on, cell_on, topics_of as qrels_topics};
+ghost use Rattle.campaign_cli.specs.Tables.{grade_at, tally_on, AreRankedLists};
+
+use crate::judgements::{LEVEL, grades_of, tallies_of, tally_of, topics_of};
+use decimal_rank::{DocId, Memory, Names, Text};
+use measures::{Cell, scratch};
+use std::alloc::Global;
+use std::collections::HashMap;
+use trec_formats::{QrelLine, TopicList};
+
+/// The cells of a run on the topics of the qrels.
+pub(crate) fn cells_of(
+    alloc: Global,
+    lists: &[TopicList],
+    qrels: &[QrelLine],
+) -> Result<Vec<Cell>, Memory>
+    requires lists { AreRankedLists lists.now }
+    requires few { length qrels.now ≤ 268435456 }
+    ensures cells { IfOk result (λ cells. cells.items ≡ map (cell_on lists.now qrels.now) (qrels_topics qrels.now)) }
+    ensures sound { IfOk result (λ cells. All IsSound cells.items) }
+{
+    let topics = topics_of(alloc, qrels)?;
+    cells_on(alloc, lists, qrels, &topics)
+}
+
+/// The cells of a run on some topics.
+fn cells_on<'a>(
+    alloc: Global,
+    lists: &'a [TopicList],
+    qrels: &'a [QrelLine],
+    topics: &'a Names,
+) -> Result<Vec<Cell>, Memory>
+    requires lists { AreRankedLists lists.now }
+    requires few { length qrels.now ≤ 268435456 }
+    ensures cells { IfOk result (λ cells. cells.items ≡ map (cell_on lists.now qrels.now) topics.now) }
+    ensures sound { IfOk result (λ cells. All IsSound cells.items) }
+{
+    let tallies = tallies_of(alloc, qrels)?;
+    let grades = grades_of(alloc, qrels)?;
+    let mut cells = Vec::with_capacity(alloc, topics.len() as usize)?;
+    for number in 0..topics.len() {
+        let topic = topics.name(DocId(number));
+        let graded = graded(alloc, &grades, topic, docs_on(lists, topic))?;
+        let tally = tally_of(&tallies, topic);
+        cells.push(scratch(&graded, tally.relevant, tally.others, LEVEL))?;
+    }
+    Ok(cells)
+}
+
+/// The documents that a run lists on a topic, by rank; none where the run lacks the topic.
+fn docs_on<'a>(lists: &'a [TopicList], topic: &[u8]) -> &'a [Text]
+    requires { AreRankedLists lists.now }
+    ensures { result.now ≡ listed_on lists.now topic.now }
+{
+    match lists.binary_search_by(|list| list.topic.bytes().cmp(topic)) {
+        Ok(place) => lists[place].docs.items(),
+        Err(_) => &[],
+    }
+}
+
+/// The grades of documents of a topic.
+fn graded<'a>(
+    alloc: Global,
+    grades: &HashMap<(&'a [u8], &'a [u8]), u8>,
+    topic: &'a [u8],
+    docs: &'a [Text],
+) -> Result<Vec<Option<u8>>, Memory>
+    ensures { IfOk result (λ graded. graded.items ≡ map (grade_at grades.now topic.now) docs.now) }
+{
+    let mut graded = Vec::with_capacity(alloc, docs.len())?;
+    for doc in docs {
+        graded.push(grades.get(&(topic, doc.bytes())).copied())?;
+    }
+    Ok(graded)
+}

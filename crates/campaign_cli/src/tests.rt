@@ -1,0 +1,134 @@
+ghost use Rattle.std.specs.Prelude.{◌≡◌, IfOk};
+ghost use Rattle.campaign_cli.specs.Sinks.{told_by};
+
+use crate::{
+    Command, Failed, FileShelf, MemoryShelf, MemorySink, OutputSink, Shelf, ShelfFault, Sink,
+    read_words, write_all,
+};
+use decimal_rank::Text;
+use std::alloc::{AllocError, Global};
+use std::test::Fail;
+use std::{env, fs, process};
+
+fn text(alloc: Global, bytes: &[u8]) -> Result<Text, AllocError> {
+    Ok(Text::new(bytes.to_vec(alloc)?))
+}
+
+/// A sink that takes one byte of each piece.
+#[derive(Drop)]
+struct ByteSink(MemorySink);
+
+impl Sink for ByteSink {
+    ghost seen = { λ sink. told_by sink.0 };
+
+    fn write(&mut self, piece: &[u8]) -> Result<usize, Failed> {
+        self.0.write(&piece[..piece.len().min(1)])
+    }
+}
+
+#[test]
+fn words_of_a_call(rt: HostRuntime) -> Result<(), Fail> {
+    let rows: [(&[&str], Option<(&[u8], &[u8])>); 7] = [
+        (&["eval", "r.txt", "q.txt"], Some((b"r.txt", b"q.txt"))),
+        (&["eval", "-r", ""], Some((b"-r", b""))),
+        (&["eval", "r.txt"], None),
+        (&["eval", "r.txt", "q.txt", "x"], None),
+        (&["Eval", "r.txt", "q.txt"], None),
+        (&["session"], None),
+        (&[], None),
+    ];
+    for (row, expected) in rows {
+        let mut words = Vec::new(rt.alloc());
+        for word in row {
+            words.push(String::from_str(rt.alloc(), word)?)?;
+        }
+        let found = match read_words(&words) {
+            Command::Eval { run, qrels } => Some((run, qrels)),
+            Command::Usage => None,
+        };
+        assert_eq!(rt; found, expected);
+    }
+    Ok(())
+}
+
+#[test]
+fn a_shelf_in_memory(rt: HostRuntime) -> Result<(), Fail> {
+    let alloc = rt.alloc();
+    let a = (text(alloc, b"a")?, text(alloc, b"one")?);
+    let b = (text(alloc, b"b")?, text(alloc, b"")?);
+    let mut shelf = MemoryShelf::new(vec![in alloc; a, b]?, vec![in alloc; 2, 5]?);
+    let rows: [(&[u8], Result<&[u8], ShelfFault>); 6] = [
+        (b"a", Ok(b"one")),
+        (b"a", Err(ShelfFault::Failed)),
+        (b"b", Ok(b"")),
+        (b"c", Err(ShelfFault::Absent)),
+        (b"c", Err(ShelfFault::Failed)),
+        (b"a", Ok(b"one")),
+    ];
+    for (name, expected) in rows {
+        let result = shelf.read_file(alloc, name);
+        let found = match &result {
+            Ok(bytes) => Ok(bytes.as_slice()),
+            Err(fault) => Err(*fault),
+        };
+        assert_eq!(rt; found, expected);
+    }
+    assert_eq!(rt; shelf.wants(), 0);
+    Ok(())
+}
+
+#[test]
+fn a_sink_in_memory(rt: HostRuntime) -> Result<(), Fail> {
+    let mut sink = MemorySink::new(vec![in rt.alloc(); 2]?);
+    assert_eq!(rt; sink.write(b"one"), Ok(3));
+    assert_eq!(rt; sink.write(b"two"), Err(Failed));
+    assert_eq!(rt; sink.write(b" three"), Ok(6));
+    assert_eq!(rt; sink.written(), b"one three".as_slice());
+    assert_eq!(rt; sink.wants(), 0);
+    Ok(())
+}
+
+#[test]
+fn a_text_in_many_writes(rt: HostRuntime) -> Result<(), Fail> {
+    let mut sink = ByteSink(MemorySink::new(vec![in rt.alloc(); 8]?));
+    assert_eq!(rt; write_all(&mut sink, b"pool"), Ok(()));
+    assert_eq!(rt; write_all(&mut sink, b""), Ok(()));
+    assert_eq!(rt; write_all(&mut sink, b"rank list"), Err(Failed));
+    assert_eq!(rt; sink.0.written(), b"poolran".as_slice());
+    assert_eq!(rt; write_all(&mut sink, b"!"), Ok(()));
+    assert_eq!(rt; sink.0.written(), b"poolran!".as_slice());
+    Ok(())
+}
+
+#[test]
+fn files_of_the_system(rt: HostRuntime) -> Result<(), Fail> {
+    let folder = env::temp_dir(&rt)?;
+    let path = format!(in rt.alloc();
+        "{}/campaign_cli_{}",
+        folder.display(),
+        process::id(rt.process())
+    )?;
+    let mut shelf = FileShelf::new(rt.clone()?);
+    assert_eq!(rt;
+        shelf.read_file(rt.alloc(), path.as_bytes()).err(),
+        Some(ShelfFault::Absent)
+    );
+    fs::write(&rt, path.as_str(), b"1 0 A 1\n")?;
+    let found = shelf.read_file(rt.alloc(), path.as_bytes());
+    fs::remove_file(&rt, path.as_str())?;
+    let bytes = found.ok().ok_or("not read")?;
+    assert_eq!(rt; bytes.as_slice(), b"1 0 A 1\n".as_slice());
+    assert_eq!(rt;
+        shelf.read_file(rt.alloc(), b"/").err(),
+        Some(ShelfFault::Failed)
+    );
+    Ok(())
+}
+
+#[test]
+fn standard_output(rt: HostRuntime) -> Result<(), Fail> {
+    let mut sink = OutputSink::new(rt.clone()?);
+    assert_eq!(rt; write_all(&mut sink, b"scores\n"), Ok(()));
+    assert_eq!(rt; sink.write(b""), Ok(0));
+    Ok(())
+}

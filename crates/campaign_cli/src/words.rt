@@ -1,0 +1,31 @@
+ghost use Rattle.std.specs.Prelude.{◌≡◌};
+ghost use Rattle.campaign_cli.specs.Requests.{asked, meant};
+
+/// What is printed where the words are no command.
+pub const USAGE_LINE: &[u8] =
+    b"usage: campaign eval RUN QRELS | session | serve --port P --workers W --connections N | drill SEED RUNS TOPICS DOCS | check\n";
+
+/// A command of the program. `Eval` scores the run in one file against the qrels in another, by the
+/// files' names. `Session` answers the messages of one connection.
+#[derive(Clone, Copy, Debug, PartialEq, Eq)]
+pub enum Command<'a> {
+    Eval { run: &'a [u8], qrels: &'a [u8] },
+    Session,
+    Usage,
+}
+
+/// The command that the words after the program's name are.
+pub fn read_words(words: &[String]) -> Command<'_>
+    ensures { asked words.now ≡ meant result }
+{
+    match words {
+        [word, run, qrels] if word.as_str() == "eval" => {
+            Command::Eval {
+                run: run.as_bytes(),
+                qrels: qrels.as_bytes(),
+            }
+        }
+        [word] if word.as_str() == "session" => Command::Session,
+        _ => Command::Usage,
+    }
+}

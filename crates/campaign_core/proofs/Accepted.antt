@@ -1,0 +1,54 @@
+-- What a Submit comes to that no refusal meets.
+use Rattle.std.proofs.Common.{◌≡◌, ◌+◌, ◌<◌, ◌≤◌, subst, false, List, [], ◌∷◌, ◌++◌, suc, arith, length-append, None, Ok, length, refl}
+use Rattle.std.proofs.lemmas.Bool.{le-ltb, lt-leb}
+use Rattle.std.specs.List.{fold, flat_map}
+use Rattle.std.specs.Int.{to_le_bytes, w32}
+use Rattle.rulebook.specs.declared.ask.Command.TheVariants.{Submit}
+use Rattle.rulebook.specs.Spelling.{short, listed, list_bytes, command_bytes}
+use Rattle.std.proofs.lemmas.List.Sums.{fold-append, sum_by-cons}
+use Rattle.trec_formats.specs.declared.TopicList.{TopicList}
+use Rattle.rulebook.specs.declared.limits.TheConstants.{MAX_RUNS, MAX_LINES, MAX_DOCNOS, MAX_ENTRY_BYTES}
+use Rattle.rulebook.specs.declared.ask.Command.{Command}
+use Rattle.rulebook.specs.declared.reply.Reply.TheVariants as reply
+use Rattle.rulebook.specs.Words.{Text, each_once}
+use Rattle.decimal_rank.specs.Names.{with_name}
+use Rattle.rulebook.specs.Campaign.{History, runs, is_taken, line_count, docnos, submitted_lines, submitted_docnos}
+use Rattle.rulebook.specs.Answers.{unknown_line, submit_ruling}
+
+-- the docnos of the history, and then those of a run
+pub each_once-submitted : (H : History) (lists : List TopicList)
+    → each_once (submitted_docnos H ++ docnos lists) ≡ fold with_name (each_once (submitted_docnos H)) (docnos lists)
+each_once-submitted H lists = fold-append with_name [] (submitted_docnos H) (docnos lists)
+
+pub submit-accepted : (H : History) (run : Text) (lists : List TopicList)
+    → is_taken H run ≡ false
+    → unknown_line H lists ≡ None
+    → length (runs H) < MAX_RUNS
+    → submitted_lines H + line_count lists ≤ MAX_LINES
+    → length (each_once (submitted_docnos H ++ docnos lists)) ≤ MAX_DOCNOS
+    → submit_ruling H run lists ≡ Ok (reply.Submitted run (length lists) (line_count lists))
+submit-accepted H run lists new known runs_fit lines_fit docnos_fit =
+    rw (new, known, lt-leb MAX_RUNS (length (runs H)) runs_fit, le-ltb MAX_LINES (submitted_lines H + line_count lists) lines_fit, le-ltb MAX_DOCNOS (length (each_once (submitted_docnos H ++ docnos lists))) docnos_fit) refl
+
+-- A run's lists and lines are no more than the bytes of their spelling.
+docs-bytes : (docs : List Text) → length docs ≤ length (flat_map short docs)
+docs-bytes [] = omega arith
+docs-bytes (doc ∷ docs) = omega (arith, docs-bytes docs, length-append (short doc) (flat_map short docs))
+
+list-bytes : (l : TopicList) → suc (length l.docs) ≤ length (list_bytes l)
+list-bytes l =
+    omega (arith, docs-bytes l.docs, length-append (short l.topic ++ to_le_bytes w32 l.line) (listed short l.docs), length-append (short l.topic) (to_le_bytes w32 l.line), length-append (to_le_bytes w32 (length l.docs)) (flat_map short l.docs))
+
+lists-bytes : (lists : List TopicList) → length lists + line_count lists ≤ length (flat_map list_bytes lists)
+lists-bytes [] = omega arith
+lists-bytes (l ∷ lists) = omega (arith, list-bytes l, lists-bytes lists, sum_by-cons (λ l. length l.docs) l lists, length-append (list_bytes l) (flat_map list_bytes lists))
+
+pub submit-bytes : (run : Text) (lists : List TopicList) → length lists + line_count lists ≤ length (command_bytes (Submit run lists))
+submit-bytes run lists =
+    omega (arith, lists-bytes lists, length-append (3 ∷ short run) (listed list_bytes lists), length-append (to_le_bytes w32 (length lists)) (flat_map list_bytes lists))
+
+pub submit-fits : (command : Command) (run : Text) (lists items : List TopicList)
+    → command ≡ Submit run lists → length (command_bytes command) ≤ MAX_ENTRY_BYTES → items ≡ lists → length items + line_count items ≤ MAX_ENTRY_BYTES
+submit-fits command run lists items is short_enough same =
+    let bound : length (command_bytes (Submit run lists)) ≤ MAX_ENTRY_BYTES = subst (λ c. length (command_bytes c) ≤ MAX_ENTRY_BYTES) is short_enough in
+    rw same (omega (arith, submit-bytes run lists))

@@ -1,0 +1,50 @@
+-- What keeps a history legal.
+use Rattle.std.proofs.Common.{◌≡◌, ℕ, ◌-◌, ◌<◌, true, false, [], ◌∷◌, ◌++◌, Some, Ok, length, refl, ap, sym, subst, arith, append_assoc, max, length-append}
+use Rattle.std.proofs.lemmas.List.{append-nil}
+use Rattle.std.proofs.lemmas.Bool.Decides.{nat_tests}
+use Rattle.std.specs.Prelude.{slice_get, ◌==◌}
+use Rattle.std.specs.Option.{option_map_or}
+use Rattle.rulebook.specs.declared.limits.TheConstants.{MAX_ENTRIES}
+use Rattle.rulebook.specs.declared.ask.Ask.TheVariants.{Act}
+use Rattle.rulebook.specs.declared.entry.Entry.{Entry}
+use Rattle.rulebook.specs.declared.entry.EntryCore.{EntryCore}
+use Rattle.rulebook.specs.Campaign.{History}
+use Rattle.rulebook.specs.Answers.{ruled, moment_after}
+use Rattle.rulebook.specs.Legal.{is_well_addressed, IsAccepted, AreAccepted, IsLegal}
+
+AreAccepted-push : (before later : History) (e : Entry) → AreAccepted before later → IsAccepted (before ++ later) e → AreAccepted before (later ++ e ∷ [])
+AreAccepted-push before [] e earlier accepted = (subst (λ H. IsAccepted H e) (append-nil before) accepted, tt)
+AreAccepted-push before (x ∷ later) e earlier accepted =
+    (earlier.0, AreAccepted-push (before ++ x ∷ []) later e earlier.1 (subst (λ H. IsAccepted H e) (sym (append_assoc before (x ∷ []) later)) accepted))
+
+-- an accepted entry after a legal history
+pub IsLegal-push : (H : History) (e : Entry) → IsLegal H → IsAccepted H e → IsLegal (H ++ e ∷ [])
+IsLegal-push [] e legal accepted = absurd legal
+IsLegal-push (first ∷ later) e legal accepted = (legal.0, AreAccepted-push (first ∷ []) later e legal.1 accepted)
+
+-- the entry of a core that the rules accept at its own moment
+pub accepted-by : (H : History) (e : Entry) (core : EntryCore) → e.core ≡ core
+    → is_well_addressed core.caller core.number (Act core.command) core.moment ≡ true
+    → moment_after H core.moment ≡ core.moment
+    → length H < MAX_ENTRIES
+    → ruled H core.caller core.moment core.command ≡ Ok e.reply
+    → IsAccepted H e
+accepted-by H e core is addressed latest entries_fit accepted =
+    let room : (length H == MAX_ENTRIES) ≡ false = grind (arith, nat_tests) in
+    record {
+      addressed = rw is addressed;
+      added = rw (is, latest, room, accepted, ← is) refl;
+    }
+
+at-length : (H : History) (e : Entry) → slice_get (H ++ e ∷ []) (length H) ≡ Some e
+at-length [] e = refl
+at-length (x ∷ H) e = at-length H e
+
+last-of-push : (H : History) (e : Entry) → slice_get (H ++ e ∷ []) (length (H ++ e ∷ []) - 1) ≡ Some e
+last-of-push H e =
+    let place : length (H ++ e ∷ []) - 1 ≡ length H = omega (arith, length-append H (e ∷ [])) in
+    rw place (at-length H e)
+
+-- one more entry is the last one
+pub moment_after-push : (H : History) (e : Entry) (m : ℕ) → moment_after (H ++ e ∷ []) m ≡ max m e.core.moment
+moment_after-push H e m = ap (λ last. max m (option_map_or (λ x. x.core.moment) last 0)) (last-of-push H e)

@@ -1,0 +1,5 @@
+pub mod TextLists
+pub mod Accepted
+pub mod HistoryGrowth
+pub mod Legality
+pub mod Commits

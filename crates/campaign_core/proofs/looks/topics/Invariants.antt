@@ -1,0 +1,6 @@
+use Rattle.std.proofs.Common.{◌≡◌, drop}
+use Rattle.rulebook.specs.Campaign.{topics}
+use Rattle.campaign_core.proofs.looks.topics.Given as goal
+
+abbrev pub invariant-loop-entry : goal.invariant-loop-entry
+invariant-loop-entry l = topics (drop l.entry-index l.history) ≡ topics l.history

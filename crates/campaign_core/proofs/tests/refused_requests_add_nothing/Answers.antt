@@ -1,0 +1,23 @@
+use Rattle.std.proofs.Common.{refl}
+use Rattle.trec_formats.specs.Names.{is_name, is_docno}
+use Rattle.campaign_core.proofs.tests.refused_requests_add_nothing.Goals as goal
+
+pub submitted-requires : goal.submitted-requires
+unfolding is_name is_docno
+submitted-requires g c = refl
+
+pub submitted-requires-2 : goal.submitted-requires-2
+unfolding is_name is_docno
+submitted-requires-2 g c = refl
+
+pub strayed-requires : goal.strayed-requires
+unfolding is_name is_docno
+strayed-requires g c = refl
+
+pub strayed-requires-2 : goal.strayed-requires-2
+unfolding is_name is_docno
+strayed-requires-2 g c = refl
+
+pub pool-requires : goal.pool-requires
+unfolding is_name is_docno
+pool-requires g c = refl

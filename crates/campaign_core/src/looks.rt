@@ -1,0 +1,104 @@
+ghost use Rattle.std.specs.Prelude.{◌≡◌, ℕ, ◌<◌, ◌^◌, length, is_some};
+ghost use Rattle.std.specs.List.{list_any};
+ghost use Rattle.std.specs.Str.{bytes_eq};
+ghost use Rattle.rulebook.specs.Campaign.{has_topics, topics as topics_of, topics_in, runs, is_taken, line_count as lines_of, submitted_lines as submitted_lines_of};
+ghost use Rattle.rulebook.specs.Answers.{unknown_line};
+
+use rulebook::{Command, Entry};
+use trec_formats::{Topic, TopicList};
+
+/// Whether the campaign has its topics.
+pub(crate) fn has_topics(history: &[Entry]) -> bool
+    ensures { result ≡ has_topics history.now }
+{
+    history.iter().any(|entry| is_topics(&entry.core.command))
+}
+
+fn is_topics(command: &Command) -> bool
+    ensures { result ≡ is_some (topics_in command.now) }
+{
+    matches!(command, Command::Topics { .. })
+}
+
+/// The campaign's topics: none before it has them.
+pub(crate) fn topics(history: &[Entry]) -> &[Topic]
+    ensures { result.now ≡ topics_of history.now }
+{
+    for entry in history {
+        if let Command::Topics { topics } = &entry.core.command {
+            return topics.items();
+        }
+    }
+    &[]
+}
+
+/// Whether a topic of this id is among the topics.
+pub(crate) fn has_topic(topics: &[Topic], id: &[u8]) -> bool
+    ensures { result ≡ list_any (λ t. bytes_eq t.id id.now) topics.now }
+{
+    topics.iter().any(|topic| topic.id.bytes() == id)
+}
+
+/// The least line of a list whose topic isn't a topic of the campaign.
+pub(crate) fn unknown_line(history: &[Entry], lists: &[TopicList]) -> Option<u32>
+    ensures { result ≡ unknown_line history.now lists.now }
+{
+    let topics = topics(history);
+    lists
+        .iter()
+        .filter(|list| !has_topic(topics, list.topic.bytes()))
+        .map(|list| list.line)
+        .min()
+}
+
+/// Whether a run of this name was ever submitted.
+pub(crate) fn is_taken(history: &[Entry], name: &[u8]) -> bool
+    ensures { result ≡ is_taken history.now name.now }
+{
+    for entry in history {
+        if let Command::Submit { run, .. } = &entry.core.command {
+            if run.bytes() == name {
+                return true;
+            }
+        }
+    }
+    false
+}
+
+/// How many runs were ever submitted.
+pub(crate) fn submitted_runs(history: &[Entry]) -> usize
+    ensures { result ≡ length (runs history.now) }
+{
+    let mut count = 0;
+    for entry in history {
+        if let Command::Submit { .. } = &entry.core.command {
+            count += 1;
+        }
+    }
+    count
+}
+
+/// How many lines a run has.
+pub(crate) fn line_count(lists: &[TopicList]) -> u64
+    requires { lines_of lists.now < 2 ^ 64 }
+    ensures { result ≡ lines_of lists.now }
+{
+    lists
+        .iter()
+        .map(|list| list.docs.items().len() as u64)
+        .sum()
+}
+
+/// How many lines all runs that were ever submitted have.
+pub(crate) fn submitted_lines(history: &[Entry]) -> u64
+    requires { submitted_lines_of history.now < 2 ^ 64 }
+    ensures { result ≡ submitted_lines_of history.now }
+{
+    let mut count = 0;
+    for entry in history {
+        if let Command::Submit { lists, .. } = &entry.core.command {
+            count += line_count(lists.items());
+        }
+    }
+    count
+}

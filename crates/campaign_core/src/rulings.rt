@@ -1,0 +1,140 @@
+ghost use Rattle.std.specs.Prelude.{◌≡◌, ◌≤◌, ◌<◌, ◌^◌, ◌+◌, ◌∷◌, [], ◌++◌, length, IfOk, OnOk, IsTrue, nat_lt, max};
+ghost use Rattle.rulebook.specs.declared.limits.TheConstants.{MAX_LINES, MAX_DOCNOS, MAX_ENTRY_BYTES};
+ghost use Rattle.rulebook.specs.declared.ask.Ask.TheVariants.{Act};
+ghost use Rattle.rulebook.specs.Words.{each_once};
+ghost use Rattle.rulebook.specs.Campaign.{line_count as lines_of, submitted_lines as submitted_lines_of, submitted_docnos, lines_with, docnos_with};
+ghost use Rattle.rulebook.specs.Answers.{topics_ruling, submit_ruling, pool_ruling, ruled, reply_of, moment_after};
+ghost use Rattle.rulebook.specs.Spelling.{command_bytes};
+ghost use Rattle.rulebook.specs.Legal.{is_built};
+ghost use Rattle.campaign_core.specs.Growth.{BeginsWith, lists_in};
+
+use crate::docnos::add_docnos;
+use crate::looks::{
+    has_topic, has_topics, is_taken, line_count, submitted_lines, submitted_runs, topics,
+    unknown_line,
+};
+use crate::pools::pool;
+use decimal_rank::{Memory, Names, Text};
+use rulebook::{
+    Command, Entry, EntryCore, MAX_DOCNOS, MAX_LINES, MAX_RUNS, MAX_TOPICS, Quantity, Refusal,
+    Reply,
+};
+use std::alloc::Global;
+use trec_formats::{Topic, TopicList};
+
+/// The greater of the moment that was handed in and that of the last entry.
+pub(crate) fn moment_after(history: &[Entry], moment: u64) -> u64
+    ensures { result ≡ moment_after history.now moment }
+{
+    match history.last() {
+        Some(entry) => moment.max(entry.core.moment),
+        None => moment,
+    }
+}
+
+/// What a command comes to. Where it is accepted, its docnos are added to those of the history.
+pub(crate) fn ruled(
+    history: &[Entry],
+    docnos: &mut Names,
+    core: &EntryCore,
+) -> Result<Result<Reply, Refusal>, Memory>
+    requires built { IsTrue (is_built (Act core.now.command)) }
+    requires short { length (command_bytes core.now.command) ≤ MAX_ENTRY_BYTES }
+    requires docnos_are { docnos.old ≡ each_once (submitted_docnos history.now) }
+    requires docnos_fit { length docnos.old ≤ MAX_DOCNOS }
+    requires lines_fit { submitted_lines_of history.now ≤ MAX_LINES }
+    ensures ruling { let ruling = ruled history.now core.now.caller core.now.moment core.now.command in
+        IfOk result (λ told. told ≡ ruling) }
+    ensures lines { let lists = lists_in core.now.command in
+        IfOk result (λ told. OnOk told (lines_with history.now lists ≤ MAX_LINES)) }
+    ensures docnos { let lists = lists_in core.now.command in
+        IfOk result (λ told. OnOk told (docnos.new ≡ docnos_with history.now lists)) }
+    ensures docnos_fit { IfOk result (λ told. OnOk told (length docnos.new ≤ MAX_DOCNOS)) }
+    ensures grown { BeginsWith docnos.old docnos.new }
+{
+    match &core.command {
+        Command::Topics { topics } => Ok(topics_ruling(history, topics.items())),
+        Command::Submit { run, lists } => submit_ruling(history, docnos, run, lists.items()),
+        _ => unreachable!(),
+    }
+}
+
+pub(crate) fn topics_ruling(history: &[Entry], topics: &[Topic]) -> Result<Reply, Refusal>
+    ensures { result ≡ topics_ruling history.now topics.now }
+{
+    if has_topics(history) {
+        return Err(Refusal::TopicsFixed);
+    }
+    if topics.len() > MAX_TOPICS as usize {
+        return Err(Refusal::Limit {
+            which: Quantity::Topics,
+        });
+    }
+    Ok(Reply::Topics {
+        topics: topics.len() as u32,
+    })
+}
+
+fn submit_ruling(
+    history: &[Entry],
+    docnos: &mut Names,
+    run: &Text,
+    lists: &[TopicList],
+) -> Result<Result<Reply, Refusal>, Memory>
+    requires docnos_are { docnos.old ≡ each_once (submitted_docnos history.now) }
+    requires docnos_fit { length docnos.old ≤ MAX_DOCNOS }
+    requires lines_fit { submitted_lines_of history.now ≤ MAX_LINES }
+    requires within { length lists.now + lines_of lists.now ≤ MAX_ENTRY_BYTES }
+    ensures ruling { IfOk result (λ told. told ≡ submit_ruling history.now run.now lists.now) }
+    ensures lines { IfOk result (λ told. OnOk told (lines_with history.now lists.now ≤ MAX_LINES)) }
+    ensures docnos { IfOk result (λ told. OnOk told (docnos.new ≡ docnos_with history.now lists.now)) }
+    ensures docnos_fit { IfOk result (λ told. OnOk told (length docnos.new ≤ MAX_DOCNOS)) }
+    ensures grown { BeginsWith docnos.old docnos.new }
+{
+    if is_taken(history, run.bytes()) {
+        return Ok(Err(Refusal::TagTaken));
+    }
+    if let Some(line) = unknown_line(history, lists) {
+        return Ok(Err(Refusal::LineTopic { line }));
+    }
+    if submitted_runs(history) >= MAX_RUNS as usize {
+        return Ok(Err(limit(Quantity::Runs)));
+    }
+    let lines = line_count(lists);
+    if exceeds(MAX_LINES, submitted_lines(history), lines) {
+        return Ok(Err(limit(Quantity::Lines)));
+    }
+    add_docnos(docnos, lists)?;
+    if docnos.len() > MAX_DOCNOS {
+        return Ok(Err(limit(Quantity::Docnos)));
+    }
+    Ok(Ok(Reply::Submitted {
+        run: run.copy()?,
+        topics: lists.len() as u32,
+        lines: lines as u32,
+    }))
+}
+
+fn limit(which: Quantity) -> Refusal
+    ensures { result ≡ Refusal.Limit which }
+{
+    Refusal::Limit { which }
+}
+
+/// Whether so many more pass the limit.
+pub(crate) fn exceeds(limit: u32, before: u64, added: u64) -> bool
+    requires { before + added < 2 ^ 64 }
+    ensures { result ≡ nat_lt limit (before + added) }
+{
+    before + added > limit as u64
+}
+
+pub(crate) fn pool_reply(alloc: Global, history: &[Entry], topic: Text) -> Result<Reply, Memory>
+    ensures { IfOk result (λ reply. reply ≡ reply_of (pool_ruling history.now topic)) }
+{
+    if !has_topic(topics(history), topic.bytes()) {
+        return Ok(Reply::Refused(Refusal::UnknownTopic));
+    }
+    let docs = pool(alloc, history, topic.bytes())?;
+    Ok(Reply::Pool { topic, docs })
+}

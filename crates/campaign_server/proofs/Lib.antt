@@ -1,0 +1,14 @@
+pub mod AnswerLengths
+pub mod Ending
+pub mod Fronts
+pub mod Growing
+pub mod HeadReading
+pub mod OneReading
+pub mod Permuted
+pub mod PieceLemmas
+pub mod QuotedDocnos
+pub mod Requests
+pub mod RunLines
+pub mod RunRequests
+pub mod Sizes
+pub mod Talking

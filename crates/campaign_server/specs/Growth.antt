@@ -1,0 +1,10 @@
+-- Bytes that grow by a text.
+use Rattle.std.specs.Prelude.{◌≡◌, ℕ, ◌+◌, ◌≤◌, List, ◌++◌, Result, OnOk, IsOk, length, vec_capacity}
+use Rattle.std.specs.declared.alloc.Global.{Global}
+use Rattle.std.specs.declared.vec.Vec.{Vec}
+
+-- The text is appended, or there was no memory for it. There is memory where the bytes have room for the text.
+pub record Adds {T E : Type 0} (old new : Vec ℕ Global) (text : List ℕ) (result : Result T E) : Type 0 where
+  pub text_added : OnOk result (new.items ≡ old.items ++ text)
+  pub room : length old.items + length text ≤ vec_capacity old → IsOk result
+  pub capacity : vec_capacity old ≤ vec_capacity new

@@ -1,0 +1,47 @@
+-- A link in memory.
+use Rattle.std.specs.Prelude.{ℕ, Bool, List, ◌++◌, Some, Result, Ok, Err, take, drop, nat_le, if◌then◌else◌}
+use Rattle.std.specs.List.{list_all}
+use Rattle.rulebook.specs.declared.limits.TheConstants.{MAX_MOMENT}
+use Rattle.campaign_server.specs.declared.faults.Failed.{Failed}
+use Rattle.campaign_server.specs.Plans.{PlanState, count_more, after_call, fails_next}
+use Rattle.campaign_server.specs.Links.{LinkState}
+
+-- the bytes taken, left and written, the moments and how many were asked for, the reads and writes that are to fail, the two
+-- counts of faults, and how many writes failed for want of memory
+pub record MemoryLinkState : Type 0 where
+  pub taken : List ℕ
+  pub left : List ℕ
+  pub written : List ℕ
+  pub moments : List ℕ
+  pub asked : ℕ
+  pub reads : PlanState
+  pub writes : PlanState
+  pub read_faults : ℕ
+  pub write_faults : ℕ
+  pub wants : ℕ
+
+-- it tells all but its plans
+abbrev pub told_by : MemoryLinkState → LinkState
+told_by link = record {
+  reading = record { taken = Some link.taken; left = Some link.left; faults = link.read_faults };
+  writing = record { written = Some link.written; faults = link.write_faults };
+  clock = record { moments = Some link.moments; asked = link.asked };
+}
+
+-- no moment is later than the latest
+abbrev pub are_moments : List ℕ → Bool
+are_moments moments = list_all (λ moment. nat_le moment MAX_MOMENT) moments
+
+-- a link in memory after a read with this answer
+abbrev pub after_read : MemoryLinkState → Result ℕ Failed → MemoryLinkState
+after_read link (Ok count) = record link { taken = link.taken ++ take count link.left; left = drop count link.left; reads = after_call link.reads }
+after_read link (Err failed) = record link { reads = after_call link.reads; read_faults = count_more link.read_faults }
+
+-- and after a write of the piece with this answer
+abbrev pub after_write : MemoryLinkState → List ℕ → Result ℕ Failed → MemoryLinkState
+after_write link piece (Ok count) = record link { written = link.written ++ piece; writes = after_call link.writes }
+after_write link piece (Err failed) = record link {
+  writes = after_call link.writes;
+  write_faults = count_more link.write_faults;
+  wants = if fails_next link.writes then link.wants else count_more link.wants;
+}

@@ -1,0 +1,57 @@
+ghost use Rattle.std.specs.Prelude.{◌≡◌, ◌<◌, ◌≤◌, length, IfOk, OnOk, OnErr};
+ghost use Rattle.std.specs.Io.{ReadsAtMost};
+ghost use Rattle.std.specs.Io.KnownBytes.{Appends, ReadConsumes, WriteAppends};
+ghost use Rattle.decimal_rank.specs.Causes.{HasCause};
+ghost use Rattle.decimal_rank.specs.KnownBytes.{AppendsPart};
+ghost use Rattle.campaign_server.specs.Links.{LinkState, ReadTakes, Ticks};
+
+use crate::faults::Failed;
+
+/// A connection: bytes that come, bytes that go, and the moments of a clock.
+pub trait Link {
+    /// What the link tells.
+    ghost seen: { Self → LinkState };
+
+    /// Reads the next bytes into the front of `out`, and returns how many. None is the end for good.
+    /// A failed read takes none.
+    fn read(&mut self, out: &mut [u8]) -> Result<usize, Failed>
+        requires { 0 < length out.old }
+        ensures bound { ReadsAtMost result out.new }
+        ensures left { ReadConsumes (seen self.old).reading.left (seen self.new).reading.left result out.new }
+        ensures taken { ReadTakes (seen self.old).reading.taken (seen self.new).reading.taken result out.new }
+        ensures cause { HasCause (seen self.old).reading.faults (seen self.new).reading.faults result }
+        ensures writing_kept { (seen self.new).writing ≡ (seen self.old).writing }
+        ensures clock_kept { (seen self.new).clock ≡ (seen self.old).clock };
+
+    /// Writes the first bytes of the piece, at least one where it has any, and returns how many. A
+    /// failed write takes none.
+    fn write(&mut self, piece: &[u8]) -> Result<usize, Failed>
+        ensures bound { IfOk result (λ count. count ≤ length piece.now) }
+        ensures some { IfOk result (λ count. 0 < length piece.now → 0 < count) }
+        ensures bytes { WriteAppends (seen self.old).writing.written (seen self.new).writing.written result piece.now }
+        ensures cause { HasCause (seen self.old).writing.faults (seen self.new).writing.faults result }
+        ensures reading_kept { (seen self.new).reading ≡ (seen self.old).reading }
+        ensures clock_kept { (seen self.new).clock ≡ (seen self.old).clock };
+
+    /// The moment, in seconds; at most 2^40.
+    fn moment(&mut self) -> u64
+        ensures ticks { Ticks (seen self.old).clock (seen self.new).clock result }
+        ensures reading_kept { (seen self.new).reading ≡ (seen self.old).reading }
+        ensures writing_kept { (seen self.new).writing ≡ (seen self.old).writing };
+}
+
+/// Writes the whole text, in as many writes as it takes. A write that fails ends it.
+#[tactic(auto, using(decimal_rank::proofs::Growth::appends_next))]
+pub fn write_all<I: Link>(link: &mut I, text: &[u8]) -> Result<(), Failed>
+    ensures all { OnOk result (Appends (I.seen link.old).writing.written (I.seen link.new).writing.written text.now) }
+    ensures part { OnErr result (AppendsPart (I.seen link.old).writing.written (I.seen link.new).writing.written text.now) }
+    ensures cause { HasCause (I.seen link.old).writing.faults (I.seen link.new).writing.faults result }
+    ensures reading_kept { (I.seen link.new).reading ≡ (I.seen link.old).reading }
+    ensures clock_kept { (I.seen link.new).clock ≡ (I.seen link.old).clock }
+{
+    let mut done = 0;
+    while done < text.len() {
+        done += link.write(&text[done..])?;
+    }
+    Ok(())
+}

@@ -1,0 +1,57 @@
+-- Digits that are moved to the left by padding behind them.
+use Rattle.std.proofs.Common.{◌≡◌, ◌≢◌, ℕ, ◌+◌, ◌-◌, ◌*◌, ◌/◌, ◌%◌, ◌^◌, ◌<◌, ◌≤◌, ℤ, pos, ◌+ℤ◌, Bool, arith, refl, lt_of_not-le, ap, sym, ◌∙◌, mul_assoc, mul-le-mul_right, pow-add, subst}
+use Rattle.std.proofs.Math.Nat.{pow-le-pow_right, one-le-pow, mul-div_cancel}
+use Rattle.decimal_rank.specs.Aligned.{IsAligned, aligned_value}
+
+pub record IsShifted (digits leading padding : ℕ) : Type 0 where
+  pub is : leading ≡ digits * 10 ^ padding
+  pub from_one : 0 < digits
+  pub below : leading < 10 ^ 38
+
+-- n zeros more
+pub shifts : (digits leading padding n : ℕ) → IsShifted digits leading padding → leading * 10 ^ n < 10 ^ 38 → IsShifted digits (leading * 10 ^ n) (padding + n)
+shifts digits leading padding n s h = record {
+  is = ap (λ m. m * 10 ^ n) s.is ∙ mul_assoc digits (10 ^ padding) (10 ^ n) ∙ ap (λ p. digits * p) (sym (pow-add 10 padding n));
+  from_one = s.from_one;
+  below = h;
+}
+
+-- what was moved is at least one
+pub shifted_above : (digits leading padding : ℕ) → IsShifted digits leading padding → 10 ^ padding ≤ leading
+shifted_above digits leading padding s = subst (λ n. 10 ^ padding ≤ n) (sym s.is) (let more : 1 * 10 ^ padding ≤ digits * 10 ^ padding = mul-le-mul_right (10 ^ padding) s.from_one in omega arith)
+
+-- so many padding leave 38 digits
+pub few_zeros : (digits leading padding : ℕ) → IsShifted digits leading padding → padding < 38
+few_zeros digits leading padding s = lt_of_not-le (λ h.
+    let up : 10 ^ 38 ≤ 10 ^ padding = pow-le-pow_right (omega arith) h in
+    let above = shifted_above digits leading padding s in
+    let below = s.below in
+    omega arith)
+
+-- what was moved isn't 0
+pub from_one : (digits leading padding : ℕ) → IsShifted digits leading padding → 1 ≤ leading
+from_one digits leading padding s =
+    let above = shifted_above digits leading padding s in
+    let some = one-le-pow padding 10 (omega arith) in
+    omega (arith, above, some)
+
+-- the digits come back
+pub div-shifted : (digits leading padding : ℕ) → IsShifted digits leading padding → leading / 10 ^ padding ≡ digits
+div-shifted digits leading padding s = ap (λ n. n / 10 ^ padding) s.is ∙ mul-div_cancel digits (one-le-pow padding 10 (omega arith))
+
+-- 38 digits are aligned
+pub aligned : (negative : Bool) (digits leading padding : ℕ) (last : ℤ) → IsShifted digits leading padding → 10 ^ 37 ≤ leading → digits % 10 ≢ 0
+    → IsAligned negative leading padding last
+aligned negative digits leading padding last s full trimmed =
+    let back = div-shifted digits leading padding s in
+    record {
+      below = s.below;
+      full = λ _. full;
+      padded = ap (λ d. d * 10 ^ padding) back ∙ sym s.is;
+      trimmed = λ _ e. trimmed (ap (λ d. d % 10) (sym back) ∙ e);
+      zero = λ e. absurd (let none : 10 ^ 37 ≤ 0 = subst (λ n. 10 ^ 37 ≤ n) e full in omega arith);
+    }
+
+pub value_is : (negative : Bool) (leading padding digits : ℕ) (last exponent : ℤ) → leading / 10 ^ padding ≡ digits → (last +ℤ pos padding) ≡ exponent
+    → aligned_value negative leading padding last ≡ record { negative = negative; digits = digits; exponent = exponent }
+value_is negative leading padding digits last exponent p q = rw (p, q) refl

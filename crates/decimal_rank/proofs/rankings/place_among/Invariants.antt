@@ -1,0 +1,9 @@
+use Rattle.std.proofs.Common.{◌-◌, length}
+use Rattle.decimal_rank.proofs.Search.{IsNarrowed}
+use Rattle.decimal_rank.proofs.rankings.place_among.Given as goal
+
+abbrev pub invariant-loop-low : goal.invariant-loop-low
+invariant-loop-low g l = IsNarrowed l.entries l.doc l.low l.high l.initial.steps l.steps
+
+abbrev pub decreases-loop-low : goal.decreases-loop-low
+decreases-loop-low g l = l.high - l.low

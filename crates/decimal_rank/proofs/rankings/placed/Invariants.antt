@@ -1,0 +1,6 @@
+use Rattle.std.proofs.Common.{◌≡◌, take}
+use Rattle.decimal_rank.specs.Entries.{entries_in}
+use Rattle.decimal_rank.proofs.rankings.placed.Given as goal
+
+abbrev pub invariant-loop-i : goal.invariant-loop-i
+invariant-loop-i l = l.entries.items ≡ entries_in (take l.i l.docs)

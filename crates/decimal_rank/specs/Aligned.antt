@@ -1,0 +1,16 @@
+-- A decimal's digits kept left-aligned: 38 of them, of which the last ones fill up with padding.
+use Rattle.std.specs.Prelude.{◌≡◌, ◌≢◌, ℕ, ◌/◌, ◌*◌, ◌%◌, ◌^◌, ◌<◌, ◌≤◌, ℤ, pos, ◌+ℤ◌, Bool, false}
+use Rattle.decimal_rank.specs.Decimal.{DecimalValue}
+
+-- the value of left-aligned digits
+abbrev pub aligned_value : Bool → ℕ → ℕ → ℤ → DecimalValue
+aligned_value negative leading padding last =
+    record { negative = negative; digits = leading / 10 ^ padding; exponent = last +ℤ pos padding }
+
+-- 38 digits, the padding at their end and no others, or zero without a sign
+pub record IsAligned (negative : Bool) (leading padding : ℕ) (last : ℤ) : Type 0 where
+  pub below : leading < 10 ^ 38
+  pub full : leading ≢ 0 → 10 ^ 37 ≤ leading
+  pub padded : leading / 10 ^ padding * 10 ^ padding ≡ leading
+  pub trimmed : leading ≢ 0 → leading / 10 ^ padding % 10 ≢ 0
+  pub zero : leading ≡ 0 → (negative ≡ false) × (last ≡ pos 0) × (padding ≡ 0)

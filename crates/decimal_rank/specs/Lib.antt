@@ -1,0 +1,9 @@
+pub mod Aligned
+pub mod Causes
+pub mod Decimal
+pub mod DecimalText
+pub mod Entries
+pub mod KnownBytes
+pub mod Names
+pub mod Places
+pub mod Ranks

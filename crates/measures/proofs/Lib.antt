@@ -1,0 +1,3 @@
+pub mod Cutoffs
+pub mod PrecisionSum
+pub mod Places

@@ -1,0 +1,22 @@
+-- The effective grades of a ranked list, by rank. A document that isn't judged has none.
+use Rattle.std.specs.Prelude.{ℕ, Bool, false, List, Option, Some, None, if◌then◌else◌, nat_le, nat_lt, take, count_by, sum_by}
+use Rattle.std.specs.List.{enumerate_from}
+
+-- graded with at least the level
+abbrev pub is_relevant : ℕ → Option ℕ → Bool
+is_relevant level None = false
+is_relevant level (Some grade) = nat_le level grade
+
+-- graded below the level
+abbrev pub is_non_relevant : ℕ → Option ℕ → Bool
+is_non_relevant level None = false
+is_non_relevant level (Some grade) = nat_lt grade level
+
+-- the relevant documents in ranks 1 to k
+abbrev pub relevant_to : ℕ → List (Option ℕ) → ℕ → ℕ
+relevant_to level grades k = count_by (is_relevant level) (take k grades)
+
+-- the sum of f over the ranks of the relevant documents
+abbrev pub sum_over_relevant : ℕ → List (Option ℕ) → (ℕ → ℕ) → ℕ
+sum_over_relevant level grades f =
+    sum_by (λ d. if is_relevant level d.1 then f d.0 else 0) (enumerate_from 1 grades)

@@ -1,0 +1,4 @@
+pub mod Cells
+pub mod Grades
+pub mod Means
+pub mod ScoreLines

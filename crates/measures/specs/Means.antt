@@ -1,0 +1,44 @@
+-- The value of a measure on one topic, and its mean over topics. The unit of a value is 10^-15.
+use Rattle.std.specs.Prelude.{⊤, ℕ, ◌*◌, ◌/◌, ◌^◌, ◌<◌, ◌≤◌, ◌==◌, if◌then◌else◌, List, map, length, sum_by, slice_index}
+use Rattle.std.specs.List.{range_with_len}
+use Rattle.measures.specs.declared.cells.Cell.{Cell}
+use Rattle.measures.specs.declared.means.Measure.{Measure}
+use Rattle.measures.specs.declared.means.Measure.TheVariants.{Map, Precision}
+use Rattle.measures.specs.declared.means.Summary.{Summary}
+use Rattle.measures.specs.Cells.{cutoffs}
+
+-- a measure P_k is named by its place among the cutoffs, from 0
+abbrev pub IsMeasure : Measure → Type 0
+IsMeasure Map = ⊤
+IsMeasure (Precision place) = place < 9
+
+-- a over b, rounded down
+abbrev pub fixed_of : ℕ → ℕ → ℕ
+fixed_of a b = a * 10 ^ 15 / b
+
+-- the value on a topic that has relevant documents
+abbrev pub share_of : Measure → Cell → ℕ
+share_of Map cell = cell.ap_sum / cell.rel
+share_of (Precision place) cell = fixed_of (slice_index cell.at place) (slice_index cutoffs place)
+
+-- the value on a topic: 0 where no document is relevant
+abbrev pub value_of : Measure → Cell → ℕ
+value_of measure cell = if cell.rel == 0 then 0 else share_of measure cell
+
+-- the sum of the values divided by their number, rounded down; 0 where there is none
+abbrev pub mean_by : (Cell → ℕ) → List Cell → ℕ
+mean_by value cells = if length cells == 0 then 0 else sum_by value cells / length cells
+
+-- the means over the counted topics, of which each has one cell
+unfoldable pub summary_of : List Cell → Summary
+summary_of cells = record {
+  topics = length cells;
+  rel_ret = sum_by (λ cell. cell.rel_ret) cells;
+  map = mean_by (value_of Map) cells;
+  at = map (λ place. mean_by (value_of (Precision place)) cells) (range_with_len 0 9);
+}
+
+-- each mean is at most 1
+pub record IsProper (summary : Summary) : Type 0 where
+  pub map : summary.map ≤ 10 ^ 15
+  pub at : (i : ℕ) → i < 9 → slice_index summary.at i ≤ 10 ^ 15

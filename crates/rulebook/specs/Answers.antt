@@ -1,0 +1,97 @@
+-- The answer to an addressed request.
+use Rattle.std.specs.Prelude.{ℕ, not, ◌==◌, ◌-◌, List, [], ◌∷◌, Option, Ok, Err, if◌then◌else◌, map, length, nat_lt, nat_le, min, max, slice_get}
+use Rattle.std.specs.List.{filter, reduce}
+use Rattle.std.specs.Option.{option_map, option_map_or}
+use Rattle.trec_formats.specs.declared.Topic.{Topic}
+use Rattle.trec_formats.specs.declared.TopicList.{TopicList}
+use Rattle.rulebook.specs.declared.limits.TheConstants.{MAX_TOPICS, MAX_RUNS, MAX_LINES, MAX_DOCNOS, MAX_ENTRIES}
+use Rattle.rulebook.specs.declared.rules.Caller.{Caller}
+use Rattle.rulebook.specs.declared.rules.Phase.TheVariants.{Collecting}
+use Rattle.rulebook.specs.declared.ask.Command.{Command}
+use Rattle.rulebook.specs.declared.ask.Command.TheVariants as command
+use Rattle.rulebook.specs.declared.ask.Query.{Query}
+use Rattle.rulebook.specs.declared.ask.Query.TheVariants as query
+use Rattle.rulebook.specs.declared.ask.Ask.{Ask}
+use Rattle.rulebook.specs.declared.ask.Ask.TheVariants.{Act, See}
+use Rattle.rulebook.specs.declared.reply.Refusal.TheVariants as refusal
+use Rattle.rulebook.specs.declared.reply.Quantity.TheVariants as quantity
+use Rattle.rulebook.specs.declared.reply.Reply.{Reply}
+use Rattle.rulebook.specs.declared.reply.Reply.TheVariants as reply
+use Rattle.rulebook.specs.declared.entry.EntryCore.{EntryCore}
+use Rattle.rulebook.specs.Words.{Text}
+use Rattle.rulebook.specs.Campaign.{History, has_topics, is_topic, runs, is_taken, line_count, lines_with, docnos_with, pool, phase}
+use Rattle.rulebook.specs.Refusals.{Ruling, ◌when◌, unless, wrong_phase_unless}
+
+-- the least line of a list whose topic isn't a topic of the campaign
+abbrev pub unknown_line : History → List TopicList → Option ℕ
+unknown_line H lists = reduce min (map (λ l. l.line) (filter (λ l. not (is_topic H l.topic)) lists))
+
+-- What each command comes to: its refusals in their order, and else its reply.
+
+abbrev pub topics_ruling : History → List Topic → Ruling
+topics_ruling H topics =
+    unless (wrong_phase_unless Collecting H
+    ∷ (refusal.TopicsFixed when has_topics H)
+    ∷ (refusal.Limit quantity.Topics when nat_lt MAX_TOPICS (length topics)) ∷ [])
+    (Ok (reply.Topics (length topics)))
+
+abbrev pub submit_ruling : History → Text → List TopicList → Ruling
+submit_ruling H run lists =
+    unless (wrong_phase_unless Collecting H
+    ∷ (refusal.TagTaken when is_taken H run)
+    ∷ option_map refusal.LineTopic (unknown_line H lists)
+    ∷ (refusal.Limit quantity.Runs when nat_le MAX_RUNS (length (runs H)))
+    ∷ (refusal.Limit quantity.Lines when nat_lt MAX_LINES (lines_with H lists))
+    ∷ (refusal.Limit quantity.Docnos when nat_lt MAX_DOCNOS (length (docnos_with H lists))) ∷ [])
+    (Ok (reply.Submitted run (length lists) (line_count lists)))
+
+-- What a caller's command comes to at a moment. No request gives another command yet.
+abbrev pub ruled : History → Caller → ℕ → Command → Ruling
+ruled H who now (command.Topics topics) = topics_ruling H topics
+ruled H who now (command.Submit run lists) = submit_ruling H run lists
+ruled H who now _ = Err (refusal.WrongPhase (phase H))
+
+-- What each query comes to.
+
+abbrev pub pool_ruling : History → Text → Ruling
+pool_ruling H topic = unless ((refusal.UnknownTopic when not (is_topic H topic)) ∷ []) (Ok (reply.Pool topic (pool H topic)))
+
+-- What a caller's query comes to at a moment. No request asks another query yet.
+abbrev pub told : History → Caller → ℕ → Query → Ruling
+told H who now (query.Pool topic) = pool_ruling H topic
+told H who now _ = Ok (reply.Page [])
+
+abbrev pub reply_of : Ruling → Reply
+reply_of (Ok r) = r
+reply_of (Err r) = reply.Refused r
+
+-- a reply, and the entry that is added, if one is
+pub record Answer : Type 0 where
+  pub reply : Reply
+  pub added : History
+
+abbrev pub adding_nothing : Reply → Answer
+adding_nothing r = record { reply = r; added = [] }
+
+-- An accepted command is added with its reply.
+abbrev pub acting : EntryCore → Ruling → Answer
+acting core (Err r) = adding_nothing (reply.Refused r)
+acting core (Ok r) = record { reply = r; added = record { core = core; reply = r } ∷ [] }
+
+-- the greater of the moment that was handed in and that of the last entry
+abbrev pub moment_after : History → ℕ → ℕ
+moment_after H moment = max moment (option_map_or (λ e. e.core.moment) (slice_get H (length H - 1)) 0)
+
+-- what a command comes to that wasn't accepted before under its number
+abbrev pub acted : History → EntryCore → Answer
+acted H core =
+    if length H == MAX_ENTRIES then adding_nothing (reply.Refused (refusal.Limit quantity.Entries))
+    else acting core (ruled H core.caller core.moment core.command)
+
+-- The answer, by cases in their order:
+-- a query is told and adds nothing, whatever its number;
+-- a command whose caller used its number before will get the kept reply, or be refused, here: no request has a number yet;
+-- another command is refused where H is full, by the first refusal of its kind that holds, or accepted.
+abbrev pub answer : History → Caller → Option ℕ → Ask → ℕ → Answer
+answer H who number (See q) moment = adding_nothing (reply_of (told H who (moment_after H moment) q))
+answer H who number (Act c) moment = acted H (record { caller = who; number = number; moment = moment_after H moment; command = c })

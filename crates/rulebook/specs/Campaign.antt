@@ -1,0 +1,112 @@
+-- Rules, phase, topics, runs and pools of a campaign whose list of accepted entries is H.
+use Rattle.std.specs.Prelude.{ℕ, Bool, ◌+◌, List, [], ◌++◌, Option, None, Some, ◌∷◌, take, length, unwrap_or, is_some, slice_get, sum_by}
+use Rattle.std.specs.List.{list_any, filter_map, find, flat_map}
+use Rattle.std.specs.Option.{option_map_or}
+use Rattle.std.specs.Str.{bytes_eq}
+use Rattle.trec_formats.specs.declared.Topic.{Topic}
+use Rattle.trec_formats.specs.declared.TopicList.{TopicList}
+use Rattle.rulebook.specs.declared.rules.Rules.{Rules}
+use Rattle.rulebook.specs.declared.rules.Phase.{Phase}
+use Rattle.rulebook.specs.declared.rules.Phase.TheVariants.{Collecting}
+use Rattle.rulebook.specs.declared.ask.Command.{Command}
+use Rattle.rulebook.specs.declared.ask.Command.TheVariants as command
+use Rattle.rulebook.specs.declared.entry.Entry.{Entry}
+use Rattle.rulebook.specs.Words.{Text, each_once, in_order}
+
+-- the accepted entries, from the first on
+abbrev pub History : Type 0
+History = List Entry
+
+-- Rules
+
+abbrev pub rules_in : Command → Option Rules
+rules_in (command.Found rules) = Some rules
+rules_in _ = None
+
+abbrev pub no_rules : Rules
+no_rules = record { depth = 0; term = 0; hold = 0; level = 0; top_grade = 0; doubles = [] }
+
+-- the rules of the first entry
+abbrev pub rules_of : History → Rules
+rules_of [] = no_rules
+rules_of (e ∷ _) = unwrap_or (rules_in e.core.command) no_rules
+
+-- Phase
+
+-- Collecting from the founding on. No entry ends it yet: an Open entry will make it Judging, and a Publish entry Published.
+abbrev pub phase : History → Phase
+phase H = Collecting
+
+-- Topics
+
+abbrev pub topics_in : Command → Option (List Topic)
+topics_in (command.Topics topics) = Some topics
+topics_in _ = None
+
+abbrev pub has_topics : History → Bool
+has_topics H = list_any (λ e. is_some (topics_in e.core.command)) H
+
+-- the topics of the Topics entry
+abbrev pub topics : History → List Topic
+topics H = unwrap_or (slice_get (filter_map (λ e. topics_in e.core.command) H) 0) []
+
+abbrev pub is_topic : History → Text → Bool
+is_topic H topic = list_any (λ t. bytes_eq t.id topic) (topics H)
+
+-- Runs
+
+-- a run as it was submitted
+pub record Run : Type 0 where
+  pub name : Text
+  pub lists : List TopicList
+
+abbrev pub run_in : Command → Option Run
+run_in (command.Submit name lists) = Some (record { name = name; lists = lists })
+run_in _ = None
+
+-- the submitted runs, in order
+abbrev pub runs : History → List Run
+runs H = filter_map (λ e. run_in e.core.command) H
+
+-- whether a run of this name was ever submitted
+abbrev pub is_taken : History → Text → Bool
+is_taken H name = list_any (λ run. bytes_eq run.name name) (runs H)
+
+-- the runs that take part: each submitted one. No entry ends a run's part yet; a Withdraw entry will.
+abbrev pub live : History → List Run
+live H = runs H
+
+abbrev pub line_count : List TopicList → ℕ
+line_count lists = sum_by (λ l. length l.docs) lists
+
+-- the docnos of a run's lines
+abbrev pub docnos : List TopicList → List Text
+docnos lists = flat_map (λ l. l.docs) lists
+
+-- the lines of all runs that were ever submitted, and their docnos
+abbrev pub submitted_lines : History → ℕ
+submitted_lines H = sum_by (λ run. line_count run.lists) (runs H)
+
+abbrev pub submitted_docnos : History → List Text
+submitted_docnos H = flat_map (λ run. docnos run.lists) (runs H)
+
+-- the same with one more run's lists, each docno once
+abbrev pub lines_with : History → List TopicList → ℕ
+lines_with H lists = submitted_lines H + line_count lists
+
+abbrev pub docnos_with : History → List TopicList → List Text
+docnos_with H lists = each_once (submitted_docnos H ++ docnos lists)
+
+-- Pools
+
+-- the documents of the ranked list on a topic
+abbrev pub docs_on : List TopicList → Text → List Text
+docs_on lists topic = option_map_or (λ l. l.docs) (find (λ l. bytes_eq l.topic topic) lists) []
+
+-- the documents that a run holds on a topic: those whose rank is at most the depth
+abbrev pub held : History → Text → Run → List Text
+held H topic run = take (rules_of H).depth (docs_on run.lists topic)
+
+-- the documents that some live run holds, by docno
+abbrev pub pool : History → Text → List Text
+pool H topic = in_order (flat_map (held H topic) (live H))

@@ -1,0 +1,7 @@
+pub mod Words
+pub mod Campaign
+pub mod Refusals
+pub mod Answers
+pub mod Spelling
+pub mod Roles
+pub mod Legal

@@ -1,0 +1,32 @@
+-- Refusals, tried in the order in which they are written.
+use Rattle.std.specs.Prelude.{Bool, true, false, not, List, [], ◌∷◌, Option, None, Some, Result, Err}
+use Rattle.std.specs.Bool.{then_some}
+use Rattle.rulebook.specs.declared.rules.Phase.{Phase}
+use Rattle.rulebook.specs.declared.rules.Phase.TheVariants.{Collecting, Judging, Published}
+use Rattle.rulebook.specs.declared.reply.Refusal.{Refusal}
+use Rattle.rulebook.specs.declared.reply.Refusal.TheVariants as refusal
+use Rattle.rulebook.specs.declared.reply.Reply.{Reply}
+use Rattle.rulebook.specs.Campaign.{History, phase}
+
+-- what a request comes to: a reply, or a refusal
+abbrev pub Ruling : Type 0
+Ruling = Result Reply Refusal
+
+infix 20 ◌when◌
+abbrev pub ◌when◌ : Refusal → Bool → Option Refusal
+r when test = then_some test r
+
+-- the first refusal that holds, and else what follows
+abbrev pub unless : List (Option Refusal) → Ruling → Ruling
+unless [] ruling = ruling
+unless (None ∷ tests) ruling = unless tests ruling
+unless (Some r ∷ tests) ruling = Err r
+
+abbrev pub is_phase : Phase → Phase → Bool
+is_phase Collecting Collecting = true
+is_phase Judging Judging = true
+is_phase Published Published = true
+is_phase _ _ = false
+
+abbrev pub wrong_phase_unless : Phase → History → Option Refusal
+wrong_phase_unless p H = refusal.WrongPhase (phase H) when not (is_phase p (phase H))

@@ -1,0 +1,114 @@
+-- Entries as bytes. Integers are little-endian; a short text is a byte for its length and its bytes, a long text two bytes for its length and its bytes; a list is four bytes for its count and its items.
+use Rattle.std.specs.Prelude.{◌≡◌, ℕ, Bool, true, not, ◌&&◌, ◌^◌, List, [], ◌∷◌, ◌++◌, Option, None, Some, map, length, nat_le, nat_lt}
+use Rattle.std.specs.List.{list_all, flat_map}
+use Rattle.std.specs.Int.{to_le_bytes, w16, w32, w64}
+use Rattle.std.specs.Ordering.{nat_cmp, is_lt}
+use Rattle.std.specs.Cmp.Lexicographic.{slice_cmp}
+use Rattle.trec_formats.specs.declared.Topic.{Topic}
+use Rattle.trec_formats.specs.declared.TopicList.{TopicList}
+use Rattle.trec_formats.specs.Names.{is_name, is_docno, is_between}
+use Rattle.rulebook.specs.declared.limits.TheConstants.{MAX_MOMENT}
+use Rattle.rulebook.specs.declared.rules.Role.{Role}
+use Rattle.rulebook.specs.declared.rules.Role.TheVariants.{Organiser, Group, Assessor}
+use Rattle.rulebook.specs.declared.rules.Rules.{Rules}
+use Rattle.rulebook.specs.declared.ask.Command.{Command}
+use Rattle.rulebook.specs.declared.ask.Command.TheVariants.{Found, Topics, Submit, Open, Lease, Grade, Release, Amend, Rule, Withdraw, Publish}
+use Rattle.rulebook.specs.declared.entry.EntryCore.{EntryCore}
+use Rattle.rulebook.specs.Words.{Text, contains_text}
+
+-- The bytes
+
+abbrev pub short : Text → Text
+short text = length text ∷ text
+
+abbrev pub long : Text → Text
+long text = to_le_bytes w16 (length text) ++ text
+
+abbrev pub listed : {X : Type 0} → (X → Text) → List X → Text
+listed spell items = to_le_bytes w32 (length items) ++ flat_map spell items
+
+abbrev pub role_byte : Role → ℕ
+role_byte Organiser = 1
+role_byte Group = 2
+role_byte Assessor = 3
+
+abbrev pub number_bytes : Option ℕ → Text
+number_bytes None = 0 ∷ []
+number_bytes (Some n) = 1 ∷ to_le_bytes w64 n
+
+abbrev pub rules_bytes : Rules → Text
+rules_bytes r = to_le_bytes w16 r.depth ++ to_le_bytes w64 r.term ++ r.hold ∷ r.level ∷ r.top_grade ∷ listed short r.doubles
+
+abbrev pub topic_bytes : Topic → Text
+topic_bytes t = short t.id ++ long t.title ++ long t.desc ++ long t.narr
+
+abbrev pub list_bytes : TopicList → Text
+list_bytes l = short l.topic ++ to_le_bytes w32 l.line ++ listed short l.docs
+
+abbrev pub command_bytes : Command → Text
+command_bytes (Found rules) = 1 ∷ rules_bytes rules
+command_bytes (Topics topics) = 2 ∷ listed topic_bytes topics
+command_bytes (Submit run lists) = 3 ∷ short run ++ listed list_bytes lists
+command_bytes Open = 4 ∷ []
+command_bytes (Lease topic) = 5 ∷ short topic
+command_bytes (Grade lease grade) = 6 ∷ to_le_bytes w32 lease ++ grade ∷ []
+command_bytes (Release lease) = 7 ∷ to_le_bytes w32 lease
+command_bytes (Amend topic doc grade) = 8 ∷ short topic ++ short doc ++ grade ∷ []
+command_bytes (Rule topic doc grade) = 9 ∷ short topic ++ short doc ++ grade ∷ []
+command_bytes (Withdraw run) = 10 ∷ short run
+command_bytes Publish = 11 ∷ []
+
+abbrev pub entry_bytes : EntryCore → Text
+entry_bytes e =
+    short e.caller.name ++ role_byte e.caller.role ∷ number_bytes e.number ++ to_le_bytes w64 e.moment ++ command_bytes e.command
+
+-- The values that may be spelled
+
+-- each is before the next in byte order
+abbrev pub is_ascending : List Text → Bool
+is_ascending [] = true
+is_ascending (a ∷ []) = true
+is_ascending (a ∷ b ∷ rest) = is_lt (slice_cmp nat_cmp a b) && is_ascending (b ∷ rest)
+
+-- none stands twice
+abbrev pub differ : List Text → Bool
+differ [] = true
+differ (a ∷ rest) = not (contains_text rest a) && differ rest
+
+-- so many bytes of printable ASCII at most, the space included
+abbrev pub is_printable : ℕ → Text → Bool
+is_printable most text = nat_le (length text) most && list_all (is_between 32 126) text
+
+abbrev pub are_rules : Rules → Bool
+are_rules r =
+    is_between 1 1000 r.depth && is_between 1 (2 ^ 40) r.term && is_between 1 50 r.hold
+    && is_between 1 255 r.top_grade && is_between 1 r.top_grade r.level
+    && nat_le (length r.doubles) 250 && list_all is_name r.doubles && is_ascending r.doubles
+
+abbrev pub is_plain_topic : Topic → Bool
+is_plain_topic t = is_name t.id && is_printable 1000 t.title && is_printable 8192 t.desc && is_printable 8192 t.narr
+
+abbrev pub is_plain_list : TopicList → Bool
+is_plain_list l = is_name l.topic && is_between 1 1000 (length l.docs) && list_all is_docno l.docs && differ l.docs
+
+abbrev pub is_plain : Command → Bool
+is_plain (Found rules) = are_rules rules
+is_plain (Topics topics) = list_all is_plain_topic topics && differ (map (λ t. t.id) topics)
+is_plain (Submit run lists) =
+    is_name run && nat_lt 0 (length lists) && list_all is_plain_list lists && is_ascending (map (λ l. l.topic) lists)
+is_plain (Lease topic) = is_name topic
+is_plain (Amend topic doc grade) = is_name topic && is_docno doc
+is_plain (Rule topic doc grade) = is_name topic && is_docno doc
+is_plain (Withdraw run) = is_name run
+is_plain _ = true
+
+abbrev pub is_number : Option ℕ → Bool
+is_number None = true
+is_number (Some n) = nat_lt n (2 ^ 63)
+
+abbrev pub has_spelling : EntryCore → Bool
+has_spelling e = is_name e.caller.name && is_number e.number && nat_le e.moment MAX_MOMENT && is_plain e.command
+
+-- the bytes are the entry's
+abbrev pub IsSpelling : Text → EntryCore → Type 0
+IsSpelling bytes e = (has_spelling e ≡ true) × (bytes ≡ entry_bytes e)

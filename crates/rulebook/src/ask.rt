@@ -1,0 +1,58 @@
+use crate::rules::Rules;
+use decimal_rank::{Rows, Text};
+use trec_formats::{Topic, TopicList};
+
+/// A request that adds an entry where it is accepted.
+#[derive(Debug, Drop)]
+pub enum Command {
+    /// The founding of the campaign, which no request gives.
+    Found { rules: Rules },
+    /// The campaign's topics.
+    Topics { topics: Rows<Topic> },
+    /// A run: its name and its ranked lists, by topic id.
+    Submit { run: Text, lists: Rows<TopicList> },
+    /// The end of collecting.
+    Open,
+    /// The wish for a document of a topic to grade.
+    Lease { topic: Text },
+    /// The grade of a leased document.
+    Grade { lease: u32, grade: u8 },
+    /// The end of a lease without a grade.
+    Release { lease: u32 },
+    /// Another grade than the one that this caller gave before.
+    Amend { topic: Text, doc: Text, grade: u8 },
+    /// An organiser's grade, which goes before all labels.
+    Rule { topic: Text, doc: Text, grade: u8 },
+    /// The end of a run's part in the campaign.
+    Withdraw { run: Text },
+    /// The end of judging.
+    Publish,
+}
+
+/// A request that adds nothing.
+#[derive(Debug, Drop)]
+pub enum Query {
+    /// The pool of a topic.
+    Pool { topic: Text },
+    /// All effective grades.
+    Qrels,
+    /// The measures of a run.
+    Scores { run: Text },
+    /// The summaries of the live runs.
+    Table,
+    /// The documents whose two labels differ.
+    Disagreements,
+    /// The counts of each topic.
+    Progress,
+    /// The effective grades of a release.
+    ReleaseQrels { release: u32 },
+    /// The summaries of a release.
+    ReleaseScores { release: u32 },
+}
+
+/// What a caller asks.
+#[derive(Debug, Drop)]
+pub enum Ask {
+    Act(Command),
+    See(Query),
+}

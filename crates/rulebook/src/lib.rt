@@ -1,0 +1,19 @@
+//! The campaign's rules. `src/` has what requests, entries and replies are; `specs/` has the rules
+//! themselves, as definitions over the list of accepted entries.
+#![tactic(auto)]
+
+mod ask;
+mod entry;
+mod limits;
+mod reply;
+mod rules;
+#[cfg(test)]
+mod tests;
+
+pub use ask::{Ask, Command, Query};
+pub use entry::{Entry, EntryCore};
+pub use limits::{
+    MAX_DOCNOS, MAX_ENTRIES, MAX_ENTRY_BYTES, MAX_LINES, MAX_MOMENT, MAX_RUNS, MAX_TOPICS,
+};
+pub use reply::{Quantity, Refusal, Reply};
+pub use rules::{Caller, Phase, Role, Rules};

@@ -1,0 +1,20 @@
+/// How many topics a campaign has at most.
+pub const MAX_TOPICS: u32 = 250;
+
+/// How many runs are ever submitted at most.
+pub const MAX_RUNS: u32 = 256;
+
+/// How many lines all runs that were ever submitted have together at most.
+pub const MAX_LINES: u32 = 8_000_000;
+
+/// How many different docnos all runs that were ever submitted have at most.
+pub const MAX_DOCNOS: u32 = 2_000_000;
+
+/// How many entries are accepted at most, the founding one included.
+pub const MAX_ENTRIES: u32 = 4_000_000;
+
+/// The latest moment of a request, in seconds.
+pub const MAX_MOMENT: u64 = 1 << 40;
+
+/// How many bytes the spelling of an entry has at most.
+pub const MAX_ENTRY_BYTES: u32 = 1 << 25;

@@ -1,0 +1,14 @@
+pub mod Cuts
+pub mod Differing
+pub mod Grades
+pub mod Grouping
+pub mod LineNumbers
+pub mod Listing
+pub mod Numbering
+pub mod Progress
+pub mod Ranked
+pub mod Readings
+pub mod Repeats
+pub mod RunCounts
+pub mod RunFormat
+pub mod TopicOrder

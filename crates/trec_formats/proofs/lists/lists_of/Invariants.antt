@@ -1,0 +1,13 @@
+use Rattle.std.proofs.Common.{◌-◌, ◌≤◌, drop, length}
+use Rattle.trec_formats.specs.Groups.{shown}
+use Rattle.trec_formats.proofs.Listing.{IsListedTo}
+use Rattle.trec_formats.proofs.lists.lists_of.Given as goal
+
+abbrev pub invariant-loop-start : goal.invariant-loop-start
+invariant-loop-start l = record {
+  within : l.start ≤ length l.order;
+  listed : IsListedTo (shown l.order) (shown (drop l.start l.order)) l.lists.items;
+}
+
+abbrev pub decreases-loop-start : goal.decreases-loop-start
+decreases-loop-start l = length l.order - l.start

@@ -1,0 +1,5 @@
+use Rattle.trec_formats.proofs.Grades.{AreRead}
+use Rattle.trec_formats.proofs.names.grade_of.Given as goal
+
+abbrev pub invariant-loop-byte : goal.invariant-loop-byte
+invariant-loop-byte l = AreRead l.text l.byte-index l.value

@@ -1,0 +1,14 @@
+use Rattle.std.proofs.Common.{◌+◌, ◌≤◌, length}
+use Rattle.trec_formats.specs.Faults.{Stand}
+use Rattle.trec_formats.specs.Qrels.{qrel_of}
+use Rattle.trec_formats.proofs.Progress.{IsReadTo}
+use Rattle.trec_formats.proofs.qrels.read_lines.Given as goal
+
+abbrev pub invariant-loop-row : goal.invariant-loop-row
+invariant-loop-row l = record {
+  read : IsReadTo (Stand qrel_of) l.bytes l.number l.rest l.lines.items;
+  few : length l.lines.items + length l.rest ≤ length l.bytes;
+}
+
+abbrev pub decreases-loop-row : goal.decreases-loop-row
+decreases-loop-row l = length l.rest

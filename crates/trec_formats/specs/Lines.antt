@@ -1,0 +1,31 @@
+-- A text as numbered lines of fields.
+use Rattle.std.specs.Prelude.{◌==◌, ℕ, Bool, true, false, if◌then◌else◌, ◌||◌, List, [], ◌∷◌, map, filter}
+use Rattle.std.specs.List.{slice_split, onto_first, enumerate_from}
+
+abbrev pub is_white_space : ℕ → Bool
+is_white_space b = b == 9 || b == 11 || b == 12 || b == 13 || b == 32
+
+abbrev pub is_filled : {X : Type 0} → List X → Bool
+is_filled [] = false
+is_filled (_ ∷ _) = true
+
+-- A text is cut at each line feed. A last part that isn't empty is a line too.
+unfoldable pub lines_of : List ℕ → List (List ℕ)
+lines_of [] = []
+lines_of (b ∷ bytes) = if b == 10 then [] ∷ lines_of bytes else onto_first b (lines_of bytes)
+
+-- the longest stretches of bytes that are no white space
+unfoldable pub fields_of : List ℕ → List (List ℕ)
+fields_of line = filter is_filled (slice_split is_white_space line)
+
+-- a line's number, and its fields
+abbrev pub Row : Type 0
+Row = ℕ × List (List ℕ)
+
+-- these lines, of which the first has this number, as far as they have a field
+unfoldable pub rows_from : ℕ → List (List ℕ) → List Row
+rows_from number lines = filter (λ row. is_filled row.1) (enumerate_from number (map fields_of lines))
+
+-- the lines of a text that aren't white space alone
+abbrev pub rows_of : List ℕ → List Row
+rows_of text = rows_from 1 (lines_of text)

@@ -1,0 +1,14 @@
+ghost use Rattle.std.specs.Prelude.{ℕ, List};
+ghost use Rattle.trec_formats.specs.Faults.{ExactlyOne};
+ghost use Rattle.trec_formats.specs.Qrels.{IsQrelsReading};
+ghost use Rattle.trec_formats.specs.Runs.{IsRunReading};
+
+/// Every text is read as a run in exactly one way: as its lines, or as its fault.
+pub fn one_run_reading()
+    ensures { (text : List ℕ) → ExactlyOne (IsRunReading text) }
+{}
+
+/// Every text is read as qrels in exactly one way: as its lines, or as its fault.
+pub fn one_qrels_reading()
+    ensures { (text : List ℕ) → ExactlyOne (IsQrelsReading text) }
+{}

@@ -1,0 +1,64 @@
+ghost use Rattle.std.specs.Prelude.{◌≡◌, IfOk};
+ghost use Rattle.std.specs.List.{list_all};
+ghost use Rattle.trec_formats.specs.Names.{is_name, is_docno, is_name_byte, is_between, grade_of};
+
+use decimal_rank::{Memory, Text};
+use std::alloc::Global;
+
+fn is_name_byte(byte: u8) -> bool
+    ensures { result ≡ is_name_byte byte }
+{
+    matches!(byte, b'0'..=b'9' | b'A'..=b'Z' | b'a'..=b'z' | b'.' | b'_' | b'-')
+}
+
+fn are_name_bytes(text: &[u8]) -> bool
+    ensures { result ≡ list_all is_name_byte text.now }
+{
+    text.iter().all(|byte| is_name_byte(*byte))
+}
+
+/// Whether a field may be the id of a topic or the name of a run.
+#[tactic(auto, unfolding(crate::specs::Names::is_name))]
+pub(crate) fn is_name(text: &[u8]) -> bool
+    ensures { result ≡ is_name text.now }
+{
+    1 <= text.len() && text.len() <= 32 && are_name_bytes(text)
+}
+
+fn are_visible(text: &[u8]) -> bool
+    ensures { result ≡ list_all (is_between 33 126) text.now }
+{
+    text.iter().all(|byte| 33 <= *byte && *byte <= 126)
+}
+
+/// Whether a field may be the number of a document.
+#[tactic(auto, unfolding(crate::specs::Names::is_docno))]
+pub(crate) fn is_docno(text: &[u8]) -> bool
+    ensures { result ≡ is_docno text.now }
+{
+    1 <= text.len() && text.len() <= 64 && are_visible(text)
+}
+
+/// The value of a field of digits alone, up to 255.
+pub(crate) fn grade_of(text: &[u8]) -> Option<u8>
+    ensures { result ≡ grade_of text.now }
+{
+    let mut value: u16 = 0;
+    for byte in text {
+        if !byte.is_ascii_digit() {
+            return None;
+        }
+        value = value * 10 + u16::from(*byte - b'0');
+        if value > 255 {
+            return None;
+        }
+    }
+    Some(value as u8)
+}
+
+/// A copy of a field.
+pub(crate) fn copy_of(alloc: Global, field: &[u8]) -> Result<Text, Memory>
+    ensures { IfOk result (λ copy. copy ≡ field.now) }
+{
+    Ok(Text::new(Vec::from_slice(alloc, field)?))
+}

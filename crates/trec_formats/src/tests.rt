@@ -1,0 +1,220 @@
+use crate::{FormatEnd, QrelLine, RunLine, TopicList, rank_run, read_qrels, read_run};
+use decimal_rank::{Decimal, Text};
+use std::alloc::Global;
+use std::cmp::Ordering;
+use std::fmt::Write;
+use std::test::Fail;
+
+fn run_of(alloc: Global, text: &str) -> Result<Vec<RunLine>, FormatEnd> {
+    if text.len() > 1_000_000 {
+        return Err(FormatEnd::Memory);
+    }
+    read_run(alloc, text.as_bytes())
+}
+
+fn qrels_of(alloc: Global, text: &str) -> Result<Vec<QrelLine>, FormatEnd> {
+    if text.len() > 1_000_000 {
+        return Err(FormatEnd::Memory);
+    }
+    read_qrels(alloc, text.as_bytes())
+}
+
+fn lists_of(alloc: Global, text: &str) -> Result<Vec<TopicList>, FormatEnd> {
+    if text.len() > 1_000_000 {
+        return Err(FormatEnd::Memory);
+    }
+    let lines = read_run(alloc, text.as_bytes())?;
+    rank_run(alloc, lines.as_slice())
+}
+
+fn is_score(score: &Decimal, wanted: &str) -> bool {
+    match Decimal::read(wanted.as_bytes()) {
+        Ok(wanted) => score.compare(&wanted) == Ordering::Equal,
+        Err(_) => false,
+    }
+}
+
+fn is_run_line(line: &RunLine, wanted: &(u32, &str, &str, &str)) -> bool {
+    line.line == wanted.0
+        && line.topic.bytes() == wanted.1.as_bytes()
+        && line.doc.bytes() == wanted.2.as_bytes()
+        && is_score(&line.score, wanted.3)
+}
+
+fn is_qrel_line(line: &QrelLine, wanted: &(u32, &str, &str, u8)) -> bool {
+    line.line == wanted.0
+        && line.topic.bytes() == wanted.1.as_bytes()
+        && line.doc.bytes() == wanted.2.as_bytes()
+        && line.grade == wanted.3
+}
+
+fn are_docs(docs: &[Text], wanted: &[&str]) -> bool {
+    docs.len() == wanted.len()
+        && docs
+            .iter()
+            .zip(wanted)
+            .all(|(doc, name)| doc.bytes() == name.as_bytes())
+}
+
+fn is_list(list: &TopicList, topic: &str, line: u32, docs: &[&str]) -> bool {
+    list.topic.bytes() == topic.as_bytes() && list.line == line && are_docs(list.docs.items(), docs)
+}
+
+#[test]
+fn runs_are_read(rt: HostRuntime) -> Result<(), Fail> {
+    let lines = run_of(rt.alloc(), "1 Q0 A 1 3 t\n1 Q0 B 2 2 t\n1 Q0 C 3 1 t\n")?;
+    let wanted = [(1, "1", "A", "3"), (2, "1", "B", "2"), (3, "1", "C", "1")];
+    assert_eq!(rt; lines.len(), wanted.len());
+    assert!(rt;
+        lines
+            .iter()
+            .zip(&wanted)
+            .all(|(line, wanted)| is_run_line(line, wanted))
+    );
+
+    // white space of every kind, lines of it alone, lines of a topic apart, and no line feed at the end
+    let lines = run_of(
+        rt.alloc(),
+        "\n \t\n401\x0bQ0\tFR940-1~\x0c 7  010 x \r\nb.c_D-9 ? ! ? 999999999999999999 ?\r\n\r\n401 0 a 0 0 0",
+    )?;
+    let wanted = [
+        (3, "401", "FR940-1~", "10"),
+        (4, "b.c_D-9", "!", "999999999999999999"),
+        (6, "401", "a", "0"),
+    ];
+    assert_eq!(rt; lines.len(), wanted.len());
+    assert!(rt;
+        lines
+            .iter()
+            .zip(&wanted)
+            .all(|(line, wanted)| is_run_line(line, wanted))
+    );
+    Ok(())
+}
+
+#[test]
+fn faults_of_runs(rt: HostRuntime) {
+    let cases = [
+        // no line with a field
+        "",
+        "\n",
+        " \t\x0b\x0c\r\n\r\n",
+        // five fields, and seven
+        "1 Q0 A 1 3 t\n1 Q0 B 2 2\n",
+        "1 Q0 A 1 3 t u\n",
+        // topics that are no names
+        "a/b Q0 A 1 3 t\n",
+        "123456789012345678901234567890123 Q0 A 1 3 t\n",
+        // docnos of other bytes, or of 65
+        "1 Q0 \x7f 1 3 t\n",
+        "1 Q0 \u{e9} 1 3 t\n",
+        "1 Q0 12345678901234567890123456789012345678901234567890123456789012345 1 3 t\n",
+        // scores of other bytes, or of 19 digits
+        "1 Q0 A 1 2.0 t\n",
+        "1 Q0 A 1 -1 t\n",
+        "1 Q0 A 1 1234567890123456789 t\n",
+        // a good line before, and one behind
+        "1 Q0 A 1 3 t\n1 Q0 B 2 x t\n1 Q0 C 3 1 t\n",
+    ];
+    for text in cases {
+        assert_eq!(rt;
+            run_of(rt.alloc(), text).err(),
+            Some(FormatEnd::Fault),
+            "{text}"
+        );
+    }
+}
+
+#[test]
+fn a_topic_has_a_thousand_lines(rt: HostRuntime) -> Result<(), Fail> {
+    let mut text = String::new(rt.alloc());
+    for doc in 1..1001 {
+        writeln!(text, "1 Q0 D{doc} 1 {doc} t")?;
+        writeln!(text, "2 Q0 D{doc} 1 7 t")?;
+    }
+    let lists = lists_of(rt.alloc(), text.as_str())?;
+    assert_eq!(rt; lists.len(), 2);
+    assert_eq!(rt; lists[0].docs.items().len(), 1000);
+    assert_eq!(rt; lists[1].docs.items().len(), 1000);
+    assert!(rt; are_docs(&lists[0].docs.items()[..2], &["D1000", "D999"]));
+    assert!(rt; are_docs(&lists[1].docs.items()[..2], &["D999", "D998"]));
+    writeln!(text, "1 Q0 D1001 1 1 t")?;
+    assert_eq!(rt;
+        run_of(rt.alloc(), text.as_str()).err(),
+        Some(FormatEnd::Fault)
+    );
+    Ok(())
+}
+
+#[test]
+fn qrels_are_read(rt: HostRuntime) -> Result<(), Fail> {
+    let lines = qrels_of(
+        rt.alloc(),
+        "1 0 A 1\n1 0 B 0\n\n2\t0 A\r\t0255 \r\n  1 x d 007",
+    )?;
+    let wanted = [
+        (1, "1", "A", 1),
+        (2, "1", "B", 0),
+        (4, "2", "A", 255),
+        (5, "1", "d", 7),
+    ];
+    assert_eq!(rt; lines.len(), wanted.len());
+    assert!(rt;
+        lines
+            .iter()
+            .zip(&wanted)
+            .all(|(line, wanted)| is_qrel_line(line, wanted))
+    );
+    Ok(())
+}
+
+#[test]
+fn faults_of_qrels(rt: HostRuntime) {
+    let cases = [
+        "",
+        "\r\n\x0b",
+        // three fields, and five
+        "1 0 A\n",
+        "1 0 A 1 1\n",
+        // a topic that is no name, a docno of other bytes
+        "a*b 0 A 1\n",
+        "1 0 \u{e9} 1\n",
+        // grades that aren't digits alone, or above 255
+        "1 0 A -1\n",
+        "1 0 A +1\n",
+        "1 0 A 1.0\n",
+        "1 0 A 256\n",
+        "1 0 A 99999999999999999999999999\n",
+        // a document twice in a topic
+        "1 0 A 1\n1 0 B 0\n2 0 B 0\n1 0 B 1\n",
+        "1 0 A 1\n1 0 A 1\n",
+    ];
+    for text in cases {
+        assert_eq!(rt;
+            qrels_of(rt.alloc(), text).err(),
+            Some(FormatEnd::Fault),
+            "{text}"
+        );
+    }
+}
+
+#[test]
+fn lists_are_ranked(rt: HostRuntime) -> Result<(), Fail> {
+    // ranks and order of lines don't count; equal scores stand by descending docno
+    let lists = lists_of(
+        rt.alloc(),
+        "\n2 Q0 A 1 5 t\n10 Q0 x 1 1 t\n2 Q0 C 2 9 t\n10 Q0 y 9 1 t\n2 Q0 B 3 05 t\n10 Q0 xx 0 0 t\n1 Q0 A 1 1 t\n",
+    )?;
+    assert_eq!(rt; lists.len(), 3);
+    assert!(rt; is_list(&lists[0], "1", 8, &["A"]));
+    assert!(rt; is_list(&lists[1], "10", 3, &["y", "x", "xx"]));
+    assert!(rt; is_list(&lists[2], "2", 2, &["C", "B", "A"]));
+    Ok(())
+}
+
+#[test]
+fn a_document_stands_once(rt: HostRuntime) {
+    let twice = "1 Q0 A 1 3 t\n2 Q0 A 1 3 t\n1 Q0 B 2 2 t\n1 Q0 A 3 1 t\n";
+    assert_eq!(rt; lists_of(rt.alloc(), twice).err(), Some(FormatEnd::Fault));
+    assert_eq!(rt; run_of(rt.alloc(), twice).err(), None);
+}
