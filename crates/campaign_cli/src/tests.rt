@@ -28,25 +28,34 @@ impl Sink for ByteSink {
 
 #[test]
 fn words_of_a_call(rt: HostRuntime) -> Result<(), Fail> {
-    let rows: [(&[&str], Option<(&[u8], &[u8])>); 7] = [
-        (&["eval", "r.txt", "q.txt"], Some((b"r.txt", b"q.txt"))),
-        (&["eval", "-r", ""], Some((b"-r", b""))),
-        (&["eval", "r.txt"], None),
-        (&["eval", "r.txt", "q.txt", "x"], None),
-        (&["Eval", "r.txt", "q.txt"], None),
-        (&["session"], None),
-        (&[], None),
+    let rows: [(&[&str], Command); 8] = [
+        (
+            &["eval", "r.txt", "q.txt"],
+            Command::Eval {
+                run: b"r.txt",
+                qrels: b"q.txt",
+            },
+        ),
+        (
+            &["eval", "-r", ""],
+            Command::Eval {
+                run: b"-r",
+                qrels: b"",
+            },
+        ),
+        (&["eval", "r.txt"], Command::Usage),
+        (&["eval", "r.txt", "q.txt", "x"], Command::Usage),
+        (&["Eval", "r.txt", "q.txt"], Command::Usage),
+        (&["session"], Command::Session),
+        (&["session", "x"], Command::Usage),
+        (&[], Command::Usage),
     ];
     for (row, expected) in rows {
         let mut words = Vec::new(rt.alloc());
         for word in row {
             words.push(String::from_str(rt.alloc(), word)?)?;
         }
-        let found = match read_words(&words) {
-            Command::Eval { run, qrels } => Some((run, qrels)),
-            Command::Usage => None,
-        };
-        assert_eq!(rt; found, expected);
+        assert_eq!(rt; read_words(&words), expected);
     }
     Ok(())
 }

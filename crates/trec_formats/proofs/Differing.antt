@@ -1,5 +1,5 @@
 -- A run repeats no document of a topic where the lines of each topic have different documents.
-use Rattle.std.proofs.Common.{◌≡◌, ◌≢◌, ◌<◌, ◌+◌, ℕ, zero, suc, Bool, true, false, List, [], ◌∷◌, ◌++◌, length, filter, take, drop, get_or, refl, sym, ◌∙◌, ap, subst, arith, bytes_eq, inl, inr}
+use Rattle.std.proofs.Common.{◌≡◌, ◌≢◌, ◌<◌, ◌+◌, ℕ, zero, suc, Bool, true, false, List, [], ◌∷◌, ◌++◌, length, filter, take, drop, get_or, refl, sym, ◌∙◌, ap, subst, arith, bytes_eq}
 use Rattle.std.specs.Prelude.{All, AllPairs}
 use Rattle.std.specs.List.{position_or_len}
 use Rattle.std.proofs.lemmas.Bool.{false_from_ne_true}
@@ -11,10 +11,9 @@ use Rattle.std.proofs.lemmas.Option.{slice_get_within}
 use Rattle.std.proofs.lemmas.Cmp.{nat_list_eq_equiv}
 use Rattle.std.proofs.lemmas.Slice.Eq.{bytes_eq-Decides}
 use Rattle.trec_formats.specs.declared.runs.RunLine.{RunLine}
-use Rattle.trec_formats.specs.Faults.{FormatFault, IsDistinct}
+use Rattle.trec_formats.specs.Faults.{IsDistinct}
 use Rattle.trec_formats.specs.Groups.{DocsDiffer}
-use Rattle.trec_formats.specs.Lists.{same_document, lines_on, IsListsFault}
-use Rattle.trec_formats.proofs.Readings.{Found, found, distinct_nil}
+use Rattle.trec_formats.specs.Lists.{same_document, lines_on}
 use Rattle.trec_formats.proofs.Repeats.{find_some}
 
 pub pairs_cons : {X : Type 0} (R : X → X → Type 0) (x : X) (xs : List X) → All (R x) xs → AllPairs R xs → AllPairs R (x ∷ xs)
@@ -132,11 +131,3 @@ of_topic topic lines (first ∷ more) is all =
 -- the same, of the topics that stand on lines
 pub distinct_by_topic : (lines : List RunLine) → All (λ line. DocsDiffer (lines_on line.topic lines)) lines → IsDistinct same_document lines
 distinct_by_topic lines all = distinct_from_differ lines (λ topic. of_topic topic lines (lines_on topic lines) refl all)
-
--- lines that aren't distinct have a least one that repeats an earlier one
-twice_of : (lines : List RunLine) → (IsDistinct same_document lines → ⊥) → Found same_document (λ line. line.line) lines → (fault : FormatFault) × IsListsFault lines fault
-twice_of lines not (inl distinct) = absurd (not distinct)
-twice_of lines not (inr twice) = twice
-
-pub lists_fault : (lines : List RunLine) → (IsDistinct same_document lines → ⊥) → (fault : FormatFault) × IsListsFault lines fault
-lists_fault lines not = twice_of lines not (found same_document (λ line. line.line) lines [] (distinct_nil same_document (λ line. line.line)))

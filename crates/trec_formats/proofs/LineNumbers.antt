@@ -6,7 +6,9 @@ use Rattle.decimal_rank.specs.Decimal.{DecimalValue}
 use Rattle.decimal_rank.specs.DecimalText.{decimal_of}
 use Rattle.decimal_rank.specs.declared.decimals.DecimalFault.{DecimalFault}
 use Rattle.trec_formats.specs.declared.runs.RunLine.{RunLine}
-use Rattle.trec_formats.specs.Faults.{Kind, Topic, Docno, Stand}
+use Rattle.trec_formats.specs.declared.faults.Kind.{Kind}
+use Rattle.trec_formats.specs.declared.faults.Kind.TheVariants.{Topic, Docno}
+use Rattle.trec_formats.specs.Faults.{Stand}
 use Rattle.trec_formats.specs.Lines.{Row, fields_of, is_filled, lines_of, rows_from, rows_of}
 use Rattle.trec_formats.specs.Names.{is_name, is_docno}
 use Rattle.trec_formats.specs.Runs.{IsRun, run_of, scored}

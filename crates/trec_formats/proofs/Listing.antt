@@ -11,9 +11,7 @@ use Rattle.std.proofs.lemmas.List.Elements.{All-append, All-push, All-cons, All-
 use Rattle.std.proofs.lemmas.List.Sums.{length-filter}
 use Rattle.std.proofs.lemmas.Option.{same_Some}
 use Rattle.std.proofs.lemmas.Slice.Eq.{bytes_eq-Decides}
-use Rattle.trec_formats.specs.declared.faults.FormatEnd.{FormatEnd}
-use Rattle.trec_formats.specs.declared.faults.FormatEnd.TheVariants as ends
-use Rattle.trec_formats.specs.Faults.{OfFault, IsDistinct}
+use Rattle.trec_formats.specs.Faults.{IsDistinct}
 use Rattle.trec_formats.specs.declared.lists.TopicList.{TopicList}
 use Rattle.trec_formats.specs.declared.runs.RunLine.{RunLine}
 use denote.Ref.{Bor}
@@ -190,10 +188,6 @@ listed_all order lists w =
 -- a group whose lines have one document twice
 pub group_repeats : (order rest group : List RunLine) → Cuts order rest group → (DocsDiffer group → ⊥) → IsDistinct same_document order → ⊥
 group_repeats order rest group c repeats distinct = repeats (subst DocsDiffer c.whole (differ_from_distinct c.first.topic order distinct))
-
-pub group_stops : (end : FormatEnd) (order rest group : List RunLine) → Cuts order rest group → OfFault end (DocsDiffer group → ⊥) → OfFault end (IsDistinct same_document order → ⊥)
-group_stops ends.Memory order rest group c told = tt
-group_stops ends.Fault order rest group c told = group_repeats order rest group c told
 
 -- what lies behind a group
 pub after_is : (order rest group : List RunLine) (c : Cuts order rest group) → c.after ≡ drop (length group) rest

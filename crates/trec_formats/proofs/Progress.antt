@@ -1,10 +1,9 @@
 -- A text that is read up to a line.
 use Rattle.std.proofs.Common.{◌≡◌, ◌≢◌, ◌≤◌, ◌+◌, inl, inr, ℕ, List, [], ◌∷◌, ◌++◌, length, refl, sym, ◌∙◌, ap, arith, Ok, Err, Result, append_assoc}
 use Rattle.std.proofs.lemmas.List.{append-nil}
-use Rattle.std.specs.Result.{IsErr}
-use Rattle.trec_formats.specs.declared.faults.FormatEnd.{FormatEnd}
-use Rattle.trec_formats.specs.declared.faults.FormatEnd.TheVariants as ends
-use Rattle.trec_formats.specs.Faults.{OfFault, Kind, FormatFault, IsReadAs, Empty}
+use Rattle.trec_formats.specs.declared.faults.Kind.{Kind}
+use Rattle.trec_formats.specs.declared.faults.Kind.TheVariants.{Empty}
+use Rattle.trec_formats.specs.Faults.{IsReadAs}
 use Rattle.trec_formats.specs.Lines.{Row, lines_of, rows_from, rows_of}
 use Rattle.trec_formats.proofs.Readings.{IsFormat}
 
@@ -14,10 +13,6 @@ pub record IsReadTo {L : Type 0} (Good : List Row → List L → Type 0) (text :
   pub rows : rows_of text ≡ done ++ rows_from (number + 1) (lines_of rest)
   pub good : Good done lines
   pub fits : number + length rest ≤ length text
-
-err_kind : {X : Type 0} (r : Result X Kind) → IsErr r → (kind : Kind) × (r ≡ Err kind)
-err_kind (Ok x) is = cc
-err_kind (Err kind) is = (kind, refl)
 
 module _ {L : Type 0} (Good : List Row → List L → Type 0) (next : List L → Row → Result L Kind) (format : IsFormat Good next) where
   pub begins : (text : List ℕ) → IsReadTo Good text 0 text []
@@ -31,17 +26,9 @@ module _ {L : Type 0} (Good : List Row → List L → Type 0) (next : List L →
     fits = omega (arith, w.fits, shorter);
   }
 
-  ends_at : (text : List ℕ) (number : ℕ) (rest : List ℕ) (lines : List L) (row : Row) (after : List ℕ) (kind : Kind) → IsReadTo Good text number rest lines → rows_from (number + 1) (lines_of rest) ≡ row ∷ rows_from (row.0 + 1) (lines_of after) → next lines row ≡ Err kind → (fault : FormatFault) × IsReadAs Good next (rows_of text) (Err fault)
-  ends_at text number rest lines row after kind w cut is =
-      (record { line = row.0; kind = kind }, inr (record { before = w.done; row = row; after = rows_from (row.0 + 1) (lines_of after); lines = lines; cut = w.rows ∙ ap (λ rows. w.done ++ rows) cut; good = w.good; line = refl; kind = is }))
-
-  pub stops_at : (text : List ℕ) (number : ℕ) (rest : List ℕ) (lines : List L) (row : Row) (after : List ℕ) → IsErr (next lines row) → IsReadTo Good text number rest lines → rows_from (number + 1) (lines_of rest) ≡ row ∷ rows_from (row.0 + 1) (lines_of after) → (fault : FormatFault) × IsReadAs Good next (rows_of text) (Err fault)
-  stops_at text number rest lines row after told w cut = let kind = err_kind (next lines row) told in ends_at text number rest lines row after kind.0 w cut kind.1
-
-  -- the same, where memory may be why the row isn't taken
-  pub stops : (end : FormatEnd) (text : List ℕ) (number : ℕ) (rest : List ℕ) (lines : List L) (row : Row) (after : List ℕ) → OfFault end (IsErr (next lines row)) → IsReadTo Good text number rest lines → rows_from (number + 1) (lines_of rest) ≡ row ∷ rows_from (row.0 + 1) (lines_of after) → OfFault end ((fault : FormatFault) × IsReadAs Good next (rows_of text) (Err fault))
-  stops ends.Memory text number rest lines row after told w cut = tt
-  stops ends.Fault text number rest lines row after told w cut = stops_at text number rest lines row after told w cut
+  pub stops_at : (text : List ℕ) (number : ℕ) (rest : List ℕ) (lines : List L) (row : Row) (after : List ℕ) (kind : Kind) → IsReadTo Good text number rest lines → rows_from (number + 1) (lines_of rest) ≡ row ∷ rows_from (row.0 + 1) (lines_of after) → next lines row ≡ Err kind → IsReadAs Good next (rows_of text) (Err (record { line = row.0; kind = kind }))
+  stops_at text number rest lines row after kind w cut is =
+      inr (record { before = w.done; row = row; after = rows_from (row.0 + 1) (lines_of after); lines = lines; cut = w.rows ∙ ap (λ rows. w.done ++ rows) cut; good = w.good; line = refl; kind = is })
 
   whole : (text : List ℕ) (number : ℕ) (rest : List ℕ) (lines : List L) (w : IsReadTo Good text number rest lines) → rows_from (number + 1) (lines_of rest) ≡ [] → rows_of text ≡ w.done
   whole text number rest lines w none = w.rows ∙ ap (λ rows. w.done ++ rows) none ∙ append-nil w.done
@@ -54,7 +41,7 @@ module _ {L : Type 0} (Good : List Row → List L → Type 0) (next : List L →
       let good : Good (rows_of text) lines = rw (whole text number rest lines w none) w.good in
       (some_rows text lines good some, good)
 
-  pub is_empty : (text : List ℕ) (number : ℕ) (rest : List ℕ) (lines : List L) → IsReadTo Good text number rest lines → rows_from (number + 1) (lines_of rest) ≡ [] → lines ≡ [] → (fault : FormatFault) × IsReadAs Good next (rows_of text) (Err fault)
+  pub is_empty : (text : List ℕ) (number : ℕ) (rest : List ℕ) (lines : List L) → IsReadTo Good text number rest lines → rows_from (number + 1) (lines_of rest) ≡ [] → lines ≡ [] → IsReadAs Good next (rows_of text) (Err (record { line = 0; kind = Empty }))
   is_empty text number rest lines w none nil =
       let good : Good (rows_of text) [] = rw (whole text number rest lines w none) (rw nil at w.good) in
-      (record { line = 0; kind = Empty }, inl (record { none = format.none (rows_of text) good; line = refl; kind = refl }))
+      inl (record { none = format.none (rows_of text) good; line = refl; kind = refl })

@@ -2,7 +2,10 @@
 use Rattle.std.proofs.Common.{◌≡◌, ◌≢◌, ◌⊎◌, inl, inr, ℕ, Bool, List, [], ◌∷◌, ◌++◌, find, refl, sym, ◌∙◌, ap, Option, Some, None, Ok, Err, Result, append_assoc}
 use Rattle.std.proofs.lemmas.List.{append-nil, map-append}
 use Rattle.std.proofs.lemmas.Option.{none-some, same_Some}
-use Rattle.trec_formats.specs.Faults.{Kind, Empty, Twice, FormatFault, ExactlyOne, Stand, IsFirstFault, IsEmpty, IsReadAs, Repeats, IsDistinct, IsTwice, IsReadOnce}
+use Rattle.trec_formats.specs.declared.faults.Kind.{Kind}
+use Rattle.trec_formats.specs.declared.faults.Kind.TheVariants.{Empty, Twice}
+use Rattle.trec_formats.specs.declared.faults.FormatFault.{FormatFault}
+use Rattle.trec_formats.specs.Faults.{ExactlyOne, Stand, IsFirstFault, IsEmpty, IsReadAs, Repeats, IsDistinct, IsTwice, IsReadOnce}
 
 -- Two cuts of one list are equal, or one of them lies in the other's front.
 pub record LiesIn {X : Type 0} (before : List X) (row : X) (front : List X) : Type 0 where

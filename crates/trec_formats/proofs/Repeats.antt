@@ -1,37 +1,18 @@
--- The documents of the lines that were looked at.
-use Rattle.std.proofs.Common.{◌≡◌, ◌<◌, ◌≤◌, ◌+◌, ◌&&◌, ◌||◌, ℕ, Bool, true, false, not, cond, List, [], ◌∷◌, ◌++◌, length, take, drop, get_or, find, refl, sym, ◌∙◌, ap, Some, None, bytes_eq}
+-- The documents of the lines that were looked at, each with its first line.
+use Rattle.std.proofs.Common.{◌≡◌, ◌<◌, ◌≤◌, ◌+◌, ◌&&◌, ℕ, Bool, true, false, cond, List, [], ◌∷◌, ◌++◌, length, take, drop, get_or, find, refl, sym, ◌∙◌, ap, Option, Some, None, bytes_eq}
 use Rattle.std.specs.List.{list_any}
+use Rattle.std.specs.Option.{option_map, option_or}
+use Rattle.std.specs.HashMap.{HashMap, get_by}
+use Rattle.std.specs.declared.hash.FoldHasher.{FoldHasher}
+use Rattle.std.specs.declared.hash.BuildHasherDefault.{BuildHasherDefault}
 use Rattle.std.proofs.lemmas.List.{take-append-drop, drop_more, take_more, take_all}
-use Rattle.std.proofs.lemmas.List.Folds.{list_any-append}
+use Rattle.std.proofs.lemmas.List.Folds.{find-append}
 use Rattle.std.proofs.lemmas.Cmp.{nat_list_eq_equiv}
+use Rattle.std.proofs.lemmas.Slice.Eq.{bytes_eq-Decides}
 use denote.Ref.{Bor}
-use Rattle.trec_formats.specs.declared.qrels.QrelLine.{QrelLine}
-use Rattle.trec_formats.specs.Faults.{FormatFault, Twice, IsDistinct, IsTwice}
-use Rattle.trec_formats.specs.Qrels.{same_document}
+use Rattle.trec_formats.specs.declared.faults.Kind.TheVariants.{Twice}
+use Rattle.trec_formats.specs.Faults.{IsDistinct, IsTwice}
 use Rattle.trec_formats.proofs.Readings.{distinct_push, cut_nil}
-
--- a topic and a docno
-abbrev pub Key : Type 0
-Key = Bor (List ℕ) × Bor (List ℕ)
-
-abbrev pub is_key : Key → Key → Bool
-is_key a b = bytes_eq a.0.now b.0.now && bytes_eq a.1.now b.1.now
-
-abbrev pub is_of : Key → QrelLine → Bool
-is_of key line = bytes_eq key.0.now line.topic && bytes_eq key.1.now line.doc
-
--- the keys are those of these lines, which are distinct
-pub record HaveSeen (keys : List Key) (lines : List QrelLine) : Type 0 where
-  pub keys_are : (key : Key) → list_any (is_key key) keys ≡ list_any (is_of key) lines
-  pub distinct : IsDistinct same_document lines
-
-find_none_step : {X : Type 0} (p : X → Bool) (x : X) (xs : List X) (t : Bool) → p x ≡ t → list_any p (x ∷ xs) ≡ false → (list_any p xs ≡ false → find p xs ≡ None) → find p (x ∷ xs) ≡ None
-find_none_step p x xs true is none rest = let e : true ≡ false = rw is at none in cc e
-find_none_step p x xs false is none rest = rw is (rest (rw is at none))
-
-find_none : {X : Type 0} (p : X → Bool) (xs : List X) → list_any p xs ≡ false → find p xs ≡ None
-find_none p [] none = refl
-find_none p (x ∷ xs) none = find_none_step p x xs (p x) refl none (find_none p xs)
 
 find_some_step : {X : Type 0} (p : X → Bool) (x : X) (xs : List X) (t : Bool) → p x ≡ t → list_any p (x ∷ xs) ≡ true → (list_any p xs ≡ true → (y : X) × (find p xs ≡ Some y)) → (y : X) × (find p (x ∷ xs) ≡ Some y)
 find_some_step p x xs true is some rest = (x, rw is refl)
@@ -41,65 +22,97 @@ pub find_some : {X : Type 0} (p : X → Bool) (xs : List X) → list_any p xs �
 find_some p [] some = cc
 find_some p (x ∷ xs) some = find_some_step p x xs (p x) refl some (find_some p xs)
 
-same_key : (a b : Key) → is_key a b ≡ is_key b a
-same_key a b = rw (nat_list_eq_equiv.symm a.0.now b.0.now, nat_list_eq_equiv.symm a.1.now b.1.now) refl
+-- a topic and a docno
+abbrev pub Document : Type 0
+Document = Bor (List ℕ) × Bor (List ℕ)
 
-or_last : (t rest : Bool) → cond t true rest ≡ (rest || (t || false))
-or_last true true = refl
-or_last true false = refl
-or_last false true = refl
-or_last false false = refl
+abbrev pub Firsts : Type 0
+Firsts = HashMap Document ℕ (BuildHasherDefault FoldHasher)
 
-not_not : (t added : Bool) → added ≡ not t → added ≡ true → t ≡ false
-not_not true added is new = cc
-not_not false added is new = refl
+-- the number of the first line of a document
+abbrev pub first_at : Firsts → List ℕ → List ℕ → Option ℕ
+first_at firsts topic doc = get_by (λ key. bytes_eq topic key.0.now && bytes_eq doc key.1.now) firsts
 
-not_added : (t added : Bool) → added ≡ not t → added ≡ false → t ≡ true
-not_added true added is old = refl
-not_added false added is old = cc
+module _ {L : Type 0} (topic doc : L → List ℕ) (number : L → ℕ) where
+  abbrev pub same : L → L → Bool
+  same a b = bytes_eq (topic a) (topic b) && bytes_eq (doc a) (doc b)
 
--- a key that stands for a line
-pub record IsKeyOf (key : Key) (line : QrelLine) : Type 0 where
-  pub topic : key.0.now ≡ line.topic
-  pub doc : key.1.now ≡ line.doc
+  abbrev is_of : List ℕ → List ℕ → L → Bool
+  is_of t d line = bytes_eq t (topic line) && bytes_eq d (doc line)
 
-same_as_key : (key : Key) (line : QrelLine) (lines : List QrelLine) → IsKeyOf key line → list_any (is_of key) lines ≡ list_any (same_document line) lines
-same_as_key key line lines is = rw (is.topic, is.doc) refl
+  -- each document of these lines, which are distinct, is there with its first line
+  pub record HaveSeen (firsts : Firsts) (lines : List L) : Type 0 where
+    pub firsts_are : (t d : List ℕ) → first_at firsts t d ≡ option_map number (find (is_of t d) lines)
+    pub distinct : IsDistinct same lines
 
-pub seen_push : (keys more : List Key) (lines : List QrelLine) (key : Key) (line : QrelLine) (added : Bool) → HaveSeen keys lines → IsKeyOf key line → added ≡ not (list_any (is_key key) keys) → added ≡ true → ((other : Key) → list_any (is_key other) more ≡ cond (is_key key other) true (list_any (is_key other) keys)) → HaveSeen more (lines ++ line ∷ [])
-seen_push keys more lines key line added w is was new updates = record {
-  keys_are = λ other.
-      let now : is_key key other ≡ is_of other line = same_key key other ∙ rw (is.topic, is.doc) refl in
-      updates other ∙ rw (now, w.keys_are other) (or_last (is_of other line) (list_any (is_of other) lines)) ∙ sym (list_any-append (is_of other) lines (line ∷ []));
-  distinct =
-      let absent : list_any (same_document line) lines ≡ false = sym (same_as_key key line lines is) ∙ sym (w.keys_are key) ∙ not_not _ added was new in
-      distinct_push same_document (λ l. l.line) lines line (find_none (same_document line) lines absent) w.distinct;
-}
+  -- a document of a line, and the table with this line for it
+  pub record IsNoted (before after : Firsts) (document : Document) (line : L) : Type 0 where
+    pub topic_is : document.0.now ≡ topic line
+    pub doc_is : document.1.now ≡ doc line
+    pub at_each : (q : Document) → first_at after q.0.now q.1.now ≡ cond (bytes_eq document.0.now q.0.now && bytes_eq document.1.now q.1.now) (Some (number line)) (first_at before q.0.now q.1.now)
 
-pub seen_next : (keys more : List Key) (lines : List QrelLine) (i : ℕ) (key : Key) (line : QrelLine) (added : Bool) → i < length lines → line ≡ get_or lines i line → HaveSeen keys (take i lines) → IsKeyOf key line → added ≡ not (list_any (is_key key) keys) → added ≡ true → ((other : Key) → list_any (is_key other) more ≡ cond (is_key key other) true (list_any (is_key other) keys)) → HaveSeen more (take (i + 1) lines)
-seen_next keys more lines i key line added within item w is was new updates =
-    rw (take_more lines i line within, ← item) (seen_push keys more (take i lines) key line added w is was new updates)
+  none_of : (o : Option L) → option_map number o ≡ None → o ≡ None
+  none_of None is = refl
+  none_of (Some l) is = cc is
 
-pub seen_twice : (keys : List Key) (lines : List QrelLine) (i : ℕ) (key : Key) (line : QrelLine) (added : Bool) → i < length lines → line ≡ get_or lines i line → HaveSeen keys (take i lines) → IsKeyOf key line → added ≡ not (list_any (is_key key) keys) → added ≡ false → (fault : FormatFault) × IsTwice same_document (λ line. line.line) lines fault
-seen_twice keys lines i key line added within item w is was old =
-    let there : list_any (same_document line) (take i lines) ≡ true = sym (same_as_key key line (take i lines) is) ∙ sym (w.keys_are key) ∙ not_added _ added was old in
-    let first = find_some (same_document line) (take i lines) there in (
-      record { line = line.line; kind = Twice first.0.line },
+  some_of : (o : Option L) (n : ℕ) → option_map number o ≡ Some n → (l : L) × (o ≡ Some l) × (number l ≡ n)
+  some_of None n is = cc is
+  some_of (Some l) n is = (l, refl, (cc is))
+
+  pushed : (line : L) (o : Option L) (t : Bool) → (t ≡ true → o ≡ None) → cond t (Some (number line)) (option_map number o) ≡ option_map number (option_or o (cond t (Some line) None))
+  pushed line None true none = refl
+  pushed line (Some l) true none = let no : Some l ≡ None = none refl in cc no
+  pushed line None false none = refl
+  pushed line (Some l) false none = refl
+
+  both : (s t : Bool) → s && t ≡ true → (s ≡ true) × (t ≡ true)
+  both true true e = (refl, refl)
+  both true false e = cc e
+  both false t e = cc e
+
+  seen_push : (firsts more : Firsts) (lines : List L) (document : Document) (line : L) → HaveSeen firsts lines → IsNoted firsts more document line → first_at firsts document.0.now document.1.now ≡ None → HaveSeen more (lines ++ line ∷ [])
+  seen_push firsts more lines document line w n none =
+      let absent : find (same line) lines ≡ None =
+      none_of _ (sym (w.firsts_are (topic line) (doc line)) ∙ ap (λ t. first_at firsts t (doc line)) (sym n.topic_is) ∙ ap (λ d. first_at firsts document.0.now d) (sym n.doc_is) ∙ none) in
+      record {
+        firsts_are = λ t d.
+            let q : Document = (record { ref_ptr = document.0.ref_ptr; now = t }, record { ref_ptr = document.1.ref_ptr; now = d }) in
+            let here : (bytes_eq document.0.now t && bytes_eq document.1.now d) ≡ is_of t d line =
+            rw (n.topic_is, n.doc_is, nat_list_eq_equiv.symm (topic line) t, nat_list_eq_equiv.symm (doc line) d) refl in
+            let gone : is_of t d line ≡ true → find (is_of t d) lines ≡ None = λ yes.
+            let parts = both (bytes_eq t (topic line)) (bytes_eq d (doc line)) yes in
+            ap (λ t. find (is_of t d) lines) ((bytes_eq-Decides _ _).0 parts.0) ∙ ap (λ d. find (is_of (topic line) d) lines) ((bytes_eq-Decides _ _).0 parts.1) ∙ absent in
+            n.at_each q
+            ∙ ap (λ t'. cond t' (Some (number line)) (first_at firsts t d)) here
+            ∙ ap (λ o. cond (is_of t d line) (Some (number line)) o) (w.firsts_are t d)
+            ∙ pushed line (find (is_of t d) lines) (is_of t d line) gone
+            ∙ ap (option_map number) (sym (find-append (is_of t d) lines (line ∷ [])));
+        distinct = distinct_push same number lines line absent w.distinct;
+      }
+
+  pub seen_next : (firsts more : Firsts) (lines : List L) (i : ℕ) (document : Document) (line : L) → i < length lines → line ≡ get_or lines i line → HaveSeen firsts (take i lines) → IsNoted firsts more document line → first_at firsts document.0.now document.1.now ≡ None → HaveSeen more (take (i + 1) lines)
+  seen_next firsts more lines i document line within item w n none =
+      rw (take_more lines i line within, ← item) (seen_push firsts more (take i lines) document line w n none)
+
+  pub seen_twice : (firsts : Firsts) (lines : List L) (i : ℕ) (document : Document) (line : L) (first : ℕ) → i < length lines → line ≡ get_or lines i line → HaveSeen firsts (take i lines) → document.0.now ≡ topic line → document.1.now ≡ doc line → first_at firsts document.0.now document.1.now ≡ Some first → IsTwice same number lines (record { line = number line; kind = Twice first })
+  seen_twice firsts lines i document line first within item w topic_is doc_is old =
+      let there : option_map number (find (same line) (take i lines)) ≡ Some first =
+      sym (w.firsts_are (topic line) (doc line)) ∙ ap (λ t. first_at firsts t (doc line)) (sym topic_is) ∙ ap (λ d. first_at firsts document.0.now d) (sym doc_is) ∙ old in
+      let earlier = some_of _ first there in
       record {
         before = take i lines;
         again = line;
         after = drop (i + 1) lines;
-        first = first.0;
+        first = earlier.0;
         cut = sym (take-append-drop i lines) ∙ ap (λ rest. take i lines ++ rest) (drop_more lines i line within ∙ ap (λ l. l ∷ drop (i + 1) lines) (sym item));
-        earlier = first.1;
+        earlier = earlier.1;
         distinct = w.distinct;
         line = refl;
-        kind = refl;
-      },
-    )
+        kind = ap Twice (sym earlier.2);
+      }
 
-pub seen_none : HaveSeen [] []
-seen_none = record { keys_are = λ key. refl; distinct = λ first again w. cut_nil w.before again w.after w.cut }
+  pub seen_none : (firsts : Firsts) → ((t d : List ℕ) → first_at firsts t d ≡ None) → HaveSeen firsts []
+  seen_none firsts empty = record { firsts_are = empty; distinct = λ first again w. cut_nil w.before again w.after w.cut }
 
-pub seen_all : (keys : List Key) (lines : List QrelLine) (i : ℕ) → length lines ≤ i → HaveSeen keys (take i lines) → IsDistinct same_document lines
-seen_all keys lines i all w = rw (← take_all i lines all) w.distinct
+  pub seen_all : (firsts : Firsts) (lines : List L) (i : ℕ) → length lines ≤ i → HaveSeen firsts (take i lines) → IsDistinct same lines
+  seen_all firsts lines i all w = rw (← take_all i lines all) w.distinct

@@ -1,7 +1,6 @@
 -- The run format, row by row.
 use Rattle.std.proofs.Common.{◌≡◌, ◌≢◌, ◌≤◌, ◌+◌, ◌==◌, ℕ, Bool, true, false, cond, List, [], ◌∷◌, ◌++◌, length, refl, sym, ◌∙◌, ap, arith, Ok, Err, Result, bytes_eq}
 use Rattle.std.specs.Prelude.{if◌then◌else◌}
-use Rattle.std.specs.Result.{IsErr}
 use Rattle.std.proofs.lemmas.Bool.{eqb-true, eqb-false, eq-eqb, ne_eqb}
 use Rattle.std.proofs.lemmas.Cmp.{nat_list_eq_equiv}
 use Rattle.std.proofs.lemmas.List.Sums.{sum_by-append, sum_by-cons, sum_by_push}
@@ -11,7 +10,8 @@ use denote.Ref.{Bor}
 use Rattle.trec_formats.specs.declared.runs.RunLine.{RunLine}
 use Rattle.trec_formats.specs.Counts.{count_at}
 use Rattle.trec_formats.proofs.Progress.{IsReadTo, begins, goes_on, stops_at, is_whole, is_empty}
-use Rattle.trec_formats.specs.Faults.{FormatFault, Kind, TooLong}
+use Rattle.trec_formats.specs.declared.faults.Kind.{Kind}
+use Rattle.trec_formats.specs.declared.faults.Kind.TheVariants.{Empty, TooLong}
 use Rattle.trec_formats.specs.Lines.{Row, lines_of, rows_from}
 use Rattle.trec_formats.specs.Runs.{AreRunLines, count_on, run_of, within, IsRun, IsRunFault}
 use Rattle.trec_formats.proofs.Readings.{IsFormat, Stand-push, Stand-same, Stand-none, CutLines, cut_lines}
@@ -92,20 +92,15 @@ run_begins text counts empty = record {
 pub at_most : (text : List ℕ) (number : ℕ) (rest : List ℕ) (lines : List RunLine) (counts : BTreeMap (Bor (List ℕ)) ℕ) (topic : List ℕ) → IsRunTo text number rest lines counts → count_at counts topic ≤ 1000
 at_most text number rest lines counts topic w = rw (w.counted topic) (w.read.good.short topic)
 
-within_err : (before : List RunLine) (r : Result RunLine Kind) → IsErr r → IsErr (within before r)
-within_err before (Ok line) is = cc is
-within_err before (Err kind) is = refl
-
 -- a line with a fault of its own
-pub run_stops : (text : List ℕ) (number : ℕ) (rest : List ℕ) (lines : List RunLine) (counts : BTreeMap (Bor (List ℕ)) ℕ) (row : Row) (after : List ℕ) → IsRunTo text number rest lines counts → rows_from (number + 1) (lines_of rest) ≡ row ∷ rows_from (row.0 + 1) (lines_of after) → IsErr (run_of row) → (fault : FormatFault) × IsRunFault text fault
-run_stops text number rest lines counts row after w cut is = stops_at AreRunLines next_line run_format text number rest lines row after (within_err lines (run_of row) is) w.read cut
+pub run_stops : (text : List ℕ) (number : ℕ) (rest : List ℕ) (lines : List RunLine) (counts : BTreeMap (Bor (List ℕ)) ℕ) (row : Row) (after : List ℕ) (kind : Kind) → IsRunTo text number rest lines counts → rows_from (number + 1) (lines_of rest) ≡ row ∷ rows_from (row.0 + 1) (lines_of after) → run_of row ≡ Err kind → IsRunFault text (record { line = row.0; kind = kind })
+run_stops text number rest lines counts row after kind w cut is = stops_at AreRunLines next_line run_format text number rest lines row after kind w.read cut (rw is refl)
 
 -- a line of a topic that has its most lines
-pub run_full : (text : List ℕ) (number : ℕ) (rest : List ℕ) (lines : List RunLine) (counts : BTreeMap (Bor (List ℕ)) ℕ) (row : Row) (after : List ℕ) (line : RunLine) → IsRunTo text number rest lines counts → rows_from (number + 1) (lines_of rest) ≡ row ∷ rows_from (row.0 + 1) (lines_of after) → run_of row ≡ Ok line → count_at counts line.topic ≡ 1000 → (fault : FormatFault) × IsRunFault text fault
+pub run_full : (text : List ℕ) (number : ℕ) (rest : List ℕ) (lines : List RunLine) (counts : BTreeMap (Bor (List ℕ)) ℕ) (row : Row) (after : List ℕ) (line : RunLine) → IsRunTo text number rest lines counts → rows_from (number + 1) (lines_of rest) ≡ row ∷ rows_from (row.0 + 1) (lines_of after) → run_of row ≡ Ok line → count_at counts line.topic ≡ 1000 → IsRunFault text (record { line = row.0; kind = TooLong })
 run_full text number rest lines counts row after line w cut is full =
     let on : (count_on line.topic lines == 1000) ≡ true = eq-eqb _ _ (sym (w.counted line.topic) ∙ full) in
-    let told : IsErr (next_line lines row) = rw (is, on) refl in
-    stops_at AreRunLines next_line run_format text number rest lines row after told w.read cut
+    stops_at AreRunLines next_line run_format text number rest lines row after TooLong w.read cut (rw (is, on) refl)
 
 pub run_goes_on : (text : List ℕ) (number : ℕ) (rest : List ℕ) (lines : List RunLine) (counts more : BTreeMap (Bor (List ℕ)) ℕ) (row : Row) (after : List ℕ) (line : RunLine) → IsRunTo text number rest lines counts → rows_from (number + 1) (lines_of rest) ≡ row ∷ rows_from (row.0 + 1) (lines_of after) → row.0 + length after ≤ number + length rest → run_of row ≡ Ok line → count_at counts line.topic ≢ 1000 → ((other : List ℕ) → count_at more other ≡ count_at counts other + (if bytes_eq line.topic other then 1 else 0)) → IsRunTo text row.0 after (lines ++ line ∷ []) more
 run_goes_on text number rest lines counts more row after line w cut fits is free changes =
@@ -119,5 +114,5 @@ run_goes_on text number rest lines counts more row after line w cut fits is free
 pub run_ends : (text : List ℕ) (number : ℕ) (rest : List ℕ) (lines : List RunLine) (counts : BTreeMap (Bor (List ℕ)) ℕ) → IsRunTo text number rest lines counts → rows_from (number + 1) (lines_of rest) ≡ [] → (lines ≢ []) → IsRun text lines
 run_ends text number rest lines counts w = is_whole AreRunLines next_line run_format text number rest lines w.read
 
-pub run_empty : (text : List ℕ) (number : ℕ) (rest : List ℕ) (lines : List RunLine) (counts : BTreeMap (Bor (List ℕ)) ℕ) → IsRunTo text number rest lines counts → rows_from (number + 1) (lines_of rest) ≡ [] → lines ≡ [] → (fault : FormatFault) × IsRunFault text fault
+pub run_empty : (text : List ℕ) (number : ℕ) (rest : List ℕ) (lines : List RunLine) (counts : BTreeMap (Bor (List ℕ)) ℕ) → IsRunTo text number rest lines counts → rows_from (number + 1) (lines_of rest) ≡ [] → lines ≡ [] → IsRunFault text (record { line = 0; kind = Empty })
 run_empty text number rest lines counts w = is_empty AreRunLines next_line run_format text number rest lines w.read

@@ -1,29 +1,10 @@
 -- What is wrong with a text, and what it means that a text is read.
-use Rattle.std.specs.Prelude.{◌≡◌, ◌≢◌, ◌⊎◌, ℕ, Bool, List, [], ◌∷◌, ◌++◌, map, find, Some, Ok, Err, Result, MatchResult, IsErr}
-use Rattle.decimal_rank.specs.declared.decimals.DecimalFault.{DecimalFault}
+use Rattle.std.specs.Prelude.{◌≡◌, ◌≢◌, ◌⊎◌, ℕ, Bool, List, [], ◌∷◌, ◌++◌, map, find, Some, Ok, Err, Result, IfErr}
+use Rattle.trec_formats.specs.declared.faults.Kind.{Kind}
+use Rattle.trec_formats.specs.declared.faults.Kind.TheVariants.{Empty, Twice}
+use Rattle.trec_formats.specs.declared.faults.FormatFault.{FormatFault}
 use Rattle.trec_formats.specs.declared.faults.FormatEnd.{FormatEnd}
 use Rattle.trec_formats.specs.declared.faults.FormatEnd.TheVariants as ends
-
-pub data Kind : Type 0 where
-  -- a line has another number of fields
-  Fields : Kind
-  -- the topic is no name
-  Topic : Kind
-  Docno : Kind
-  Score : (cause : DecimalFault) → Kind
-  Grade : Kind
-  -- no line has a field
-  Empty : Kind
-  -- a topic has more than 1,000 lines, or a topic's text is too long
-  TooLong : Kind
-  Tag : Kind
-  -- an earlier line, of this number, says the same
-  Twice : (first : ℕ) → Kind
-
--- The line counts from 1. It is 0 where no line is at fault.
-pub record FormatFault : Type 0 where
-  pub line : ℕ
-  pub kind : Kind
 
 -- there is one x of P, and no other
 abbrev pub ExactlyOne : {X : Type 0} → (X → Type 0) → Type 0
@@ -82,11 +63,10 @@ abbrev pub IsReadOnce : {L : Type 0} → (Result (List L) FormatFault → Type 0
 IsReadOnce Reads same number (Ok lines) = Reads (Ok lines) × IsDistinct same lines
 IsReadOnce {L} Reads same number (Err fault) = Reads (Err fault) ⊎ ((lines : List L) × Reads (Ok lines) × IsTwice same number lines fault)
 
--- P holds of a fault. Nothing is said of want of memory.
-abbrev pub OfFault : FormatEnd → Type 0 → Type 0
+-- P holds of the fault. Nothing is said of want of memory.
+abbrev pub OfFault : FormatEnd → (FormatFault → Type 0) → Type 0
 OfFault ends.Memory P = Unit {0}
-OfFault ends.Fault P = P
+OfFault (ends.Fault fault) P = P fault
 
--- what a reading of one line told: what stands there, or that it has a fault
-abbrev pub Tells : {X : Type 0} → Result X FormatEnd → Result X Kind → Type 0
-Tells r reading = MatchResult r (λ x. reading ≡ Ok x) (λ end. OfFault end (IsErr reading))
+abbrev pub IfFault : {X : Type 0} → Result X FormatEnd → (FormatFault → Type 0) → Type 0
+IfFault r P = IfErr r (λ end. OfFault end P)

@@ -6,7 +6,8 @@ use Rattle.std.specs.Ordering.{nat_cmp, is_lt}
 use Rattle.decimal_rank.specs.Ranks.{Standing, rank_in}
 use Rattle.trec_formats.specs.declared.lists.TopicList.{TopicList}
 use Rattle.trec_formats.specs.declared.runs.RunLine.{RunLine}
-use Rattle.trec_formats.specs.Faults.{FormatFault, IsDistinct, IsTwice}
+use Rattle.trec_formats.specs.declared.faults.FormatFault.{FormatFault}
+use Rattle.trec_formats.specs.Faults.{IsDistinct, IsTwice}
 
 abbrev pub same_document : RunLine → RunLine → Bool
 same_document a b = bytes_eq a.topic b.topic && bytes_eq a.doc b.doc

@@ -1,7 +1,10 @@
 -- The qrels format: a line is a topic, a field that isn't looked at, a docno and a grade.
 use Rattle.std.specs.Prelude.{◌&&◌, ℕ, Bool, if◌then◌else◌, List, [], ◌∷◌, Option, Some, None, Ok, Err, Result, bytes_eq}
 use Rattle.trec_formats.specs.declared.qrels.QrelLine.{QrelLine}
-use Rattle.trec_formats.specs.Faults.{FormatFault, Kind, Fields, Topic, Docno, Grade, Stand, IsReadAs, IsReadOnce}
+use Rattle.trec_formats.specs.declared.faults.Kind.{Kind}
+use Rattle.trec_formats.specs.declared.faults.Kind.TheVariants.{Fields, Topic, Docno, Grade}
+use Rattle.trec_formats.specs.declared.faults.FormatFault.{FormatFault}
+use Rattle.trec_formats.specs.Faults.{Stand, IsReadAs, IsReadOnce}
 use Rattle.trec_formats.specs.Lines.{Row, rows_of}
 use Rattle.trec_formats.specs.Names.{is_name, is_docno, grade_of}
 

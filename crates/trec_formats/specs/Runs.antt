@@ -4,7 +4,10 @@ use Rattle.decimal_rank.specs.Decimal.{DecimalValue}
 use Rattle.decimal_rank.specs.DecimalText.{decimal_of}
 use Rattle.decimal_rank.specs.declared.decimals.DecimalFault.{DecimalFault}
 use Rattle.trec_formats.specs.declared.runs.RunLine.{RunLine}
-use Rattle.trec_formats.specs.Faults.{FormatFault, Kind, Fields, Topic, Docno, Score, TooLong, Stand, IsReadAs}
+use Rattle.trec_formats.specs.declared.faults.Kind.{Kind}
+use Rattle.trec_formats.specs.declared.faults.Kind.TheVariants.{Fields, Topic, Docno, Score, TooLong}
+use Rattle.trec_formats.specs.declared.faults.FormatFault.{FormatFault}
+use Rattle.trec_formats.specs.Faults.{Stand, IsReadAs}
 use Rattle.trec_formats.specs.Lines.{Row, rows_of}
 use Rattle.trec_formats.specs.Names.{is_name, is_docno}
 

@@ -1,13 +1,53 @@
-use decimal_rank::Memory;
+ghost use Rattle.std.specs.Prelude.{◌≡◌};
+
+use decimal_rank::{DecimalFault, Memory};
 use std::alloc::{AllocError, AllocFailed};
+
+/// What is wrong with a line. On one line the first of these that holds is told.
+#[derive(Clone, Copy, Debug, PartialEq, Eq)]
+pub enum Kind {
+    /// It has another number of fields.
+    Fields,
+    /// Its topic is no name.
+    Topic,
+    Docno,
+    /// Its score is no decimal, for this cause.
+    Score(DecimalFault),
+    Grade,
+    /// The text has no line that isn't white space alone.
+    Empty,
+    /// Its topic has 1,000 lines already, or a topic's text is too long.
+    TooLong,
+    /// It doesn't stand where it may among the tags of a topic.
+    Tag,
+    /// It says the same as an earlier line, of this number.
+    Twice { first: u32 },
+}
+
+/// The first fault of a text.
+#[derive(Clone, Copy, Debug, PartialEq, Eq)]
+pub struct FormatFault {
+    /// From 1; 0 where no line is at fault.
+    pub line: u32,
+    pub kind: Kind,
+}
 
 /// Why a text or a list of lines isn't taken.
 #[derive(Clone, Copy, Debug, PartialEq, Eq)]
 pub enum FormatEnd {
     /// It isn't of the format.
-    Fault,
+    Fault(FormatFault),
     /// There was no memory for what has to be kept.
     Memory,
+}
+
+impl FormatEnd {
+    /// The end of a reading at a faulty line.
+    pub(crate) fn at(line: u32, kind: Kind) -> FormatEnd
+        ensures { result ≡ FormatEnd.Fault (record { line = line; kind = kind }) }
+    {
+        FormatEnd::Fault(FormatFault { line, kind })
+    }
 }
 
 impl From<Memory> for FormatEnd {

@@ -1,16 +1,17 @@
-ghost use Rattle.std.specs.Prelude.{◌≡◌, ◌≤◌, ◌<◌, ◌^◌, ◌+◌, ℕ, List, length, map, IfOk, IfErr, Err, position, not, bytes_eq};
+ghost use Rattle.std.specs.Prelude.{◌≡◌, ◌≤◌, ◌<◌, ℕ, List, length, map, IfOk, MatchOption, position, not, bytes_eq};
 ghost use Rattle.std.specs.List.Sorted.{IsStrictlyIncreasing};
 ghost use Rattle.decimal_rank.specs.Names.{docno_of};
-ghost use Rattle.trec_formats.specs.Faults.{FormatFault, IsDistinct, OfFault};
+ghost use Rattle.trec_formats.specs.Faults.{IsDistinct, IfFault};
 ghost use Rattle.trec_formats.specs.Groups.{shown, AreByTopic, IsAscending, IsFirstGroup, DocsDiffer, AreNumbered, IsGroupList};
 ghost use Rattle.trec_formats.specs.Lists.{same_document, AreLists, AreRanked, IsListsFault};
 ghost use Rattle.trec_formats.specs.Runs.{count_on};
 
-use crate::faults::FormatEnd;
+use crate::faults::{FormatEnd, FormatFault, Kind};
 use crate::names::copy_of;
 use crate::runs::RunLine;
 use decimal_rank::{DocId, Memory, Names, RankFault, Ranking, Rows, Scored, Steps, Text, rank};
 use std::alloc::Global;
+use std::collections::HashMap;
 use std::marker::Brand;
 use std::sync::ledger::{Blank, Ledger};
 
@@ -105,59 +106,86 @@ fn docnos<L: Ledger>(
     Ok(Rows::new(docs))
 }
 
-/// The docnos of a topic's lines, by rank.
-fn ranked(alloc: Global, lines: &[&RunLine]) -> Result<Rows<Text>, FormatEnd>
+/// The docnos of a topic's lines, by rank, unless a document stands twice.
+fn ranked(alloc: Global, lines: &[&RunLine]) -> Result<Option<Rows<Text>>, Memory>
     requires { length lines.now ≤ 1000 }
-    ensures docs { IfOk result (λ docs. AreRanked (shown lines.now) docs × DocsDiffer (shown lines.now)) }
-    ensures fault { IfErr result (λ end. OfFault end (¬ (DocsDiffer (shown lines.now)))) }
+    ensures { IfOk result (λ found. MatchOption found (¬ (DocsDiffer (shown lines.now)))
+        (λ docs. AreRanked (shown lines.now) docs × DocsDiffer (shown lines.now))) }
 {
     let (scored, names) = numbered(alloc, lines)?;
     match rank(alloc, scored.as_slice(), &names) {
-        Ok(ranking) => Ok(docnos::<Brand>(alloc, &ranking, &names, Blank::new(1))?),
-        Err(RankFault::Twice { .. }) => Err(FormatEnd::Fault),
-        Err(RankFault::Memory) => Err(FormatEnd::Memory),
+        Ok(ranking) => Ok(Some(docnos::<Brand>(alloc, &ranking, &names, Blank::new(1))?)),
+        Err(RankFault::Twice { .. }) => Ok(None),
+        Err(RankFault::Memory) => Err(Memory),
     }
 }
 
-/// The list of a topic's lines.
-fn group_list(alloc: Global, lines: &[&RunLine]) -> Result<TopicList, FormatEnd>
+/// The list of a topic's lines, unless a document stands twice.
+fn group_list(alloc: Global, lines: &[&RunLine]) -> Result<Option<TopicList>, Memory>
     requires some { 0 < length lines.now }
     requires few { length lines.now ≤ 1000 }
-    ensures list { IfOk result (IsGroupList (shown lines.now)) }
-    ensures fault { IfErr result (λ end. OfFault end (¬ (DocsDiffer (shown lines.now)))) }
+    ensures { IfOk result (λ found. MatchOption found (¬ (DocsDiffer (shown lines.now))) (IsGroupList (shown lines.now))) }
 {
+    let Some(docs) = ranked(alloc, lines)? else {
+        return Ok(None);
+    };
     let first = lines[0];
-    Ok(TopicList {
+    Ok(Some(TopicList {
         topic: first.topic.copy()?,
         line: first.line,
-        docs: ranked(alloc, lines)?,
-    })
+        docs,
+    }))
 }
 
-/// The lists of lines that stand by ascending topic.
-fn lists_of(alloc: Global, order: &[&RunLine]) -> Result<Vec<TopicList>, FormatEnd>
+/// The lists of lines that stand by ascending topic, unless a document stands twice on a topic.
+fn lists_of(alloc: Global, order: &[&RunLine]) -> Result<Option<Vec<TopicList>>, Memory>
     requires ascending { IsAscending (shown order.now) }
     requires short { (topic : List ℕ) → count_on topic (shown order.now) ≤ 1000 }
-    ensures lists { IfOk result (λ lists. AreLists (shown order.now) lists.items) }
-    ensures fault { IfErr result (λ end. OfFault end (¬ (IsDistinct same_document (shown order.now)))) }
+    ensures { IfOk result (λ found. MatchOption found (¬ (IsDistinct same_document (shown order.now)))
+        (λ lists. AreLists (shown order.now) lists.items)) }
 {
     let mut lists = Vec::new(alloc);
     let mut start = 0;
     while start < order.len() {
         let group = first_group(&order[start..]);
-        lists.push(group_list(alloc, group)?)?;
+        let Some(list) = group_list(alloc, group)? else {
+            return Ok(None);
+        };
+        lists.push(list)?;
         start += group.len();
     }
-    Ok(lists)
+    Ok(Some(lists))
 }
 
-/// The ranked lists of a run, by ascending topic. A document that stands twice on a topic is a fault.
+/// The first of these lines that has the topic and docno of an earlier one.
+fn first_repeat(alloc: Global, lines: &[RunLine]) -> Result<FormatFault, Memory>
+    requires { ¬ (IsDistinct same_document lines.now) }
+    ensures { IfOk result (IsListsFault lines.now) }
+{
+    let mut firsts = HashMap::with_capacity(alloc, lines.len())?;
+    for line in lines {
+        let document = (line.topic.bytes(), line.doc.bytes());
+        if let Some(first) = firsts.insert(document, line.line)? {
+            return Ok(FormatFault {
+                line: line.line,
+                kind: Kind::Twice { first },
+            });
+        }
+    }
+    unreachable!()
+}
+
+/// The ranked lists of a run, by ascending topic. A document that stands twice on a topic is a fault,
+/// of which the first is told.
 pub fn rank_run(alloc: Global, lines: &[RunLine]) -> Result<Vec<TopicList>, FormatEnd>
     requires short { (topic : List ℕ) → count_on topic lines.now ≤ 1000 }
     requires ascending { IsStrictlyIncreasing (map (λ line. line.line) lines.now) }
     ensures lists { IfOk result (λ lists. AreLists lines.now lists.items) }
-    ensures fault { result ≡ Err FormatEnd.Fault → (fault : FormatFault) × IsListsFault lines.now fault }
+    ensures fault { IfFault result (IsListsFault lines.now) }
 {
     let order = by_topic(alloc, lines)?;
-    lists_of(alloc, order.as_slice())
+    match lists_of(alloc, order.as_slice())? {
+        Some(lists) => Ok(lists),
+        None => Err(FormatEnd::Fault(first_repeat(alloc, lines)?)),
+    }
 }

@@ -1,14 +1,14 @@
-ghost use Rattle.std.specs.Prelude.{◌≡◌, ◌≢◌, ◌≤◌, [], ◌∷◌, length, Ok, Err, IfOk, IfErr, MatchOption, MatchBool};
+ghost use Rattle.std.specs.Prelude.{◌≡◌, ◌≢◌, ◌≤◌, ℕ, [], ◌∷◌, length, Ok, Err, IfOk, MatchOption, MatchResult};
 ghost use Rattle.trec_formats.specs.Lines.{fields_of};
-ghost use Rattle.trec_formats.specs.Faults.{FormatFault, IsDistinct, IsTwice, OfFault, Tells};
+ghost use Rattle.trec_formats.specs.Faults.{IsDistinct, IsTwice, IfFault};
 ghost use Rattle.trec_formats.specs.Qrels.{qrel_of, same_document, IsEachRead, IsQrels, IsQrelsFault};
 
-use crate::faults::FormatEnd;
+use crate::faults::{FormatEnd, FormatFault, Kind};
 use crate::lines::{cut_field, next_row};
 use crate::names::{copy_of, grade_of, is_docno, is_name};
 use decimal_rank::{Memory, Text};
 use std::alloc::Global;
-use std::collections::HashSet;
+use std::collections::HashMap;
 
 /// One judgement of a qrels text.
 #[derive(Debug, Drop)]
@@ -34,29 +34,34 @@ fn four_fields(line: &[u8]) -> Option<(&[u8], &[u8], &[u8], &[u8])>
     }
 }
 
-/// The line of this number.
+/// What a line says.
+#[derive(Drop)]
+struct QrelFields<'a> {
+    topic: &'a [u8],
+    doc: &'a [u8],
+    grade: u8,
+}
+
+/// What a line says, or its fault.
 #[tactic(auto, unfolding(crate::specs::Qrels::qrel_of))]
-fn qrel_line(alloc: Global, number: u32, line: &[u8]) -> Result<QrelLine, FormatEnd>
-    ensures { Tells result (qrel_of (number, fields_of line.now)) }
+fn qrel_fields(line: &[u8]) -> Result<QrelFields<'_>, Kind>
+    ensures { (number : ℕ) → MatchResult result
+        (λ f. qrel_of (number, fields_of line.now) ≡ Ok (record { line = number; topic = f.topic.now; doc = f.doc.now; grade = f.grade }))
+        (λ kind. qrel_of (number, fields_of line.now) ≡ Err kind) }
 {
     let Some((topic, _, doc, grade)) = four_fields(line) else {
-        return Err(FormatEnd::Fault);
+        return Err(Kind::Fields);
     };
     if !is_name(topic) {
-        return Err(FormatEnd::Fault);
+        return Err(Kind::Topic);
     }
     if !is_docno(doc) {
-        return Err(FormatEnd::Fault);
+        return Err(Kind::Docno);
     }
     let Some(grade) = grade_of(grade) else {
-        return Err(FormatEnd::Fault);
+        return Err(Kind::Grade);
     };
-    Ok(QrelLine {
-        line: number,
-        topic: copy_of(alloc, topic)?,
-        doc: copy_of(alloc, doc)?,
-        grade,
-    })
+    Ok(QrelFields { topic, doc, grade })
 }
 
 /// The lines of a text, of which some may say the same.
@@ -64,7 +69,7 @@ fn read_lines(alloc: Global, bytes: &[u8]) -> Result<Vec<QrelLine>, FormatEnd>
     requires { length bytes.now ≤ 268435456 }
     ensures lines { IfOk result (λ lines. IsEachRead bytes.now (Ok lines.items)) }
     ensures few { IfOk result (λ lines. length lines.items ≤ length bytes.now) }
-    ensures fault { IfErr result (λ end. OfFault end ((fault : FormatFault) × IsEachRead bytes.now (Err fault))) }
+    ensures fault { IfFault result (λ fault. IsEachRead bytes.now (Err fault)) }
 {
     let mut lines = Vec::new(alloc);
     let mut number = 0;
@@ -72,39 +77,52 @@ fn read_lines(alloc: Global, bytes: &[u8]) -> Result<Vec<QrelLine>, FormatEnd>
     while let Some(row) = next_row(number, rest) {
         number = row.number;
         rest = row.rest;
-        lines.push(qrel_line(alloc, number, row.line)?)?;
+        let fields = match qrel_fields(row.line) {
+            Ok(fields) => fields,
+            Err(kind) => return Err(FormatEnd::at(number, kind)),
+        };
+        lines.push(QrelLine {
+            line: number,
+            topic: copy_of(alloc, fields.topic)?,
+            doc: copy_of(alloc, fields.doc)?,
+            grade: fields.grade,
+        })?;
     }
     if lines.is_empty() {
-        return Err(FormatEnd::Fault);
+        return Err(FormatEnd::at(0, Kind::Empty));
     }
     Ok(lines)
 }
 
-/// Whether a line has the topic and docno of an earlier one.
-fn has_repeat(alloc: Global, lines: &[QrelLine]) -> Result<bool, Memory>
-    ensures { IfOk result (λ found. MatchBool found
-        ((fault : FormatFault) × IsTwice same_document (λ line. line.line) lines.now fault)
-        (IsDistinct same_document lines.now)) }
+/// The first line that has the topic and docno of an earlier one.
+fn first_repeat(alloc: Global, lines: &[QrelLine]) -> Result<Option<FormatFault>, Memory>
+    ensures { IfOk result (λ found. MatchOption found
+        (IsDistinct same_document lines.now)
+        (IsTwice same_document (λ line. line.line) lines.now)) }
 {
-    let mut seen = HashSet::with_capacity(alloc, lines.len())?;
+    let mut firsts = HashMap::with_capacity(alloc, lines.len())?;
     for line in lines {
-        if !seen.insert((line.topic.bytes(), line.doc.bytes()))? {
-            return Ok(true);
+        let document = (line.topic.bytes(), line.doc.bytes());
+        if let Some(first) = firsts.insert(document, line.line)? {
+            return Ok(Some(FormatFault {
+                line: line.line,
+                kind: Kind::Twice { first },
+            }));
         }
     }
-    Ok(false)
+    Ok(None)
 }
 
-/// The lines of a qrels text, or its fault.
+/// The lines of a qrels text, or its first fault.
 pub fn read_qrels(alloc: Global, bytes: &[u8]) -> Result<Vec<QrelLine>, FormatEnd>
     requires { length bytes.now ≤ 268435456 }
     ensures lines { IfOk result (λ lines. IsQrels bytes.now lines.items) }
     ensures few { IfOk result (λ lines. length lines.items ≤ length bytes.now) }
-    ensures fault { result ≡ Err FormatEnd.Fault → (fault : FormatFault) × IsQrelsFault bytes.now fault }
+    ensures fault { IfFault result (IsQrelsFault bytes.now) }
 {
     let lines = read_lines(alloc, bytes)?;
-    if has_repeat(alloc, lines.as_slice())? {
-        return Err(FormatEnd::Fault);
+    match first_repeat(alloc, lines.as_slice())? {
+        Some(fault) => Err(FormatEnd::Fault(fault)),
+        None => Ok(lines),
     }
-    Ok(lines)
 }

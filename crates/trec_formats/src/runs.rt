@@ -1,11 +1,11 @@
-ghost use Rattle.std.specs.Prelude.{◌≡◌, ◌≢◌, ◌≤◌, ◌+◌, ℕ, List, [], ◌∷◌, length, map, Ok, Err, IfOk, OnErr, IsErr, MatchOption, MatchBool, if◌then◌else◌, bytes_eq};
+ghost use Rattle.std.specs.Prelude.{◌≡◌, ◌≢◌, ◌≤◌, ◌+◌, ℕ, List, [], ◌∷◌, length, map, Ok, Err, IfOk, MatchOption, MatchResult, MatchBool, if◌then◌else◌, bytes_eq};
 ghost use Rattle.std.specs.List.Sorted.{IsStrictlyIncreasing};
 ghost use Rattle.trec_formats.specs.Counts.{count_at};
-ghost use Rattle.trec_formats.specs.Faults.{FormatFault};
+ghost use Rattle.trec_formats.specs.Faults.{IfFault};
 ghost use Rattle.trec_formats.specs.Lines.{fields_of};
-ghost use Rattle.trec_formats.specs.Runs.{run_of, IsRun, IsRunFault};
+ghost use Rattle.trec_formats.specs.Runs.{run_of, count_on, IsRun, IsRunFault};
 
-use crate::faults::FormatEnd;
+use crate::faults::{FormatEnd, Kind};
 use crate::lines::{cut_field, next_row};
 use crate::names::{copy_of, is_docno, is_name};
 use decimal_rank::{Decimal, Memory, Text};
@@ -50,22 +50,26 @@ struct RunFields<'a> {
     score: Decimal,
 }
 
-/// What a line says, where it has no fault.
+/// What a line says, or its fault.
 #[tactic(auto, unfolding(crate::specs::Runs::run_of))]
-fn run_fields(line: &[u8]) -> Option<RunFields<'_>>
-    ensures { (number : ℕ) → MatchOption result
-        (IsErr (run_of (number, fields_of line.now)))
-        (λ f. run_of (number, fields_of line.now) ≡ Ok (record { line = number; topic = f.topic.now; doc = f.doc.now; score = f.score })) }
+fn run_fields(line: &[u8]) -> Result<RunFields<'_>, Kind>
+    ensures { (number : ℕ) → MatchResult result
+        (λ f. run_of (number, fields_of line.now) ≡ Ok (record { line = number; topic = f.topic.now; doc = f.doc.now; score = f.score }))
+        (λ kind. run_of (number, fields_of line.now) ≡ Err kind) }
 {
-    let (topic, _, doc, _, score, _) = six_fields(line)?;
+    let Some((topic, _, doc, _, score, _)) = six_fields(line) else {
+        return Err(Kind::Fields);
+    };
     if !is_name(topic) {
-        return None;
+        return Err(Kind::Topic);
     }
     if !is_docno(doc) {
-        return None;
+        return Err(Kind::Docno);
     }
-    let score = Decimal::read(score).ok()?;
-    Some(RunFields { topic, doc, score })
+    match Decimal::read(score) {
+        Ok(score) => Ok(RunFields { topic, doc, score }),
+        Err(cause) => Err(Kind::Score(cause)),
+    }
 }
 
 /// Counts one more line of a topic, where it has fewer than the most. Whether it had.
@@ -84,12 +88,13 @@ fn count_line<'a>(counts: &mut BTreeMap<&'a [u8], u32>, topic: &'a [u8]) -> Resu
     Ok(true)
 }
 
-/// The lines of a run's text, or its fault.
+/// The lines of a run's text, or its first fault.
 pub fn read_run(alloc: Global, bytes: &[u8]) -> Result<Vec<RunLine>, FormatEnd>
     requires { length bytes.now ≤ 268435456 }
     ensures lines { IfOk result (λ lines. IsRun bytes.now lines.items) }
     ensures ascending { IfOk result (λ lines. IsStrictlyIncreasing (map (λ line. line.line) lines.items)) }
-    ensures fault { result ≡ Err FormatEnd.Fault → (fault : FormatFault) × IsRunFault bytes.now fault }
+    ensures short { IfOk result (λ lines. (topic : List ℕ) → count_on topic lines.items ≤ 1000) }
+    ensures fault { IfFault result (IsRunFault bytes.now) }
 {
     let mut lines = Vec::new(alloc);
     let mut counts = BTreeMap::new(alloc);
@@ -98,11 +103,12 @@ pub fn read_run(alloc: Global, bytes: &[u8]) -> Result<Vec<RunLine>, FormatEnd>
     while let Some(row) = next_row(number, rest) {
         number = row.number;
         rest = row.rest;
-        let Some(fields) = run_fields(row.line) else {
-            return Err(FormatEnd::Fault);
+        let fields = match run_fields(row.line) {
+            Ok(fields) => fields,
+            Err(kind) => return Err(FormatEnd::at(number, kind)),
         };
         if !count_line(&mut counts, fields.topic)? {
-            return Err(FormatEnd::Fault);
+            return Err(FormatEnd::at(number, Kind::TooLong));
         }
         lines.push(RunLine {
             line: number,
@@ -112,7 +118,7 @@ pub fn read_run(alloc: Global, bytes: &[u8]) -> Result<Vec<RunLine>, FormatEnd>
         })?;
     }
     if lines.is_empty() {
-        return Err(FormatEnd::Fault);
+        return Err(FormatEnd::at(0, Kind::Empty));
     }
     Ok(lines)
 }

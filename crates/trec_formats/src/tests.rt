@@ -1,5 +1,7 @@
-use crate::{FormatEnd, QrelLine, RunLine, TopicList, rank_run, read_qrels, read_run};
-use decimal_rank::{Decimal, Text};
+use crate::{
+    FormatEnd, FormatFault, Kind, QrelLine, RunLine, TopicList, rank_run, read_qrels, read_run,
+};
+use decimal_rank::{Decimal, DecimalFault, Text};
 use std::alloc::Global;
 use std::cmp::Ordering;
 use std::fmt::Write;
@@ -92,34 +94,55 @@ fn runs_are_read(rt: HostRuntime) -> Result<(), Fail> {
     Ok(())
 }
 
+fn is_fault(end: Option<FormatEnd>, line: u32, kind: Kind) -> bool {
+    end == Some(FormatEnd::Fault(FormatFault { line, kind }))
+}
+
 #[test]
 fn faults_of_runs(rt: HostRuntime) {
     let cases = [
         // no line with a field
-        "",
-        "\n",
-        " \t\x0b\x0c\r\n\r\n",
+        ("", 0, Kind::Empty),
+        ("\n", 0, Kind::Empty),
+        (" \t\x0b\x0c\r\n\r\n", 0, Kind::Empty),
         // five fields, and seven
-        "1 Q0 A 1 3 t\n1 Q0 B 2 2\n",
-        "1 Q0 A 1 3 t u\n",
+        ("1 Q0 A 1 3 t\n1 Q0 B 2 2\n", 2, Kind::Fields),
+        ("1 Q0 A 1 3 t u\n", 1, Kind::Fields),
         // topics that are no names
-        "a/b Q0 A 1 3 t\n",
-        "123456789012345678901234567890123 Q0 A 1 3 t\n",
+        ("a/b Q0 A 1 3 t\n", 1, Kind::Topic),
+        (
+            "\n\n123456789012345678901234567890123 Q0 A 1 3 t\n",
+            3,
+            Kind::Topic,
+        ),
         // docnos of other bytes, or of 65
-        "1 Q0 \x7f 1 3 t\n",
-        "1 Q0 \u{e9} 1 3 t\n",
-        "1 Q0 12345678901234567890123456789012345678901234567890123456789012345 1 3 t\n",
-        // scores of other bytes, or of 19 digits
-        "1 Q0 A 1 2.0 t\n",
-        "1 Q0 A 1 -1 t\n",
-        "1 Q0 A 1 1234567890123456789 t\n",
+        ("1 Q0 \x7f 1 3 t\n", 1, Kind::Docno),
+        ("1 Q0 \u{e9} 1 3 t\n", 1, Kind::Docno),
+        (
+            "1 Q0 12345678901234567890123456789012345678901234567890123456789012345 1 3 t\n",
+            1,
+            Kind::Docno,
+        ),
         // a good line before, and one behind
-        "1 Q0 A 1 3 t\n1 Q0 B 2 x t\n1 Q0 C 3 1 t\n",
+        (
+            "1 Q0 A 1 3 t\n1 Q0 B 2 x t\n1 Q0 C 3 1 t\n",
+            2,
+            Kind::Score(DecimalFault::Shape),
+        ),
+        // of two faults on a line the one that stands first
+        ("a/b Q0 \x7f 1 x t\n", 1, Kind::Topic),
+        ("1 Q0 \x7f 1 x t\n", 1, Kind::Docno),
+        // of two lines the first, and a fault before a repeat
+        (
+            "1 Q0 A 1 x t\n1 Q0 B\n",
+            1,
+            Kind::Score(DecimalFault::Shape),
+        ),
+        ("1 Q0 A 1 3 t\n1 Q0 A 1 3 t\n1 Q0 B\n", 3, Kind::Fields),
     ];
-    for text in cases {
-        assert_eq!(rt;
-            run_of(rt.alloc(), text).err(),
-            Some(FormatEnd::Fault),
+    for (text, line, kind) in cases {
+        assert!(rt;
+            is_fault(run_of(rt.alloc(), text).err(), line, kind),
             "{text}"
         );
     }
@@ -139,10 +162,7 @@ fn a_topic_has_a_thousand_lines(rt: HostRuntime) -> Result<(), Fail> {
     assert!(rt; are_docs(&lists[0].docs.items()[..2], &["D1000", "D999"]));
     assert!(rt; are_docs(&lists[1].docs.items()[..2], &["D999", "D998"]));
     writeln!(text, "1 Q0 D1001 1 1 t")?;
-    assert_eq!(rt;
-        run_of(rt.alloc(), text.as_str()).err(),
-        Some(FormatEnd::Fault)
-    );
+    assert!(rt; is_fault(run_of(rt.alloc(), text.as_str()).err(), 2001, Kind::TooLong));
     Ok(())
 }
 
@@ -171,28 +191,32 @@ fn qrels_are_read(rt: HostRuntime) -> Result<(), Fail> {
 #[test]
 fn faults_of_qrels(rt: HostRuntime) {
     let cases = [
-        "",
-        "\r\n\x0b",
+        ("", 0, Kind::Empty),
+        ("\r\n\x0b", 0, Kind::Empty),
         // three fields, and five
-        "1 0 A\n",
-        "1 0 A 1 1\n",
+        ("1 0 A\n", 1, Kind::Fields),
+        ("1 0 A 1 1\n", 1, Kind::Fields),
         // a topic that is no name, a docno of other bytes
-        "a*b 0 A 1\n",
-        "1 0 \u{e9} 1\n",
+        ("\na*b 0 A 1\n", 2, Kind::Topic),
+        ("1 0 \u{e9} 1\n", 1, Kind::Docno),
         // grades that aren't digits alone, or above 255
-        "1 0 A -1\n",
-        "1 0 A +1\n",
-        "1 0 A 1.0\n",
-        "1 0 A 256\n",
-        "1 0 A 99999999999999999999999999\n",
-        // a document twice in a topic
-        "1 0 A 1\n1 0 B 0\n2 0 B 0\n1 0 B 1\n",
-        "1 0 A 1\n1 0 A 1\n",
+        ("1 0 A -1\n", 1, Kind::Grade),
+        ("1 0 A +1\n", 1, Kind::Grade),
+        ("1 0 A 1.0\n", 1, Kind::Grade),
+        ("1 0 A 256\n", 1, Kind::Grade),
+        ("1 0 A 99999999999999999999999999\n", 1, Kind::Grade),
+        // a document twice in a topic, told where there is no other fault
+        (
+            "1 0 A 1\n1 0 B 0\n2 0 B 0\n\n1 0 B 1\n1 0 A 1\n",
+            5,
+            Kind::Twice { first: 2 },
+        ),
+        ("1 0 A 1\n1 0 A 1\n", 2, Kind::Twice { first: 1 }),
+        ("1 0 A 1\n1 0 A 1\n1 0 A x\n", 3, Kind::Grade),
     ];
-    for text in cases {
-        assert_eq!(rt;
-            qrels_of(rt.alloc(), text).err(),
-            Some(FormatEnd::Fault),
+    for (text, line, kind) in cases {
+        assert!(rt;
+            is_fault(qrels_of(rt.alloc(), text).err(), line, kind),
             "{text}"
         );
     }
@@ -215,6 +239,22 @@ fn lists_are_ranked(rt: HostRuntime) -> Result<(), Fail> {
 #[test]
 fn a_document_stands_once(rt: HostRuntime) {
     let twice = "1 Q0 A 1 3 t\n2 Q0 A 1 3 t\n1 Q0 B 2 2 t\n1 Q0 A 3 1 t\n";
-    assert_eq!(rt; lists_of(rt.alloc(), twice).err(), Some(FormatEnd::Fault));
+    assert!(rt;
+        is_fault(
+            lists_of(rt.alloc(), twice).err(),
+            4,
+            Kind::Twice { first: 1 }
+        )
+    );
     assert_eq!(rt; run_of(rt.alloc(), twice).err(), None);
+
+    // the least line of all topics is told, whatever their order
+    let twice = "2 Q0 A 1 3 t\n1 Q0 A 1 3 t\n\n2 Q0 A 2 2 t\n1 Q0 A 3 1 t\n";
+    assert!(rt;
+        is_fault(
+            lists_of(rt.alloc(), twice).err(),
+            4,
+            Kind::Twice { first: 1 }
+        )
+    );
 }
