@@ -11,10 +11,6 @@ const QRELS: &[u8] = b"1 0 A 1\n1 0 B 0\n1 0 C 1\n1 0 D 1\n";
 const SCORES: &[u8] =
     b"r.txt\tall\tnum_rel_ret\t2\nr.txt\tall\tmap\t0.5556\nr.txt\tall\tP_10\t0.2000\n";
 
-const RUN_REFUSED: &[u8] = b"input: r.txt\n";
-
-const QRELS_REFUSED: &[u8] = b"input: q.txt\n";
-
 fn text(alloc: Global, bytes: &[u8]) -> Result<Text, Fail> {
     Ok(Text::new(Vec::from_slice(alloc, bytes)?))
 }
@@ -67,8 +63,20 @@ fn scored(
 
 #[test]
 fn a_run_is_scored_against_qrels(rt: HostRuntime) -> Result<(), Fail> {
-    let cases: [(&[u8], &[u8], &[u8]); 6] = [
+    let cases: [(&[u8], &[u8], &[u8]); 8] = [
         (RUN, QRELS, SCORES),
+        // equal scores stand by descending docno: C, B, A
+        (
+            b"1 Q0 A 1 2 t\n1 Q0 B 2 2.00 t\n1 Q0 C 3 20e-1 t\n",
+            b"1 0 C 1\n",
+            b"r.txt\tall\tnum_rel_ret\t1\nr.txt\tall\tmap\t1.0000\nr.txt\tall\tP_10\t0.1000\n",
+        ),
+        // B, A, D, C, F, E
+        (
+            b"1 Q0 A 1 1e-5 t\n1 Q0 B 1 .00001 t\n1 Q0 C 1 -0 t\n1 Q0 D 1 0 t\n1 Q0 E 1 -5. t\n1 Q0 F 1 -.5 t\n",
+            b"1 0 B 1\n1 0 D 1\n1 0 F 1\n",
+            b"r.txt\tall\tnum_rel_ret\t3\nr.txt\tall\tmap\t0.7556\nr.txt\tall\tP_10\t0.3000\n",
+        ),
         // the last line without its line feed, and white space of each kind
         (
             b"\n1\tQ0\x0bA\x0c1 3 t\r\n 1 Q0 B 2 2 t\n\n1 Q0 C 3 1 t",
@@ -104,33 +112,54 @@ fn a_run_is_scored_against_qrels(rt: HostRuntime) -> Result<(), Fail> {
 
 #[test]
 fn a_faulty_file_is_refused(rt: HostRuntime) -> Result<(), Fail> {
-    let runs: [&[u8]; 8] = [
-        b"1 Q0 A 1 3 t\n1 Q0 B 2 2.0 t\n1 Q0 C 3 1 t\n",
-        b"",
-        b"\n \n\t\r\n",
-        b"1 Q0 A 1 3\n",
-        b"a/b Q0 A 1 3 t\n",
-        b"1 Q0 \xc3\xa9 1 3 t\n",
-        b"1 Q0 A 1 1000000000000000000 t\n",
-        b"1 Q0 A 1 3 t\n1 Q0 B 2 2 t\n2 Q0 A 3 1 t\n1 Q0 A 4 0 t\n",
+    let runs: [(&[u8], &[u8]); 10] = [
+        (b"", b"input: r.txt line 0 empty\n"),
+        (b"\n \n\t\r\n", b"input: r.txt line 0 empty\n"),
+        (
+            b"1 Q0 A 1 3 t\n1 Q0 B 2 2\n",
+            b"input: r.txt line 2 fields\n",
+        ),
+        (b"a/b Q0 A 1 3 t\n", b"input: r.txt line 1 topic\n"),
+        (b"\n1 Q0 \xc3\xa9 1 3 t\n", b"input: r.txt line 2 docno\n"),
+        (b"1 Q0 A 1 nan t\n", b"input: r.txt line 1 score shape\n"),
+        (
+            b"1 Q0 A 1 3 t\n1 Q0 B 2 2 t\n1 Q0 C 3 123456789012345678901234567890123456789 t\n",
+            b"input: r.txt line 3 score digits\n",
+        ),
+        (
+            b"1 Q0 A 1 1e401 t\n",
+            b"input: r.txt line 1 score exponent\n",
+        ),
+        (
+            b"1 Q0 A 1 3 t\n1 Q0 B 2 2 t\n2 Q0 A 3 1 t\n1 Q0 A 4 0 t\n",
+            b"input: r.txt line 4 twice first 1\n",
+        ),
+        // a fault of a line is told before a repeat, and the first line's before a later one's
+        (
+            b"1 Q0 A 1 3 t\n1 Q0 A 1 3 t\n1 Q0 B 1 x t\nx\n",
+            b"input: r.txt line 3 score shape\n",
+        ),
     ];
-    for run in runs {
+    for (run, line) in runs {
         let (status, out) = scored(&rt, Some(run), Some(b"1 0 A -1\n"))?;
         assert_eq!(rt; status, 3);
-        assert_eq!(rt; out.written(), RUN_REFUSED);
+        assert_eq!(rt; out.written(), line);
     }
-    let qrels: [&[u8]; 6] = [
-        b"1 0 A -1\n",
-        b"1 0 A 256\n",
-        b"1 0 A\n",
-        b"1 0 A 1 1\n",
-        b"",
-        b"1 0 A 1\n2 0 A 1\n1 0 A 0\n",
+    let qrels: [(&[u8], &[u8]); 6] = [
+        (b"1 0 A -1\n", b"input: q.txt line 1 grade\n"),
+        (b"1 0 A 256\n", b"input: q.txt line 1 grade\n"),
+        (b"\n1 0 A\n", b"input: q.txt line 2 fields\n"),
+        (b"1 0 A 1 1\n", b"input: q.txt line 1 fields\n"),
+        (b"", b"input: q.txt line 0 empty\n"),
+        (
+            b"1 0 A 1\n2 0 A 1\n1 0 A 0\n",
+            b"input: q.txt line 3 twice first 1\n",
+        ),
     ];
-    for judged in qrels {
+    for (judged, line) in qrels {
         let (status, out) = scored(&rt, Some(RUN), Some(judged))?;
         assert_eq!(rt; status, 3);
-        assert_eq!(rt; out.written(), QRELS_REFUSED);
+        assert_eq!(rt; out.written(), line);
     }
     Ok(())
 }
@@ -147,7 +176,7 @@ fn a_topic_has_at_most_a_thousand_lines(rt: HostRuntime) -> Result<(), Fail> {
     run.push_str("1 Q0 E 1 1 t\n")?;
     let (status, out) = scored(&rt, Some(run.as_bytes()), Some(QRELS))?;
     assert_eq!(rt; status, 3);
-    assert_eq!(rt; out.written(), RUN_REFUSED);
+    assert_eq!(rt; out.written(), b"input: r.txt line 1001 too-long\n".as_slice());
     Ok(())
 }
 

@@ -3,7 +3,8 @@ use Rattle.std.proofs.Common.{◌≡◌, inl, inr, ℕ, List, Some, Ok, Err, Res
 use Rattle.std.specs.Prelude.{IfSome}
 use Rattle.trec_formats.specs.declared.lists.TopicList.{TopicList}
 use Rattle.trec_formats.specs.declared.qrels.QrelLine.{QrelLine}
-use Rattle.trec_formats.specs.Faults.{ExactlyOne, FormatFault}
+use Rattle.trec_formats.specs.declared.faults.FormatFault.{FormatFault}
+use Rattle.trec_formats.specs.Faults.{ExactlyOne}
 use Rattle.trec_formats.specs.Qrels.{IsQrels, IsQrelsFault, IsQrelsReading}
 use Rattle.trec_formats.specs.Runs.{IsRunReading}
 use Rattle.campaign_cli.specs.declared.evaluation.Finding.{Finding}
@@ -64,18 +65,18 @@ found_in old new run_name qrels_name run qrels finding.Missing r q w = absurd w
 found_in old new run_name qrels_name run qrels finding.Memory r q w = tt
 
 -- the run's file is named for its fault
-pub run_refused : (run_name qrels_name run qrels : List ℕ) (found : Finding) → Refuses run_name found → (fault : FormatFault) × HasRunFault run fault → Scores run_name qrels_name run qrels found
-run_refused run_name qrels_name run qrels (finding.Report t) w at = absurd w
-run_refused run_name qrels_name run qrels (finding.Input l) w at = inl (at.0, at.1, w)
-run_refused run_name qrels_name run qrels finding.Missing w at = absurd w
-run_refused run_name qrels_name run qrels finding.Memory w at = tt
+pub run_refused : (run_name qrels_name run qrels : List ℕ) (found : Finding) (fault : FormatFault) → Refuses run_name fault found → HasRunFault run fault → Scores run_name qrels_name run qrels found
+run_refused run_name qrels_name run qrels (finding.Report t) fault w at = absurd w
+run_refused run_name qrels_name run qrels (finding.Input l) fault w at = inl (fault, at, w)
+run_refused run_name qrels_name run qrels finding.Missing fault w at = absurd w
+run_refused run_name qrels_name run qrels finding.Memory fault w at = tt
 
 -- the file of the qrels is named for its fault
-pub qrels_refused : (run_name qrels_name run qrels : List ℕ) (found : Finding) (lists : List TopicList) → Refuses qrels_name found → HasLists run lists → (fault : FormatFault) × IsQrelsFault qrels fault → Scores run_name qrels_name run qrels found
-qrels_refused run_name qrels_name run qrels (finding.Report t) lists w r at = absurd w
-qrels_refused run_name qrels_name run qrels (finding.Input l) lists w r at = inr (lists, at.0, r, at.1, w)
-qrels_refused run_name qrels_name run qrels finding.Missing lists w r at = absurd w
-qrels_refused run_name qrels_name run qrels finding.Memory lists w r at = tt
+pub qrels_refused : (run_name qrels_name run qrels : List ℕ) (found : Finding) (lists : List TopicList) (fault : FormatFault) → Refuses qrels_name fault found → HasLists run lists → IsQrelsFault qrels fault → Scores run_name qrels_name run qrels found
+qrels_refused run_name qrels_name run qrels (finding.Report t) lists fault w r at = absurd w
+qrels_refused run_name qrels_name run qrels (finding.Input l) lists fault w r at = inr (lists, fault, r, at, w)
+qrels_refused run_name qrels_name run qrels finding.Missing lists fault w r at = absurd w
+qrels_refused run_name qrels_name run qrels finding.Memory lists fault w r at = tt
 
 -- a file that is given later was there before
 pub given_before : (old new : ShelfState) (name bytes : List ℕ) → Follows old new → Gives new name bytes → Gives old name bytes

@@ -1,6 +1,6 @@
 -- What a run scores against qrels, from the bytes of the two files.
-use Rattle.std.specs.Prelude.{◌≡◌, ◌⊎◌, ℕ, ◌&&◌, List, [], ◌++◌, Option, map, find, option_map, count_by, bytes_eq, nat_le, nat_lt, codes}
-use Rattle.std.specs.List.{fold}
+use Rattle.std.specs.Prelude.{◌≡◌, ◌⊎◌, ℕ, ◌&&◌, List, [], ◌++◌, Option, map, find, option_map, count_by, bytes_eq, nat_le, nat_lt, codes, decimal, ◌∷◌}
+use Rattle.std.specs.List.{concat, fold}
 use Rattle.std.specs.Option.{option_map_or}
 use Rattle.decimal_rank.specs.Names.{with_name}
 use Rattle.measures.specs.declared.cells.Cell.{Cell}
@@ -10,7 +10,11 @@ use Rattle.measures.specs.ScoreLines.{summary_text}
 use Rattle.trec_formats.specs.declared.lists.TopicList.{TopicList}
 use Rattle.trec_formats.specs.declared.qrels.QrelLine.{QrelLine}
 use Rattle.trec_formats.specs.declared.runs.RunLine.{RunLine}
-use Rattle.trec_formats.specs.Faults.{FormatFault, IsTwice}
+use Rattle.trec_formats.specs.declared.faults.FormatFault.{FormatFault}
+use Rattle.trec_formats.specs.declared.faults.Kind.{Kind}
+use Rattle.trec_formats.specs.declared.faults.Kind.TheVariants as kind
+use Rattle.trec_formats.specs.FaultNames.{cause_name, kind_name}
+use Rattle.trec_formats.specs.Faults.{IsTwice}
 use Rattle.trec_formats.specs.Lists.{AreLists, same_document}
 use Rattle.trec_formats.specs.Qrels.{IsQrels, IsQrelsFault}
 use Rattle.trec_formats.specs.Runs.{IsRun, IsRunFault}
@@ -64,12 +68,20 @@ IsReport name run qrels text =
     (lists : List TopicList) × (lines : List QrelLine) × HasLists run lists × IsQrels qrels lines
     × (text ≡ scores_text name lists lines)
 
-abbrev pub input_line : List ℕ → List ℕ
-input_line name = codes "input: " ++ name ++ codes "\n"
+-- what follows a kind's name: the cause of a score's fault, the line that is repeated
+abbrev pub detail : Kind → List ℕ
+detail (kind.Score cause) = codes " " ++ cause_name cause
+detail (kind.Twice first) = codes " first " ++ decimal first
+detail _ = []
 
--- The text names the file that has a fault: the run's, or else that of the qrels.
+-- the line that names a refused file, and its first fault
+abbrev pub input_line : List ℕ → FormatFault → List ℕ
+input_line name fault =
+    concat (codes "input: " ∷ name ∷ codes " line " ∷ decimal fault.line ∷ codes " " ∷ kind_name fault.kind ∷ detail fault.kind ∷ codes "\n" ∷ [])
+
+-- The text names the file that has a fault, and the fault: the run's, or else that of the qrels.
 abbrev pub IsInputFault : List ℕ → List ℕ → List ℕ → List ℕ → List ℕ → Type 0
 IsInputFault run_name qrels_name run qrels text =
-    ((fault : FormatFault) × HasRunFault run fault × (text ≡ input_line run_name))
+    ((fault : FormatFault) × HasRunFault run fault × (text ≡ input_line run_name fault))
     ⊎ ((lists : List TopicList) × (fault : FormatFault) × HasLists run lists × IsQrelsFault qrels fault
-    × (text ≡ input_line qrels_name))
+    × (text ≡ input_line qrels_name fault))

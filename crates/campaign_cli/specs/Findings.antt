@@ -1,5 +1,6 @@
 -- What an evaluation came to.
 use Rattle.std.specs.Prelude.{◌≡◌, ⊤, ℕ, List}
+use Rattle.trec_formats.specs.declared.faults.FormatFault.{FormatFault}
 use Rattle.campaign_cli.specs.declared.evaluation.Finding.{Finding}
 use Rattle.campaign_cli.specs.declared.evaluation.Finding.TheVariants as finding
 use Rattle.campaign_cli.specs.Endings.{IsMissing, GivesBoth}
@@ -13,12 +14,12 @@ Scores run_name qrels_name run qrels (finding.Input text) = IsInputFault run_nam
 Scores run_name qrels_name run qrels finding.Missing = ⊥
 Scores run_name qrels_name run qrels finding.Memory = ⊤
 
--- the file is named, unless memory was short
-abbrev pub Refuses : List ℕ → Finding → Type 0
-Refuses file (finding.Report text) = ⊥
-Refuses file (finding.Input text) = text.items ≡ input_line file
-Refuses file finding.Missing = ⊥
-Refuses file finding.Memory = ⊤
+-- the file and its fault are named, unless memory was short
+abbrev pub Refuses : List ℕ → FormatFault → Finding → Type 0
+Refuses file fault (finding.Report text) = ⊥
+Refuses file fault (finding.Input text) = text.items ≡ input_line file fault
+Refuses file fault finding.Missing = ⊥
+Refuses file fault finding.Memory = ⊤
 
 -- what was found is so
 abbrev pub Finds : ShelfState → List ℕ → List ℕ → ShelfState → Finding → Type 0

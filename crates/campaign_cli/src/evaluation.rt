@@ -1,7 +1,7 @@
-ghost use Rattle.std.specs.Prelude.{◌≡◌, ◌≤◌, ℕ, List, Err, length, IfOk};
+ghost use Rattle.std.specs.Prelude.{◌≡◌, ◌≤◌, ◌++◌, ℕ, List, length, IfOk, OnOk};
 ghost use Rattle.decimal_rank.specs.Causes.{Rose};
-ghost use Rattle.trec_formats.specs.Faults.{FormatFault};
-ghost use Rattle.campaign_cli.specs.Evaluations.{HasLists, HasRunFault, IsReport, IsInputFault, scores_text, input_line as line_of_input};
+ghost use Rattle.trec_formats.specs.Faults.{IfFault};
+ghost use Rattle.campaign_cli.specs.Evaluations.{HasLists, HasRunFault, IsReport, IsInputFault, scores_text, detail as detail_of, input_line as line_of_input};
 ghost use Rattle.campaign_cli.specs.Endings.{HasReport, HasFault};
 ghost use Rattle.campaign_cli.specs.Findings.{Finds, Scores, Refuses, IsScored, IsRefused};
 ghost use Rattle.campaign_cli.specs.Shelves.{Follows};
@@ -11,10 +11,11 @@ use crate::cells::cells_of;
 use crate::faults::ShelfFault;
 use crate::shelves::Shelf;
 use decimal_rank::Memory;
+use itoa::Buffer as Digits;
 use measures::{mean, write_summary};
 use std::alloc::Global;
 use trec_formats::{
-    FormatEnd, QrelLine, TopicList, one_qrels_reading, one_run_reading, rank_run, read_qrels,
+    FormatEnd, FormatFault, Kind, QrelLine, TopicList, cause_name, one_qrels_reading, one_run_reading, rank_run, read_qrels,
     read_run,
 };
 
@@ -23,7 +24,7 @@ use trec_formats::{
 pub enum Finding {
     /// The scores.
     Report(Vec<u8>),
-    /// A file is refused; the line names it.
+    /// A file is refused; the line names it and its first fault.
     Input(Vec<u8>),
     /// A file wasn't read.
     Missing,
@@ -64,12 +65,12 @@ fn score(alloc: Global, run: &[u8], qrels: &[u8], run_bytes: &[u8], qrels_bytes:
     one_qrels_reading();
     let lists = match lists_of(alloc, run_bytes) {
         Ok(lists) => lists,
-        Err(FormatEnd::Fault) => return refusal(alloc, run),
+        Err(FormatEnd::Fault(fault)) => return refusal(alloc, run, fault),
         Err(FormatEnd::Memory) => return Finding::Memory,
     };
     let judged = match read_qrels(alloc, qrels_bytes) {
         Ok(judged) => judged,
-        Err(FormatEnd::Fault) => return refusal(alloc, qrels),
+        Err(FormatEnd::Fault(fault)) => return refusal(alloc, qrels, fault),
         Err(FormatEnd::Memory) => return Finding::Memory,
     };
     match report(alloc, run, &lists, &judged) {
@@ -83,7 +84,7 @@ fn lists_of(alloc: Global, bytes: &[u8]) -> Result<Vec<TopicList>, FormatEnd>
     requires { length bytes.now ≤ 268435456 }
     ensures lists { IfOk result (λ lists. HasLists bytes.now lists.items) }
     ensures ranked { IfOk result (λ lists. AreRankedLists lists.items) }
-    ensures fault { result ≡ Err FormatEnd.Fault → (fault : FormatFault) × HasRunFault bytes.now fault }
+    ensures fault { IfFault result (HasRunFault bytes.now) }
 {
     let lines = read_run(alloc, bytes)?;
     rank_run(alloc, &lines)
@@ -106,21 +107,44 @@ fn report(
     Ok(text)
 }
 
-/// The line that names a refused file.
-fn input_line(alloc: Global, file: &[u8]) -> Result<Vec<u8>, Memory>
-    ensures { IfOk result (λ line. line.items ≡ line_of_input file.now) }
+/// Appends what follows the name of a fault's kind.
+fn write_detail(line: &mut Vec<u8>, kind: Kind) -> Result<(), Memory>
+    ensures { OnOk result (line.new.items ≡ line.old.items ++ detail_of kind) }
 {
-    let mut line = Vec::with_capacity(alloc, file.len().saturating_add(8))?;
+    match kind {
+        Kind::Score(cause) => {
+            line.extend_from_slice(b" ")?;
+            line.extend_from_slice(cause_name(cause))?;
+        }
+        Kind::Twice { first } => {
+            line.extend_from_slice(b" first ")?;
+            line.extend_from_slice(Digits::new().format(first).as_bytes())?;
+        }
+        _ => {}
+    }
+    Ok(())
+}
+
+/// The line that names a refused file, and its first fault.
+fn input_line(alloc: Global, file: &[u8], fault: FormatFault) -> Result<Vec<u8>, Memory>
+    ensures { IfOk result (λ line. line.items ≡ line_of_input file.now fault) }
+{
+    let mut line = Vec::new(alloc);
     line.extend_from_slice(b"input: ")?;
     line.extend_from_slice(file)?;
+    line.extend_from_slice(b" line ")?;
+    line.extend_from_slice(Digits::new().format(fault.line).as_bytes())?;
+    line.extend_from_slice(b" ")?;
+    line.extend_from_slice(fault.kind.name())?;
+    write_detail(&mut line, fault.kind)?;
     line.extend_from_slice(b"\n")?;
     Ok(line)
 }
 
-fn refusal(alloc: Global, file: &[u8]) -> Finding
-    ensures { Refuses file.now result }
+fn refusal(alloc: Global, file: &[u8], fault: FormatFault) -> Finding
+    ensures { Refuses file.now fault result }
 {
-    match input_line(alloc, file) {
+    match input_line(alloc, file, fault) {
         Ok(line) => Finding::Input(line),
         Err(Memory) => Finding::Memory,
     }

@@ -7,7 +7,9 @@ use Rattle.std.proofs.lemmas.List.Sums.{sum_by-cons}
 use Rattle.decimal_rank.specs.Decimal.{DecimalValue}
 use Rattle.decimal_rank.specs.DecimalText.{decimal_of}
 use Rattle.decimal_rank.specs.declared.decimals.DecimalFault.{DecimalFault}
-use Rattle.trec_formats.specs.Faults.{Kind, Topic, Docno, Stand}
+use Rattle.trec_formats.specs.declared.faults.Kind.{Kind}
+use Rattle.trec_formats.specs.declared.faults.Kind.TheVariants.{Topic, Docno}
+use Rattle.trec_formats.specs.Faults.{Stand}
 use Rattle.trec_formats.specs.Lines.{Row, is_white_space, is_filled, lines_of, fields_of, rows_from, rows_of}
 use Rattle.trec_formats.specs.Names.{is_name, is_docno}
 use Rattle.trec_formats.specs.Runs.{run_of, scored, IsRun}

@@ -1,6 +1,10 @@
 -- The text of an answer.
 use Rattle.std.specs.Prelude.{ℕ, Bool, true, false, ◌||◌, ◌==◌, List, [], ◌∷◌, ◌++◌, map, length, codes, decimal, IsTrue, ◌≤◌, if◌then◌else◌}
 use Rattle.std.specs.List.{concat, flat_map, join_with_byte}
+use Rattle.trec_formats.specs.declared.faults.FormatFault.{FormatFault}
+use Rattle.trec_formats.specs.declared.faults.Kind.{Kind}
+use Rattle.trec_formats.specs.declared.faults.Kind.TheVariants as kind
+use Rattle.trec_formats.specs.FaultNames.{cause_name, kind_name}
 use Rattle.rulebook.specs.declared.rules.Phase.{Phase}
 use Rattle.rulebook.specs.declared.rules.Phase.TheVariants as phase
 use Rattle.rulebook.specs.declared.reply.Quantity.{Quantity}
@@ -39,7 +43,7 @@ route_status route.Route = codes "404 Not Found"
 route_status route.Method = codes "405 Method Not Allowed"
 route_status route.Key = codes "401 Unauthorized"
 route_status route.Role = codes "403 Forbidden"
-route_status route.Format = codes "400 Bad Request"
+route_status (route.Format at) = codes "400 Bad Request"
 
 abbrev pub wire_status : WireFault → List ℕ
 wire_status wire.Head = codes "400 Bad Request"
@@ -135,12 +139,23 @@ reply_body (reply.Pool topic docs) = pool_body topic docs
 reply_body (reply.Refused r) = refusal_body r
 reply_body _ = []
 
+-- the field of a format fault whose key is before "kind"
+abbrev pub detail : Kind → Field
+detail (kind.Score cause) = record { key = codes "\"cause\":\""; value = cause_name cause; end = codes "\"," }
+detail (kind.Twice first) = record { key = codes "\"first\":"; value = decimal first; end = codes "," }
+detail _ = no_field
+
+abbrev pub format_body : FormatFault → List ℕ
+format_body at =
+    concat (codes "{" ∷ (detail at.kind).key ∷ (detail at.kind).value ∷ (detail at.kind).end ∷ codes "\"kind\":\"" ∷ kind_name at.kind
+    ∷ codes "\",\"line\":" ∷ decimal at.line ∷ codes ",\"refusal\":\"format\"}\n" ∷ [])
+
 abbrev pub route_body : RouteFault → List ℕ
 route_body route.Route = codes "{\"fault\":\"route\"}\n"
 route_body route.Method = codes "{\"fault\":\"method\"}\n"
 route_body route.Key = codes "{\"fault\":\"key\"}\n"
 route_body route.Role = codes "{\"fault\":\"role\"}\n"
-route_body route.Format = codes "{\"refusal\":\"format\"}\n"
+route_body (route.Format at) = format_body at
 
 abbrev pub wire_body : WireFault → List ℕ
 wire_body wire.Head = codes "{\"fault\":\"head\"}\n"

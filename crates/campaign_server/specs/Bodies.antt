@@ -2,7 +2,7 @@
 use Rattle.std.specs.Prelude.{◌⊎◌, ℕ, List}
 use Rattle.trec_formats.specs.declared.lists.TopicList.{TopicList}
 use Rattle.trec_formats.specs.declared.runs.RunLine.{RunLine}
-use Rattle.trec_formats.specs.Faults.{FormatFault}
+use Rattle.trec_formats.specs.declared.faults.FormatFault.{FormatFault}
 use Rattle.trec_formats.specs.Lists.{AreLists, IsListsFault}
 use Rattle.trec_formats.specs.Runs.{IsRun, IsRunFault}
 

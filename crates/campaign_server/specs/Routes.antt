@@ -1,7 +1,7 @@
 -- What a message asks, and who asks it: the first fault that is met, or the request.
 use Rattle.std.specs.Prelude.{◌≡◌, ℕ, Bool, ◌||◌, ◌==◌, List, Option, None, Some, Result, Ok, Err, drop, nat_eq, bytes_eq, codes, if◌then◌else◌}
 use Rattle.std.specs.List.{starts_with, before_first, after_first}
-use Rattle.trec_formats.specs.Faults.{FormatFault}
+use Rattle.trec_formats.specs.declared.faults.FormatFault.{FormatFault}
 use Rattle.campaign_server.specs.Bodies.{IsRankedRun, IsRankedRunFault}
 use Rattle.trec_formats.specs.Names.{is_name}
 use Rattle.trec_formats.specs.declared.lists.TopicList.{TopicList}
@@ -82,7 +82,7 @@ asking row ask = record { who = record { name = row.name; role = row.role }; num
 -- What is asked at a route with a body. The body of a run is read as its ranked lists, and that of a query isn't looked at.
 abbrev pub Asks : Route → List ℕ → Result Ask RouteFault → Type 0
 Asks (Run run) body (Ok ask) = (lists : List TopicList) × IsRankedRun body lists × (ask ≡ Act (command.Submit run lists))
-Asks (Run run) body (Err cause) = (cause ≡ fault.Format) × ((at : FormatFault) × IsRankedRunFault body at)
+Asks (Run run) body (Err cause) = (at : FormatFault) × (cause ≡ fault.Format at) × IsRankedRunFault body at
 Asks (Pool topic) body result = result ≡ Ok (See (query.Pool topic))
 
 abbrev pub Gives : Result Opening RouteFault → List ℕ → Result Request RouteFault → Type 0

@@ -2,7 +2,7 @@ ghost use Rattle.std.specs.Prelude.{◌≡◌, ◌+◌, ◌≤◌, ◌++◌, ◌
 ghost use Rattle.std.specs.List.{join_with_byte, flat_map};
 ghost use Rattle.campaign_server.specs.declared.answers.TheConstants.{ROOM};
 ghost use Rattle.campaign_server.specs.Growth.{Adds};
-ghost use Rattle.campaign_server.specs.Answers.{refusal_status, reply_status, route_status, wire_status, status_of, phase_name, quantity_name, refusal_name, field_before, field_behind, refusal_body, submitted_body, escaped, quoted, pool_body, route_body, wire_body, body_of, is_given, is_short, closing, head_with, text_with, answer_text, Fits};
+ghost use Rattle.campaign_server.specs.Answers.{refusal_status, reply_status, route_status, wire_status, status_of, phase_name, quantity_name, refusal_name, field_before, field_behind, refusal_body, submitted_body, escaped, quoted, pool_body, detail, format_body, route_body, wire_body, body_of, is_given, is_short, closing, head_with, text_with, answer_text, Fits};
 ghost use Rattle.campaign_server.specs.AnswerParts.{field_shown};
 
 use crate::growth::{append, append_all};
@@ -12,6 +12,7 @@ use decimal_rank::{Memory, Text};
 use itoa::Buffer as Digits;
 use rulebook::{Phase, Quantity, Refusal, Reply};
 use std::alloc::Global;
+use trec_formats::{FormatFault, Kind, cause_name};
 
 /// The bytes that an answer is written into without further memory.
 const ROOM: usize = 4096;
@@ -59,7 +60,7 @@ fn route_status(fault: RouteFault) -> &'static [u8]
         RouteFault::Method => b"405 Method Not Allowed",
         RouteFault::Key => b"401 Unauthorized",
         RouteFault::Role => b"403 Forbidden",
-        RouteFault::Format => b"400 Bad Request",
+        RouteFault::Format(_) => b"400 Bad Request",
     }
 }
 
@@ -280,15 +281,60 @@ fn write_pool(body: &mut Vec<u8>, topic: &[u8], docnos: &[Text]) -> Result<(), M
     )
 }
 
-fn route_body(fault: RouteFault) -> &'static [u8]
-    ensures { result.now ≡ route_body fault }
+/// The field of a format fault whose key is before "kind".
+fn detail<'a>(kind: Kind, digits: &'a mut Digits) -> Field<'a>
+    ensures { field_shown result ≡ detail kind }
+{
+    match kind {
+        Kind::Score(cause) => Field {
+            key: b"\"cause\":\"",
+            value: cause_name(cause),
+            end: b"\",",
+        },
+        Kind::Twice { first } => Field {
+            key: b"\"first\":",
+            value: digits.format(first).as_bytes(),
+            end: b",",
+        },
+        _ => Field {
+            key: b"",
+            value: b"",
+            end: b"",
+        },
+    }
+}
+
+fn write_format(body: &mut Vec<u8>, fault: FormatFault) -> Result<(), Memory>
+    ensures { Adds body.old body.new (format_body fault) result }
+{
+    let mut detail_digits = Digits::new();
+    let mut line_digits = Digits::new();
+    let detail = detail(fault.kind, &mut detail_digits);
+    append_all(
+        body,
+        &[
+            b"{",
+            detail.key,
+            detail.value,
+            detail.end,
+            b"\"kind\":\"",
+            fault.kind.name(),
+            b"\",\"line\":",
+            line_digits.format(fault.line).as_bytes(),
+            b",\"refusal\":\"format\"}\n",
+        ],
+    )
+}
+
+fn write_route(body: &mut Vec<u8>, fault: RouteFault) -> Result<(), Memory>
+    ensures { Adds body.old body.new (route_body fault) result }
 {
     match fault {
-        RouteFault::Route => b"{\"fault\":\"route\"}\n",
-        RouteFault::Method => b"{\"fault\":\"method\"}\n",
-        RouteFault::Key => b"{\"fault\":\"key\"}\n",
-        RouteFault::Role => b"{\"fault\":\"role\"}\n",
-        RouteFault::Format => b"{\"refusal\":\"format\"}\n",
+        RouteFault::Route => append(body, b"{\"fault\":\"route\"}\n"),
+        RouteFault::Method => append(body, b"{\"fault\":\"method\"}\n"),
+        RouteFault::Key => append(body, b"{\"fault\":\"key\"}\n"),
+        RouteFault::Role => append(body, b"{\"fault\":\"role\"}\n"),
+        RouteFault::Format(fault) => write_format(body, fault),
     }
 }
 
@@ -309,7 +355,7 @@ fn write_body(body: &mut Vec<u8>, answered: &Answered) -> Result<(), Memory>
             Reply::Refused(refusal) => write_refusal(body, *refusal),
             _ => unreachable!(),
         },
-        Answered::Route(fault) => append(body, route_body(*fault)),
+        Answered::Route(fault) => write_route(body, *fault),
         Answered::Wire(WireFault::Head) => append(body, b"{\"fault\":\"head\"}\n"),
         Answered::Memory => append(body, b"{\"fault\":\"memory\"}\n"),
     }

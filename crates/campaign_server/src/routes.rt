@@ -1,5 +1,5 @@
 ghost use Rattle.std.specs.Prelude.{◌≡◌, ◌≤◌, ℕ, Ok, Err, None, IsTrue, IfOk, OnOk, MatchResult, length, option_map, position};
-ghost use Rattle.trec_formats.specs.Faults.{FormatFault};
+ghost use Rattle.trec_formats.specs.Faults.{IfFault};
 ghost use Rattle.campaign_server.specs.Bodies.{IsRankedRun, IsRankedRunFault};
 ghost use Rattle.rulebook.specs.declared.limits.TheConstants.{MAX_MOMENT};
 ghost use Rattle.rulebook.specs.Legal.{is_well_addressed};
@@ -15,7 +15,7 @@ use crate::names::is_name;
 use decimal_rank::{Memory, Rows, Text};
 use rulebook::{Ask, Caller, Command, Query, Role};
 use std::alloc::Global;
-use trec_formats::{FormatEnd, TopicList, rank_run, read_run};
+use trec_formats::{FormatEnd, FormatFault, TopicList, rank_run, read_run};
 
 /// Why a message isn't a request, in the order in which the faults are looked for.
 #[derive(Clone, Copy, Debug, PartialEq, Eq)]
@@ -28,8 +28,8 @@ pub enum RouteFault {
     Key,
     /// The caller's role may not ask this.
     Role,
-    /// The body isn't a run.
-    Format,
+    /// The body isn't a run, by its first fault.
+    Format(FormatFault),
 }
 
 /// Why a message gives no request.
@@ -170,7 +170,7 @@ fn opening_of<'a>(message: &Message<'a>, keys: &'a Keys) -> Result<Opening<'a>, 
 fn ranked_run(alloc: Global, body: &[u8]) -> Result<Vec<TopicList>, FormatEnd>
     requires { length body.now ≤ 16777216 }
     ensures lists { IfOk result (λ lists. IsRankedRun body.now lists.items) }
-    ensures fault { result ≡ Err FormatEnd.Fault → (fault : FormatFault) × IsRankedRunFault body.now fault }
+    ensures fault { IfFault result (IsRankedRunFault body.now) }
 {
     let lines = read_run(alloc, body)?;
     rank_run(alloc, &lines)
@@ -193,7 +193,7 @@ fn submission(alloc: Global, run: &[u8], body: &[u8]) -> Result<Ask, ReadEnd>
             run: name_text(alloc, run)?,
             lists: Rows::new(lists),
         })),
-        Err(FormatEnd::Fault) => Err(ReadEnd::Fault(RouteFault::Format)),
+        Err(FormatEnd::Fault(fault)) => Err(ReadEnd::Fault(RouteFault::Format(fault))),
         Err(FormatEnd::Memory) => Err(ReadEnd::Memory),
     }
 }

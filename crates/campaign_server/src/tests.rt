@@ -271,7 +271,18 @@ fn faults_of_routes(rt: HostRuntime) -> Result<(), Fail> {
     let no_method = ("405 Method Not Allowed", "{\"fault\":\"method\"}\n");
     let no_key = ("401 Unauthorized", "{\"fault\":\"key\"}\n");
     let no_role = ("403 Forbidden", "{\"fault\":\"role\"}\n");
-    let no_run = ("400 Bad Request", "{\"refusal\":\"format\"}\n");
+    let few_fields = (
+        "400 Bad Request",
+        "{\"kind\":\"fields\",\"line\":2,\"refusal\":\"format\"}\n",
+    );
+    let no_score = (
+        "400 Bad Request",
+        "{\"cause\":\"shape\",\"kind\":\"score\",\"line\":1,\"refusal\":\"format\"}\n",
+    );
+    let repeat = (
+        "400 Bad Request",
+        "{\"first\":1,\"kind\":\"twice\",\"line\":2,\"refusal\":\"format\"}\n",
+    );
     let rows = [
         ("PUT /nope", "x", "", no_route),
         ("POST /runs/a/b", group, "", no_route),
@@ -283,8 +294,9 @@ fn faults_of_routes(rt: HostRuntime) -> Result<(), Fail> {
         ("POST /runs/X", "x", "", no_key),
         ("POST /runs/X", "ASSESSORASSESS01", "", no_role),
         ("GET /topics/1/pool", group, "", no_role),
-        ("POST /runs/X", group, "1 Q0 a 1 3", no_run),
-        ("POST /runs/X", group, "1 Q a 1 1 t\n1 Q a 2 2 t\n", no_run),
+        ("POST /runs/X", group, "\n1 Q0 a 1 3", few_fields),
+        ("POST /runs/X", group, "1 Q0 a 1 nan t", no_score),
+        ("POST /runs/X", group, "1 Q a 1 1 t\n1 Q a 2 2 t\n", repeat),
     ];
     for (line, key, body, (status, answer)) in rows {
         assert!(rt; answer_to(rt.alloc(), line, key, body, status, answer)?);

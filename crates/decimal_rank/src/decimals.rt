@@ -18,6 +18,10 @@ const SHORT: u128 = 100_000_000_000_000_000_000_000_000_000;
 pub enum DecimalFault {
     /// The text isn't 1 to 18 digits.
     Shape,
+    /// It has more than 38 significant digits.
+    Digits,
+    /// Its exponent is out of range.
+    Exponent,
 }
 
 /// The exact value of a score. The digits are kept left-aligned, so that comparing multiplies

@@ -1,4 +1,5 @@
 pub mod Counts
+pub mod FaultNames
 pub mod Faults
 pub mod Groups
 pub mod Lines

@@ -1,4 +1,5 @@
 ghost use Rattle.std.specs.Prelude.{◌≡◌};
+ghost use Rattle.trec_formats.specs.FaultNames.{cause_name, kind_name};
 
 use decimal_rank::{DecimalFault, Memory};
 use std::alloc::{AllocError, AllocFailed};
@@ -22,6 +23,36 @@ pub enum Kind {
     Tag,
     /// It says the same as an earlier line, of this number.
     Twice { first: u32 },
+}
+
+impl Kind {
+    /// Its name where it is printed.
+    pub fn name(self) -> &'static [u8]
+        ensures { result.now ≡ kind_name self }
+    {
+        match self {
+            Kind::Fields => b"fields",
+            Kind::Topic => b"topic",
+            Kind::Docno => b"docno",
+            Kind::Score(_) => b"score",
+            Kind::Grade => b"grade",
+            Kind::Empty => b"empty",
+            Kind::TooLong => b"too-long",
+            Kind::Tag => b"tag",
+            Kind::Twice { .. } => b"twice",
+        }
+    }
+}
+
+/// The name of a score's fault where it is printed.
+pub fn cause_name(cause: DecimalFault) -> &'static [u8]
+    ensures { result.now ≡ cause_name cause }
+{
+    match cause {
+        DecimalFault::Shape => b"shape",
+        DecimalFault::Digits => b"digits",
+        DecimalFault::Exponent => b"exponent",
+    }
 }
 
 /// The first fault of a text.
@@ -53,6 +84,7 @@ impl FormatEnd {
 impl From<Memory> for FormatEnd {
     ghost use Rattle.trec_formats.specs.declared.faults.FormatEnd.TheVariants.{Memory as NoMemory};
     ghost use Rattle.std.specs.Prelude.{◌≡◌};
+ghost use Rattle.trec_formats.specs.FaultNames.{cause_name, kind_name};
 
     ghost from_gives = { λ _ e. e ≡ NoMemory };
 
@@ -64,6 +96,7 @@ impl From<Memory> for FormatEnd {
 impl From<AllocError> for FormatEnd {
     ghost use Rattle.trec_formats.specs.declared.faults.FormatEnd.TheVariants.{Memory};
     ghost use Rattle.std.specs.Prelude.{◌≡◌};
+ghost use Rattle.trec_formats.specs.FaultNames.{cause_name, kind_name};
 
     ghost from_gives = { λ _ e. e ≡ Memory };
 
@@ -75,6 +108,7 @@ impl From<AllocError> for FormatEnd {
 impl<T: Drop> From<AllocFailed<T>> for FormatEnd {
     ghost use Rattle.trec_formats.specs.declared.faults.FormatEnd.TheVariants.{Memory};
     ghost use Rattle.std.specs.Prelude.{◌≡◌};
+ghost use Rattle.trec_formats.specs.FaultNames.{cause_name, kind_name};
 
     ghost from_gives = { λ _ e. e ≡ Memory };
 

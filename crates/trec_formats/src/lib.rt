@@ -12,7 +12,7 @@ mod runs;
 mod tests;
 mod topics;
 
-pub use faults::{FormatEnd, FormatFault, Kind};
+pub use faults::{FormatEnd, FormatFault, Kind, cause_name};
 pub use laws::{one_qrels_reading, one_run_reading};
 pub use lists::{TopicList, rank_run};
 pub use qrels::{QrelLine, read_qrels};

@@ -3,9 +3,9 @@ use Rattle.campaign_cli.proofs.Ranked.{ranked_lists}
 use Rattle.campaign_cli.proofs.evaluation.lists_of.Goals as goal
 
 pub rank_run-requires-clause-short : goal.rank_run-requires-clause-short
-rank_run-requires-clause-short c = rw c.deref.ensures.value c.in_ok-lines.ensures.lines.1.short
+rank_run-requires-clause-short c = rw c.deref.ensures.value c.in_ok-lines.ensures.short
 
 pub returns-clause-ranked : goal.returns-clause-ranked
 returns-clause-ranked c =
     let lists = rw c.deref.ensures.value at c.rank_run.ensures.lists in
-    IfOk-weaker c.rank_run.result _ _ (λ lists w. ranked_lists c.in_ok-lines.lines.items lists.items c.in_ok-lines.ensures.lines.1.short w) lists
+    IfOk-weaker c.rank_run.result _ _ (λ lists w. ranked_lists c.in_ok-lines.lines.items lists.items c.in_ok-lines.ensures.short w) lists
