@@ -1,0 +1,6 @@
+pub mod Holders
+pub mod Listing
+pub mod Lists
+pub mod ByNumber
+pub mod Search
+pub mod Writes

@@ -1,0 +1,10 @@
+//! The pool of one topic: which documents each run holds, and which runs hold each document. A run
+//! holds the documents of its ranking whose rank is at most the pool's depth.
+#![tactic(auto)]
+
+mod index;
+mod pools;
+mod runs;
+
+pub use pools::Pool;
+pub use runs::RunId;
