@@ -1,5 +1,5 @@
 -- The holders of a document, as runs come and go.
-use Rattle.std.proofs.Common.{◌≡◌, ◌≢◌, ℕ, zero, suc, ◌+◌, ◌<◌, ◌≤◌, Bool, true, false, cond, not, ◌||◌, ◌&&◌, nat_lt, ltb, eqb, List, [], ◌∷◌, length, map, filter, refl, sym, ap, ◌∙◌, arith}
+use Rattle.std.proofs.Common.{◌≡◌, ◌≢◌, ℕ, zero, suc, ◌+◌, ◌<◌, ◌≤◌, Bool, true, false, cond, not, ◌||◌, ◌&&◌, nat_lt, ltb, eqb, List, [], ◌∷◌, ◌++◌, length, map, filter, refl, sym, ap, ◌∙◌, arith}
 use Rattle.std.specs.List.{list_any, All, AllPairs}
 use Rattle.std.proofs.lemmas.Bool.{false≢true}
 use Rattle.std.proofs.lemmas.Bool.Decides.{nat_tests}
@@ -202,3 +202,14 @@ any_holder doc (held ∷ runs) = ap (λ holders. nat_lt 0 (length holders)) (hol
     step : (here : Bool) → nat_lt 0 (length (holders_of doc runs)) ≡ some_run_holds doc runs → nat_lt 0 (length (cond here (held.run ∷ holders_of doc runs) (holders_of doc runs))) ≡ (here || some_run_holds doc runs)
     step true rest = positive (length (holders_of doc runs))
     step false rest = rest
+
+-- ---- a run with the greatest number
+
+not_below : (m n : ℕ) → m < n → nat_lt n m ≡ false
+not_below m n h = grind (arith, nat_tests)
+
+pub put_last : (new : Held) (runs : List Held) → All (λ held. held.run.0 < new.run.0) runs → with_run new runs ≡ runs ++ new ∷ []
+put_last new [] all = refl
+put_last new (held ∷ runs) all =
+    ap (λ t. cond t (new ∷ held ∷ runs) (held ∷ with_run new runs)) (not_below held.run.0 new.run.0 (all 0 held (omega arith)))
+    ∙ ap (λ rest. held ∷ rest) (put_last new runs (all_tail (λ h. h.run.0 < new.run.0) held runs all))

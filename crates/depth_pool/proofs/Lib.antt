@@ -3,4 +3,5 @@ pub mod Listing
 pub mod Lists
 pub mod ByNumber
 pub mod Search
+pub mod Unique
 pub mod Writes

@@ -1,6 +1,9 @@
 -- Which documents the runs of a pool hold.
-use Rattle.std.specs.Prelude.{◌≡◌, ◌≢◌, ℕ, ◌<◌, ◌==◌, ◌&&◌, nat_lt, Bool, not, List, [], ◌∷◌, Option, map, filter, AllPairs, if◌then◌else◌}
+use Rattle.std.specs.Prelude.{◌≡◌, ◌≢◌, ℕ, ◌<◌, ◌==◌, ◌&&◌, nat_lt, Bool, true, not, List, [], ◌∷◌, Option, map, filter, AllPairs, if◌then◌else◌}
+use Rattle.std.specs.Cmp.Lexicographic.{slice_cmp}
 use Rattle.std.specs.List.{list_any}
+use Rattle.std.specs.Ordering.{nat_cmp, is_lt}
+use Rattle.decimal_rank.specs.Names.{docno_of}
 use Rattle.decimal_rank.specs.declared.naming.DocId.{DocId}
 use Rattle.depth_pool.specs.declared.runs.RunId.{RunId}
 
@@ -56,3 +59,7 @@ AreByNumber runs = AllPairs (λ a b. a.run.0 < b.run.0) runs
 pub record KeepsOthers (old new : List Held) (run : RunId) : Type 0 where
   pub in_pool : (other : RunId) → other ≢ run → has_run other new ≡ has_run other old
   pub holdings : (other : RunId) (doc : DocId) → other ≢ run → holds new other doc ≡ holds old other doc
+
+-- the documents stand by docno in byte order, each once
+abbrev pub AreByDocno : List (List ℕ) → List DocId → Type 0
+AreByDocno names docs = AllPairs (λ a b. is_lt (slice_cmp nat_cmp (docno_of names a.0) (docno_of names b.0)) ≡ true) docs

@@ -3,8 +3,10 @@
 #![tactic(auto)]
 
 mod index;
+mod laws;
 mod pools;
 mod runs;
 
+pub use laws::{greatest_run_goes_last, one_list_by_docno};
 pub use pools::Pool;
 pub use runs::RunId;

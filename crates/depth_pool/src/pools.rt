@@ -1,10 +1,8 @@
 ghost use Rattle.std.specs.Prelude.{◌≡◌, ◌+◌, ◌<◌, ◌≤◌, [], Bool, true, false, List, All, AllPairs, IfOk, IfErr, OnOk, OnErr, Some, None, IsTrue, length, take};
-ghost use Rattle.std.specs.Cmp.Lexicographic.{slice_cmp};
-ghost use Rattle.std.specs.Ordering.{nat_cmp, is_lt};
 ghost use Rattle.decimal_rank.specs.Names.{docno_of};
 ghost use Rattle.decimal_rank.specs.Places.{AreDistinct};
 ghost use Rattle.decimal_rank.specs.declared.naming.DocId.{DocId};
-ghost use Rattle.depth_pool.specs.Holdings.{AreByNumber, KeepsOthers, has_doc, has_run, holders_of, holds, some_run_holds, with_run, without_run};
+ghost use Rattle.depth_pool.specs.Holdings.{AreByDocno, AreByNumber, KeepsOthers, has_doc, has_run, holders_of, holds, some_run_holds, with_run, without_run};
 
 use crate::index::{Index, add_holders, docs_held, make_rooms, remove_holders};
 use crate::runs::{RunDocs, RunId, put_run, take_run};
@@ -121,7 +119,7 @@ impl Pool {
     pub fn docs(&self, alloc: Global, names: &Names) -> Result<Vec<DocId>, Memory>
         requires docs_named { All (λ held. All (λ doc. doc.0 < length names.now) held.docs) self.now.runs }
         ensures each { IfOk result (λ docs. (doc : DocId) → has_doc doc docs.items ≡ some_run_holds doc self.now.runs) }
-        ensures ascending { IfOk result (λ docs. AllPairs (λ a b. is_lt (slice_cmp nat_cmp (docno_of names.now a.0) (docno_of names.now b.0)) ≡ true) docs.items) }
+        ensures ascending { IfOk result (λ docs. AreByDocno names.now docs.items) }
     {
         // names tell with their length that no name stands twice
         let _ = names.len();
