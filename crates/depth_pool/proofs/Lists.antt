@@ -1,8 +1,9 @@
 -- Lists that an element is put into or taken out of.
-use Rattle.std.proofs.Common.{◌≡◌, ℕ, zero, suc, ◌+◌, ◌≤◌, Bool, true, false, cond, not, ◌||◌, ◌<◌, get_or, List, [], ◌∷◌, ◌++◌, length, take, drop, filter, refl, sym, ap, ◌∙◌, arith, subst}
+use Rattle.std.proofs.Common.{◌≡◌, ℕ, zero, suc, ◌+◌, ◌≤◌, Bool, true, false, cond, not, ◌||◌, ◌<◌, get_or, eqb, List, [], ◌∷◌, ◌++◌, length, take, drop, filter, refl, sym, ap, ◌∙◌, arith, subst}
 use Rattle.std.specs.List.{position_or_len, insert, list_any, All, AllPairs}
 use Rattle.std.proofs.lemmas.List.{get_or-take, length-take}
 use Rattle.std.proofs.lemmas.List.Elements.{All-cons}
+use borrow.Author.Tests.{eqb-true}
 use Rattle.std.specs.List.Retain.{RetainsInTurn}
 use Rattle.depth_pool.specs.Holdings.{put_before}
 
@@ -81,3 +82,7 @@ any_filter {X} p k out (x ∷ xs) = step (any_filter p k out xs) (k x) refl
     step : list_any p (filter k xs) ≡ list_any p xs → (t : Bool) → k x ≡ t → list_any p (cond t (x ∷ filter k xs) (filter k xs)) ≡ (p x || list_any p xs)
     step rest true e = ap (λ b. p x || b) rest
     step rest false e = rest ∙ sym (ap (λ b. b || list_any p xs) (out x e))
+
+pub no_elements : {X : Type 0} (xs : List X) → eqb (length xs) 0 ≡ true → xs ≡ []
+no_elements [] h = refl
+no_elements (x ∷ xs) h = absurd (let none = eqb-true (suc (length xs)) 0 h in omega arith)

@@ -50,10 +50,10 @@ read_after {Y} f h before after doc entry written changed other =
     at false e = refl
 
 -- a write that keeps the holders
-pub kept_holders : (before after : Index) (doc : DocId) (entry : SmallVec RunId) → IsWrittenAt before after doc (Some entry)
-    → entry.items ≡ holders_at before doc → (other : DocId) → holders_at after other ≡ holders_at before other
+pub kept_holders : (before after : Index) (doc : DocId) (entry : Entry) → IsWrittenAt before after doc entry
+    → option_map_or (λ v. v.items) entry [] ≡ holders_at before doc → (other : DocId) → holders_at after other ≡ holders_at before other
 kept_holders before after doc entry written same other =
-    read_after (λ e. option_map_or (λ v. v.items) e []) (λ x. x) before after doc (Some entry) written same other ∙ both (eqb doc.0 other.0)
+    read_after (λ e. option_map_or (λ v. v.items) e []) (λ x. x) before after doc entry written same other ∙ both (eqb doc.0 other.0)
   where
     both : (t : Bool) → cond t (holders_at before other) (holders_at before other) ≡ holders_at before other
     both true = refl

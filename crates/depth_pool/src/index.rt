@@ -52,16 +52,47 @@ fn place_of(holders: &[RunId], run: RunId) -> usize
     holders.len()
 }
 
-// Makes room for one more run at each document.
+// Makes room for one more run at each document. On an error no entry is left for it.
 pub(crate) fn make_rooms(index: &mut Index, alloc: Global, docs: &[DocId]) -> Result<(), Memory>
     ensures room { OnOk result (All (λ doc. has_room index.new doc ≡ true) docs.now) }
     ensures holders { (other : DocId) → holders_at index.new other ≡ holders_at index.old other }
-    ensures rooms { (other : DocId) → has_room index.old other ≡ true → has_room index.new other ≡ true }
+{
+    let made = try_rooms(index, alloc, docs);
+    if made.is_err() {
+        drop_empties(index, docs);
+    }
+    made
+}
+
+// Makes room for one more run at each document, up to the first for which there is no memory.
+fn try_rooms(index: &mut Index, alloc: Global, docs: &[DocId]) -> Result<(), Memory>
+    ensures room { OnOk result (All (λ doc. has_room index.new doc ≡ true) docs.now) }
+    ensures holders { (other : DocId) → holders_at index.new other ≡ holders_at index.old other }
 {
     for doc in docs {
         make_room(index, alloc, *doc)?;
     }
     Ok(())
+}
+
+// Takes the entry of each document out where no run stands at it.
+pub(crate) fn drop_empties(index: &mut Index, docs: &[DocId])
+    ensures { (other : DocId) → holders_at index.new other ≡ holders_at index.old other }
+{
+    for doc in docs {
+        drop_empty(index, *doc);
+    }
+}
+
+// Takes the entry of a document out where no run stands at it.
+fn drop_empty(index: &mut Index, doc: DocId)
+    ensures { (other : DocId) → holders_at index.new other ≡ holders_at index.old other }
+{
+    if let Some(holders) = index.get(&doc)
+        && holders.is_empty()
+    {
+        index.remove(&doc);
+    }
 }
 
 // Puts a run at a document where there is room.

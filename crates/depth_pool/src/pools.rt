@@ -2,9 +2,10 @@ ghost use Rattle.std.specs.Prelude.{◌≡◌, ◌+◌, ◌<◌, ◌≤◌, [], 
 ghost use Rattle.decimal_rank.specs.Names.{docno_of};
 ghost use Rattle.decimal_rank.specs.Places.{AreDistinct};
 ghost use Rattle.decimal_rank.specs.declared.naming.DocId.{DocId};
+ghost use Rattle.depth_pool.specs.Index.{holders_at};
 ghost use Rattle.depth_pool.specs.Holdings.{AreByDocno, AreByNumber, KeepsOthers, has_doc, has_run, holders_of, holds, some_run_holds, with_run, without_run};
 
-use crate::index::{Index, add_holders, docs_held, make_rooms, remove_holders};
+use crate::index::{Index, add_holders, docs_held, drop_empties, make_rooms, remove_holders};
 use crate::runs::{RunDocs, RunId, put_run, take_run};
 use decimal_rank::{DocId, Memory, Names, Ranking, Steps};
 use std::alloc::Global;
@@ -19,7 +20,7 @@ pub struct Pool {
     depth: u32,
     // by number
     runs: Vec<RunDocs>,
-    // each document that a run held since it came, and those for which room is reserved
+    // an entry for each document that a run held at some time, and for each with reserved room
     index: Index,
     reserved: Option<Vec<DocId>>,
 }
@@ -59,6 +60,7 @@ impl Pool {
         ensures runs { self.new.runs ≡ self.old.runs }
     {
         let alloc = *self.runs.allocator();
+        forget(&mut self.index, &mut self.reserved);
         let docs = first_docs::<Brand>(alloc, ranking, self.depth, Blank::new(1))?;
         self.runs.reserve(1)?;
         make_rooms(&mut self.index, alloc, docs.as_slice())?;
@@ -126,6 +128,16 @@ impl Pool {
         let mut docs = docs_held(&self.index, alloc)?;
         docs.sort_unstable_by(|a, b| docno(names, *a).cmp(docno(names, *b)));
         Ok(docs)
+    }
+}
+
+// Gives reserved room back.
+fn forget(index: &mut Index, reserved: &mut Option<Vec<DocId>>)
+    ensures holders { (doc : DocId) → holders_at index.new doc ≡ holders_at index.old doc }
+    ensures none { reserved.new ≡ None }
+{
+    if let Some(docs) = reserved.take() {
+        drop_empties(index, docs.as_slice());
     }
 }
 

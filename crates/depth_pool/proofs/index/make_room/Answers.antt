@@ -12,14 +12,14 @@ returns-in_err-reserve-in-Some-clause-holders c =
     let new = c.reserve.new.self in
     let found : get doc_cmp c.args.index.now c.args.doc ≡ Some c.in-Some.holders.now = search rules in
     let written : IsWrittenAt c.args.index.now (c.get_mut.follows.lender new) c.args.doc (Some new) = record { each = ((c.get_mut.follows.holds new).3 (search rules)).0 } in
-    kept_holders _ _ c.args.doc new written (c.reserve.ensures.items ∙ sym (ap (λ e. option_map_or (λ v. v.items) e []) found))
+    kept_holders _ _ c.args.doc (Some new) written (c.reserve.ensures.items ∙ sym (ap (λ e. option_map_or (λ v. v.items) e []) found))
 
 pub returns-in_ok-reserve-in-Some-clause-holders : goal.returns-in_ok-reserve-in-Some-clause-holders
 returns-in_ok-reserve-in-Some-clause-holders c =
     let new = c.reserve.new.self in
     let found : get doc_cmp c.args.index.now c.args.doc ≡ Some c.in-Some.holders.now = search rules in
     let written : IsWrittenAt c.args.index.now (c.get_mut.follows.lender new) c.args.doc (Some new) = record { each = ((c.get_mut.follows.holds new).3 (search rules)).0 } in
-    kept_holders _ _ c.args.doc new written (c.reserve.ensures.items ∙ sym (ap (λ e. option_map_or (λ v. v.items) e []) found))
+    kept_holders _ _ c.args.doc (Some new) written (c.reserve.ensures.items ∙ sym (ap (λ e. option_map_or (λ v. v.items) e []) found))
 
 pub returns-in_err-reserve-in-Some-clause-rooms : goal.returns-in_err-reserve-in-Some-clause-rooms
 returns-in_err-reserve-in-Some-clause-rooms c =
@@ -42,7 +42,7 @@ returns-in_ok-insert-in-None-clause-holders c =
       each = λ q.
           c.in_ok-insert-in-None.ensures.updates.0 q ∙ ap (λ (m : Index). cond (is_eq (doc_cmp c.args.doc q)) (Some c.new.result) (get doc_cmp m q)) c.get_mut.follows.holds-at-none;
     } in
-    kept_holders _ _ c.args.doc c.new.result written (c.new.ensures.items ∙ sym (ap (λ e. option_map_or (λ v. v.items) e []) none))
+    kept_holders _ _ c.args.doc (Some c.new.result) written (c.new.ensures.items ∙ sym (ap (λ e. option_map_or (λ v. v.items) e []) none))
 
 pub returns-in_ok-insert-in-None-clause-rooms : goal.returns-in_ok-insert-in-None-clause-rooms
 returns-in_ok-insert-in-None-clause-rooms c =
