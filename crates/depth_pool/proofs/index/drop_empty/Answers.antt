@@ -1,0 +1,14 @@
+use Rattle.std.proofs.Common.{◌≡◌, ◌∙◌, ap, sym, eqb, true, length, rules, [], Some, None}
+use Rattle.std.specs.BTreeMap.{get}
+use Rattle.std.specs.Option.{option_map_or}
+use Rattle.depth_pool.specs.Index.{doc_cmp}
+use Rattle.depth_pool.proofs.Lists.{no_elements}
+use Rattle.depth_pool.proofs.Writes.{IsWrittenAt, kept_holders}
+use Rattle.depth_pool.proofs.index.drop_empty.Goals as goal
+
+pub returns-then-is_empty : goal.returns-then-is_empty
+returns-then-is_empty c =
+    let found : get doc_cmp c.args.index.now c.args.doc ≡ Some c.in-Some.holders.now = search rules in
+    let none : eqb (length c.in-Some.holders.now.items) 0 ≡ true = sym c.is_empty.ensures ∙ c.if-is_empty.true in
+    let written : IsWrittenAt c.args.index.now c.remove.new.self c.args.doc None = record { each = c.remove.ensures.updates.0 } in
+    kept_holders c.args.index.now c.remove.new.self c.args.doc None written (sym (ap (λ e. option_map_or (λ v. v.items) e []) found ∙ no_elements _ none))

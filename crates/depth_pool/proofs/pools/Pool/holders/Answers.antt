@@ -1,0 +1,11 @@
+use Rattle.std.proofs.Common.{◌≡◌, ◌<◌, sym, subst, rules}
+use Rattle.std.specs.List.{AllPairs}
+use Rattle.depth_pool.specs.Holdings.{holders_of}
+use Rattle.depth_pool.specs.declared.runs.RunId.{RunId}
+use Rattle.depth_pool.proofs.Holders.{holders_ascend}
+use Rattle.depth_pool.proofs.pools.Pool.holders.Goals as goal
+
+pub returns-in-Some-clause-ascending : goal.returns-in-Some-clause-ascending
+returns-in-Some-clause-ascending g c =
+    let value : c.as_slice.result.now ≡ holders_of c.args.doc c.self.inside.runs.items = search rules in
+    subst (AllPairs (λ (a b : RunId). a.0 < b.0)) (sym value) (holders_ascend c.args.doc c.self.inside.runs.items c.self.invariant.0.by_number)
