@@ -1,5 +1,5 @@
 -- Digits that are moved to the left by padding behind them.
-use Rattle.std.proofs.Common.{◌≡◌, ◌≢◌, ℕ, ◌+◌, ◌-◌, ◌*◌, ◌/◌, ◌%◌, ◌^◌, ◌<◌, ◌≤◌, ℤ, pos, ◌+ℤ◌, Bool, arith, refl, lt_of_not-le, ap, sym, ◌∙◌, mul_assoc, mul-le-mul_right, pow-add, subst}
+use Rattle.std.proofs.Common.{◌≡◌, ◌≢◌, ℕ, ◌+◌, ◌-◌, ◌*◌, ◌/◌, ◌%◌, ◌^◌, ◌<◌, ◌≤◌, ℤ, pos, negsuc, ◌≤ℤ◌, ◌+ℤ◌, Bool, arith, refl, lt_of_not-le, pos_of_ne-zero, zero-mul, ap, sym, ◌∙◌, mul_assoc, mul-le-mul_right, pow-add, subst}
 use Rattle.std.proofs.Math.Nat.{pow-le-pow_right, one-le-pow, mul-div_cancel}
 use Rattle.decimal_rank.specs.Aligned.{IsAligned, aligned_value}
 
@@ -41,17 +41,28 @@ div-shifted digits leading padding s = ap (λ n. n / 10 ^ padding) s.is ∙ mul-
 
 -- 38 digits are aligned
 pub aligned : (negative : Bool) (digits leading padding : ℕ) (last : ℤ) → IsShifted digits leading padding → 10 ^ 37 ≤ leading → digits % 10 ≢ 0
-    → IsAligned negative leading padding last
-aligned negative digits leading padding last s full trimmed =
+    → negsuc 1999 ≤ℤ last → last ≤ℤ pos 1999 → IsAligned negative leading padding last
+aligned negative digits leading padding last s full trimmed low high =
     let back = div-shifted digits leading padding s in
     record {
       below = s.below;
       full = λ _. full;
       padded = ap (λ d. d * 10 ^ padding) back ∙ sym s.is;
       trimmed = λ _ e. trimmed (ap (λ d. d % 10) (sym back) ∙ e);
+      short = few_zeros digits leading padding s;
+      low = low;
+      high = high;
       zero = λ e. absurd (let none : 10 ^ 37 ≤ 0 = subst (λ n. 10 ^ 37 ≤ n) e full in omega arith);
     }
 
 pub value_is : (negative : Bool) (leading padding digits : ℕ) (last exponent : ℤ) → leading / 10 ^ padding ≡ digits → (last +ℤ pos padding) ≡ exponent
     → aligned_value negative leading padding last ≡ record { negative = negative; digits = digits; exponent = exponent }
 value_is negative leading padding digits last exponent p q = rw (p, q) refl
+
+-- digits whose zeros at the end are counted already
+pub shifted : (digits zeros : ℕ) → digits ≢ 0 → digits < 10 ^ 38 → digits / 10 ^ zeros * 10 ^ zeros ≡ digits → IsShifted (digits / 10 ^ zeros) digits zeros
+shifted digits zeros some below whole = record {
+  is = sym whole;
+  from_one = pos_of_ne-zero (λ none. some (sym whole ∙ ap (λ d. d * 10 ^ zeros) none ∙ zero-mul (10 ^ zeros)));
+  below = below;
+}

@@ -27,42 +27,162 @@ fn rows_lend_their_items(rt: HostRuntime) -> Result<(), Fail> {
     Ok(())
 }
 
-#[test]
-fn a_score_is_1_to_18_digits(rt: HostRuntime) {
-    let cases: [(&[u8], bool); 9] = [
-        (b"0", true),
-        (b"00", true),
-        (b"999999999999999999", true),
-        (b"1000000000000000000", false),
-        (b"", false),
-        (b"2.0", false),
-        (b"-1", false),
-        (b"1e5", false),
-        (b"nan", false),
-    ];
-    for (score, read) in cases {
-        assert_eq!(rt; Decimal::read(score).is_ok(), read, "{score:?}");
+// The canonical text of a score, or its fault.
+fn canonical(alloc: Global, score: &[u8]) -> Result<Result<Text, DecimalFault>, Memory> {
+    match Decimal::read(score) {
+        Ok(decimal) => Ok(Ok(decimal.write(alloc)?)),
+        Err(fault) => Ok(Err(fault)),
     }
-    assert_eq!(rt; Decimal::read(b"x").err(), Some(DecimalFault::Shape));
+}
+
+fn is_written(alloc: Global, score: &[u8], expected: &[u8]) -> Result<bool, Memory> {
+    match canonical(alloc, score)? {
+        Ok(text) => Ok(text.bytes() == expected),
+        Err(_) => Ok(false),
+    }
+}
+
+#[test]
+fn scores_are_written_canonically(rt: HostRuntime) -> Result<(), Fail> {
+    let cases: [(&[u8], &[u8]); 28] = [
+        (b"2", b"2"),
+        (b"2.00", b"2"),
+        (b"20e-1", b"2"),
+        (b"2.50", b"25e-1"),
+        (b"1e-5", b"1e-5"),
+        (b".00001", b"1e-5"),
+        (b"0", b"0"),
+        (b"-0", b"0"),
+        (b"-0.00e7", b"0"),
+        (b"000", b"0"),
+        (b"5.", b"5"),
+        (b"+.5", b"5e-1"),
+        (b"-17.2534", b"-172534e-4"),
+        (b"0017.250", b"1725e-2"),
+        (b"+1000", b"1e3"),
+        (b"1E+2", b"1e2"),
+        (b"-1.5E-10", b"-15e-11"),
+        (b"12e1", b"12e1"),
+        (b"1.2e1", b"12"),
+        (b"100.001", b"100001e-3"),
+        (b"1e400", b"1e400"),
+        (b"1e-400", b"1e-400"),
+        (b"1e0400", b"1e400"),
+        (b"1e-00000400", b"1e-400"),
+        (b"0.1e-400", b"1e-401"),
+        (b"10e400", b"1e401"),
+        (
+            b"99999999999999999999999999999999999999",
+            b"99999999999999999999999999999999999999",
+        ),
+        (
+            b"-0.12345678901234567890123456789012345678",
+            b"-12345678901234567890123456789012345678e-38",
+        ),
+    ];
+    for (score, expected) in cases {
+        assert!(rt; is_written(rt.alloc(), score, expected)?, "{score:?}");
+    }
+    Ok(())
+}
+
+#[test]
+fn the_first_fault_of_a_score_is_told(rt: HostRuntime) {
+    let cases: [(&[u8], DecimalFault); 24] = [
+        (b"", DecimalFault::Shape),
+        (b".", DecimalFault::Shape),
+        (b"-", DecimalFault::Shape),
+        (b"+.", DecimalFault::Shape),
+        (b"1e", DecimalFault::Shape),
+        (b"1e+", DecimalFault::Shape),
+        (b"e5", DecimalFault::Shape),
+        (b"-e5", DecimalFault::Shape),
+        (b"nan", DecimalFault::Shape),
+        (b"inf", DecimalFault::Shape),
+        (b"1.2.3", DecimalFault::Shape),
+        (b"--1", DecimalFault::Shape),
+        (b"1e5e5", DecimalFault::Shape),
+        (b"1e5.0", DecimalFault::Shape),
+        (b"1e--5", DecimalFault::Shape),
+        (b"1 ", DecimalFault::Shape),
+        (b"0x10", DecimalFault::Shape),
+        (
+            b"123456789012345678901234567890123456789",
+            DecimalFault::Digits,
+        ),
+        (
+            b"-1.00000000000000000000000000000000000001e500",
+            DecimalFault::Digits,
+        ),
+        (
+            b"123456789012345678901234567890123456789e5x",
+            DecimalFault::Shape,
+        ),
+        (b"1e401", DecimalFault::Exponent),
+        (b"-1e-401", DecimalFault::Exponent),
+        (b"1e00000401", DecimalFault::Exponent),
+        (b"0e999", DecimalFault::Exponent),
+    ];
+    for (score, fault) in cases {
+        assert_eq!(rt; Decimal::read(score).err(), Some(fault), "{score:?}");
+    }
+}
+
+// A digit and so many zeros behind it.
+fn with_zeros(alloc: Global, digit: u8, zeros: usize) -> Result<Vec<u8>, Memory> {
+    let mut score = vec![in alloc; digit]?;
+    for _ in 0..zeros {
+        score.push(b'0')?;
+    }
+    Ok(score)
+}
+
+#[test]
+fn long_scores_are_read(rt: HostRuntime) -> Result<(), Fail> {
+    let alloc = rt.alloc();
+    let forty = with_zeros(alloc, b'1', 40)?;
+    assert!(rt; is_written(alloc, forty.as_slice(), b"1e40")?);
+    let most = with_zeros(alloc, b'7', 399)?;
+    assert!(rt; is_written(alloc, most.as_slice(), b"7e399")?);
+    let more = with_zeros(alloc, b'7', 400)?;
+    assert_eq!(rt; Decimal::read(more.as_slice()).err(), Some(DecimalFault::Shape));
+    Ok(())
 }
 
 #[test]
 fn scores_compare_by_value(rt: HostRuntime) -> Result<(), Fail> {
-    let cases: [(&[u8], &[u8], Ordering); 8] = [
+    let cases: [(&[u8], &[u8], Ordering); 20] = [
         (b"0", b"000", Ordering::Equal),
         (b"7", b"007", Ordering::Equal),
         (b"0", b"1", Ordering::Less),
         (b"9", b"10", Ordering::Less),
         (b"100", b"99", Ordering::Greater),
         (b"120", b"12", Ordering::Greater),
+        (b"2", b"2.00", Ordering::Equal),
+        (b"2.00", b"20e-1", Ordering::Equal),
+        (b"1e-5", b".00001", Ordering::Equal),
+        (b"-0", b"0", Ordering::Equal),
+        (b"-1", b"0", Ordering::Less),
+        (b"-2", b"-1", Ordering::Less),
+        (b"-2", b"1", Ordering::Less),
+        (b"-1e-400", b"1e-400", Ordering::Less),
+        (b"1e400", b"9.9e399", Ordering::Greater),
+        (b"0", b"1e-400", Ordering::Less),
+        (b"17.2534", b"17.25340", Ordering::Equal),
+        (b"17.2534", b"17.2535", Ordering::Less),
         (b"123456789012345678", b"123456789012345679", Ordering::Less),
-        (b"999999999999999999", b"1", Ordering::Greater),
+        (
+            b"1.2345678901234567890123456789012345678",
+            b"1.2345678901234567890123456789012345677",
+            Ordering::Greater,
+        ),
     ];
     for (a, b, order) in cases {
         let a = Decimal::read(a).ok().ok_or("a score")?;
         let b = Decimal::read(b).ok().ok_or("a score")?;
         assert_eq!(rt; a.compare(&b), order);
         assert_eq!(rt; b.compare(&a), order.reverse());
+        assert_eq!(rt; a.compare(&a.copy()), Ordering::Equal);
     }
     Ok(())
 }
@@ -114,7 +234,7 @@ fn greatest_score_first_and_ties_by_greatest_docno(rt: HostRuntime) -> Result<()
     assert!(rt; a.0 < names.len() && b.0 < names.len() && c.0 < names.len());
     let cases: [([&[u8]; 3], [u32; 6]); 3] = [
         ([b"3", b"2", b"1"], [0, 1, 1, 2, 2, 3]),
-        ([b"2", b"002", b"2"], [2, 1, 1, 2, 0, 3]),
+        ([b"2", b"2.00", b"20e-1"], [2, 1, 1, 2, 0, 3]),
         ([b"5", b"70", b"5"], [1, 1, 2, 2, 0, 3]),
     ];
     for ([first, second, third], docs_and_places) in cases {
