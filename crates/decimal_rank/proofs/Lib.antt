@@ -1,3 +1,4 @@
+pub mod Canonical
 pub mod Cuts
 pub mod Digits
 pub mod Growth

@@ -25,7 +25,7 @@ leading-zero x xs e =
     let one : 1 + prefix_len is_zero xs ≡ suc (prefix_len is_zero xs) = omega arith in
     ap (λ t. drop (cond t (1 + prefix_len is_zero xs) 0) (x ∷ xs)) e ∙ ap (λ n. drop n (x ∷ xs)) one
 
-leading-other : (x : ℕ) (xs : List ℕ) → is_zero x ≡ false → without_leading_zeros (x ∷ xs) ≡ x ∷ xs
+pub leading-other : (x : ℕ) (xs : List ℕ) → is_zero x ≡ false → without_leading_zeros (x ∷ xs) ≡ x ∷ xs
 leading-other x xs e = ap (λ t. drop (cond t (1 + prefix_len is_zero xs) 0) (x ∷ xs)) e
 
 pub started : (digits : List ℕ) (b : ℕ) → (length (without_leading_zeros digits) ≡ 0 → is_zero b ≡ false) → without_leading_zeros (digits ++ b ∷ []) ≡ without_leading_zeros digits ++ b ∷ []

@@ -49,15 +49,22 @@ quotient_trimmed digits s kept was all is some e =
     is_trimmed digits s was all (some_counted digits s was some) (ap (λ n. n % 10) (sym (quotient digits s kept was is)) ∙ e)
 
 -- zero has neither sign nor exponent
+pub scaled_as : (n : Bool) (d : ℕ) (e : ℤ) → d ≡ 0 → scaled n d e ≡ record { negative = false; digits = 0; exponent = pos 0 }
+scaled_as n d e none =
+    let other : DecimalValue = record { negative = n; digits = d; exponent = e } in
+    let nil : DecimalValue = record { negative = false; digits = 0; exponent = pos 0 } in
+    let is : eqb d 0 ≡ true = grind (arith, nat_tests) in
+    ap (λ t. cond t nil other) is
+
+pub scaled_some : (n : Bool) (d : ℕ) (e : ℤ) → d ≢ 0 → scaled n d e ≡ record { negative = n; digits = d; exponent = e }
+scaled_some n d e some =
+    let other : DecimalValue = record { negative = n; digits = d; exponent = e } in
+    let nil : DecimalValue = record { negative = false; digits = 0; exponent = pos 0 } in
+    let is : eqb d 0 ≡ false = grind (arith, nat_tests) in
+    ap (λ t. cond t nil other) is
+
 scaled_zero : (n m : Bool) (d : ℕ) (e f : ℤ) → d ≡ 0 → scaled n d e ≡ scaled m d f
 scaled_zero n m d e f none = scaled_as n d e none ∙ sym (scaled_as m d f none)
-  where
-    scaled_as : (n : Bool) (d : ℕ) (e : ℤ) → d ≡ 0 → scaled n d e ≡ record { negative = false; digits = 0; exponent = pos 0 }
-    scaled_as n d e none =
-        let other : DecimalValue = record { negative = n; digits = d; exponent = e } in
-        let nil : DecimalValue = record { negative = false; digits = 0; exponent = pos 0 } in
-        let is : eqb d 0 ≡ true = grind (arith, nat_tests) in
-        ap (λ t. cond t nil other) is
 
 pub value_made : (text : List ℕ) (parts : Parts) (s : Significand) (kept : ℕ) (written exponent : ℤ) (result : DecimalValue) → ArePartsOf text parts → IsSignificand (mantissa_digits text) s
     → kept + (s.count - s.zeros) ≡ min s.count 38 → written ≡ signed_digits_value 10 parts.exponent.now → exponent ≡ (written +ℤ pos s.zeros) -ℤ pos (length parts.fraction.now)

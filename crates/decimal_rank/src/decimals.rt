@@ -122,6 +122,7 @@ impl Decimal {
     /// exponent only where it isn't 0.
     pub fn write(&self, alloc: Global) -> Result<Text, Memory>
         ensures text { IfOk result (λ text. text ≡ canonical self.now) }
+        ensures read_back { negsuc 399 ≤ℤ self.now.exponent → self.now.exponent ≤ℤ pos 400 → IfOk result (λ text. decimal_of text ≡ Ok self.now) }
     {
         let digits = self.leading / power(self.padding);
         let exponent = self.last + i16::from(self.padding);
