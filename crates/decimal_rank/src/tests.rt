@@ -27,110 +27,86 @@ fn rows_lend_their_items(rt: HostRuntime) -> Result<(), Fail> {
     Ok(())
 }
 
-// The canonical text of a score, or its fault.
-fn canonical(alloc: Global, score: &[u8]) -> Result<Result<Text, DecimalFault>, Memory> {
-    match Decimal::read(score) {
-        Ok(decimal) => Ok(Ok(decimal.write(alloc)?)),
-        Err(fault) => Ok(Err(fault)),
-    }
-}
+// Each row is a score and its canonical text, or the fault.
+const SCORES: &str = "\
+2 2
+2.00 2
+20e-1 2
+2.50 25e-1
+1e-5 1e-5
+.00001 1e-5
+0 0
+-0 0
+-0.00e7 0
+000 0
+5. 5
++.5 5e-1
+-17.2534 -172534e-4
+0017.250 1725e-2
++1000 1e3
+1E+2 1e2
+-1.5E-10 -15e-11
+12e1 12e1
+1.2e1 12
+100.001 100001e-3
+1e400 1e400
+1e-400 1e-400
+1e0400 1e400
+1e-00000400 1e-400
+0.1e-400 1e-401
+10e400 1e401
+99999999999999999999999999999999999999 99999999999999999999999999999999999999
+-0.0012345678901234567890123456789012345678 -12345678901234567890123456789012345678e-40
+00123456789012345678901234567890123456.7800 12345678901234567890123456789012345678e-2
+10000000000000000000000000000000000000000 1e40
+123456789012345678901234567890123456789 digits
+-1.00000000000000000000000000000000000001e500 digits
+123456789012345678901234567890123456789e5x shape
+1e401 exponent
+-1e-401 exponent
+1e00000401 exponent
+0e999 exponent
+ shape
+. shape
+- shape
++. shape
+1e shape
+1e+ shape
+e5 shape
+-e5 shape
+nan shape
+inf shape
+1.2.3 shape
+--1 shape
+1e5e5 shape
+1e5.0 shape
+1e--5 shape
+0x10 shape
+";
 
-fn is_written(alloc: Global, score: &[u8], expected: &[u8]) -> Result<bool, Memory> {
-    match canonical(alloc, score)? {
-        Ok(text) => Ok(text.bytes() == expected),
-        Err(_) => Ok(false),
+// The canonical text of a score, or the fault.
+fn outcome(alloc: Global, score: &[u8]) -> Result<Text, Memory> {
+    match Decimal::read(score) {
+        Ok(decimal) => decimal.write(alloc),
+        Err(DecimalFault::Shape) => text(alloc, b"shape"),
+        Err(DecimalFault::Digits) => text(alloc, b"digits"),
+        Err(DecimalFault::Exponent) => text(alloc, b"exponent"),
     }
 }
 
 #[test]
-fn scores_are_written_canonically(rt: HostRuntime) -> Result<(), Fail> {
-    let cases: [(&[u8], &[u8]); 28] = [
-        (b"2", b"2"),
-        (b"2.00", b"2"),
-        (b"20e-1", b"2"),
-        (b"2.50", b"25e-1"),
-        (b"1e-5", b"1e-5"),
-        (b".00001", b"1e-5"),
-        (b"0", b"0"),
-        (b"-0", b"0"),
-        (b"-0.00e7", b"0"),
-        (b"000", b"0"),
-        (b"5.", b"5"),
-        (b"+.5", b"5e-1"),
-        (b"-17.2534", b"-172534e-4"),
-        (b"0017.250", b"1725e-2"),
-        (b"+1000", b"1e3"),
-        (b"1E+2", b"1e2"),
-        (b"-1.5E-10", b"-15e-11"),
-        (b"12e1", b"12e1"),
-        (b"1.2e1", b"12"),
-        (b"100.001", b"100001e-3"),
-        (b"1e400", b"1e400"),
-        (b"1e-400", b"1e-400"),
-        (b"1e0400", b"1e400"),
-        (b"1e-00000400", b"1e-400"),
-        (b"0.1e-400", b"1e-401"),
-        (b"10e400", b"1e401"),
-        (
-            b"99999999999999999999999999999999999999",
-            b"99999999999999999999999999999999999999",
-        ),
-        (
-            b"-0.12345678901234567890123456789012345678",
-            b"-12345678901234567890123456789012345678e-38",
-        ),
-    ];
-    for (score, expected) in cases {
-        assert!(rt; is_written(rt.alloc(), score, expected)?, "{score:?}");
+fn scores_are_read_and_written(rt: HostRuntime) -> Result<(), Fail> {
+    for row in SCORES.lines() {
+        let (score, expected) = row.split_once(' ').ok_or("a row")?;
+        let outcome = outcome(rt.alloc(), score.as_bytes())?;
+        assert_eq!(rt; outcome.bytes(), expected.as_bytes(), "{row}");
     }
     Ok(())
 }
 
-#[test]
-fn the_first_fault_of_a_score_is_told(rt: HostRuntime) {
-    let cases: [(&[u8], DecimalFault); 24] = [
-        (b"", DecimalFault::Shape),
-        (b".", DecimalFault::Shape),
-        (b"-", DecimalFault::Shape),
-        (b"+.", DecimalFault::Shape),
-        (b"1e", DecimalFault::Shape),
-        (b"1e+", DecimalFault::Shape),
-        (b"e5", DecimalFault::Shape),
-        (b"-e5", DecimalFault::Shape),
-        (b"nan", DecimalFault::Shape),
-        (b"inf", DecimalFault::Shape),
-        (b"1.2.3", DecimalFault::Shape),
-        (b"--1", DecimalFault::Shape),
-        (b"1e5e5", DecimalFault::Shape),
-        (b"1e5.0", DecimalFault::Shape),
-        (b"1e--5", DecimalFault::Shape),
-        (b"1 ", DecimalFault::Shape),
-        (b"0x10", DecimalFault::Shape),
-        (
-            b"123456789012345678901234567890123456789",
-            DecimalFault::Digits,
-        ),
-        (
-            b"-1.00000000000000000000000000000000000001e500",
-            DecimalFault::Digits,
-        ),
-        (
-            b"123456789012345678901234567890123456789e5x",
-            DecimalFault::Shape,
-        ),
-        (b"1e401", DecimalFault::Exponent),
-        (b"-1e-401", DecimalFault::Exponent),
-        (b"1e00000401", DecimalFault::Exponent),
-        (b"0e999", DecimalFault::Exponent),
-    ];
-    for (score, fault) in cases {
-        assert_eq!(rt; Decimal::read(score).err(), Some(fault), "{score:?}");
-    }
-}
-
-// A digit and so many zeros behind it.
-fn with_zeros(alloc: Global, digit: u8, zeros: usize) -> Result<Vec<u8>, Memory> {
-    let mut score = vec![in alloc; digit]?;
+// A 7 and so many zeros behind it.
+fn seven(alloc: Global, zeros: usize) -> Result<Vec<u8>, Memory> {
+    let mut score = vec![in alloc; b'7']?;
     for _ in 0..zeros {
         score.push(b'0')?;
     }
@@ -138,51 +114,56 @@ fn with_zeros(alloc: Global, digit: u8, zeros: usize) -> Result<Vec<u8>, Memory>
 }
 
 #[test]
-fn long_scores_are_read(rt: HostRuntime) -> Result<(), Fail> {
+fn at_most_400_bytes_are_read(rt: HostRuntime) -> Result<(), Fail> {
     let alloc = rt.alloc();
-    let forty = with_zeros(alloc, b'1', 40)?;
-    assert!(rt; is_written(alloc, forty.as_slice(), b"1e40")?);
-    let most = with_zeros(alloc, b'7', 399)?;
-    assert!(rt; is_written(alloc, most.as_slice(), b"7e399")?);
-    let more = with_zeros(alloc, b'7', 400)?;
-    assert_eq!(rt; Decimal::read(more.as_slice()).err(), Some(DecimalFault::Shape));
+    let most = outcome(alloc, seven(alloc, 399)?.as_slice())?;
+    assert_eq!(rt; most.bytes(), b"7e399".as_slice());
+    let more = outcome(alloc, seven(alloc, 400)?.as_slice())?;
+    assert_eq!(rt; more.bytes(), b"shape".as_slice());
     Ok(())
+}
+
+// Each row is two scores and their order.
+const ORDERS: &str = "\
+0 = 000
+7 = 007
+2 = 2.00
+2.00 = 20e-1
+1e-5 = .00001
+-0 = 0
+17.2534 = 17.25340
+0 < 1
+9 < 10
+99 < 100
+12 < 120
+17.2534 < 17.2535
+123456789012345678 < 123456789012345679
+1.2345678901234567890123456789012345677 < 1.2345678901234567890123456789012345678
+9.9e399 < 1e400
+0 < 1e-400
+-1 < 0
+-2 < -1
+-2 < 1
+-1e-400 < 1e-400
+";
+
+fn order(a: &str, b: &str) -> Result<(Ordering, Ordering), Fail> {
+    let a = Decimal::read(a.as_bytes()).ok().ok_or("a score")?;
+    let b = Decimal::read(b.as_bytes()).ok().ok_or("a score")?;
+    Ok((a.compare(&b), b.copy().compare(&a)))
 }
 
 #[test]
 fn scores_compare_by_value(rt: HostRuntime) -> Result<(), Fail> {
-    let cases: [(&[u8], &[u8], Ordering); 20] = [
-        (b"0", b"000", Ordering::Equal),
-        (b"7", b"007", Ordering::Equal),
-        (b"0", b"1", Ordering::Less),
-        (b"9", b"10", Ordering::Less),
-        (b"100", b"99", Ordering::Greater),
-        (b"120", b"12", Ordering::Greater),
-        (b"2", b"2.00", Ordering::Equal),
-        (b"2.00", b"20e-1", Ordering::Equal),
-        (b"1e-5", b".00001", Ordering::Equal),
-        (b"-0", b"0", Ordering::Equal),
-        (b"-1", b"0", Ordering::Less),
-        (b"-2", b"-1", Ordering::Less),
-        (b"-2", b"1", Ordering::Less),
-        (b"-1e-400", b"1e-400", Ordering::Less),
-        (b"1e400", b"9.9e399", Ordering::Greater),
-        (b"0", b"1e-400", Ordering::Less),
-        (b"17.2534", b"17.25340", Ordering::Equal),
-        (b"17.2534", b"17.2535", Ordering::Less),
-        (b"123456789012345678", b"123456789012345679", Ordering::Less),
-        (
-            b"1.2345678901234567890123456789012345678",
-            b"1.2345678901234567890123456789012345677",
-            Ordering::Greater,
-        ),
-    ];
-    for (a, b, order) in cases {
-        let a = Decimal::read(a).ok().ok_or("a score")?;
-        let b = Decimal::read(b).ok().ok_or("a score")?;
-        assert_eq!(rt; a.compare(&b), order);
-        assert_eq!(rt; b.compare(&a), order.reverse());
-        assert_eq!(rt; a.compare(&a.copy()), Ordering::Equal);
+    for row in ORDERS.lines() {
+        let (a, rest) = row.split_once(' ').ok_or("a row")?;
+        let (sign, b) = rest.split_once(' ').ok_or("a row")?;
+        let expected = if sign == "<" {
+            (Ordering::Less, Ordering::Greater)
+        } else {
+            (Ordering::Equal, Ordering::Equal)
+        };
+        assert_eq!(rt; order(a, b)?, expected, "{row}");
     }
     Ok(())
 }
