@@ -65,6 +65,17 @@ below_more number next count digit below few small is =
     let was : number < 10 ^ count = subst (λ m. number < 10 ^ m) now below in
     subst (λ m. next < 10 ^ m) (sym more) (omega (arith, was, up, is))
 
+full_more : (number next count digit : ℕ) → number < 10 ^ min count 38 → (0 < count → 10 ^ (min count 38 - 1) ≤ number) → count < 38 → (count ≡ 0 → 0 < digit) → next ≡ number * 10 + digit
+    → 10 ^ (min (count + 1) 38 - 1) ≤ next
+full_more number next zero digit below full few first is =
+    omega (arith, is, first refl)
+full_more number next (suc k) digit below full few first is =
+    let now : min (suc k) 38 - 1 ≡ k = omega arith in
+    let more : min (suc k + 1) 38 - 1 ≡ k + 1 = omega arith in
+    let up : 10 ^ (k + 1) ≡ 10 ^ k * 10 = pow-add 10 k 1 in
+    let was : 10 ^ k ≤ number = subst (λ m. 10 ^ m ≤ number) now (full (omega arith)) in
+    subst (λ m. 10 ^ m ≤ next) (sym more) (omega (arith, was, up, is))
+
 -- the number of the first 38, with one more behind
 number_more : (some : List ℕ) (b number next : ℕ) → is_digit b ≡ true → number ≡ digits_value 10 (take 38 some)
     → (length some < 38 → next ≡ number * 10 + (b - 48)) → (38 ≤ length some → next ≡ number) → next ≡ digits_value 10 (take 38 (some ++ b ∷ []))
@@ -100,6 +111,7 @@ read_more digits b s t was digit other count kept full zeros few =
       count = omega (arith, count, was.count, length-append some (b ∷ [])) ∙ ap length (sym starts);
       zeros = zeros ∙ ap (λ z. cond (is_zero b) (1 + z) 0) was.zeros ∙ sym (zeros_push some b) ∙ ap zeros_after (sym starts);
       below = below_next (ltb s.count 38) refl;
+      full = λ _. full_next (ltb s.count 38) refl;
       some = λ _. few;
     }
   where
@@ -113,6 +125,17 @@ read_more digits b s t was digit other count kept full zeros few =
         let many : 38 ≤ s.count = grind (arith, nat_tests) in
         let same : min s.count 38 ≡ min t.count 38 = omega (arith, count) in
         subst (λ n. n < 10 ^ min t.count 38) (sym (full many)) (subst (λ m. s.number < 10 ^ m) same was.below)
+    positive : is_zero b ≡ false → 0 < b - 48
+    positive e = let ne : b ≢ 48 = grind (arith, nat_tests) in let low : 48 ≤ b = range.0 in omega arith
+    full_next : (v : Bool) → ltb s.count 38 ≡ v → 10 ^ (min t.count 38 - 1) ≤ t.number
+    full_next true e =
+        let less : s.count < 38 = grind (arith, nat_tests) in
+        let first : s.count ≡ 0 → 0 < b - 48 = λ none. positive (other none) in
+        subst (λ n. 10 ^ (min n 38 - 1) ≤ t.number) (sym count) (full_more s.number t.number s.count (b - 48) was.below was.full less first (kept less))
+    full_next false e =
+        let many : 38 ≤ s.count = grind (arith, nat_tests) in
+        let same : min s.count 38 ≡ min t.count 38 = omega (arith, count) in
+        subst (λ n. 10 ^ (min t.count 38 - 1) ≤ n) (sym (full many)) (subst (λ m. 10 ^ (m - 1) ≤ s.number) same (was.full (omega (arith, many))))
 
 -- a zero in front
 pub read_zero : (digits : List ℕ) (b : ℕ) (s : Significand) → IsSignificand digits s → s.count ≡ 0 → is_zero b ≡ true → IsSignificand (digits ++ b ∷ []) s
@@ -123,6 +146,7 @@ read_zero digits b s was none e =
       count = was.count ∙ ap length (sym same);
       zeros = was.zeros ∙ ap zeros_after (sym same);
       below = was.below;
+      full = was.full;
       some = was.some;
     }
 

@@ -28,13 +28,6 @@ few_zeros text s shaped was =
     let few = shaped.few in
     omega (arith, within, counted, long, few)
 
-pub below_full : (digits : List ℕ) (s : Significand) → IsSignificand digits s → s.number < 10 ^ 38
-below_full digits s was =
-    let le : min s.count 38 ≤ 38 = omega arith in
-    let up : 10 ^ min s.count 38 ≤ 10 ^ 38 = pow-le-pow_right (omega arith) le in
-    let below = was.below in
-    omega (arith, up, below)
-
 -- the number without the zeros that are kept
 pub quotient : (digits : List ℕ) (s : Significand) (kept : ℕ) → IsSignificand digits s → kept + (s.count - s.zeros) ≡ min s.count 38 → s.number / 10 ^ kept ≡ digits_value 10 (significant digits)
 quotient digits s kept was is =

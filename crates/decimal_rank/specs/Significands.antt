@@ -1,5 +1,5 @@
 -- The digits of a text's first part as they are read.
-use Rattle.std.specs.Prelude.{◌≡◌, ◌++◌, ◌∷◌, [], ℕ, ◌<◌, ◌^◌, List, length, take, min}
+use Rattle.std.specs.Prelude.{◌≡◌, ◌++◌, ◌∷◌, [], ℕ, ◌<◌, ◌≤◌, ◌-◌, ◌^◌, List, length, take, min}
 use Rattle.std.specs.Str.Parse.{digits_value, starts_with_minus}
 use Rattle.decimal_rank.specs.DecimalText.{without_leading_zeros, zeros_after, whole_part, fraction_part, written_exponent}
 use Rattle.decimal_rank.specs.declared.significands.Significand.{Significand}
@@ -11,6 +11,7 @@ pub record IsSignificand (digits : List ℕ) (s : Significand) : Type 0 where
   pub count : s.count ≡ length (without_leading_zeros digits)
   pub zeros : s.zeros ≡ zeros_after (without_leading_zeros digits)
   pub below : s.number < 10 ^ min s.count 38
+  pub full : 0 < s.count → 10 ^ (min s.count 38 - 1) ≤ s.number
   pub some : 0 < s.count → s.zeros < s.count
 
 -- the parts of a text

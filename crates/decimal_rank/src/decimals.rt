@@ -1,4 +1,4 @@
-ghost use Rattle.std.specs.Prelude.{IfOk, ◌≡◌, ◌≢◌, ◌*◌, ◌/◌, ◌%◌, ◌^◌, ◌<◌, ◌≤◌, pos, negsuc, ◌≤ℤ◌, ◌+ℤ◌, ◌-ℤ◌};
+ghost use Rattle.std.specs.Prelude.{IfOk, ◌≡◌, ◌≢◌, ◌-◌, ◌*◌, ◌/◌, ◌%◌, ◌^◌, ◌<◌, ◌≤◌, pos, negsuc, ◌≤ℤ◌, ◌+ℤ◌, ◌-ℤ◌};
 ghost use Rattle.decimal_rank.specs.DecimalText.{canonical, decimal_of, scaled};
 ghost use Rattle.decimal_rank.specs.Decimal.{DecimalValue, decimal_cmp, size_of};
 
@@ -51,12 +51,6 @@ const POWERS: [u128; 39] = [
     10_000_000_000_000_000_000_000_000_000_000_000_000,
     100_000_000_000_000_000_000_000_000_000_000_000_000,
 ];
-
-/// Ten to the 37, the least number of 38 digits.
-const FULL: u128 = 10_000_000_000_000_000_000_000_000_000_000_000_000;
-
-/// Ten to the 29: less than this has room for eight zeros more.
-const SHORT: u128 = 100_000_000_000_000_000_000_000_000_000;
 
 /// Why a text is no score.
 #[derive(Clone, Copy, Debug, PartialEq, Eq)]
@@ -113,6 +107,7 @@ impl Decimal {
         Ok(scaled(
             parts.negative,
             significand.number,
+            significand.kept(),
             significand.kept_zeros(),
             last_exponent(exponent, significand.zeros, parts.fraction.len()),
         ))
@@ -206,11 +201,12 @@ fn last_exponent(written: i16, zeros: u16, fraction: usize) -> i16
     written + zeros as i16 - fraction as i16
 }
 
-// The decimal of a sign, digits with so many zeros at their end, and the exponent of the last
-// digit before these.
-fn scaled(negative: bool, digits: u128, zeros: u8, exponent: i16) -> Decimal
-    requires below { digits < 10 ^ 38 }
-    requires few { zeros ≤ 38 }
+// The decimal of a sign, so many digits with so many zeros at their end, and the exponent of the
+// last digit before these.
+fn scaled(negative: bool, digits: u128, count: u8, zeros: u8, exponent: i16) -> Decimal
+    requires few { count ≤ 38 }
+    requires below { digits < 10 ^ count }
+    requires full { 0 < count → 10 ^ (count - 1) ≤ digits }
     requires zeros { digits / 10 ^ zeros * 10 ^ zeros ≡ digits }
     requires trimmed { digits ≢ 0 → digits / 10 ^ zeros % 10 ≢ 0 }
     requires low { negsuc 999 ≤ℤ exponent }
@@ -225,32 +221,26 @@ fn scaled(negative: bool, digits: u128, zeros: u8, exponent: i16) -> Decimal
             last: 0,
         };
     }
-    aligned(negative, digits, zeros, exponent)
+    aligned(negative, digits, count, zeros, exponent)
 }
 
 // The same of digits that aren't 0.
-fn aligned(negative: bool, digits: u128, zeros: u8, exponent: i16) -> Decimal
-    requires below { digits < 10 ^ 38 }
+fn aligned(negative: bool, digits: u128, count: u8, zeros: u8, exponent: i16) -> Decimal
+    requires few { count ≤ 38 }
     requires some { digits ≢ 0 }
+    requires below { digits < 10 ^ count }
+    requires full { 0 < count → 10 ^ (count - 1) ≤ digits }
     requires zeros { digits / 10 ^ zeros * 10 ^ zeros ≡ digits }
     requires trimmed { digits / 10 ^ zeros % 10 ≢ 0 }
     requires low { negsuc 999 ≤ℤ exponent }
     requires high { exponent ≤ℤ pos 1000 }
     ensures { result ≡ record { negative = negative; digits = digits / 10 ^ zeros; exponent = exponent } }
 {
-    let mut leading = digits;
-    let mut padding = zeros;
-    while leading < SHORT {
-        leading *= 100_000_000;
-        padding += 8;
-    }
-    while leading < FULL {
-        leading *= 10;
-        padding += 1;
-    }
+    let short = 38 - count;
+    let padding = zeros + short;
     Decimal {
         negative,
-        leading,
+        leading: digits * power(short),
         padding,
         last: exponent - i16::from(padding),
     }

@@ -50,6 +50,13 @@ impl Significand {
         }
     }
 
+    /// How many digits the number has.
+    pub(crate) fn kept(&self) -> u8
+        ensures { result ≡ min self.now.count 38 }
+    {
+        self.count.min(MOST_DIGITS) as u8
+    }
+
     /// How many zeros stand at the end of the number.
     pub(crate) fn kept_zeros(&self) -> u8
         requires zeros { self.now.zeros ≤ self.now.count }

@@ -3,7 +3,7 @@ use Rattle.std.specs.List.{list_all}
 use Rattle.std.specs.Str.Parse.{digits_value, without_leading_sign}
 use Rattle.decimal_rank.specs.DecimalText.{is_digit, mantissa_digits, significant, scaled, written_exponent}
 use Rattle.decimal_rank.proofs.Reading.{sized}
-use Rattle.decimal_rank.proofs.Scores.{of_parts, few_zeros, below_full, whole_again, quotient_trimmed, value_made, unwrapped, unwrapped_near}
+use Rattle.decimal_rank.proofs.Scores.{of_parts, few_zeros, whole_again, quotient_trimmed, value_made, unwrapped, unwrapped_near}
 use Rattle.decimal_rank.proofs.Texts.{is_shaped, other_shape, many_digits, far_exponent, has_value, exponent_near}
 use Rattle.decimal_rank.proofs.decimals.Decimal.read.Goals as goal
 
@@ -61,7 +61,7 @@ last_exponent-requires-clause-fraction c =
     omega (arith, few, ap length c.in-Some.ensures.1.fraction)
 
 pub scaled-requires-clause-below : goal.scaled-requires-clause-below
-scaled-requires-clause-below c = below_full _ c.significand_of-significand.result c.significand_of-significand.ensures
+scaled-requires-clause-below c = rw c.kept.ensures c.significand_of-significand.ensures.below
 
 pub scaled-requires-clause-zeros : goal.scaled-requires-clause-zeros
 scaled-requires-clause-zeros c = whole_again _ c.significand_of-significand.result c.kept_zeros.result c.significand_of-significand.ensures c.kept_zeros.ensures
