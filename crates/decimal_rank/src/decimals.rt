@@ -221,21 +221,6 @@ fn scaled(negative: bool, digits: u128, count: u8, zeros: u8, exponent: i16) -> 
             last: 0,
         };
     }
-    aligned(negative, digits, count, zeros, exponent)
-}
-
-// The same of digits that aren't 0.
-fn aligned(negative: bool, digits: u128, count: u8, zeros: u8, exponent: i16) -> Decimal
-    requires few { count ≤ 38 }
-    requires some { digits ≢ 0 }
-    requires below { digits < 10 ^ count }
-    requires full { 0 < count → 10 ^ (count - 1) ≤ digits }
-    requires zeros { digits / 10 ^ zeros * 10 ^ zeros ≡ digits }
-    requires trimmed { digits / 10 ^ zeros % 10 ≢ 0 }
-    requires low { negsuc 999 ≤ℤ exponent }
-    requires high { exponent ≤ℤ pos 1000 }
-    ensures { result ≡ record { negative = negative; digits = digits / 10 ^ zeros; exponent = exponent } }
-{
     let short = 38 - count;
     let padding = zeros + short;
     Decimal {
