@@ -1,10 +1,8 @@
 -- Reading a canonical text gives the value again.
-use Rattle.std.proofs.Common.{◌≡◌, ◌≢◌, ℕ, zero, suc, ◌+◌, ◌-◌, ◌*◌, ◌/◌, ◌%◌, ◌^◌, ◌<◌, ◌≤◌, Bool, true, false, cond, not, ltb, leb, eqb, ◌&&◌, ◌||◌, List, [], ◌∷◌, ◌++◌, length, take, drop, get_or, refl, arith, ap, sym, ◌∙◌, subst, Result, Ok, ℤ, pos, negsuc, neg_ℤ, nat_abs, ◌+ℤ◌, ◌-ℤ◌, ◌≤ℤ◌, length-append, length-drop, length-take, append-nil, append_assoc, le-leb, pos_of_ne-zero, mul-le-mul_left, zero-mul, Err, IfOk}
+use Rattle.std.proofs.Common.{◌≡◌, ◌≢◌, ℕ, suc, ◌+◌, ◌-◌, ◌*◌, ◌/◌, ◌%◌, ◌^◌, ◌<◌, ◌≤◌, Bool, true, false, cond, not, ltb, leb, eqb, ◌&&◌, ◌||◌, List, [], ◌∷◌, ◌++◌, length, take, drop, get_or, refl, arith, ap, sym, ◌∙◌, subst, Result, Ok, ℤ, pos, negsuc, neg_ℤ, nat_abs, ◌+ℤ◌, ◌-ℤ◌, ◌≤ℤ◌, length-append, length-drop, length-take, append-nil, append_assoc, le-leb, pos_of_ne-zero, mul-le-mul_left, zero-mul, Err, IfOk}
 use Rattle.std.proofs.Math.Nat.{one-le-pow, zero-div}
 use Rattle.std.specs.Prelude.{decimal}
 use Rattle.std.specs.Fmt.{signed_decimal}
-use Rattle.std.specs.Int.{IsInRange}
-use Rattle.std.specs.Char.{digit_value}
 use Rattle.std.specs.List.{list_all, list_any, before_first, after_first, position_or_len, prefix_len}
 use Rattle.std.specs.Str.Parse.{digits_value, signed_digits_value, starts_with_minus, without_leading_sign}
 use Rattle.std.proofs.lemmas.Bool.Decides.{nat_tests}
@@ -19,7 +17,7 @@ use Rattle.std.proofs.lemmas.Str.{digit_value_digit}
 use borrow.Author.Tests.{lt-ltb}
 use Rattle.decimal_rank.specs.Aligned.{aligned_value, IsAligned}
 use Rattle.decimal_rank.specs.Decimal.{DecimalValue}
-use Rattle.decimal_rank.specs.DecimalText.{is_digit, is_zero, is_point, is_exponent_mark, mantissa, written_exponent, has_exponent, whole_part, fraction_part, mantissa_digits, are_digits, is_decimal, zeros_after, without_leading_zeros, significant, scaled, decimal_value, decimal_of, canonical}
+use Rattle.decimal_rank.specs.DecimalText.{is_digit, is_zero, is_point, is_exponent_mark, mantissa, written_exponent, has_exponent, whole_part, fraction_part, mantissa_digits, are_digits, is_decimal, zeros_after, without_leading_zeros, significant, scaled, decimal_of, canonical}
 use Rattle.decimal_rank.proofs.Digits.{digit_range, digit_at}
 use Rattle.decimal_rank.proofs.Reading.{leading-other, zeros_push}
 use Rattle.decimal_rank.proofs.Scores.{scaled_as, scaled_some}
@@ -119,7 +117,7 @@ from_parts text digits written front all some behind shape short few near =
     let are : are_digits digits ≡ true = and_true (ltb 0 (length digits)) (list_all is_digit digits) (lt-ltb _ _ some) all in
     let part = exponent_shape (has_exponent text) (without_leading_sign (written_exponent text)) (λ has. ap (λ w. are_digits (without_leading_sign w)) behind ∙ shape has) in
     let shaped : is_decimal text ≡ true =
-        and_true (leb (length text) 400 && are_digits (mantissa_digits text)) _ (and_true (leb (length text) 400) (are_digits (mantissa_digits text)) (le-leb _ _ short) (ap are_digits both ∙ are)) part in
+    and_true (leb (length text) 400 && are_digits (mantissa_digits text)) _ (and_true (leb (length text) 400) (are_digits (mantissa_digits text)) (le-leb _ _ short) (ap are_digits both ∙ are)) part in
     let least : length (significant (mantissa_digits text)) ≤ 38 = subst (λ l. length (significant l) ≤ 38) (sym both) few in
     let close : digits_value 10 (without_leading_sign (written_exponent text)) ≤ 400 = subst (λ w. digits_value 10 (without_leading_sign w) ≤ 400) (sym behind) near in
     sym (has_value text shaped least close)
@@ -143,10 +141,10 @@ pub record IsUnsigned (negative : Bool) (text rest : List ℕ) : Type 0 where
 
 unsigned : (negative : Bool) (digits rest : List ℕ) → list_all is_digit digits ≡ true → 0 < length digits
     → IsUnsigned negative ((let sign : List ℕ = cond negative (45 ∷ []) [] in sign) ++ digits ++ rest) (digits ++ rest)
-unsigned true digits rest all some = record { rest_is = refl; negative_is = refl; }
+unsigned true digits rest all some = record { rest_is = refl; negative_is = refl }
 unsigned false digits rest all some =
     let p = plain (digits ++ rest) (ap is_digit (front_at digits rest some) ∙ digit_at digits 0 all some) in
-    record { rest_is = p.0; negative_is = p.1; }
+    record { rest_is = p.0; negative_is = p.1 }
 
 -- ---- exponents
 
@@ -211,7 +209,7 @@ with_exponent negative text digits part exponent u e all some short few =
     let again : digits ++ 101 ∷ part ≡ (digits ++ 101 ∷ []) ++ part = sym (append_assoc digits (101 ∷ []) part) in
     let long : length (digits ++ 101 ∷ []) ≡ length digits + 1 = length-append digits (101 ∷ []) in
     let behind : written_exponent text ≡ part = ap (after_first is_exponent_mark) u.rest_is ∙ ap (λ n. drop (n + 1) (digits ++ 101 ∷ part)) place
-        ∙ ap (λ n. drop n (digits ++ 101 ∷ part)) (sym long) ∙ front_rest (digits ++ 101 ∷ part) (digits ++ 101 ∷ []) part again in
+    ∙ ap (λ n. drop n (digits ++ 101 ∷ part)) (sym long) ∙ front_rest (digits ++ 101 ∷ part) (digits ++ 101 ∷ []) part again in
     from_parts text digits part front all some behind (λ _. e.shape) short few e.near
     ∙ ap (λ n. Ok (scaled n (digits_value 10 (significant digits)) ((signed_digits_value 10 part +ℤ pos (zeros_after digits)) -ℤ pos 0))) u.negative_is
     ∙ ap (λ z. Ok (scaled negative (digits_value 10 (significant digits)) ((z +ℤ pos (zeros_after digits)) -ℤ pos 0))) e.value
@@ -252,18 +250,25 @@ reads_back v below trimmed none low high = by (eqb (nat_abs v.exponent) 0) refl
   where
     digits : List ℕ
     digits = decimal v.digits
+
     sign : List ℕ
     sign = cond v.negative (45 ∷ []) []
+
     w : IsWritten v.digits digits
     w = written v.digits (omega (arith, below))
+
     few : length digits ≤ 38
     few = length-decimal-le_wide 38 v.digits (omega arith) below (omega (arith, below))
+
     least : length (significant digits) ≤ 38
     least = omega (arith, significant-le digits, few)
+
     long : (rest : List ℕ) → length rest ≤ 5 → length (sign ++ digits ++ rest) ≤ 400
     long rest short = omega (arith, length-append (sign ++ digits) rest, length-append sign digits, sign_length v.negative, few, short)
+
     settled_is : scaled v.negative (digits_value 10 (significant digits)) ((v.exponent +ℤ pos (zeros_after digits)) -ℤ pos 0) ≡ v
     settled_is = settled v w trimmed none
+
     by : (t : Bool) → eqb (nat_abs v.exponent) 0 ≡ t → decimal_of (sign ++ digits ++ (let rest : List ℕ = cond t [] (101 ∷ signed_decimal v.exponent) in rest)) ≡ Ok v
     by true e =
         let nil : nat_abs v.exponent ≡ 0 = grind (arith, nat_tests) in
@@ -287,10 +292,13 @@ aligned_reads_back negative leading padding last a = reads_back (aligned_value n
         let power : 1 ≤ 10 ^ padding = one-le-pow padding 10 (omega arith) in
         let more : leading / 10 ^ padding * 1 ≤ leading / 10 ^ padding * 10 ^ padding = mul-le-mul_left (leading / 10 ^ padding) power in
         omega (arith, more, a.padded, a.below)
+
     zero_from : leading / 10 ^ padding ≡ 0 → leading ≡ 0
     zero_from e = sym a.padded ∙ ap (λ d. d * 10 ^ padding) e ∙ zero-mul (10 ^ padding)
+
     trimmed : leading / 10 ^ padding ≢ 0 → leading / 10 ^ padding % 10 ≢ 0
     trimmed some = a.trimmed (λ none. some (ap (λ n. n / 10 ^ padding) none ∙ zero-div (10 ^ padding)))
+
     none : leading / 10 ^ padding ≡ 0 → (negative ≡ false) × (last +ℤ pos padding ≡ pos 0)
     none e =
         let nil = a.zero (zero_from e) in

@@ -1,9 +1,8 @@
 -- The digits of a first part, as they are read.
-use Rattle.std.proofs.Common.{◌≡◌, ◌≢◌, ℕ, zero, suc, ◌+◌, ◌-◌, ◌*◌, ◌/◌, ◌%◌, ◌^◌, ◌<◌, ◌≤◌, Bool, true, false, cond, eqb, ltb, leb, List, [], ◌∷◌, ◌++◌, length, take, drop, reverse, get_or, refl, arith, ap, sym, ◌∙◌, subst, pow-add, length-append, length-drop, length-take-le, pos_of_ne-zero}
+use Rattle.std.proofs.Common.{◌≡◌, ◌≢◌, ℕ, zero, suc, ◌+◌, ◌-◌, ◌*◌, ◌%◌, ◌^◌, ◌<◌, ◌≤◌, Bool, true, false, cond, eqb, ltb, leb, List, [], ◌∷◌, ◌++◌, length, take, drop, reverse, refl, arith, ap, sym, ◌∙◌, subst, pow-add, length-append, length-drop, length-take-le, pos_of_ne-zero}
 use Rattle.std.proofs.Math.Nat.{pow-le-pow_right}
 use Rattle.std.specs.Prelude.{min}
 use Rattle.std.specs.List.{list_all, prefix_len}
-use Rattle.std.specs.Char.{digit_value}
 use Rattle.std.specs.Int.{IsInRange}
 use Rattle.std.specs.Str.Parse.{digits_value}
 use Rattle.std.proofs.lemmas.Bool.Decides.{nat_tests}
@@ -83,6 +82,7 @@ number_more some b number next digit was kept full = by (ltb (length some) 38) r
   where
     range : IsInRange 48 57 b
     range = digit_range b digit
+
     by : (t : Bool) → ltb (length some) 38 ≡ t → next ≡ digits_value 10 (take 38 (some ++ b ∷ []))
     by true e =
         let few : length some < 38 = grind (arith, nat_tests) in
@@ -117,6 +117,7 @@ read_more digits b s t was digit other count kept full zeros few =
   where
     range : IsInRange 48 57 b
     range = digit_range b digit
+
     below_next : (v : Bool) → ltb s.count 38 ≡ v → t.number < 10 ^ min t.count 38
     below_next true e =
         let less : s.count < 38 = grind (arith, nat_tests) in
@@ -125,8 +126,10 @@ read_more digits b s t was digit other count kept full zeros few =
         let many : 38 ≤ s.count = grind (arith, nat_tests) in
         let same : min s.count 38 ≡ min t.count 38 = omega (arith, count) in
         subst (λ n. n < 10 ^ min t.count 38) (sym (full many)) (subst (λ m. s.number < 10 ^ m) same was.below)
+
     positive : is_zero b ≡ false → 0 < b - 48
     positive e = let ne : b ≢ 48 = grind (arith, nat_tests) in let low : 48 ≤ b = range.0 in omega arith
+
     full_next : (v : Bool) → ltb s.count 38 ≡ v → 10 ^ (min t.count 38 - 1) ≤ t.number
     full_next true e =
         let less : s.count < 38 = grind (arith, nat_tests) in

@@ -1,19 +1,19 @@
 -- The decimal that is made of a text's parts.
-use Rattle.std.proofs.Common.{◌≡◌, ◌≢◌, ℕ, ◌+◌, ◌-◌, ◌*◌, ◌/◌, ◌%◌, ◌^◌, ◌<◌, ◌≤◌, Bool, true, false, cond, ltb, eqb, List, ◌++◌, length, refl, arith, ap, sym, ◌∙◌, subst, Result, Ok, ℤ, pos, negsuc, ◌+ℤ◌, ◌-ℤ◌, ◌≤ℤ◌, length-append, pos_of_ne-zero, zero-mul, to_z, of_z, w16}
-use Rattle.std.proofs.Math.Nat.{pow-le-pow_right, one-le-pow, mul-div_cancel}
+use Rattle.std.proofs.Common.{◌≡◌, ◌≢◌, ℕ, ◌+◌, ◌-◌, ◌*◌, ◌/◌, ◌%◌, ◌^◌, ◌<◌, ◌≤◌, Bool, true, false, cond, eqb, List, ◌++◌, length, refl, arith, ap, sym, ◌∙◌, subst, ℤ, pos, negsuc, ◌+ℤ◌, ◌-ℤ◌, ◌≤ℤ◌, length-append, pos_of_ne-zero, to_z, of_z, w16}
+use Rattle.std.proofs.Math.Nat.{one-le-pow, mul-div_cancel}
 use Rattle.std.specs.Prelude.{min}
 use Rattle.std.specs.List.{list_all}
-use Rattle.std.specs.Str.Parse.{digits_value, signed_digits_value, starts_with_minus, without_leading_sign}
+use Rattle.std.specs.Str.Parse.{digits_value, signed_digits_value, starts_with_minus}
 use Rattle.std.proofs.lemmas.Bool.Decides.{nat_tests}
 use Rattle.std.proofs.lemmas.Int.{ints}
 use Rattle.std.proofs.lemmas.List.{nil_from_length}
 use Rattle.decimal_rank.specs.Decimal.{DecimalValue}
-use Rattle.decimal_rank.specs.DecimalText.{is_digit, whole_part, fraction_part, written_exponent, mantissa_digits, is_decimal, significant, scaled, decimal_value, zeros_after}
+use Rattle.decimal_rank.specs.DecimalText.{is_digit, whole_part, fraction_part, written_exponent, mantissa_digits, significant, scaled, decimal_value, zeros_after}
 use Rattle.decimal_rank.specs.Significands.{IsSignificand, ArePartsOf}
 use Rattle.decimal_rank.specs.declared.parts.Parts.{Parts}
 use Rattle.decimal_rank.specs.declared.significands.Significand.{Significand}
 use Rattle.decimal_rank.proofs.Reading.{sized, is_kept, is_trimmed, some_counted, same_zeros, zeros_within, count_within}
-use Rattle.decimal_rank.proofs.Texts.{IsShaped, is_shaped}
+use Rattle.decimal_rank.proofs.Texts.{IsShaped}
 
 pub of_parts : (text : List ℕ) (parts : Parts) (s : Significand) → ArePartsOf text parts → IsSignificand (parts.whole.now ++ parts.fraction.now) s → IsSignificand (mantissa_digits text) s
 of_parts text parts s p was =
@@ -67,17 +67,19 @@ value_made text parts s kept written exponent result p was kept_is written_is ex
   where
     digits : List ℕ
     digits = mantissa_digits text
+
     value : ℕ
     value = digits_value 10 (significant digits)
+
     by : (t : Bool) → eqb value 0 ≡ t → scaled parts.negative value exponent ≡ decimal_value text
     by true e = let none : value ≡ 0 = grind (arith, nat_tests) in scaled_zero parts.negative (starts_with_minus text) value exponent _ none
     by false e =
         let some : value ≢ 0 = grind (arith, nat_tests) in
         let counted : 0 < s.count = pos_of_ne-zero (λ none. some (ap (digits_value 10) (nil_from_length (significant digits) (sized digits s was ∙ omega (arith, none))))) in
         let same : exponent ≡ (signed_digits_value 10 (written_exponent text) +ℤ pos (zeros_after digits)) -ℤ pos (length (fraction_part text)) =
-            exponent_is ∙ ap (λ w. (w +ℤ pos s.zeros) -ℤ pos (length parts.fraction.now)) (written_is ∙ ap (signed_digits_value 10) p.exponent)
-            ∙ ap (λ z. (signed_digits_value 10 (written_exponent text) +ℤ pos z) -ℤ pos (length parts.fraction.now)) (same_zeros digits s was counted)
-            ∙ ap (λ f. (signed_digits_value 10 (written_exponent text) +ℤ pos (zeros_after digits)) -ℤ pos (length f)) p.fraction in
+        exponent_is ∙ ap (λ w. (w +ℤ pos s.zeros) -ℤ pos (length parts.fraction.now)) (written_is ∙ ap (signed_digits_value 10) p.exponent)
+        ∙ ap (λ z. (signed_digits_value 10 (written_exponent text) +ℤ pos z) -ℤ pos (length parts.fraction.now)) (same_zeros digits s was counted)
+        ∙ ap (λ f. (signed_digits_value 10 (written_exponent text) +ℤ pos (zeros_after digits)) -ℤ pos (length f)) p.fraction in
         ap (λ n. scaled n value exponent) p.negative ∙ ap (scaled (starts_with_minus text) value) same
 
 -- a small exponent is kept in 16 bits

@@ -1,15 +1,12 @@
 -- What a score's text stands for, by its parts.
-use Rattle.std.proofs.Common.{◌≡◌, ◌≢◌, ℕ, ◌+◌, ◌-◌, ◌*◌, ◌/◌, ◌%◌, ◌^◌, ◌<◌, ◌≤◌, Bool, true, false, cond, not, ltb, leb, ◌&&◌, ◌||◌, eqb, List, [], ◌∷◌, ◌++◌, length, take, drop, get_or, refl, arith, ap, sym, ◌∙◌, subst, rules, Result, Ok, Err, ℤ, pos, negsuc, neg_ℤ, ◌+ℤ◌, ◌-ℤ◌, ◌≤ℤ◌, leb-true, length-append, length-drop, length-take}
-use Rattle.std.specs.List.{list_all, list_any, before_first, after_first, position_or_len}
+use Rattle.std.proofs.Common.{◌≡◌, ℕ, ◌+◌, ◌<◌, ◌≤◌, Bool, true, false, cond, not, ltb, leb, ◌&&◌, ◌||◌, eqb, List, length, take, drop, get_or, refl, arith, ap, sym, ◌∙◌, Ok, Err, ℤ, pos, negsuc, neg_ℤ, ◌≤ℤ◌, leb-true, length-drop, length-take}
+use Rattle.std.specs.List.{list_all, position_or_len}
 use Rattle.std.specs.Str.Parse.{digits_value, signed_digits_value, starts_with_minus, without_leading_sign}
 use Rattle.std.proofs.lemmas.Bool.{and_parts}
-use Rattle.std.proofs.lemmas.Bool.Decides.{nat_tests}
 use Rattle.std.proofs.lemmas.Int.{ints}
 use Rattle.std.proofs.lemmas.List.Folds.{list_all-append}
-use borrow.Author.Tests.{lt-ltb, le-ltb, ltb-true}
-use Rattle.decimal_rank.specs.Decimal.{DecimalValue}
-use Rattle.decimal_rank.specs.DecimalText.{is_digit, is_point, is_exponent_mark, mantissa, written_exponent, has_exponent, whole_part, fraction_part, mantissa_digits, are_digits, is_decimal, significant, scaled, decimal_value, decimal_of, zeros_after}
-use Rattle.decimal_rank.specs.declared.decimals.DecimalFault.{DecimalFault}
+use borrow.Author.Tests.{lt-ltb, le-ltb}
+use Rattle.decimal_rank.specs.DecimalText.{is_digit, is_point, is_exponent_mark, mantissa, written_exponent, has_exponent, whole_part, fraction_part, mantissa_digits, are_digits, is_decimal, significant, decimal_value, decimal_of}
 use Rattle.decimal_rank.specs.declared.decimals.DecimalFault.TheVariants.{Shape, Digits, Exponent}
 use Rattle.decimal_rank.proofs.Cuts.{none_behind}
 

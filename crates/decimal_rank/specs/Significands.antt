@@ -1,5 +1,5 @@
 -- The digits of a text's first part as they are read.
-use Rattle.std.specs.Prelude.{◌≡◌, ◌++◌, ◌∷◌, [], ℕ, ◌<◌, ◌≤◌, ◌-◌, ◌^◌, List, length, take, min}
+use Rattle.std.specs.Prelude.{◌≡◌, ℕ, ◌<◌, ◌≤◌, ◌-◌, ◌^◌, List, length, take, min}
 use Rattle.std.specs.Str.Parse.{digits_value, starts_with_minus}
 use Rattle.decimal_rank.specs.DecimalText.{without_leading_zeros, zeros_after, whole_part, fraction_part, written_exponent}
 use Rattle.decimal_rank.specs.declared.significands.Significand.{Significand}

@@ -162,12 +162,7 @@ impl Decimal {
 }
 
 // The canonical text of a sign, digits and an exponent.
-fn write_parts(
-    alloc: Global,
-    negative: bool,
-    digits: u128,
-    exponent: i16,
-) -> Result<Text, Memory>
+fn write_parts(alloc: Global, negative: bool, digits: u128, exponent: i16) -> Result<Text, Memory>
     ensures { IfOk result (λ text. text ≡ canonical (record { negative = negative; digits = digits; exponent = exponent })) }
 {
     let sign = if negative { "-" } else { "" };

@@ -1,4 +1,4 @@
-use Rattle.std.proofs.Common.{sym, ◌≡◌, ap, ◌∙◌}
+use Rattle.std.proofs.Common.{sym}
 use Rattle.decimal_rank.specs.DecimalText.{is_exponent_mark}
 use Rattle.decimal_rank.proofs.Cuts.{any_at_place, behind_place, none_without_place}
 use Rattle.decimal_rank.proofs.parts.cut_at_mark.Goals as goal

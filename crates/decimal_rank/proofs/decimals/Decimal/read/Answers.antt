@@ -1,7 +1,7 @@
-use Rattle.std.proofs.Common.{◌≡◌, ◌<◌, ◌≤◌, length, Ok, sym, ap, ◌∙◌, arith, subst, pos, ◌+ℤ◌, ◌-ℤ◌, ◌/◌, ◌^◌}
+use Rattle.std.proofs.Common.{◌<◌, ◌≤◌, length, Ok, ap, ◌∙◌, arith, subst, pos, ◌+ℤ◌, ◌-ℤ◌, ◌/◌, ◌^◌}
 use Rattle.std.specs.List.{list_all}
 use Rattle.std.specs.Str.Parse.{digits_value, without_leading_sign}
-use Rattle.decimal_rank.specs.DecimalText.{is_digit, mantissa_digits, significant, scaled, written_exponent}
+use Rattle.decimal_rank.specs.DecimalText.{is_digit, mantissa_digits, scaled}
 use Rattle.decimal_rank.proofs.Reading.{sized}
 use Rattle.decimal_rank.proofs.Scores.{of_parts, few_zeros, whole_again, quotient_trimmed, value_made, unwrapped, unwrapped_near}
 use Rattle.decimal_rank.proofs.Texts.{is_shaped, other_shape, many_digits, far_exponent, has_value, exponent_near}
@@ -81,7 +81,7 @@ returns c =
     let kept = unwrapped c.last_exponent.result c.last_exponent.ensures.low c.last_exponent.ensures.high in
     let scaled_is = c.scaled.ensures ∙ ap (scaled c.in-Some.parts.negative (c.significand_of-significand.result.number / 10 ^ c.kept_zeros.result)) kept in
     let made = value_made c.args.text.now c.in-Some.parts c.significand_of-significand.result c.kept_zeros.result c.in-Some-exponent_of.exponent c.last_exponent.result c.scaled.result
-        c.in-Some.ensures.1 was c.kept_zeros.ensures c.in-Some-exponent_of.ensures.1 at scaled_is in
+    c.in-Some.ensures.1 was c.kept_zeros.ensures c.in-Some-exponent_of.ensures.1 at scaled_is in
     ap Ok made
     ∙ has_value c.args.text.now c.in-Some.ensures.0 (omega (arith, size, c.if-significand-gt-MOST_DIGITS.false))
     (subst (λ part. digits_value 10 (without_leading_sign part) ≤ 400) c.in-Some.ensures.1.exponent c.in-Some-exponent_of.ensures.0)
