@@ -1,80 +1,85 @@
 -- The number that digits write.
-use Rattle.std.proofs.Common.{◌≡◌, ◌≢◌, ℕ, ◌+◌, ◌-◌, ◌*◌, ◌%◌, ◌^◌, ◌<◌, ◌≤◌, Bool, true, false, cond, ◌&&◌, leb, Ok, Err, List, [], ◌∷◌, length, refl, take, get_or, arith, ap, sym, ◌∙◌, pow-add, subst}
-use Rattle.std.proofs.Math.Nat.{pow-le-pow_right}
+use Rattle.std.proofs.Common.{◌≡◌, ◌≢◌, ℕ, zero, suc, ◌+◌, ◌-◌, ◌*◌, ◌%◌, ◌^◌, ◌<◌, ◌≤◌, true, false, List, length, take, reverse, get_or, arith, ap, sym, ◌∙◌, pow-add, leb-true, mul_assoc}
+use Rattle.std.specs.Prelude.{min}
+use Rattle.std.specs.List.{list_all}
+use Rattle.std.specs.Int.{IsInRange}
+use Rattle.std.specs.Char.{digit_value}
+use Rattle.std.specs.Str.Parse.{digits_value}
+use Rattle.std.proofs.lemmas.Bool.{and_parts, true_from_ne_false}
 use Rattle.std.proofs.lemmas.Bool.Decides.{nat_tests}
 use Rattle.std.proofs.lemmas.Int.Digits.{digits_value_more}
-use Rattle.std.proofs.lemmas.List.{take_all}
-use Rattle.std.proofs.lemmas.List.Elements.{All-take}
-use Rattle.std.proofs.lemmas.List.Sums.{AllPass-from_list_all, list_all-from_AllPass}
+use Rattle.std.proofs.lemmas.List.Folds.{list_all_at}
+use Rattle.std.proofs.lemmas.List.Sums.{prefix_len_passes, prefix_len_stops}
+use Rattle.std.proofs.lemmas.List.{length-reverse, get_or-reverse}
 use Rattle.std.proofs.lemmas.Str.{digit_value_digit}
-use Rattle.std.specs.Char.{digit_value}
-use Rattle.std.specs.Int.{IsInRange}
-use Rattle.std.specs.List.{list_all}
-use Rattle.std.specs.Str.Parse.{digits_value}
-use Rattle.decimal_rank.specs.DecimalText.{is_digit, is_decimal, decimal_value, decimal_of}
-use Rattle.decimal_rank.specs.declared.decimals.DecimalFault.TheVariants.{Shape}
-use Rattle.std.proofs.lemmas.Bool.{false≢true}
+use Rattle.decimal_rank.specs.DecimalText.{is_digit, is_zero, zeros_after}
+
+pub digit_range : (b : ℕ) → is_digit b ≡ true → IsInRange 48 57 b
+digit_range b is = let p = and_parts _ _ is in (leb-true _ _ p.0, leb-true _ _ p.1)
 
 -- a digit at a place
 pub digit_at : (digits : List ℕ) (i : ℕ) → list_all is_digit digits ≡ true → i < length digits → is_digit (get_or digits i 0) ≡ true
-digit_at digits i h lt = AllPass-from_list_all is_digit digits h i 0 lt
+digit_at digits i all inside = true_from_ne_false (is_digit (get_or digits i 0)) (λ other. let wrong = list_all_at is_digit digits i 0 inside other in cc)
 
-pub value_of_digit : (b : ℕ) → is_digit b ≡ true → (48 ≤ b) × (b ≤ 57) × (digit_value b ≡ b - 48)
-value_of_digit b h =
-    let low : 48 ≤ b = grind (arith, nat_tests) in
-    let high : b ≤ 57 = grind (arith, nat_tests) in
-    (low, high, omega (arith, digit_value_digit b (low, high)))
+-- the capped value with one more digit
+pub capped_more : (digits : List ℕ) (i value next : ℕ) → list_all is_digit digits ≡ true → i < length digits → value ≡ min (digits_value 10 (take i digits)) 401
+    → next ≡ min (value * 10 + (get_or digits i 0 - 48)) 401 → next ≡ min (digits_value 10 (take (i + 1) digits)) 401
+capped_more digits i value next all inside was is =
+    omega (arith, was, is, digits_value_more 10 digits i inside, digit_value_digit (get_or digits i 0) (digit_range (get_or digits i 0) (digit_at digits i all inside)))
 
--- one more digit
-pub grows : (digits : List ℕ) (i n : ℕ) → list_all is_digit digits ≡ true → i < length digits → n ≡ digits_value 10 (take i digits) → n < 10 ^ i
-    → (n * 10 + (get_or digits i 0 - 48) ≡ digits_value 10 (take (i + 1) digits)) × (n * 10 + (get_or digits i 0 - 48) < 10 ^ (i + 1))
-grows digits i n h lt is below =
-    let v = value_of_digit (get_or digits i 0) (digit_at digits i h lt) in
-    let more = digits_value_more 10 digits i lt in
-    (omega (arith, more, v.2, is), let up : 10 ^ (i + 1) ≡ 10 ^ i * 10 = pow-add 10 i 1 in omega (arith, v.1))
+-- ---- zeros at the end
 
--- 18 digits stay below ten to the 18
-pub stays_below : (n i : ℕ) → n < 10 ^ i → i < 18 → n < 10 ^ 17
-stays_below n i h lt = let few : i ≤ 17 = omega arith in let up : 10 ^ i ≤ 10 ^ 17 = pow-le-pow_right (omega arith) few in omega arith
+-- so many at the end are zeros
+pub zero_at_end : (digits : List ℕ) (i : ℕ) → length digits - zeros_after digits ≤ i → i < length digits → get_or digits i 0 ≡ 48
+zero_at_end digits i from inside =
+    let k = length digits - 1 - i in
+    let within : k < length digits = omega arith in
+    let few : k < zeros_after digits = omega arith in
+    let back : length digits - 1 - k ≡ i = omega arith in
+    let passes : is_zero (get_or (reverse digits) k 0) ≡ true = prefix_len_passes is_zero (reverse digits) k 0 few in
+    let same : get_or (reverse digits) k 0 ≡ get_or digits i 0 = get_or-reverse digits k 0 within ∙ ap (λ j. get_or digits j 0) back in
+    let zero : is_zero (get_or digits i 0) ≡ true = ap is_zero (sym same) ∙ passes in
+    grind (arith, nat_tests)
 
-filled : (digits : List ℕ) → digits_value 10 digits ≢ 0 → 0 < length digits
-filled [] some = absurd (some refl)
-filled (d ∷ ds) some = omega arith
+-- the digit before them isn't one
+pub other_before_end : (digits : List ℕ) → zeros_after digits < length digits → get_or digits (length digits - 1 - zeros_after digits) 0 ≢ 48
+other_before_end digits few is =
+    let long : length (reverse digits) ≡ length digits = length-reverse digits in
+    let stops : is_zero (get_or (reverse digits) (zeros_after digits) 0) ≡ false = prefix_len_stops is_zero (reverse digits) 0 (omega arith) in
+    let same : get_or (reverse digits) (zeros_after digits) 0 ≡ get_or digits (length digits - 1 - zeros_after digits) 0 = get_or-reverse digits (zeros_after digits) 0 few in
+    let zero : is_zero (get_or (reverse digits) (zeros_after digits) 0) ≡ true = ap is_zero (same ∙ is) in
+    cc
 
--- the number ends with 0 only where its digits do
-pub trimmed : (digits : List ℕ) → list_all is_digit digits ≡ true → (0 < length digits → get_or digits (length digits - 1) 0 ≢ 48)
-    → digits_value 10 digits ≢ 0 → digits_value 10 digits % 10 ≢ 0
-trimmed digits h last some =
-    let long : 0 < length digits = filled digits some in
-    let i = length digits - 1 in
-    let lt : i < length digits = omega arith in
-    let v = value_of_digit (get_or digits i 0) (digit_at digits i h lt) in
-    let whole : take (i + 1) digits ≡ digits = take_all (i + 1) digits (omega arith) in
-    let more = digits_value_more 10 digits i lt in
-    let is : digits_value 10 digits ≡ digits_value 10 (take i digits) * 10 + digit_value (get_or digits i 0) = ap (digits_value 10) (sym whole) ∙ more in
-    let ne = last long in
-    omega (arith, is, v.0, v.1, v.2, ne)
+-- each zero at the end that is kept multiplies by ten
+pub value-kept : (digits : List ℕ) (kept : ℕ) → length digits - zeros_after digits + kept ≤ length digits
+    → digits_value 10 (take (length digits - zeros_after digits + kept) digits) ≡ digits_value 10 (take (length digits - zeros_after digits) digits) * 10 ^ kept
+value-kept digits zero le =
+    let same : length digits - zeros_after digits + 0 ≡ length digits - zeros_after digits = omega arith in
+    ap (λ n. digits_value 10 (take n digits)) same ∙ omega arith
+value-kept digits (suc kept) le =
+    let n = length digits - zeros_after digits in
+    let inside : n + kept < length digits = omega arith in
+    let before = value-kept digits kept (omega arith) in
+    let more = digits_value_more 10 digits (n + kept) inside in
+    let zero = zero_at_end digits (n + kept) (omega arith) inside in
+    let none : digit_value (get_or digits (n + kept) 0) ≡ 0 = ap digit_value zero in
+    let up : 10 ^ (kept + 1) ≡ 10 ^ kept * 10 = pow-add 10 kept 1 in
+    let next : n + suc kept ≡ n + kept + 1 = omega arith in
+    let one : suc kept ≡ kept + 1 = omega arith in
+    let value = digits_value 10 (take n digits) in
+    let pushed : digits_value 10 (take (n + kept + 1) digits) ≡ digits_value 10 (take (n + kept) digits) * 10 = omega (arith, more, none) in
+    ap (λ m. digits_value 10 (take m digits)) next ∙ pushed ∙ ap (λ m. m * 10) before ∙ mul_assoc value (10 ^ kept) 10 ∙ ap (λ p. value * p) (sym up) ∙ ap (λ m. value * 10 ^ m) (sym one)
 
-pub list_all-take : {X : Type 0} (p : X → Bool) (xs : List X) (n : ℕ) → list_all p xs ≡ true → list_all p (take n xs) ≡ true
-list_all-take p xs n h =
-    list_all-from_AllPass p (take n xs) (All-take (λ x. p x ≡ true) n xs (AllPass-from_list_all p xs h))
-
-pub below_18 : (n i : ℕ) → n < 10 ^ i → i ≤ 18 → n < 10 ^ 18
-below_18 n i h le = let up : 10 ^ i ≤ 10 ^ 18 = pow-le-pow_right (omega arith) le in omega arith
-
--- ---- a score's text
-
-pub decimal_of_decimal : (text : List ℕ) → is_decimal text ≡ true → decimal_of text ≡ Ok (decimal_value text)
-unfolding decimal_of
-decimal_of_decimal text e = ap (λ t. cond t (Ok (decimal_value text)) (Err Shape)) e
-
-pub decimal_of_other : (text : List ℕ) → is_decimal text ≡ false → decimal_of text ≡ Err Shape
-unfolding decimal_of
-decimal_of_other text e = ap (λ t. cond t (Ok (decimal_value text)) (Err Shape)) e
-
-last_test : (s t : Bool) → (s && t) ≡ true → t ≡ true
-last_test true t e = e
-last_test false t e = absurd (false≢true e)
-
-pub all_digits : (text : List ℕ) → is_decimal text ≡ true → list_all is_digit text ≡ true
-all_digits text e = last_test (leb 1 (length text) && leb (length text) 18) (list_all is_digit text) e
+-- the number without the zeros at the end doesn't end with 0
+pub trimmed : (digits : List ℕ) → list_all is_digit digits ≡ true → zeros_after digits < length digits
+    → digits_value 10 (take (length digits - zeros_after digits) digits) % 10 ≢ 0
+trimmed digits all few =
+    let i = length digits - 1 - zeros_after digits in
+    let inside : i < length digits = omega arith in
+    let range = digit_range (get_or digits i 0) (digit_at digits i all inside) in
+    let value = digit_value_digit (get_or digits i 0) range in
+    let other = other_before_end digits few in
+    let more = digits_value_more 10 digits i inside in
+    let at : i + 1 ≡ length digits - zeros_after digits = omega arith in
+    let is : digits_value 10 (take (length digits - zeros_after digits) digits) ≡ digits_value 10 (take i digits) * 10 + digit_value (get_or digits i 0) = ap (λ n. digits_value 10 (take n digits)) (sym at) ∙ more in
+    omega (arith, is, range.0, range.1, value, other)

@@ -1,8 +1,13 @@
+pub mod Canonical
+pub mod Cuts
 pub mod Digits
 pub mod Growth
 pub mod Listing
 pub mod Mapped
+pub mod Reading
+pub mod Scores
 pub mod Search
 pub mod Shifts
 pub mod Standing
+pub mod Texts
 pub mod Values

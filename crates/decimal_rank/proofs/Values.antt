@@ -1,10 +1,10 @@
 -- The order of decimal values.
-use Rattle.std.proofs.Common.{Ordering, Less, Equal, Greater, pow-add, ◌≡◌, ◌≢◌, ℕ, zero, suc, ◌+◌, ◌-◌, ◌*◌, ◌/◌, ◌%◌, ◌^◌, ◌<◌, ◌≤◌, Bool, true, false, cond, ltb, eqb, refl, sym, ap, ◌∙◌, arith, zero-mul, mul_assoc, mul-le-mul_right, mul-le-mul_left, mul-pos, pos_of_ne-zero, subst, inl, inr, ◌⊎◌, ℤ, pos, negsuc, neg_ℤ, ◌+ℤ◌, ◌≤ℤ◌, ◌<ℤ◌, int_lt, rules}
+use Rattle.std.proofs.Common.{Ordering, Less, Equal, Greater, pow-add, ◌≡◌, ℕ, zero, suc, ◌+◌, ◌*◌, ◌/◌, ◌^◌, ◌<◌, ◌≤◌, Bool, true, false, cond, ltb, refl, sym, ap, ◌∙◌, arith, zero-mul, mul_assoc, mul-le-mul_right, mul-le-mul_left, mul-pos, pos_of_ne-zero, subst, inl, inr, ◌⊎◌, ℤ, pos, negsuc, neg_ℤ, ◌+ℤ◌, ◌≤ℤ◌, ◌<ℤ◌, int_lt}
 use Rattle.std.proofs.Math.Nat.{mul-lt-mul_of_pos_right, one-le-pow, pow-le-pow_right, add-mul}
 use Rattle.std.proofs.lemmas.Bool.{false≢true}
 use Rattle.std.proofs.lemmas.Bool.Decides.{nat_tests}
 use borrow.Author.Tests.{lt-ltb}
-use Rattle.std.proofs.lemmas.Cmp.{ranked, int_cmp_total, on_total}
+use Rattle.std.proofs.lemmas.Cmp.{int_cmp_total, on_total}
 use Rattle.std.specs.Cmp.{IsTotalOrder, int_ranks, nat_cmp_is}
 use Rattle.std.specs.Int.{int_gap, int_min}
 use Rattle.std.specs.Ordering.{MatchOrdering, nat_cmp, int_cmp, ordering_then, ordering_reverse, on}

@@ -1,5 +1,5 @@
 -- A decimal's digits kept left-aligned: 38 of them, of which the last ones fill up with padding.
-use Rattle.std.specs.Prelude.{◌≡◌, ◌≢◌, ℕ, ◌/◌, ◌*◌, ◌%◌, ◌^◌, ◌<◌, ◌≤◌, ℤ, pos, ◌+ℤ◌, Bool, false}
+use Rattle.std.specs.Prelude.{◌≡◌, ◌≢◌, ℕ, ◌/◌, ◌*◌, ◌%◌, ◌^◌, ◌<◌, ◌≤◌, ℤ, pos, negsuc, ◌≤ℤ◌, ◌+ℤ◌, Bool, false}
 use Rattle.decimal_rank.specs.Decimal.{DecimalValue}
 
 -- the value of left-aligned digits
@@ -7,10 +7,13 @@ abbrev pub aligned_value : Bool → ℕ → ℕ → ℤ → DecimalValue
 aligned_value negative leading padding last =
     record { negative = negative; digits = leading / 10 ^ padding; exponent = last +ℤ pos padding }
 
--- 38 digits, the padding at their end and no others, or zero without a sign
+-- 38 digits, the padding at their end and no others, and an exponent of few digits, or zero without a sign
 pub record IsAligned (negative : Bool) (leading padding : ℕ) (last : ℤ) : Type 0 where
   pub below : leading < 10 ^ 38
   pub full : leading ≢ 0 → 10 ^ 37 ≤ leading
   pub padded : leading / 10 ^ padding * 10 ^ padding ≡ leading
   pub trimmed : leading ≢ 0 → leading / 10 ^ padding % 10 ≢ 0
+  pub short : padding < 38
+  pub low : negsuc 1999 ≤ℤ last
+  pub high : last ≤ℤ pos 1999
   pub zero : leading ≡ 0 → (negative ≡ false) × (last ≡ pos 0) × (padding ≡ 0)

@@ -7,3 +7,4 @@ pub mod KnownBytes
 pub mod Names
 pub mod Places
 pub mod Ranks
+pub mod Significands

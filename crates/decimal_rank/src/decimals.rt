@@ -1,26 +1,65 @@
-ghost use Rattle.std.specs.Prelude.{◌≡◌, ◌≢◌, ℕ, ◌+◌, ◌-◌, ◌%◌, ◌^◌, ◌<◌, ◌≤◌, pos, negsuc, ◌≤ℤ◌, length, false, IsTrue, slice_index};
-ghost use Rattle.std.specs.List.{list_all};
-ghost use Rattle.std.specs.Str.Parse.{digits_value};
-ghost use Rattle.decimal_rank.specs.DecimalText.{decimal_of, is_decimal, is_digit, significant, zeros_after, scaled};
+ghost use Rattle.std.specs.Prelude.{IfOk, ◌≡◌, ◌≢◌, ◌-◌, ◌*◌, ◌/◌, ◌%◌, ◌^◌, ◌<◌, ◌≤◌, pos, negsuc, ◌≤ℤ◌, ◌+ℤ◌, ◌-ℤ◌};
+ghost use Rattle.decimal_rank.specs.DecimalText.{canonical, decimal_of, scaled};
 ghost use Rattle.decimal_rank.specs.Decimal.{DecimalValue, decimal_cmp, size_of};
 
+use crate::parts::{exponent_of, parts_of};
+use crate::significands::{MOST_DIGITS, significand_of};
+use crate::storage::{Memory, Text};
+use std::alloc::Global;
 use std::cmp::Ordering;
 use std::marker::Model;
 
-/// Ten to the 37, the least number of 38 digits.
-const FULL: u128 = 10_000_000_000_000_000_000_000_000_000_000_000_000;
-
-/// Ten to the 29: less than this has room for eight zeros more.
-const SHORT: u128 = 100_000_000_000_000_000_000_000_000_000;
+/// The powers of ten with exponents from 0 to 38.
+const POWERS: [u128; 39] = [
+    1,
+    10,
+    100,
+    1_000,
+    10_000,
+    100_000,
+    1_000_000,
+    10_000_000,
+    100_000_000,
+    1_000_000_000,
+    10_000_000_000,
+    100_000_000_000,
+    1_000_000_000_000,
+    10_000_000_000_000,
+    100_000_000_000_000,
+    1_000_000_000_000_000,
+    10_000_000_000_000_000,
+    100_000_000_000_000_000,
+    1_000_000_000_000_000_000,
+    10_000_000_000_000_000_000,
+    100_000_000_000_000_000_000,
+    1_000_000_000_000_000_000_000,
+    10_000_000_000_000_000_000_000,
+    100_000_000_000_000_000_000_000,
+    1_000_000_000_000_000_000_000_000,
+    10_000_000_000_000_000_000_000_000,
+    100_000_000_000_000_000_000_000_000,
+    1_000_000_000_000_000_000_000_000_000,
+    10_000_000_000_000_000_000_000_000_000,
+    100_000_000_000_000_000_000_000_000_000,
+    1_000_000_000_000_000_000_000_000_000_000,
+    10_000_000_000_000_000_000_000_000_000_000,
+    100_000_000_000_000_000_000_000_000_000_000,
+    1_000_000_000_000_000_000_000_000_000_000_000,
+    10_000_000_000_000_000_000_000_000_000_000_000,
+    100_000_000_000_000_000_000_000_000_000_000_000,
+    1_000_000_000_000_000_000_000_000_000_000_000_000,
+    10_000_000_000_000_000_000_000_000_000_000_000_000,
+    100_000_000_000_000_000_000_000_000_000_000_000_000,
+];
 
 /// Why a text is no score.
 #[derive(Clone, Copy, Debug, PartialEq, Eq)]
 pub enum DecimalFault {
-    /// The text isn't 1 to 18 digits.
+    /// The text isn't a sign, digits with at most one point, and an exponent, in at most 400 bytes.
     Shape,
-    /// It has more than 38 significant digits.
+    /// There are more than 38 digits from the first to the last that isn't 0.
     Digits,
-    /// Its exponent is out of range.
+    /// The exponent that is written isn't -400 to 400.
     Exponent,
 }
 
@@ -53,11 +92,36 @@ impl Decimal {
     pub fn read(text: &[u8]) -> Result<Decimal, DecimalFault>
         ensures { result ≡ decimal_of text.now }
     {
-        if !is_decimal(text) {
-            return Err(DecimalFault::Shape);
+        let parts = match parts_of(text) {
+            Some(parts) => parts,
+            None => return Err(DecimalFault::Shape),
+        };
+        let significand = significand_of(parts.whole, parts.fraction);
+        if significand.count - significand.zeros > MOST_DIGITS {
+            return Err(DecimalFault::Digits);
         }
-        let digits = significant(text);
-        Ok(scaled(number(digits), text.len() - digits.len()))
+        let exponent = match exponent_of(parts.exponent) {
+            Some(exponent) => exponent,
+            None => return Err(DecimalFault::Exponent),
+        };
+        Ok(scaled(
+            parts.negative,
+            significand.number,
+            significand.kept(),
+            significand.kept_zeros(),
+            last_exponent(exponent, significand.zeros, parts.fraction.len()),
+        ))
+    }
+
+    /// The canonical text: no zeros in front of the digits or behind them, no point, and an
+    /// exponent only where it isn't 0.
+    pub fn write(&self, alloc: Global) -> Result<Text, Memory>
+        ensures text { IfOk result (λ text. text ≡ canonical self.now) }
+        ensures read_back { negsuc 399 ≤ℤ self.now.exponent → self.now.exponent ≤ℤ pos 400 → IfOk result (λ text. decimal_of text ≡ Ok self.now) }
+    {
+        let digits = self.leading / power(self.padding);
+        let exponent = self.last + i16::from(self.padding);
+        write_parts(alloc, self.negative, digits, exponent)
     }
 
     /// The same value.
@@ -97,51 +161,52 @@ impl Decimal {
     }
 }
 
-fn is_decimal(text: &[u8]) -> bool
-    ensures { result ≡ is_decimal text.now }
+// The canonical text of a sign, digits and an exponent.
+fn write_parts(alloc: Global, negative: bool, digits: u128, exponent: i16) -> Result<Text, Memory>
+    ensures { IfOk result (λ text. text ≡ canonical (record { negative = negative; digits = digits; exponent = exponent })) }
 {
-    1 <= text.len() && text.len() <= 18 && are_digits(text)
-}
-
-fn are_digits(text: &[u8]) -> bool
-    ensures { result ≡ list_all is_digit text.now }
-{
-    text.iter().all(|b| 48 <= *b && *b <= 57)
-}
-
-// The digits up to the last that isn't 0.
-fn significant(digits: &[u8]) -> &[u8]
-    ensures value { result.now ≡ significant digits.now }
-    ensures zeros { length result.now + zeros_after digits.now ≡ length digits.now }
-    ensures trimmed { 0 < length result.now → slice_index result.now (length result.now - 1) ≢ 48 }
-{
-    let mut end = digits.len();
-    while end > 0 && digits[end - 1] == b'0' {
-        end -= 1;
+    let sign = if negative { "-" } else { "" };
+    if exponent == 0 {
+        let text = format!(in alloc; "{sign}{digits}")?;
+        return Ok(Text::new(text.into_bytes()));
     }
-    &digits[..end]
+    let text = format!(in alloc; "{sign}{digits}e{exponent}")?;
+    Ok(Text::new(text.into_bytes()))
 }
 
-// The number that the digits write.
-fn number(digits: &[u8]) -> u64
-    requires few { length digits.now ≤ 18 }
-    requires digits { IsTrue (list_all is_digit digits.now) }
-    ensures value { result ≡ digits_value 10 digits.now }
-    ensures below { result < 10 ^ 18 }
+// Ten to so many.
+fn power(exponent: u8) -> u128
+    requires { exponent ≤ 38 }
+    ensures { result ≡ 10 ^ exponent }
 {
-    let mut number = 0;
-    for digit in digits {
-        number = number * 10 + u64::from(*digit - b'0');
-    }
-    number
+    POWERS[exponent as usize]
 }
 
-// The decimal of a number times ten to a count of zeros.
-fn scaled(digits: u64, zeros: usize) -> Decimal
-    requires below { digits < 10 ^ 18 }
-    requires trimmed { digits ≢ 0 → digits % 10 ≢ 0 }
-    requires few { zeros ≤ 18 }
-    ensures { result ≡ scaled digits zeros }
+// The exponent of the last digit that isn't 0, of the exponent that is written, the zeros behind
+// this digit and the digits behind the point.
+fn last_exponent(written: i16, zeros: u16, fraction: usize) -> i16
+    requires low { negsuc 399 ≤ℤ written }
+    requires high { written ≤ℤ pos 400 }
+    requires zeros { zeros ≤ 400 }
+    requires fraction { fraction ≤ 400 }
+    ensures value { result ≡ (written +ℤ pos zeros) -ℤ pos fraction }
+    ensures low { negsuc 999 ≤ℤ result }
+    ensures high { result ≤ℤ pos 1000 }
+{
+    written + zeros as i16 - fraction as i16
+}
+
+// The decimal of a sign, so many digits with so many zeros at their end, and the exponent of the
+// last digit before these.
+fn scaled(negative: bool, digits: u128, count: u8, zeros: u8, exponent: i16) -> Decimal
+    requires few { count ≤ 38 }
+    requires below { digits < 10 ^ count }
+    requires full { 0 < count → 10 ^ (count - 1) ≤ digits }
+    requires zeros { digits / 10 ^ zeros * 10 ^ zeros ≡ digits }
+    requires trimmed { digits ≢ 0 → digits / 10 ^ zeros % 10 ≢ 0 }
+    requires low { negsuc 999 ≤ℤ exponent }
+    requires high { exponent ≤ℤ pos 1000 }
+    ensures { result ≡ scaled negative (digits / 10 ^ zeros) exponent }
 {
     if digits == 0 {
         return Decimal {
@@ -151,30 +216,11 @@ fn scaled(digits: u64, zeros: usize) -> Decimal
             last: 0,
         };
     }
-    aligned(false, u128::from(digits), zeros as i16)
-}
-
-// The decimal of a sign, digits of which the last isn't 0, and an exponent.
-fn aligned(negative: bool, digits: u128, exponent: i16) -> Decimal
-    requires below { digits < 10 ^ 38 }
-    requires trimmed { digits % 10 ≢ 0 }
-    requires low { negsuc 999 ≤ℤ exponent }
-    requires high { exponent ≤ℤ pos 1000 }
-    ensures { result ≡ record { negative = negative; digits = digits; exponent = exponent } }
-{
-    let mut leading = digits;
-    let mut padding = 0u8;
-    while leading < SHORT {
-        leading *= 100_000_000;
-        padding += 8;
-    }
-    while leading < FULL {
-        leading *= 10;
-        padding += 1;
-    }
+    let short = 38 - count;
+    let padding = zeros + short;
     Decimal {
         negative,
-        leading,
+        leading: digits * power(short),
         padding,
         last: exponent - i16::from(padding),
     }

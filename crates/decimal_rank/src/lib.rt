@@ -5,7 +5,9 @@
 mod counting;
 mod decimals;
 mod naming;
+mod parts;
 mod rankings;
+mod significands;
 mod storage;
 
 pub use counting::Steps;

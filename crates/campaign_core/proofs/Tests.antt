@@ -1,0 +1,75 @@
+-- Tests over lists.
+use Rattle.std.proofs.Common.{◌≡◌, ◌&&◌, ◌||◌, ◌<◌, ◌+◌, ℕ, suc, zero, Bool, true, false, not, cond, List, [], ◌∷◌, ◌++◌, length, map, take, drop, set, get_or, refl, sym, ap, ◌∙◌, arith}
+use Rattle.std.specs.Prelude.{All, AllPairs}
+use Rattle.std.specs.List.{list_all, list_any, flat_map}
+use Rattle.std.proofs.lemmas.List.Folds.{list_all-append, list_any-append}
+
+pub both_true : (s t : Bool) → s && t ≡ true → (s ≡ true) × (t ≡ true)
+both_true true true e = (refl, refl)
+both_true true false e = cc e
+both_true false t e = cc e
+
+pub and_true : (s t : Bool) → s ≡ true → t ≡ true → s && t ≡ true
+and_true true true e f = refl
+and_true true false e f = cc f
+and_true false t e f = cc e
+
+module _ {X : Type 0} (p : X → Bool) where
+  pub all_head : (x : X) (xs : List X) → list_all p (x ∷ xs) ≡ true → p x ≡ true
+  all_head x xs all = (both_true (p x) (list_all p xs) all).0
+
+  pub all_tail : (x : X) (xs : List X) → list_all p (x ∷ xs) ≡ true → list_all p xs ≡ true
+  all_tail x xs all = (both_true (p x) (list_all p xs) all).1
+
+  pub all_cons : (x : X) (xs : List X) → p x ≡ true → list_all p xs ≡ true → list_all p (x ∷ xs) ≡ true
+  all_cons x xs head tail = and_true (p x) (list_all p xs) head tail
+
+  pub all_front : (xs ys : List X) → list_all p (xs ++ ys) ≡ true → list_all p xs ≡ true
+  all_front xs ys all = (both_true (list_all p xs) (list_all p ys) (sym (list_all-append p xs ys) ∙ all)).0
+
+  pub all_back : (xs ys : List X) → list_all p (xs ++ ys) ≡ true → list_all p ys ≡ true
+  all_back xs ys all = (both_true (list_all p xs) (list_all p ys) (sym (list_all-append p xs ys) ∙ all)).1
+
+  pub all_take : (n : ℕ) (xs : List X) → list_all p xs ≡ true → list_all p (take n xs) ≡ true
+  all_take zero xs all = refl
+  all_take (suc n) [] all = refl
+  all_take (suc n) (x ∷ xs) all = all_cons x (take n xs) (all_head x xs all) (all_take n xs (all_tail x xs all))
+
+  pub all_at : (xs : List X) (i : ℕ) (d : X) → i < length xs → list_all p xs ≡ true → p (get_or xs i d) ≡ true
+  all_at [] i d within all = absurd (omega (arith, within))
+  all_at (x ∷ xs) zero d within all = all_head x xs all
+  all_at (x ∷ xs) (suc i) d within all = all_at xs i d (omega (arith, within)) (all_tail x xs all)
+
+pub pairs_cons : {X : Type 0} (R : X → X → Type 0) (x : X) (xs : List X) → All (R x) xs → AllPairs R xs → AllPairs R (x ∷ xs)
+pairs_cons R x xs first rest zero zero d less within = absurd (omega arith)
+pairs_cons R x xs first rest zero (suc j) d less within = first j d (omega arith)
+pairs_cons R x xs first rest (suc i) zero d less within = absurd (omega arith)
+pairs_cons R x xs first rest (suc i) (suc j) d less within = rest i j d (omega arith) (omega arith)
+
+pub each_cons : {X : Type 0} (P : X → Type 0) (x : X) (xs : List X) → P x → All P xs → All P (x ∷ xs)
+each_cons P x xs head tail zero d within = head
+each_cons P x xs head tail (suc k) d within = tail k d (omega (arith, within))
+
+pub any_flat : {X Y : Type 0} (p : Y → Bool) (f : X → List Y) (xs : List X) → list_any p (flat_map f xs) ≡ list_any (λ x. list_any p (f x)) xs
+any_flat p f [] = refl
+any_flat p f (x ∷ xs) = list_any-append p (f x) (flat_map f xs) ∙ ap (λ t. list_any p (f x) || t) (any_flat p f xs)
+
+pub any_map : {X Y : Type 0} (p : Y → Bool) (f : X → Y) (xs : List X) → list_any p (map f xs) ≡ list_any (λ x. p (f x)) xs
+any_map p f [] = refl
+any_map p f (x ∷ xs) = ap (λ t. p (f x) || t) (any_map p f xs)
+
+-- an element written in place of another that f sees alike
+pub map-set_same : {X Y : Type 0} (f : X → Y) (xs : List X) (i : ℕ) (y d : X) → i < length xs → f y ≡ f (get_or xs i d) → map f (set xs i y) ≡ map f xs
+map-set_same f [] i y d within same = absurd (omega (arith, within))
+map-set_same f (x ∷ xs) zero y d within same = ap (λ z. z ∷ map f xs) same
+map-set_same f (x ∷ xs) (suc i) y d within same = ap (λ zs. f x ∷ zs) (map-set_same f xs i y d (omega (arith, within)) same)
+
+-- two lists that two functions see alike
+pub map_alike : {X Y Z : Type 0} (f : X → Z) (g : Y → Z) (xs : List X) (ys : List Y) → length xs ≡ length ys → ((k : ℕ) (d : X) (e : Y) → k < length xs → f (get_or xs k d) ≡ g (get_or ys k e)) → map f xs ≡ map g ys
+map_alike f g [] [] long alike = refl
+map_alike f g [] (y ∷ ys) long alike = cc long
+map_alike f g (x ∷ xs) [] long alike = cc long
+map_alike f g (x ∷ xs) (y ∷ ys) long alike =
+    let head : f x ≡ g y = alike 0 x y (omega arith) in
+    let rest : map f xs ≡ map g ys = map_alike f g xs ys (omega (arith, long)) (λ k d e within. alike (suc k) d e (omega (arith, within))) in
+    ap (λ z. z ∷ map f xs) head ∙ ap (λ zs. g y ∷ zs) rest

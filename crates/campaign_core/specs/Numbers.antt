@@ -1,0 +1,22 @@
+-- Docnos by their numbers.
+use Rattle.std.specs.Prelude.{ℕ, List, map, Bool}
+use Rattle.std.specs.List.{list_all, position_or_len}
+use Rattle.std.specs.Str.{bytes_eq}
+use Rattle.decimal_rank.specs.declared.naming.DocId.{DocId}
+use Rattle.rulebook.specs.Words.{Text, contains_text, each_once}
+use Rattle.rulebook.specs.Campaign.{History, submitted_docnos}
+
+-- the docnos of a history, by their first mention
+abbrev pub names_of : History → List Text
+names_of H = each_once (submitted_docnos H)
+
+-- the number of a docno among the names
+abbrev pub doc_in : List Text → Text → DocId
+doc_in names doc = record { 0 = position_or_len (bytes_eq doc) names }
+
+abbrev pub docs_in : List Text → List Text → List DocId
+docs_in names docs = map (doc_in names) docs
+
+-- each docno is among the names
+abbrev pub are_named : List Text → List Text → Bool
+are_named names docs = list_all (contains_text names) docs

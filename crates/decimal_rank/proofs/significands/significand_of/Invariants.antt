@@ -1,0 +1,9 @@
+use Rattle.std.proofs.Common.{◌++◌, take}
+use Rattle.decimal_rank.specs.Significands.{IsSignificand}
+use Rattle.decimal_rank.proofs.significands.significand_of.Given as goal
+
+abbrev pub invariant-loop-byte : goal.invariant-loop-byte
+invariant-loop-byte l = IsSignificand (take l.byte-index l.whole) l.significand
+
+abbrev pub invariant-loop-byte-2 : goal.invariant-loop-byte-2
+invariant-loop-byte-2 l = IsSignificand (l.whole ++ take l.byte-index l.fraction) l.significand
