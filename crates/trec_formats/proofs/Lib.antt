@@ -1,3 +1,5 @@
+pub mod BlockSteps
+pub mod BlockTexts
 pub mod Cuts
 pub mod Differing
 pub mod Grades
@@ -12,3 +14,8 @@ pub mod Repeats
 pub mod RunCounts
 pub mod RunFormat
 pub mod TopicOrder
+pub mod TopicReadings
+pub mod Pieces
+pub mod TopicSteps
+pub mod TopicProgress
+pub mod TopicIds
