@@ -83,8 +83,7 @@ module _ (done : List Marked) (topics : List Numbered) (n : ℕ) where
   end_step block w (Some topic) is =
       let lines : List Marked = after_last is_close done in
       let read : next_mark done (n, Closes) ≡ Ok (n, Closes) = next_is (n, Closes) None w.present.0 is.0 in
-      let none : after_last is_close (done ++ (n, Closes) ∷ []) ≡ [] = after_last-yes is_close done (n, Closes) refl in
-      (
+      let none : after_last is_close (done ++ (n, Closes) ∷ []) ≡ [] = after_last-yes is_close done (n, Closes) refl in (
         read,
         record {
           sound = sound_format.push done done (n, Closes) (n, Closes) w.sound read;

@@ -15,6 +15,8 @@ mod topic_blocks;
 mod topic_fields;
 mod topic_laws;
 mod topic_marks;
+#[cfg(test)]
+mod topic_tests;
 mod topics;
 
 pub use faults::{FormatEnd, FormatFault, Kind};

@@ -136,7 +136,13 @@ impl Block {
         Ok(())
     }
 
-    fn read_part(&mut self, alloc: Global, number: u32, part: Part, text: &[u8]) -> Result<(), FormatEnd>
+    fn read_part(
+        &mut self,
+        alloc: Global,
+        number: u32,
+        part: Part,
+        text: &[u8],
+    ) -> Result<(), FormatEnd>
         ensures { TellsBy (λ _. self.new) result number (block_behind self.old (number, Begins part text.now)) }
     {
         if self.has(part) {
@@ -154,7 +160,12 @@ impl Block {
     }
 
     /// Reads a line of the block that doesn't end it.
-    pub(crate) fn read_line(&mut self, alloc: Global, number: u32, mark: Mark) -> Result<(), FormatEnd>
+    pub(crate) fn read_line(
+        &mut self,
+        alloc: Global,
+        number: u32,
+        mark: Mark,
+    ) -> Result<(), FormatEnd>
         ensures { TellsBy (λ _. self.new) result number (block_behind self.old (number, mark_seen mark.entry)) }
     {
         match mark {

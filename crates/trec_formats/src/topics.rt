@@ -33,7 +33,12 @@ fn read_outside(number: u32, mark: Mark) -> Result<Option<Block>, FormatEnd>
 }
 
 /// Reads the end of a block.
-fn read_end(alloc: Global, topics: &mut Vec<(u32, Topic)>, block: Block, number: u32) -> Result<(), FormatEnd>
+fn read_end(
+    alloc: Global,
+    topics: &mut Vec<(u32, Topic)>,
+    block: Block,
+    number: u32,
+) -> Result<(), FormatEnd>
     ensures { TellsBy (λ _. (topics.new.items, None)) result number (progress_behind topics.old.items (Some block) (number, Closes)) }
 {
     let Some(topic) = block.into_topic(alloc) else {
