@@ -1,7 +1,7 @@
 -- A topics text whose first lines are read.
 use Rattle.std.proofs.Common.{◌≡◌, ◌≢◌, ◌⊎◌, inl, inr, ◌==◌, ◌+◌, ◌<◌, ◌≤◌, ℕ, Bool, true, false, cond, List, [], ◌∷◌, ◌++◌, length, map, filter, refl, sym, ◌∙◌, ap, arith, Option, Some, None, Ok, Err, Result, append_assoc}
 use Rattle.std.specs.List.{after_last, slice_split}
-use Rattle.std.specs.Option.{is_some}
+use Rattle.std.specs.Prelude.{IfErr, IfOk, MatchResult}
 use Rattle.std.proofs.lemmas.Bool.{eqb-true}
 use Rattle.std.proofs.lemmas.List.{append-nil, drop_all}
 use Rattle.std.proofs.lemmas.List.Elements.{filter-append}
@@ -14,7 +14,7 @@ use Rattle.trec_formats.specs.Faults.{IsReadAs, OfFault}
 use Rattle.trec_formats.specs.declared.faults.Kind.TheVariants as kinds
 use Rattle.trec_formats.specs.Lines.{is_filled, lines_of}
 use Rattle.trec_formats.specs.Marks.{Marked, mark_of, marks_from, marks_of, stripped}
-use Rattle.trec_formats.specs.TopicBlocks.{Progress, progress_behind}
+use Rattle.trec_formats.specs.TopicBlocks.{Progress, finished_as, progress_behind}
 use Rattle.trec_formats.specs.Topics.{AreSound, IsEachBlockRead, Numbered, is_close, next_mark, topic_of, topics_in}
 use Rattle.trec_formats.proofs.Cuts.{lines_of-nil}
 use Rattle.trec_formats.proofs.Pieces.{one_part}
@@ -105,19 +105,12 @@ module _ (text : List ℕ) (number : ℕ) (rest : List ℕ) (topics : List Numbe
         let e : false ≡ true = rw gone at filled in
         cc e
 
+    -- the text ends inside a block
     unended_in : (block : Block) → present ≡ Some block → IsEachBlockRead text (Err (record { line = number + 1; kind = kinds.Tag }))
     unended_in block is =
         let open_ = rw is at w.read.present in
         let filled : is_filled (after_last is_close w.done) ≡ true = open_.0 in
         inr (sound (λ nil. after_nil w.done nil filled), rw whole filled, rw all_counted refl)
-
-    unended_cases : (o : Option Block) → present ≡ o → is_some o ≡ true → IsEachBlockRead text (Err (record { line = number + 1; kind = kinds.Tag }))
-    unended_cases None is some = cc some
-    unended_cases (Some block) is some = unended_in block is
-
-    -- the text ends inside a block
-    pub unended : is_some present ≡ true → IsEachBlockRead text (Err (record { line = number + 1; kind = kinds.Tag }))
-    unended = unended_cases present refl
 
     module _ (closed : present ≡ None) where
       nothing_after : after_last is_close w.done ≡ []
@@ -144,17 +137,34 @@ module _ (text : List ℕ) (number : ℕ) (rest : List ℕ) (topics : List Numbe
           some (w.read.topics_are ∙ no_topics w.read.blocks (no_blocks w.read.blocks one))
 
       -- the topics of a whole text
-      pub is_whole : (topics ≢ []) → IsEachBlockRead text (Ok topics)
+      is_whole : (topics ≢ []) → IsEachBlockRead text (Ok topics)
       is_whole some =
           let all : filter is_filled (slice_split is_close w.done) ≡ w.read.blocks = ap (filter is_filled) cut_is ∙ filter-append is_filled w.read.blocks ([] ∷ []) ∙ append-nil (filter is_filled w.read.blocks) ∙ w.read.filled in
           (sound (some_done some), rw whole nothing_after, w.read.topics_are ∙ rw (whole, all) refl)
 
       -- a text of white space alone
-      pub is_blank : topics ≡ [] → IsEachBlockRead text (Err (record { line = 0; kind = kinds.Empty }))
+      is_blank : topics ≡ [] → IsEachBlockRead text (Err (record { line = 0; kind = kinds.Empty }))
       is_blank nil =
           let blocks : w.read.blocks ≡ [] = mapped_nil w.read.blocks (sym w.read.topics_are ∙ nil) in
           let one : slice_split is_close w.done ≡ [] ∷ [] = cut_is ∙ ap (λ parts. parts ++ [] ∷ []) blocks in
           inl (inl (record { none = whole ∙ one_part is_close w.done one; line = refl; kind = refl }))
+
+    finishes_cases : (o : Option Block) (found : List Numbered) → present ≡ o → topics ≡ found → IsEachBlockRead text (finished_as number found o)
+    finishes_cases (Some block) found is same = unended_in block is
+    finishes_cases None [] closed nil = is_blank closed nil
+    finishes_cases None (topic ∷ found) closed same = rw (← same) (is_whole closed (λ nil. filled_not_nil topic found (sym same ∙ nil)))
+      where
+        filled_not_nil : (topic : Numbered) (found : List Numbered) → (topic ∷ found) ≡ [] → ⊥
+        filled_not_nil topic found e = cc e
+
+    finishes_err : (end : FormatEnd) → OfFault end (λ fault. finished_as number topics present ≡ Err fault) → OfFault end (λ fault. IsEachBlockRead text (Err fault))
+    finishes_err ends.Memory is = tt
+    finishes_err (ends.Fault fault) is = rw is at (finishes_cases present topics refl refl)
+
+    -- the whole text
+    pub finishes : {X : Type 0} (r : Result X FormatEnd) (items : X → List Numbered) → MatchResult r (λ found. finished_as number topics present ≡ Ok (items found)) (λ end. OfFault end (λ fault. finished_as number topics present ≡ Err fault)) → (IfOk r (λ found. IsEachBlockRead text (Ok (items found)))) × (IfErr r (λ end. OfFault end (λ fault. IsEachBlockRead text (Err fault))))
+    finishes (Ok found) items is = (rw is at (finishes_cases present topics refl refl), tt)
+    finishes (Err end) items is = (tt, finishes_err end is)
 
 -- a line that is kept, or not
 pub there_test : (kept line : List ℕ) (empty : Bool) → kept ≡ line → empty ≡ (length kept == 0) → empty ≡ false → is_filled line ≡ true
@@ -167,7 +177,3 @@ there_test kept (b ∷ line) empty is test no_ = refl
 pub white_test : (kept line : List ℕ) (empty : Bool) → kept ≡ line → empty ≡ (length kept == 0) → empty ≡ true → is_filled line ≡ false
 white_test kept [] empty is test is_empty = refl
 white_test kept (b ∷ line) empty is test is_empty = absurd (omega (arith, eqb-true _ _ (sym test ∙ is_empty), ap length is))
-
-pub none_of : (o : Option Block) → is_some o ≡ false → o ≡ None
-none_of None none = refl
-none_of (Some block) none = cc none

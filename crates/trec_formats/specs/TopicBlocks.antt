@@ -1,11 +1,12 @@
 -- A block of a topics text as its reader keeps it.
-use Rattle.std.specs.Prelude.{◌≡◌, ℕ, Bool, true, false, if◌then◌else◌, ◌||◌, nat_lt, List, [], ◌∷◌, ◌++◌, length, Option, Some, None, Ok, Err, Result, MatchResult, unwrap_or}
+use Rattle.std.specs.Prelude.{◌≡◌, ◌+◌, ℕ, Bool, true, false, if◌then◌else◌, ◌||◌, nat_lt, List, [], ◌∷◌, ◌++◌, length, Option, Some, None, Ok, Err, Result, MatchResult, unwrap_or}
 use Rattle.std.specs.Option.{is_some, option_map}
 use Rattle.trec_formats.specs.declared.topic_blocks.Block.{Block}
 use Rattle.trec_formats.specs.declared.topic_marks.Part.{Part}
 use Rattle.trec_formats.specs.declared.topic_marks.Part.TheVariants.{Title, Desc, Narr}
 use Rattle.trec_formats.specs.FieldTexts.{added}
 use Rattle.trec_formats.specs.declared.faults.FormatEnd.{FormatEnd}
+use Rattle.trec_formats.specs.declared.faults.FormatFault.{FormatFault}
 use Rattle.trec_formats.specs.declared.faults.Kind.{Kind}
 use Rattle.trec_formats.specs.Faults.{OfFault}
 use Rattle.trec_formats.specs.declared.faults.Kind.TheVariants as kinds
@@ -86,3 +87,9 @@ progress_behind topics None (n, Opens) = Ok (topics, Some new_block)
 progress_behind topics None (n, _) = Err kinds.Tag
 progress_behind topics (Some block) (n, Closes) = behind_end topics (ended block)
 progress_behind topics (Some block) line = still_open topics (block_behind block line)
+
+-- what so many lines with these topics and this block at their end are read as
+abbrev pub finished_as : ℕ → List Numbered → Option Block → Result (List Numbered) FormatFault
+finished_as lines topics (Some block) = Err (record { line = lines + 1; kind = kinds.Tag })
+finished_as lines [] None = Err (record { line = 0; kind = kinds.Empty })
+finished_as lines (topic ∷ topics) None = Ok (topic ∷ topics)

@@ -1,4 +1,4 @@
-//! The run and qrels formats of TREC: their texts as lines, and the ranked lists of a run.
+//! The run, qrels and topics formats of TREC: their texts as lines and as topics, and the ranked lists of a run.
 #![tactic(auto)]
 
 mod faults;

@@ -1,8 +1,8 @@
-ghost use Rattle.std.specs.Prelude.{◌≡◌, ◌≤◌, ℕ, List, length, map, Ok, Err, IfOk, MatchOption};
-ghost use Rattle.trec_formats.specs.Faults.{IfFault, IsDistinct, IsTwice};
+ghost use Rattle.std.specs.Prelude.{◌≡◌, ◌≤◌, ℕ, List, length, map, Ok, Err, IfOk, MatchOption, MatchResult};
+ghost use Rattle.trec_formats.specs.Faults.{IfFault, IsDistinct, IsTwice, OfFault};
 ghost use Rattle.trec_formats.specs.Marks.{Closes};
 ghost use Rattle.trec_formats.specs.MarkViews.{mark_seen};
-ghost use Rattle.trec_formats.specs.TopicBlocks.{progress_behind, TellsBy};
+ghost use Rattle.trec_formats.specs.TopicBlocks.{finished_as, progress_behind, TellsBy};
 ghost use Rattle.trec_formats.specs.Topics.{Numbered, IsEachBlockRead, IsTopics, IsTopicsFault, same_id};
 
 use crate::faults::{FormatEnd, FormatFault, Kind};
@@ -48,17 +48,17 @@ fn read_end(
     Ok(())
 }
 
-/// Reads a line, behind which this block is open. A block that ends joins the topics.
+/// Reads a line before which this block is open. A block that ends joins the topics. The block that is open then.
 fn read_mark(
     alloc: Global,
     topics: &mut Vec<(u32, Topic)>,
-    present: Option<Block>,
+    open_block: Option<Block>,
     number: u32,
     mark: Mark,
 ) -> Result<Option<Block>, FormatEnd>
-    ensures { TellsBy (λ next. (topics.new.items, next)) result number (progress_behind topics.old.items present (number, mark_seen mark.entry)) }
+    ensures { TellsBy (λ next. (topics.new.items, next)) result number (progress_behind topics.old.items open_block (number, mark_seen mark.entry)) }
 {
-    let Some(mut block) = present else {
+    let Some(mut block) = open_block else {
         return read_outside(number, mark);
     };
     if let Mark::Closes = mark {
@@ -69,6 +69,26 @@ fn read_mark(
     Ok(Some(block))
 }
 
+/// The topics of a text of so many lines, behind which this block is open.
+fn finished(
+    topics: Vec<(u32, Topic)>,
+    open_block: Option<Block>,
+    lines: u32,
+) -> Result<Vec<(u32, Topic)>, FormatEnd>
+    requires { lines ≤ 268435456 }
+    ensures { MatchResult result
+        (λ found. finished_as lines topics.items open_block ≡ Ok found.items)
+        (λ end. OfFault end (λ fault. finished_as lines topics.items open_block ≡ Err fault)) }
+{
+    if open_block.is_some() {
+        return Err(FormatEnd::at(lines + 1, Kind::Tag));
+    }
+    if topics.is_empty() {
+        return Err(FormatEnd::at(0, Kind::Empty));
+    }
+    Ok(topics)
+}
+
 /// The topics of a text with the lines of their numbers. Some may have one id.
 fn read_blocks(alloc: Global, bytes: &[u8]) -> Result<Vec<(u32, Topic)>, FormatEnd>
     requires { length bytes.now ≤ 268435456 }
@@ -76,7 +96,7 @@ fn read_blocks(alloc: Global, bytes: &[u8]) -> Result<Vec<(u32, Topic)>, FormatE
     ensures fault { IfFault result (λ fault. IsEachBlockRead bytes.now (Err fault)) }
 {
     let mut topics = Vec::new(alloc);
-    let mut present = None;
+    let mut open_block = None;
     let mut number = 0;
     let mut rest = bytes;
     while !rest.is_empty() {
@@ -85,16 +105,10 @@ fn read_blocks(alloc: Global, bytes: &[u8]) -> Result<Vec<(u32, Topic)>, FormatE
         rest = after;
         let line = strip(line);
         if !line.is_empty() {
-            present = read_mark(alloc, &mut topics, present, number, mark_of(line))?;
+            open_block = read_mark(alloc, &mut topics, open_block, number, mark_of(line))?;
         }
     }
-    if present.is_some() {
-        return Err(FormatEnd::at(number + 1, Kind::Tag));
-    }
-    if topics.is_empty() {
-        return Err(FormatEnd::at(0, Kind::Empty));
-    }
-    Ok(topics)
+    finished(topics, open_block, number)
 }
 
 /// The fault of the first topic that has the id of an earlier one.
