@@ -1,7 +1,6 @@
 -- A block as its reader keeps it stands for the lines of the block.
-use Rattle.std.proofs.Common.{◌≡◌, ◌≢◌, ◌⊎◌, inl, inr, ◌||◌, ℕ, Bool, true, false, cond, List, [], ◌∷◌, ◌++◌, length, refl, sym, ◌∙◌, ap, Option, Some, None, Ok, Err, Result, nat_lt, unwrap_or}
+use Rattle.std.proofs.Common.{◌≡◌, ◌≢◌, inl, inr, ℕ, Bool, true, false, cond, List, [], ◌∷◌, ◌++◌, refl, sym, ◌∙◌, ap, Option, Some, None, Ok, Err, Result, unwrap_or}
 use Rattle.std.specs.Option.{is_some, option_map}
-use Rattle.std.proofs.lemmas.Option.{none-some, same_Some}
 use Rattle.trec_formats.specs.declared.topic_blocks.Block.{Block}
 use Rattle.trec_formats.specs.declared.topic_marks.Part.{Part}
 use Rattle.trec_formats.specs.declared.topic_marks.Part.TheVariants.{Title, Desc, Narr}
@@ -9,11 +8,11 @@ use Rattle.trec_formats.specs.FieldTexts.{added}
 use Rattle.trec_formats.specs.declared.faults.Kind.{Kind}
 use Rattle.trec_formats.specs.declared.faults.Kind.TheVariants as kinds
 use Rattle.trec_formats.specs.Lines.{is_filled}
-use Rattle.trec_formats.specs.Marks.{Mark, Opens, Closes, Numbers, Begins, Skips, Says, Marked}
+use Rattle.trec_formats.specs.Marks.{Opens, Closes, Numbers, Begins, Skips, Says, Marked}
 use Rattle.trec_formats.specs.Names.{is_name}
 use Rattle.trec_formats.specs.TopicBlocks.{begun_in, block_behind, ended, ended_at, is_long_in, part_in, said_at, said_in, within_limits}
 use Rattle.trec_formats.specs.Topics.{Numbered, has_part, inner_fault, is_long, length_fault, number_of, same_part, text_of, texts_of, topic_of}
-use Rattle.trec_formats.proofs.BlockTexts.{is_says, is_number, starts, goes_on, goes_on_begun, goes_on_ends, goes_on_has, goes_on_more, joined, joined_push, number_kept, number_new, same_part-refl, same_part-true, texts_begun, texts_kept, texts_more}
+use Rattle.trec_formats.proofs.BlockTexts.{is_says, starts, goes_on, goes_on_begun, goes_on_ends, goes_on_has, goes_on_more, joined, joined_push, number_kept, number_new, same_part-true, texts_begun, texts_kept, texts_more}
 
 -- the kept text of a part with these texts, where it was begun
 abbrev pub kept_text : List (List ℕ) → Option (List ℕ)

@@ -1,5 +1,5 @@
 -- The texts of a block with one more line.
-use Rattle.std.proofs.Common.{◌≡◌, ◌⊎◌, inl, inr, ℕ, Bool, true, false, cond, ◌&&◌, List, [], ◌∷◌, ◌++◌, map, filter, refl, sym, ◌∙◌, ap, Option, Some, None, append_assoc}
+use Rattle.std.proofs.Common.{◌≡◌, ◌⊎◌, inl, inr, ℕ, Bool, true, false, cond, List, [], ◌∷◌, ◌++◌, map, filter, refl, sym, ◌∙◌, ap, Some, None, append_assoc}
 use Rattle.std.specs.List.{join_with_byte, list_all}
 use Rattle.std.proofs.lemmas.List.{append-nil, map-append}
 use Rattle.std.proofs.lemmas.List.Elements.{filter-append}
@@ -7,8 +7,8 @@ use Rattle.trec_formats.specs.declared.topic_marks.Part.{Part}
 use Rattle.trec_formats.specs.declared.topic_marks.Part.TheVariants.{Title, Desc, Narr}
 use Rattle.trec_formats.specs.FieldTexts.{added}
 use Rattle.trec_formats.specs.Lines.{is_filled}
-use Rattle.trec_formats.specs.Marks.{Mark, Opens, Closes, Numbers, Begins, Skips, Says, Marked, shown_byte}
-use Rattle.trec_formats.specs.Topics.{has_part, number_of, said, same_part, text_of, texts_of}
+use Rattle.trec_formats.specs.Marks.{Opens, Closes, Numbers, Begins, Skips, Says, Marked, shown_byte}
+use Rattle.trec_formats.specs.Topics.{has_part, number_of, said, same_part, texts_of}
 
 abbrev pub is_says : Marked → Bool
 is_says (n, Says text) = true

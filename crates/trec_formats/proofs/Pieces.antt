@@ -1,6 +1,6 @@
 -- The parts of a list with one more element.
-use Rattle.std.proofs.Common.{◌≡◌, ◌+◌, ◌-◌, ◌≤◌, ℕ, Bool, true, false, not, cond, List, [], ◌∷◌, ◌++◌, length, drop, reverse, refl, sym, ◌∙◌, ap, arith}
-use Rattle.std.specs.List.{after_last, onto_first, prefix_len, slice_split, suffix_len}
+use Rattle.std.proofs.Common.{◌≡◌, ◌+◌, ◌-◌, ℕ, Bool, true, false, not, cond, List, [], ◌∷◌, ◌++◌, length, drop, refl, sym, ◌∙◌, ap, arith}
+use Rattle.std.specs.List.{after_last, onto_first, slice_split, suffix_len}
 use Rattle.std.proofs.lemmas.List.{drop_all, drop-append-le, length_push, reverse-append}
 use Rattle.std.proofs.lemmas.List.Splits.{slice_split-cons_yes, slice_split-cons_no}
 

@@ -1,5 +1,5 @@
 -- A topics text whose first lines are read.
-use Rattle.std.proofs.Common.{◌≡◌, ◌≢◌, ◌⊎◌, inl, inr, ◌==◌, ◌+◌, ◌<◌, ◌≤◌, ℕ, Bool, true, false, cond, List, [], ◌∷◌, ◌++◌, length, map, filter, refl, sym, ◌∙◌, ap, arith, Option, Some, None, Ok, Err, Result, append_assoc}
+use Rattle.std.proofs.Common.{◌≡◌, ◌≢◌, inl, inr, ◌==◌, ◌+◌, ◌<◌, ◌≤◌, ℕ, Bool, true, false, List, [], ◌∷◌, ◌++◌, length, map, filter, refl, sym, ◌∙◌, ap, arith, Option, Some, None, Ok, Err, Result, append_assoc}
 use Rattle.std.specs.List.{after_last, slice_split}
 use Rattle.std.specs.Prelude.{IfErr, IfOk, MatchResult}
 use Rattle.std.proofs.lemmas.Bool.{eqb-true}
@@ -9,13 +9,12 @@ use Rattle.trec_formats.specs.declared.topic_blocks.Block.{Block}
 use Rattle.trec_formats.specs.declared.faults.FormatFault.{FormatFault}
 use Rattle.trec_formats.specs.declared.faults.FormatEnd.{FormatEnd}
 use Rattle.trec_formats.specs.declared.faults.FormatEnd.TheVariants as ends
-use Rattle.trec_formats.specs.declared.faults.Kind.{Kind}
 use Rattle.trec_formats.specs.Faults.{IsReadAs, OfFault}
 use Rattle.trec_formats.specs.declared.faults.Kind.TheVariants as kinds
 use Rattle.trec_formats.specs.Lines.{is_filled, lines_of}
 use Rattle.trec_formats.specs.Marks.{Marked, mark_of, marks_from, marks_of, stripped}
 use Rattle.trec_formats.specs.TopicBlocks.{Progress, finished_as, progress_behind}
-use Rattle.trec_formats.specs.Topics.{AreSound, IsEachBlockRead, Numbered, is_close, next_mark, topic_of, topics_in}
+use Rattle.trec_formats.specs.Topics.{AreSound, IsEachBlockRead, Numbered, is_close, next_mark, topic_of}
 use Rattle.trec_formats.proofs.Cuts.{lines_of-nil}
 use Rattle.trec_formats.proofs.Pieces.{one_part}
 use Rattle.trec_formats.proofs.TopicSteps.{AreReadAs, ToldNext, none_read, told_next}

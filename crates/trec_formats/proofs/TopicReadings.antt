@@ -1,5 +1,5 @@
 -- Every text is read as topics in exactly one way.
-use Rattle.std.proofs.Common.{◌≡◌, ◌≢◌, ◌⊎◌, inl, inr, ◌+◌, ℕ, Bool, true, false, List, [], ◌∷◌, ◌++◌, refl, sym, ◌∙◌, ap, Option, Some, None, Ok, Err, Result}
+use Rattle.std.proofs.Common.{◌≡◌, ◌⊎◌, inl, inr, ◌+◌, ℕ, true, false, List, [], ◌∷◌, ◌++◌, refl, sym, ◌∙◌, ap, Option, Some, None, Ok, Err, Result}
 use Rattle.std.specs.List.{after_last}
 use Rattle.trec_formats.specs.declared.faults.FormatFault.{FormatFault}
 use Rattle.trec_formats.specs.declared.faults.Kind.{Kind}

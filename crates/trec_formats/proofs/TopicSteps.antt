@@ -1,19 +1,17 @@
 -- A topics text that is read up to a line.
-use Rattle.std.proofs.Common.{◌≡◌, ◌≢◌, ◌⊎◌, inl, inr, ◌+◌, ◌≤◌, ℕ, Bool, true, false, cond, List, [], ◌∷◌, ◌++◌, length, map, filter, refl, sym, ◌∙◌, ap, arith, Option, Some, None, Ok, Err, Result, append_assoc}
+use Rattle.std.proofs.Common.{◌≡◌, ◌≢◌, ℕ, true, false, List, [], ◌∷◌, ◌++◌, map, filter, refl, sym, ◌∙◌, ap, Option, Some, None, Ok, Err, Result}
 use Rattle.std.specs.List.{after_last, slice_split}
-use Rattle.std.proofs.lemmas.List.{append-nil, map-append}
+use Rattle.std.proofs.lemmas.List.{map-append}
 use Rattle.std.proofs.lemmas.List.Elements.{filter-append}
 use Rattle.trec_formats.specs.declared.topic_blocks.Block.{Block}
-use Rattle.trec_formats.specs.declared.faults.FormatFault.{FormatFault}
 use Rattle.trec_formats.specs.declared.faults.Kind.{Kind}
-use Rattle.trec_formats.specs.Faults.{IsReadAs}
 use Rattle.trec_formats.specs.declared.faults.Kind.TheVariants as kinds
 use Rattle.trec_formats.specs.Lines.{is_filled}
 use Rattle.trec_formats.specs.Marks.{Mark, Opens, Closes, Numbers, Begins, Skips, Says, Marked}
 use Rattle.trec_formats.specs.TopicBlocks.{Progress, behind_end, block_behind, ended, new_block, progress_behind, still_open}
-use Rattle.trec_formats.specs.Topics.{AreSound, Numbered, fault_behind, inner_fault, is_close, next_mark, topic_of, topics_in, unless_fault}
+use Rattle.trec_formats.specs.Topics.{AreSound, Numbered, fault_behind, inner_fault, is_close, next_mark, topic_of, unless_fault}
 use Rattle.trec_formats.proofs.BlockSteps.{Ends, IsBlockOf, Told, ends, opened_block, told}
-use Rattle.trec_formats.proofs.Pieces.{after_last-no, after_last-yes, one_part, split-grows, split-yes}
+use Rattle.trec_formats.proofs.Pieces.{after_last-no, after_last-yes, split-grows, split-yes}
 use Rattle.trec_formats.proofs.TopicReadings.{sound_format}
 
 -- the block that the reader has open stands for these lines

@@ -1,5 +1,5 @@
 -- The lines of a topics text, and what each of them does.
-use Rattle.std.specs.Prelude.{ℕ, Bool, true, false, if◌then◌else◌, ◌&&◌, ◌||◌, nat_eq, List, [], ◌∷◌, length, drop, reverse, map, filter, bytes_eq, codes}
+use Rattle.std.specs.Prelude.{ℕ, Bool, false, if◌then◌else◌, ◌&&◌, ◌||◌, nat_eq, List, [], ◌∷◌, length, drop, reverse, map, filter, bytes_eq, codes}
 use Rattle.std.specs.List.{enumerate_from, starts_with}
 use Rattle.trec_formats.specs.declared.topic_marks.Part.{Part}
 use Rattle.trec_formats.specs.declared.topic_marks.Part.TheVariants.{Title, Desc, Narr}

@@ -1,5 +1,5 @@
 -- A block of a topics text as its reader keeps it.
-use Rattle.std.specs.Prelude.{◌≡◌, ◌+◌, ℕ, Bool, true, false, if◌then◌else◌, ◌||◌, nat_lt, List, [], ◌∷◌, ◌++◌, length, Option, Some, None, Ok, Err, Result, MatchResult, unwrap_or}
+use Rattle.std.specs.Prelude.{◌≡◌, ◌+◌, ℕ, Bool, if◌then◌else◌, ◌||◌, nat_lt, List, [], ◌∷◌, ◌++◌, length, Option, Some, None, Ok, Err, Result, MatchResult, unwrap_or}
 use Rattle.std.specs.Option.{is_some, option_map}
 use Rattle.trec_formats.specs.declared.topic_blocks.Block.{Block}
 use Rattle.trec_formats.specs.declared.topic_marks.Part.{Part}
@@ -10,7 +10,7 @@ use Rattle.trec_formats.specs.declared.faults.FormatFault.{FormatFault}
 use Rattle.trec_formats.specs.declared.faults.Kind.{Kind}
 use Rattle.trec_formats.specs.Faults.{OfFault}
 use Rattle.trec_formats.specs.declared.faults.Kind.TheVariants as kinds
-use Rattle.trec_formats.specs.Marks.{Mark, Opens, Closes, Numbers, Begins, Skips, Says, Marked}
+use Rattle.trec_formats.specs.Marks.{Opens, Closes, Numbers, Begins, Skips, Says, Marked}
 use Rattle.trec_formats.specs.Names.{is_name}
 use Rattle.trec_formats.specs.Topics.{Numbered}
 

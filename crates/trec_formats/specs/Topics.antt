@@ -1,6 +1,6 @@
 -- The topics format: blocks of tagged fields, a topic each.
-use Rattle.std.specs.Prelude.{◌≡◌, ◌+◌, ◌⊎◌, ℕ, Bool, true, false, not, if◌then◌else◌, ◌&&◌, ◌||◌, nat_lt, List, [], ◌∷◌, ◌++◌, length, map, filter, Option, Some, None, Ok, Err, Result, unwrap_or, bytes_eq}
-use Rattle.std.specs.List.{list_any, join_with_byte, slice_split, after_last}
+use Rattle.std.specs.Prelude.{◌≡◌, ◌+◌, ◌⊎◌, ℕ, Bool, true, false, if◌then◌else◌, ◌&&◌, ◌||◌, nat_lt, List, [], ◌∷◌, ◌++◌, length, map, filter, Option, Some, None, Ok, Err, Result, unwrap_or, bytes_eq}
+use Rattle.std.specs.List.{join_with_byte, slice_split, after_last}
 use Rattle.std.specs.Option.{is_some}
 use Rattle.trec_formats.specs.declared.topic_marks.Part.{Part}
 use Rattle.trec_formats.specs.declared.topic_marks.Part.TheVariants.{Title, Desc, Narr}
@@ -10,7 +10,7 @@ use Rattle.trec_formats.specs.declared.faults.Kind.{Kind}
 use Rattle.trec_formats.specs.Faults.{IsReadAs, IsReadOnce}
 use Rattle.trec_formats.specs.declared.faults.Kind.TheVariants as kinds
 use Rattle.trec_formats.specs.Lines.{is_filled, lines_of}
-use Rattle.trec_formats.specs.Marks.{Mark, Opens, Closes, Numbers, Begins, Skips, Says, Marked, marks_of, shown_byte}
+use Rattle.trec_formats.specs.Marks.{Opens, Closes, Numbers, Begins, Skips, Says, Marked, marks_of, shown_byte}
 use Rattle.trec_formats.specs.Names.{is_name}
 
 abbrev pub same_part : Part → Part → Bool

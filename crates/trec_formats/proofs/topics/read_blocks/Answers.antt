@@ -1,9 +1,7 @@
-use Rattle.std.proofs.Common.{◌≡◌, ◌≢◌, ◌∙◌, ℕ, Bool, true, [], length, arith, sym, ap, None, Option}
-use Rattle.std.specs.Option.{is_some}
-use Rattle.std.proofs.lemmas.Bool.{eqb-true, eqb-false}
+use Rattle.std.proofs.Common.{sym}
+use Rattle.std.proofs.lemmas.Bool.{eqb-true}
 use Rattle.std.proofs.lemmas.List.{nil_from_length}
 use Rattle.std.proofs.lemmas.Result.{err_from_is_err_and}
-use Rattle.trec_formats.specs.Marks.{mark_of}
 use Rattle.trec_formats.proofs.TopicProgress.{begins, finishes, goes_on, skips, stops_with, there_test, white_test}
 use Rattle.trec_formats.proofs.topics.read_blocks.Goals as goal
 
