@@ -64,7 +64,7 @@ kept_first : (text : List ℕ) → kept_text (text ∷ []) ≡ Some (added [] te
 kept_first [] = refl
 kept_first (b ∷ text) = refl
 
-begun_part : (q p : Part) (block : Block) (text : List ℕ) → part_in q (begun_in block p text) ≡ cond (same_part q p) (Some (added [] text)) (part_in q block)
+pub begun_part : (q p : Part) (block : Block) (text : List ℕ) → part_in q (begun_in block p text) ≡ cond (same_part q p) (Some (added [] text)) (part_in q block)
 begun_part Title Title block text = refl
 begun_part Title Desc block text = refl
 begun_part Title Narr block text = refl
@@ -80,12 +80,12 @@ begun_present Title block text = refl
 begun_present Desc block text = refl
 begun_present Narr block text = refl
 
-begun_number : (p : Part) (block : Block) (text : List ℕ) → (begun_in block p text).number ≡ block.number
+pub begun_number : (p : Part) (block : Block) (text : List ℕ) → (begun_in block p text).number ≡ block.number
 begun_number Title block text = refl
 begun_number Desc block text = refl
 begun_number Narr block text = refl
 
-said_part : (q : Part) (at : Option Part) (block : Block) (text : List ℕ) → part_in q (said_at at block text) ≡ cond (is_at q at) (option_map (λ kept. added kept text) (part_in q block)) (part_in q block)
+pub said_part : (q : Part) (at : Option Part) (block : Block) (text : List ℕ) → part_in q (said_at at block text) ≡ cond (is_at q at) (option_map (λ kept. added kept text) (part_in q block)) (part_in q block)
 said_part Title None block text = refl
 said_part Title (Some Title) block text = refl
 said_part Title (Some Desc) block text = refl
@@ -105,7 +105,7 @@ said_present (Some Title) block text = refl
 said_present (Some Desc) block text = refl
 said_present (Some Narr) block text = refl
 
-said_number : (at : Option Part) (block : Block) (text : List ℕ) → (said_at at block text).number ≡ block.number
+pub said_number : (at : Option Part) (block : Block) (text : List ℕ) → (said_at at block text).number ≡ block.number
 said_number None block text = refl
 said_number (Some Title) block text = refl
 said_number (Some Desc) block text = refl

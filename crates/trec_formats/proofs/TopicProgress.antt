@@ -17,6 +17,7 @@ use Rattle.trec_formats.specs.TopicBlocks.{Progress, finished_as, progress_behin
 use Rattle.trec_formats.specs.Topics.{AreSound, IsEachBlockRead, Numbered, is_close, next_mark, topic_of}
 use Rattle.trec_formats.proofs.Cuts.{lines_of-nil}
 use Rattle.trec_formats.proofs.Pieces.{one_part}
+use Rattle.trec_formats.proofs.TopicLimits.{AreWithin, WithinNext, are_sound, none_within, within_next}
 use Rattle.trec_formats.proofs.TopicSteps.{AreReadAs, ToldNext, none_read, told_next}
 
 -- the lines in front are read as these topics and this block, and the rest of the text is left, behind so many lines
@@ -26,9 +27,11 @@ pub record IsTopicsTo (text : List ℕ) (number : ℕ) (rest : List ℕ) (topics
   pub count : length (lines_of text) ≡ number + length (lines_of rest)
   pub fits : number + length rest ≤ length text
   pub read : AreReadAs done topics present
+  pub limits : AreWithin topics present
+  pub few : length topics + length rest ≤ length text
 
 pub begins : (text : List ℕ) → IsTopicsTo text 0 text [] None
-begins text = record { done = []; rows = refl; count = omega arith; fits = omega arith; read = none_read }
+begins text = record { done = []; rows = refl; count = omega arith; fits = omega arith; read = none_read; limits = none_within; few = omega arith }
 
 marks_from-nil : (number : ℕ) → marks_from number [] ≡ []
 unfolding marks_from
@@ -55,18 +58,22 @@ module _ (text : List ℕ) (number : ℕ) (rest : List ℕ) (topics : List Numbe
       count = counted;
       fits = omega (arith, w.fits, less);
       read = w.read;
+      limits = w.limits;
+      few = omega (arith, w.few, less);
     }
 
     there_is : is_filled (stripped line) ≡ true → marks_of text ≡ w.done ++ (number + 1, mark_of (stripped line)) ∷ marks_from (number + 1 + 1) (lines_of after)
     there_is there = w.rows ∙ ap (λ rows. w.done ++ rows) (ap (marks_from (number + 1)) cut ∙ marks_from-there (number + 1) line (lines_of after) there)
 
-    goes_on_step : length after < length rest → is_filled (stripped line) ≡ true → (next : Progress) → ToldNext w.done (number + 1, mark_of (stripped line)) (Ok next) → IsTopicsTo text (number + 1) after next.0 next.1
-    goes_on_step less there next is = record {
+    goes_on_step : length after < length rest → is_filled (stripped line) ≡ true → (next : Progress) → ToldNext w.done (number + 1, mark_of (stripped line)) (Ok next) → WithinNext topics (Ok next) → IsTopicsTo text (number + 1) after next.0 next.1
+    goes_on_step less there next is limits = record {
       done = w.done ++ (number + 1, mark_of (stripped line)) ∷ [];
       rows = there_is there ∙ sym (append_assoc w.done ((number + 1, mark_of (stripped line)) ∷ []) _);
       count = counted;
       fits = omega (arith, w.fits, less);
       read = is.1;
+      limits = limits.0;
+      few = omega (arith, w.few, less, limits.1);
     }
 
     -- a line that is read
@@ -74,7 +81,8 @@ module _ (text : List ℕ) (number : ℕ) (rest : List ℕ) (topics : List Numbe
     goes_on less there next is =
         let line_is : Marked = (number + 1, mark_of (stripped line)) in
         let told : ToldNext w.done line_is (Ok next) = rw is at (told_next w.done topics (number + 1) present (mark_of (stripped line)) w.read) in
-        goes_on_step less there next told
+        let limits : WithinNext topics (Ok next) = rw is at (within_next topics w.limits.each present line_is w.limits.open_block) in
+        goes_on_step less there next told limits
 
     -- a line with a fault
     pub stops : is_filled (stripped line) ≡ true → (fault : FormatFault) → fault.line ≡ number + 1 → progress_behind topics present (number + 1, mark_of (stripped line)) ≡ Err fault.kind → IsEachBlockRead text (Err fault)
@@ -164,6 +172,21 @@ module _ (text : List ℕ) (number : ℕ) (rest : List ℕ) (topics : List Numbe
     pub finishes : {X : Type 0} (r : Result X FormatEnd) (items : X → List Numbered) → MatchResult r (λ found. finished_as number topics present ≡ Ok (items found)) (λ end. OfFault end (λ fault. finished_as number topics present ≡ Err fault)) → (IfOk r (λ found. IsEachBlockRead text (Ok (items found)))) × (IfErr r (λ end. OfFault end (λ fault. IsEachBlockRead text (Err fault))))
     finishes (Ok found) items is = (rw is at (finishes_cases present topics refl refl), tt)
     finishes (Err end) items is = (tt, finishes_err end is)
+
+    same_topics : (o : Option Block) (found : List Numbered) → finished_as number topics o ≡ Ok found → found ≡ topics
+    same_topics o found is = same_cases o topics found is
+      where
+        same_cases : (o : Option Block) (topics found : List Numbered) → finished_as number topics o ≡ Ok found → found ≡ topics
+        same_cases (Some block) topics found is = cc is
+        same_cases None [] found is = cc is
+        same_cases None (topic ∷ topics) found is = let e : ◌≡◌ {A = Result (List Numbered) FormatFault} (Ok (topic ∷ topics)) (Ok found) = is in let same : (topic ∷ topics) ≡ found = cc e in sym same
+
+    -- the topics of the whole text, which are within the limits, and few
+    pub ends_within : {X : Type 0} (r : Result X FormatEnd) (items : X → List Numbered) → MatchResult r (λ found. finished_as number topics present ≡ Ok (items found)) (λ end. OfFault end (λ fault. finished_as number topics present ≡ Err fault)) → IfOk r (λ found. (are_sound (items found) ≡ true) × (length (items found) ≤ length text))
+    ends_within (Ok found) items is =
+        let same : items found ≡ topics = same_topics present (items found) is in
+        (rw same w.limits.each, rw same (omega (arith, w.few)))
+    ends_within (Err end) items is = tt
 
 -- a line that is kept, or not
 pub there_test : (kept line : List ℕ) (empty : Bool) → kept ≡ line → empty ≡ (length kept == 0) → empty ≡ false → is_filled line ≡ true

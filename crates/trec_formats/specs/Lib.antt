@@ -10,5 +10,6 @@ pub mod Names
 pub mod Qrels
 pub mod QrelsText
 pub mod Runs
+pub mod SoundTopics
 pub mod TopicBlocks
 pub mod Topics

@@ -1,7 +1,9 @@
-ghost use Rattle.std.specs.Prelude.{◌≡◌, ◌≤◌, ℕ, List, length, map, Ok, Err, IfOk, MatchOption, MatchResult};
+ghost use Rattle.std.specs.Prelude.{◌≡◌, ◌≤◌, ℕ, List, length, map, Ok, Err, IfOk, MatchOption, MatchResult, true};
+ghost use Rattle.std.specs.List.{list_all};
 ghost use Rattle.trec_formats.specs.Faults.{IfFault, IsDistinct, IsTwice, OfFault};
 ghost use Rattle.trec_formats.specs.Marks.{Closes};
 ghost use Rattle.trec_formats.specs.MarkViews.{mark_seen};
+ghost use Rattle.trec_formats.specs.SoundTopics.{AreSoundTopics, is_sound};
 ghost use Rattle.trec_formats.specs.TopicBlocks.{finished_as, progress_behind, TellsBy};
 ghost use Rattle.trec_formats.specs.Topics.{Numbered, IsEachBlockRead, IsTopics, IsTopicsFault, same_id};
 
@@ -93,6 +95,7 @@ fn finished(
 fn read_blocks(alloc: Global, bytes: &[u8]) -> Result<Vec<(u32, Topic)>, FormatEnd>
     requires { length bytes.now ≤ 268435456 }
     ensures topics { IfOk result (λ topics. IsEachBlockRead bytes.now (Ok topics.items)) }
+    ensures within { IfOk result (λ topics. (list_all (λ topic. is_sound topic.1) topics.items ≡ true) × (length topics.items ≤ length bytes.now)) }
     ensures fault { IfFault result (λ fault. IsEachBlockRead bytes.now (Err fault)) }
 {
     let mut topics = Vec::new(alloc);
@@ -140,6 +143,8 @@ fn without_lines(alloc: Global, found: Vec<(u32, Topic)>) -> Result<Vec<Topic>, 
 pub fn read_topics(alloc: Global, bytes: &[u8]) -> Result<Vec<Topic>, FormatEnd>
     requires { length bytes.now ≤ 268435456 }
     ensures topics { IfOk result (λ topics. IsTopics bytes.now topics.items) }
+    ensures sound { IfOk result (λ topics. AreSoundTopics topics.items) }
+    ensures few { IfOk result (λ topics. length topics.items ≤ length bytes.now) }
     ensures fault { IfFault result (IsTopicsFault bytes.now) }
 {
     let found = read_blocks(alloc, bytes)?;

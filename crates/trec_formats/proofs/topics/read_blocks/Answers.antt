@@ -2,7 +2,7 @@ use Rattle.std.proofs.Common.{sym}
 use Rattle.std.proofs.lemmas.Bool.{eqb-true}
 use Rattle.std.proofs.lemmas.List.{nil_from_length}
 use Rattle.std.proofs.lemmas.Result.{err_from_is_err_and}
-use Rattle.trec_formats.proofs.TopicProgress.{begins, finishes, goes_on, skips, stops_with, there_test, white_test}
+use Rattle.trec_formats.proofs.TopicProgress.{begins, ends_within, finishes, goes_on, skips, stops_with, there_test, white_test}
 use Rattle.trec_formats.proofs.topics.read_blocks.Goals as goal
 
 pub loop-rest-init : goal.loop-rest-init
@@ -29,6 +29,11 @@ pub returns-clause-fault : goal.returns-clause-fault
 returns-clause-fault c =
     let none = nil_from_length c.loop-rest.rest.now (eqb-true _ _ (sym c.loop-rest-test.ensures)) in
     (finishes _ _ _ _ _ c.loop-rest.invariant none c.finished.result (λ found. found.items) c.finished.ensures).1
+
+pub returns-clause-within : goal.returns-clause-within
+returns-clause-within c =
+    let none = nil_from_length c.loop-rest.rest.now (eqb-true _ _ (sym c.loop-rest-test.ensures)) in
+    ends_within _ _ _ _ _ c.loop-rest.invariant none c.finished.result (λ found. found.items) c.finished.ensures
 
 pub returns-clause-topics : goal.returns-clause-topics
 returns-clause-topics c =
