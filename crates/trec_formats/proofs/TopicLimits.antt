@@ -1,5 +1,5 @@
 -- The topics that are read, and the block that is open, keep within the limits of the format.
-use Rattle.std.proofs.Common.{◌≡◌, ◌≢◌, ◌&&◌, ◌||◌, ◌+◌, ◌<◌, ◌≤◌, ℕ, suc, Bool, true, false, cond, List, [], ◌∷◌, ◌++◌, length, map, take, drop, get_or, refl, sym, ◌∙◌, ap, arith, Option, Some, None, Ok, Err, Result, nat_le, nat_lt, unwrap_or, leb-true, le-leb, ltb-false}
+use Rattle.std.proofs.Common.{◌≡◌, ◌≢◌, ◌&&◌, ◌||◌, ◌+◌, ◌<◌, ◌≤◌, ℕ, Bool, true, false, cond, List, [], ◌∷◌, ◌++◌, length, map, take, drop, get_or, refl, sym, ◌∙◌, ap, arith, Option, Some, None, Ok, Err, Result, nat_le, nat_lt, unwrap_or, leb-true, le-leb, ltb-false}
 use Rattle.std.specs.Prelude.{AllPairs}
 use Rattle.std.specs.List.{list_all}
 use Rattle.std.specs.Option.{is_some, option_map}
@@ -15,10 +15,10 @@ use Rattle.trec_formats.specs.declared.topics.Topic.{Topic}
 use Rattle.trec_formats.specs.Faults.{IsDistinct}
 use Rattle.trec_formats.specs.FieldTexts.{added}
 use Rattle.trec_formats.specs.Lines.{is_white_space}
-use Rattle.trec_formats.specs.Marks.{Mark, Opens, Closes, Numbers, Begins, Skips, Says, Marked, shown_byte}
+use Rattle.trec_formats.specs.Marks.{Opens, Closes, Numbers, Begins, Skips, Says, Marked, shown_byte}
 use Rattle.trec_formats.specs.Names.{is_between, is_name}
 use Rattle.trec_formats.specs.SoundTopics.{AreSoundTopics, is_kept, is_sound}
-use Rattle.trec_formats.specs.TopicBlocks.{Progress, begun_in, behind_end, block_behind, ended, ended_at, is_long_in, new_block, part_in, progress_behind, said_at, said_in, still_open, within_limits}
+use Rattle.trec_formats.specs.TopicBlocks.{Progress, begun_in, behind_end, block_behind, ended, ended_at, is_long_in, new_block, part_in, progress_behind, said_in, still_open, within_limits}
 use Rattle.trec_formats.specs.Topics.{Numbered, same_id, same_part}
 use Rattle.trec_formats.proofs.BlockSteps.{begun_number, begun_part, is_at, said_number, said_part}
 use Rattle.trec_formats.proofs.Repeats.{find_some}

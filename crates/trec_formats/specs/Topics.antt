@@ -44,6 +44,7 @@ has_part part block = is_filled (texts_of part block)
 abbrev pub text_of : Part → List Marked → List ℕ
 text_of part block = map shown_byte (join_with_byte 32 (filter is_filled (texts_of part block)))
 
+-- whether the title has over 1,000 bytes, or another text over 8,192
 abbrev pub is_long : List Marked → Bool
 is_long block = nat_lt 1000 (length (text_of Title block)) || nat_lt 8192 (length (text_of Desc block)) || nat_lt 8192 (length (text_of Narr block))
 
@@ -51,7 +52,7 @@ is_long block = nat_lt 1000 (length (text_of Title block)) || nat_lt 8192 (lengt
 abbrev pub length_fault : List Marked → Option Kind
 length_fault block = if is_long block then Some kinds.TooLong else None
 
--- what is wrong with one more line of a block
+-- what is wrong with one more line of a block of these lines
 abbrev pub inner_fault : List Marked → Marked → Option Kind
 inner_fault block (n, Opens) = Some kinds.Tag
 inner_fault block (n, Closes) = if is_some (number_of block) && has_part Title block then None else Some kinds.Tag
@@ -60,7 +61,7 @@ inner_fault block (n, Begins part text) = if has_part part block then Some kinds
 inner_fault block (n, Skips) = None
 inner_fault block (n, Says text) = length_fault (block ++ (n, Says text) ∷ [])
 
--- What is wrong with one more line behind those after the last end of a block. Where there is none of these, no block is open.
+-- What is wrong with one more line, where these are the lines after the last end of a block. Where there are none, no block is open.
 abbrev pub fault_behind : List Marked → Marked → Option Kind
 fault_behind [] (n, Opens) = None
 fault_behind [] (n, _) = Some kinds.Tag
@@ -74,7 +75,7 @@ abbrev pub unless_fault : Marked → Option Kind → Result Marked Kind
 unless_fault line None = Ok line
 unless_fault line (Some kind) = Err kind
 
--- a line behind others
+-- what a line is read as behind these lines: itself, or what is wrong with it
 abbrev pub next_mark : List Marked → Marked → Result Marked Kind
 next_mark before line = unless_fault line (fault_behind (after_last is_close before) line)
 
@@ -90,14 +91,15 @@ Numbered = ℕ × Topic
 abbrev pub numbered : ℕ × List ℕ → List Marked → Numbered
 numbered (n, id) block = (n, record { id = id; title = text_of Title block; desc = text_of Desc block; narr = text_of Narr block })
 
+-- the topic of a block that has a number
 abbrev pub topic_of : List Marked → Numbered
 topic_of block = numbered (unwrap_or (number_of block) (0, [])) block
 
--- the topics of blocks that are all ended
+-- the topics of lines that stand in blocks, each of which is ended
 abbrev pub topics_in : List Marked → List Numbered
 topics_in lines = map topic_of (filter is_filled (slice_split is_close lines))
 
--- what so many lines, with these marks, are read as, where some topics may have one id
+-- What so many lines with these marks are read as. Some topics may have one id.
 abbrev pub IsBlocksReading : ℕ → List Marked → Result (List Numbered) FormatFault → Type 0
 IsBlocksReading count lines (Ok topics) =
     IsReadAs AreSound next_mark lines (Ok lines) × (after_last is_close lines ≡ []) × (topics ≡ topics_in lines)
@@ -108,6 +110,7 @@ IsBlocksReading count lines (Err fault) =
 abbrev pub same_id : Numbered → Numbered → Bool
 same_id a b = bytes_eq a.1.id b.1.id
 
+-- What a text is read as. Some topics may have one id.
 abbrev pub IsEachBlockRead : List ℕ → Result (List Numbered) FormatFault → Type 0
 IsEachBlockRead text = IsBlocksReading (length (lines_of text)) (marks_of text)
 

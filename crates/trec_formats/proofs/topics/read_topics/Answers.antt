@@ -1,4 +1,4 @@
-use Rattle.std.proofs.Common.{◌≡◌, ◌≤◌, arith, ap, length}
+use Rattle.std.proofs.Common.{arith, ap, length}
 use Rattle.std.proofs.lemmas.List.{length-map}
 use Rattle.trec_formats.proofs.TopicLimits.{sound_topics, topic_in}
 use Rattle.trec_formats.proofs.topics.read_topics.Goals as goal
