@@ -1,3 +1,5 @@
+pub mod BlockSteps
+pub mod BlockTexts
 pub mod Cuts
 pub mod Differing
 pub mod Grades
@@ -5,10 +7,16 @@ pub mod Grouping
 pub mod LineNumbers
 pub mod Listing
 pub mod Numbering
+pub mod Pieces
 pub mod Progress
 pub mod Ranked
 pub mod Readings
 pub mod Repeats
 pub mod RunCounts
 pub mod RunFormat
+pub mod TopicIds
+pub mod TopicLimits
 pub mod TopicOrder
+pub mod TopicProgress
+pub mod TopicReadings
+pub mod TopicSteps

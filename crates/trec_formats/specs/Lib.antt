@@ -1,9 +1,16 @@
 pub mod Counts
 pub mod FaultNames
 pub mod Faults
+pub mod FieldTexts
 pub mod Groups
 pub mod Lines
 pub mod Lists
+pub mod MarkViews
+pub mod Marks
 pub mod Names
 pub mod Qrels
+pub mod QrelsText
 pub mod Runs
+pub mod SoundTopics
+pub mod TopicBlocks
+pub mod Topics

@@ -1,4 +1,4 @@
-//! The run and qrels formats of TREC: their texts as lines, and the ranked lists of a run.
+//! The run, qrels and topics formats of TREC: their texts as lines and as topics, and the ranked lists of a run.
 #![tactic(auto)]
 
 mod faults;
@@ -7,14 +7,23 @@ mod lines;
 mod lists;
 mod names;
 mod qrels;
+mod qrels_text;
 mod runs;
 #[cfg(test)]
 mod tests;
+mod topic_blocks;
+mod topic_fields;
+mod topic_laws;
+mod topic_marks;
+#[cfg(test)]
+mod topic_tests;
 mod topics;
 
 pub use faults::{FormatEnd, FormatFault, Kind, cause_name};
 pub use laws::{one_qrels_reading, one_run_reading};
 pub use lists::{TopicList, rank_run};
 pub use qrels::{QrelLine, read_qrels};
+pub use qrels_text::write_qrels;
 pub use runs::{RunLine, read_run};
-pub use topics::Topic;
+pub use topic_laws::one_topics_reading;
+pub use topics::{Topic, read_topics};

@@ -1,4 +1,19 @@
-use decimal_rank::Text;
+ghost use Rattle.std.specs.Prelude.{◌≡◌, ◌≤◌, ℕ, List, length, map, Ok, Err, IfOk, MatchOption, MatchResult, true};
+ghost use Rattle.std.specs.List.{list_all};
+ghost use Rattle.trec_formats.specs.Faults.{IfFault, IsDistinct, IsTwice, OfFault};
+ghost use Rattle.trec_formats.specs.Marks.{Closes};
+ghost use Rattle.trec_formats.specs.MarkViews.{mark_seen};
+ghost use Rattle.trec_formats.specs.SoundTopics.{AreSoundTopics, is_sound};
+ghost use Rattle.trec_formats.specs.TopicBlocks.{finished_as, progress_behind, TellsBy};
+ghost use Rattle.trec_formats.specs.Topics.{Numbered, IsEachBlockRead, IsTopics, IsTopicsFault, same_id};
+
+use crate::faults::{FormatEnd, FormatFault, Kind};
+use crate::lines::cut_line;
+use crate::topic_blocks::Block;
+use crate::topic_marks::{Mark, mark_of, strip};
+use decimal_rank::{Memory, Text};
+use std::alloc::Global;
+use std::collections::HashMap;
 
 /// A topic of a campaign: its name, and what is sought in three fields.
 #[derive(Debug, Drop)]
@@ -7,4 +22,134 @@ pub struct Topic {
     pub title: Text,
     pub desc: Text,
     pub narr: Text,
+}
+
+/// Reads a line where no block is open.
+fn read_outside(number: u32, mark: Mark) -> Result<Option<Block>, FormatEnd>
+    ensures { (topics : List Numbered) → TellsBy (λ next. (topics, next)) result number (progress_behind topics None (number, mark_seen mark.entry)) }
+{
+    match mark {
+        Mark::Opens => Ok(Some(Block::new())),
+        _ => Err(FormatEnd::at(number, Kind::Tag)),
+    }
+}
+
+/// Reads the end of a block.
+fn read_end(
+    alloc: Global,
+    topics: &mut Vec<(u32, Topic)>,
+    block: Block,
+    number: u32,
+) -> Result<(), FormatEnd>
+    ensures { TellsBy (λ _. (topics.new.items, None)) result number (progress_behind topics.old.items (Some block) (number, Closes)) }
+{
+    let Some(topic) = block.into_topic(alloc) else {
+        return Err(FormatEnd::at(number, Kind::Tag));
+    };
+    topics.push(topic)?;
+    Ok(())
+}
+
+/// Reads a line before which this block is open. A block that ends joins the topics. The block that is open then.
+fn read_mark(
+    alloc: Global,
+    topics: &mut Vec<(u32, Topic)>,
+    open_block: Option<Block>,
+    number: u32,
+    mark: Mark,
+) -> Result<Option<Block>, FormatEnd>
+    ensures { TellsBy (λ next. (topics.new.items, next)) result number (progress_behind topics.old.items open_block (number, mark_seen mark.entry)) }
+{
+    let Some(mut block) = open_block else {
+        return read_outside(number, mark);
+    };
+    if let Mark::Closes = mark {
+        read_end(alloc, topics, block, number)?;
+        return Ok(None);
+    }
+    block.read_line(alloc, number, mark)?;
+    Ok(Some(block))
+}
+
+/// The topics of a text of so many lines, behind which this block is open.
+fn finished(
+    topics: Vec<(u32, Topic)>,
+    open_block: Option<Block>,
+    lines: u32,
+) -> Result<Vec<(u32, Topic)>, FormatEnd>
+    requires { lines ≤ 268435456 }
+    ensures { MatchResult result
+        (λ found. finished_as lines topics.items open_block ≡ Ok found.items)
+        (λ end. OfFault end (λ fault. finished_as lines topics.items open_block ≡ Err fault)) }
+{
+    if open_block.is_some() {
+        return Err(FormatEnd::at(lines + 1, Kind::Tag));
+    }
+    if topics.is_empty() {
+        return Err(FormatEnd::at(0, Kind::Empty));
+    }
+    Ok(topics)
+}
+
+/// The topics of a text with the lines of their numbers. Some may have one id.
+fn read_blocks(alloc: Global, bytes: &[u8]) -> Result<Vec<(u32, Topic)>, FormatEnd>
+    requires { length bytes.now ≤ 268435456 }
+    ensures topics { IfOk result (λ topics. IsEachBlockRead bytes.now (Ok topics.items)) }
+    ensures within { IfOk result (λ topics. (list_all (λ topic. is_sound topic.1) topics.items ≡ true) × (length topics.items ≤ length bytes.now)) }
+    ensures fault { IfFault result (λ fault. IsEachBlockRead bytes.now (Err fault)) }
+{
+    let mut topics = Vec::new(alloc);
+    let mut open_block = None;
+    let mut number = 0;
+    let mut rest = bytes;
+    while !rest.is_empty() {
+        let (line, after) = cut_line(rest);
+        number += 1;
+        rest = after;
+        let line = strip(line);
+        if !line.is_empty() {
+            open_block = read_mark(alloc, &mut topics, open_block, number, mark_of(line))?;
+        }
+    }
+    finished(topics, open_block, number)
+}
+
+/// The fault of the first topic that has the id of an earlier one.
+fn first_repeat(alloc: Global, topics: &[(u32, Topic)]) -> Result<Option<FormatFault>, Memory>
+    ensures { IfOk result (λ found. MatchOption found
+        (IsDistinct same_id topics.now)
+        (IsTwice same_id (λ topic. topic.0) topics.now)) }
+{
+    let mut firsts = HashMap::with_capacity(alloc, topics.len())?;
+    for topic in topics {
+        if let Some(first) = firsts.insert(topic.1.id.bytes(), topic.0)? {
+            return Ok(Some(FormatFault {
+                line: topic.0,
+                kind: Kind::Twice { first },
+            }));
+        }
+    }
+    Ok(None)
+}
+
+/// The topics without the lines of their numbers.
+fn without_lines(alloc: Global, found: Vec<(u32, Topic)>) -> Result<Vec<Topic>, Memory>
+    ensures { IfOk result (λ topics. topics.items ≡ map (λ topic. topic.1) found.items) }
+{
+    Ok(found.into_iter().map(|(_, topic)| topic).collect(alloc)?)
+}
+
+/// The topics of a text, or its first fault.
+pub fn read_topics(alloc: Global, bytes: &[u8]) -> Result<Vec<Topic>, FormatEnd>
+    requires { length bytes.now ≤ 268435456 }
+    ensures topics { IfOk result (λ topics. IsTopics bytes.now topics.items) }
+    ensures sound { IfOk result (λ topics. AreSoundTopics topics.items) }
+    ensures few { IfOk result (λ topics. length topics.items ≤ length bytes.now) }
+    ensures fault { IfFault result (IsTopicsFault bytes.now) }
+{
+    let found = read_blocks(alloc, bytes)?;
+    match first_repeat(alloc, found.as_slice())? {
+        Some(fault) => Err(FormatEnd::Fault(fault)),
+        None => Ok(without_lines(alloc, found)?),
+    }
 }

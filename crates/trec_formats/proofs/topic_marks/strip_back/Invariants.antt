@@ -1,0 +1,9 @@
+use Rattle.std.proofs.Common.{◌≡◌, length}
+use Rattle.trec_formats.specs.Marks.{back_stripped}
+use Rattle.trec_formats.proofs.topic_marks.strip_back.Given as goal
+
+abbrev pub invariant-loop-kept : goal.invariant-loop-kept
+invariant-loop-kept l = back_stripped l.kept ≡ back_stripped l.text
+
+abbrev pub decreases-loop-kept : goal.decreases-loop-kept
+decreases-loop-kept l = length l.kept
