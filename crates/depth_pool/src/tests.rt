@@ -154,13 +154,16 @@ fn the_documents_of_a_pool_stand_by_docno(rt: HostRuntime) -> Result<(), Fail> {
     let alloc = rt.alloc();
     let names = six_names(alloc)?;
     assert_eq!(rt; names.len(), 6);
-    let mut pool = filled(alloc, RunId(0), RunId(1), RunId(2))?;
-    let docs = pool.docs(alloc, &names)?;
     let all = [3, 1, 5, 4, 2, 0].map(|doc| DocId(doc));
-    assert_eq!(rt; docs.as_slice(), all.as_slice());
-    pool.drop_run(RunId(1));
-    let docs = pool.docs(alloc, &names)?;
     let left = [1, 4, 2, 0].map(|doc| DocId(doc));
-    assert_eq!(rt; docs.as_slice(), left.as_slice());
+    for [first, third] in [[0, 2], [2, 0]] {
+        assert!(rt; first != 1 && first != third && third != 1);
+        let mut pool = filled(alloc, RunId(first), RunId(1), RunId(third))?;
+        let docs = pool.docs(alloc, &names)?;
+        assert_eq!(rt; docs.as_slice(), all.as_slice());
+        pool.drop_run(RunId(1));
+        let docs = pool.docs(alloc, &names)?;
+        assert_eq!(rt; docs.as_slice(), left.as_slice());
+    }
     Ok(())
 }
