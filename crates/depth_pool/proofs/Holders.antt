@@ -1,5 +1,5 @@
 -- The holders of a document, as runs come and go.
-use Rattle.std.proofs.Common.{◌≡◌, ◌≢◌, ℕ, zero, suc, ◌+◌, ◌<◌, ◌≤◌, Bool, true, false, cond, not, ◌||◌, ◌&&◌, nat_lt, ltb, eqb, List, [], ◌∷◌, ◌++◌, length, map, filter, refl, sym, ap, ◌∙◌, arith}
+use Rattle.std.proofs.Common.{◌≡◌, ◌≢◌, ℕ, suc, ◌<◌, Bool, true, false, cond, not, ◌||◌, ◌&&◌, nat_lt, ltb, eqb, List, [], ◌∷◌, ◌++◌, length, map, filter, refl, sym, ap, ◌∙◌, arith}
 use Rattle.std.specs.List.{list_any, All, AllPairs}
 use Rattle.std.proofs.lemmas.Bool.{false≢true}
 use Rattle.std.proofs.lemmas.Bool.Decides.{nat_tests}
@@ -8,7 +8,7 @@ use Rattle.std.proofs.lemmas.List.Kept.{AllPairs-cons, AllPairs-filter}
 use borrow.Author.Tests.{lt-ltb, ltb-true}
 use Rattle.decimal_rank.specs.declared.naming.DocId.{DocId}
 use Rattle.depth_pool.specs.declared.runs.RunId.{RunId}
-use Rattle.depth_pool.specs.Holdings.{Held, AreByNumber, KeepsOthers, has_doc, has_run, holders_of, holds, some_run_holds, put_before, with_run, without_run}
+use Rattle.depth_pool.specs.Holdings.{Held, AreByNumber, KeepsOthers, has_doc, has_run, holders_of, holds, some_run_holds, with_run, without_run}
 use Rattle.depth_pool.specs.Index.{with_holder, without_holder}
 use Rattle.depth_pool.proofs.Lists.{pairs_head, pairs_tail, all_tail, all_put, any_put, any_filter}
 

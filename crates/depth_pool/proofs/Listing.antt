@@ -1,9 +1,9 @@
 -- The documents that the index lists, by docno.
-use Rattle.std.proofs.Common.{◌≡◌, ◌≢◌, ℕ, zero, suc, ◌+◌, ◌<◌, ◌≤◌, Bool, true, false, cond, not, ◌||◌, nat_lt, eqb, List, [], ◌∷◌, length, map, filter, get_or, Option, Some, None, refl, sym, ap, ◌∙◌, arith, le_of_lt, Less, Equal, Greater, subst, ⊎_elim, ◌⊎◌}
-use Rattle.std.specs.BTreeMap.{get, is_at}
+use Rattle.std.proofs.Common.{◌≡◌, ◌≢◌, ℕ, ◌<◌, Bool, true, false, cond, ◌||◌, nat_lt, eqb, List, [], ◌∷◌, length, map, filter, get_or, Option, Some, refl, sym, ap, ◌∙◌, arith, le_of_lt, Less, Equal, Greater, ⊎_elim, ◌⊎◌}
+use Rattle.std.specs.BTreeMap.{is_at}
 use Rattle.std.specs.Cmp.Lexicographic.{slice_cmp}
-use Rattle.std.specs.List.{list_any, All, AllPairs, AllByRecursion, IsDistinct}
-use Rattle.std.specs.List.Sorted.{IsPermutation, IsSortedBy, IsStrictlySortedBy}
+use Rattle.std.specs.List.{All, AllPairs, AllByRecursion, IsDistinct}
+use Rattle.std.specs.List.Sorted.{IsSortedBy, IsStrictlySortedBy}
 use Rattle.std.specs.Map.{keys_of, lookup}
 use Rattle.std.specs.Option.{option_map_or}
 use Rattle.std.specs.Ordering.{nat_cmp, is_eq, is_lt, ordering_reverse}
@@ -13,8 +13,8 @@ use Rattle.std.proofs.lemmas.Bool.{false≢true}
 use Rattle.std.proofs.lemmas.Bool.Decides.{nat_tests}
 use Rattle.std.proofs.lemmas.Cmp.{nat_list_cmp_total, nat_list_eq_equiv}
 use Rattle.std.proofs.lemmas.List.Folds.{list_any_at}
-use Rattle.std.proofs.lemmas.List.Sorted.{sorted_far, ranks_by, list_any-IsPermutation}
-use Rattle.std.proofs.lemmas.Map.Keys.{sorted_head, sorted_tail, IsDistinct-cons, IsDistinct-IsPermutation, apart_from_distinct}
+use Rattle.std.proofs.lemmas.List.Sorted.{sorted_far, ranks_by}
+use Rattle.std.proofs.lemmas.Map.Keys.{sorted_head, sorted_tail, IsDistinct-cons, apart_from_distinct}
 use Rattle.std.proofs.lemmas.Map.Text.{is_eq-slice_cmp}
 use borrow.Author.Tests.{eqb-true}
 use Rattle.smallvec.specs.SmallVec.{SmallVec}
@@ -22,7 +22,7 @@ use Rattle.decimal_rank.specs.Names.{docno_of}
 use Rattle.decimal_rank.specs.declared.naming.DocId.{DocId}
 use Rattle.depth_pool.specs.declared.runs.RunId.{RunId}
 use Rattle.depth_pool.specs.Holdings.{Held, has_doc, some_run_holds}
-use Rattle.depth_pool.specs.Index.{Index, doc_cmp, holders_at, held_docs, is_held}
+use Rattle.depth_pool.specs.Index.{doc_cmp, held_docs, is_held}
 use Rattle.depth_pool.proofs.Lists.{all_tail}
 use Rattle.depth_pool.proofs.Writes.{is_eq-nat_cmp}
 

@@ -1,5 +1,5 @@
 -- Lists that an element is put into or taken out of.
-use Rattle.std.proofs.Common.{◌≡◌, ℕ, zero, suc, ◌+◌, ◌≤◌, Bool, true, false, cond, not, ◌||◌, ◌<◌, get_or, eqb, List, [], ◌∷◌, ◌++◌, length, take, drop, filter, refl, sym, ap, ◌∙◌, arith, subst}
+use Rattle.std.proofs.Common.{◌≡◌, ℕ, suc, ◌+◌, Bool, true, false, cond, not, ◌||◌, ◌<◌, eqb, List, [], ◌∷◌, length, take, filter, refl, sym, ap, ◌∙◌, arith, subst}
 use Rattle.std.specs.List.{position_or_len, insert, list_any, All, AllPairs}
 use Rattle.std.proofs.lemmas.List.{get_or-take, length-take}
 use Rattle.std.proofs.lemmas.List.Elements.{All-cons}

@@ -10,3 +10,6 @@ mod runs;
 pub use laws::{greatest_run_goes_last, one_list_by_docno};
 pub use pools::Pool;
 pub use runs::RunId;
+
+#[cfg(test)]
+mod tests;

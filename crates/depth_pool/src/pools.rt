@@ -117,7 +117,7 @@ impl Pool {
         self.holders(doc, steps).binary_search(&run).is_ok()
     }
 
-    /// The documents that a run holds, each once, by docno.
+    /// The documents that some run holds, each once, by docno.
     pub fn docs(&self, alloc: Global, names: &Names) -> Result<Vec<DocId>, Memory>
         requires docs_named { All (λ held. All (λ doc. doc.0 < length names.now) held.docs) self.now.runs }
         ensures each { IfOk result (λ docs. (doc : DocId) → has_doc doc docs.items ≡ some_run_holds doc self.now.runs) }

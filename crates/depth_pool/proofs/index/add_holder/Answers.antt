@@ -1,4 +1,4 @@
-use Rattle.std.proofs.Common.{◌≡◌, Some, rules}
+use Rattle.std.proofs.Common.{Some, rules}
 use Rattle.depth_pool.proofs.Writes.{IsWrittenAt, other_room}
 use Rattle.depth_pool.proofs.index.add_holder.Goals as goal
 

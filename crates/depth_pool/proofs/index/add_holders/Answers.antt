@@ -1,4 +1,4 @@
-use Rattle.std.proofs.Common.{◌≡◌, ◌≢◌, ◌∙◌, ◌<◌, ◌≤◌, ◌+◌, rules, sym, true, false, arith, eqb, get_or, length, take}
+use Rattle.std.proofs.Common.{◌≢◌, ◌∙◌, ◌<◌, ◌+◌, rules, sym, arith, eqb, get_or, take}
 use Rattle.std.proofs.lemmas.Bool.{false≢true}
 use Rattle.std.proofs.lemmas.List.Folds.{list_any_more}
 use Rattle.depth_pool.specs.Holdings.{has_doc}

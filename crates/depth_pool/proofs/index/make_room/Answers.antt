@@ -1,9 +1,9 @@
-use Rattle.std.proofs.Common.{◌≡◌, ◌≤◌, ◌<◌, ◌+◌, ◌∙◌, ap, sym, arith, true, length, rules, [], Some, None, cond, ltb, false}
+use Rattle.std.proofs.Common.{◌≡◌, ◌∙◌, ap, sym, length, rules, [], Some, None, cond, ltb, false}
 use Rattle.std.specs.BTreeMap.{get}
 use Rattle.std.specs.Option.{option_map_or}
 use Rattle.std.specs.Ordering.{is_eq}
 use Rattle.std.proofs.lemmas.Bool.{false≢true}
-use Rattle.depth_pool.specs.Index.{Index, doc_cmp, holders_at, has_room}
+use Rattle.depth_pool.specs.Index.{Index, doc_cmp}
 use Rattle.depth_pool.proofs.Writes.{IsWrittenAt, kept_holders, kept_room, grown_room}
 use Rattle.depth_pool.proofs.index.make_room.Goals as goal
 

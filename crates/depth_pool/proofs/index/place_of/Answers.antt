@@ -1,4 +1,4 @@
-use Rattle.std.proofs.Common.{◌≡◌, ◌<◌, ◌≤◌, arith, sym, true, nat_lt, length, get_or, rules}
+use Rattle.std.proofs.Common.{◌≡◌, arith, sym, nat_lt, length}
 use Rattle.std.proofs.lemmas.List.Sums.{position_or_len_is}
 use Rattle.depth_pool.specs.declared.runs.RunId.{RunId}
 use borrow.Author.Tests.{lt-ltb}

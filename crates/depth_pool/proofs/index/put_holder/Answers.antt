@@ -1,4 +1,4 @@
-use Rattle.std.proofs.Common.{lit<, ◌≡◌, ◌≤◌, ◌∙◌, ap, sym, arith, nat_lt, not, length, rules}
+use Rattle.std.proofs.Common.{lit<, ◌≡◌, ◌∙◌, ap, nat_lt, not, rules}
 use Rattle.std.specs.List.{insert}
 use Rattle.std.proofs.lemmas.List.Sums.{prefix_len-le-length}
 use Rattle.depth_pool.specs.declared.runs.RunId.{RunId}

@@ -1,9 +1,8 @@
-use Rattle.std.proofs.Common.{◌≡◌, ◌≤◌, ◌∙◌, ap, sym, not, eqb, Some, [], length, filter, rules}
+use Rattle.std.proofs.Common.{◌≡◌, ◌∙◌, ap, sym, not, eqb, Some, [], rules}
 use Rattle.std.specs.BTreeMap.{get}
 use Rattle.std.specs.Option.{option_map_or}
-use Rattle.std.proofs.lemmas.List.Sums.{length-filter}
 use Rattle.depth_pool.specs.declared.runs.RunId.{RunId}
-use Rattle.depth_pool.specs.Index.{Index, doc_cmp, without_holder}
+use Rattle.depth_pool.specs.Index.{doc_cmp, without_holder}
 use Rattle.depth_pool.proofs.Lists.{filter_from_turns}
 use Rattle.depth_pool.proofs.Writes.{IsWrittenAt, read_after, kept_room, shrunk_room}
 use Rattle.depth_pool.proofs.index.remove_holder.Goals as goal

@@ -1,4 +1,4 @@
-use Rattle.std.proofs.Common.{◌≡◌, ◌∙◌, ◌+◌, eqb, not, get_or, take}
+use Rattle.std.proofs.Common.{◌+◌, eqb, not, get_or, take}
 use Rattle.std.proofs.lemmas.List.Folds.{list_any_more}
 use Rattle.depth_pool.specs.Holdings.{has_doc}
 use Rattle.depth_pool.specs.Index.{holders_at, without_holder}

@@ -1,4 +1,4 @@
-use Rattle.std.proofs.Common.{◌≡◌, ℕ, ◌<◌, true, take, if◌then◌else◌}
+use Rattle.std.proofs.Common.{◌≡◌, true, take, if◌then◌else◌}
 use Rattle.decimal_rank.specs.declared.naming.DocId.{DocId}
 use Rattle.depth_pool.specs.Holdings.{has_doc}
 use Rattle.depth_pool.specs.Index.{holders_at, has_room, without_holder}

@@ -1,4 +1,4 @@
-use Rattle.std.proofs.Common.{◌≡◌, ◌≤◌, ◌∙◌, ap, eq-eqb, arith, sym, eqb, length, get_or, []}
+use Rattle.std.proofs.Common.{◌≡◌, ◌∙◌, ap, eq-eqb, arith, sym, eqb, length, []}
 use Rattle.std.proofs.lemmas.List.Sums.{position_or_len_is}
 use Rattle.depth_pool.specs.Holdings.{Held}
 use Rattle.depth_pool.proofs.runs.index_of.Goals as goal

@@ -1,4 +1,4 @@
-use Rattle.std.proofs.Common.{◌≡◌, ◌≤◌, ◌∙◌, ap, arith, sym, nat_lt, length, get_or, []}
+use Rattle.std.proofs.Common.{◌≡◌, ◌∙◌, ap, arith, sym, nat_lt, length, []}
 use Rattle.std.proofs.lemmas.List.Sums.{position_or_len_is}
 use Rattle.depth_pool.specs.Holdings.{Held}
 use borrow.Author.Tests.{lt-ltb}

@@ -1,4 +1,4 @@
-use Rattle.std.proofs.Common.{◌≡◌, ◌≤◌, ◌<◌, ◌∙◌, ap, sym, arith, true, get_or, length, vec_len, subst}
+use Rattle.std.proofs.Common.{◌≡◌, ◌<◌, ◌∙◌, ap, arith, get_or, length}
 use Rattle.std.specs.List.{remove, position_or_len}
 use Rattle.depth_pool.specs.Holdings.{Held, has_doc}
 use Rattle.depth_pool.proofs.ByNumber.{is_run, index_within, removed, docs_at}

@@ -1,4 +1,4 @@
-use Rattle.std.proofs.Common.{◌≡◌, ◌<◌, ◌∙◌, ap, sym, subst, arith, cond, true, false, IsTrue, Some, None}
+use Rattle.std.proofs.Common.{◌≡◌, ◌∙◌, ap, sym, subst, cond, false, Some, None}
 use Rattle.depth_pool.specs.Holdings.{Holdings, Held, AreByNumber, KeepsOthers, has_doc, has_run, holders_of, with_run}
 use Rattle.depth_pool.specs.Index.{with_holder, holders_at}
 use Rattle.depth_pool.proofs.Holders.{by_number-with_run, holders-with_run, in_with_run, others-with_run}

@@ -1,6 +1,5 @@
-use Rattle.std.proofs.Common.{◌≡◌, ◌∙◌, ap, sym, cond, subst, arith, not}
-use Rattle.std.proofs.lemmas.List.Kept.{AllPairs-filter}
-use Rattle.depth_pool.specs.Holdings.{Holdings, Held, KeepsOthers, AreByNumber, has_doc, holders_of, without_run}
+use Rattle.std.proofs.Common.{◌≡◌, ◌∙◌, ap, sym, cond, subst, arith}
+use Rattle.depth_pool.specs.Holdings.{Holdings, KeepsOthers, AreByNumber, has_doc, holders_of, without_run}
 use Rattle.depth_pool.specs.Index.{without_holder}
 use Rattle.depth_pool.proofs.Holders.{by_number-without_run, holders_left, others-without_run}
 use Rattle.depth_pool.proofs.pools.Pool.drop_run.Goals as goal

@@ -1,0 +1,5 @@
+use Rattle.depth_pool.proofs.tests.a_run_holds_what_stands_within_the_depth.Given as goal
+
+-- the ledger is the blank's
+abbrev pub ghosts-holders_told : goal.ghosts-holders_told
+ghosts-holders_told g a = record { name = a.blank.name; parts = a.blank.parts }

@@ -1,0 +1,5 @@
+use Rattle.depth_pool.proofs.tests.holders_ascend_whatever_the_order_of_the_runs.Given as goal
+
+-- the ledger is the blank's
+abbrev pub ghosts-held : goal.ghosts-held
+ghosts-held g a = record { name = a.blank.name; parts = a.blank.parts }

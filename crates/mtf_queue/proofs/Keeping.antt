@@ -1,0 +1,156 @@
+-- A queue that stays in order.
+use Rattle.std.proofs.Common.{◌≡◌, ◌≢◌, ℕ, zero, suc, ◌<◌, Bool, true, false, not, eqb, eq-eqb, List, [], ◌∷◌, ◌++◌, length, get_or, set, filter, reverse, refl, sym, ap, ◌∙◌, ◌⊎◌, inl, inr, subst, Option, Some, arith}
+use Rattle.std.specs.Bool.{Decides, IsTrue}
+use Rattle.std.specs.List.{All, AllPairs, Contains}
+use Rattle.std.specs.List.Sorted.{IsSortedBy, IsPermutation}
+use Rattle.std.specs.Ordering.{is_lt}
+use Rattle.std.proofs.lemmas.Bool.{false≢true}
+use Rattle.std.proofs.lemmas.List.Elements.{All-append, All-contains, All-filter, All-push, All-weaker, Contains-get_or, filter_passes}
+use Rattle.std.proofs.lemmas.List.Kept.{AllPairs-cons, AllPairs-filter}
+use Rattle.std.proofs.lemmas.List.Quantifiers.{all_pairs_push}
+use Rattle.std.proofs.lemmas.List.Sorted.{All-permutation, IsPermutation-filter_both, ranks_by, sorted_far}
+use Rattle.std.proofs.lemmas.Map.Keys.{IsDistinct-IsPermutation}
+use Rattle.std.proofs.lemmas.Map.Made.{AllPairs-from_IsDistinct, IsDistinct-from_AllPairs}
+use borrow.Author.Tests.{eqb-true}
+use Rattle.decimal_rank.specs.declared.naming.DocId.{DocId}
+use Rattle.depth_pool.specs.declared.runs.RunId.{RunId}
+use Rattle.depth_pool.specs.Holdings.{Held, KeepsOthers, has_run, holds}
+use Rattle.mtf_queue.specs.declared.rule.Judged.{Judged}
+use Rattle.mtf_queue.specs.Rule.{Holds, IsBefore, IsInOrder, is_first_side, moved, regraded, rule_cmp}
+use Rattle.mtf_queue.proofs.Comparing.{before_across, before_by_holdings, before_on_one_side, before_test, not_itself, one_of_two, rule_total}
+
+-- ---- runs that differ
+
+abbrev pub Differ : RunId → RunId → Type 0
+Differ r s = r ≢ s
+
+abbrev same_run : RunId → RunId → Bool
+same_run r s = eqb r.0 s.0
+
+same_decides : (r s : RunId) → Decides (same_run r s) (r ≡ s)
+same_decides r s = (λ e. let run : ℕ → RunId = λ n. record { 0 = n } in ap run (eqb-true r.0 s.0 e), λ e. eq-eqb r.0 s.0 (ap (λ (t : RunId). t.0) e))
+
+flips : (n m : ℕ) → eqb n m ≡ eqb m n
+flips n m = step (eqb n m) (eqb m n) refl refl
+  where
+    step : (t u : Bool) → eqb n m ≡ t → eqb m n ≡ u → t ≡ u
+    step true true e f = refl
+    step false false e f = refl
+    step true false e f = absurd (false≢true (sym f ∙ eq-eqb m n (sym (eqb-true n m e))))
+    step false true e f = absurd (false≢true (sym e ∙ eq-eqb n m (sym (eqb-true m n f))))
+
+pub differ_permuted : (xs ys : List RunId) → IsPermutation xs ys → AllPairs Differ xs → AllPairs Differ ys
+differ_permuted xs ys permuted differ =
+    AllPairs-from_IsDistinct same_decides ys (IsDistinct-IsPermutation same_run (λ r s. flips r.0 s.0) xs ys permuted (IsDistinct-from_AllPairs same_decides xs differ))
+
+pub differ_in_order : (held : Holds) (trail : List Judged) (order : List RunId) → AllPairs (IsBefore held trail) order → AllPairs Differ order
+differ_in_order held trail order pairwise i j d l m e = not_itself held trail (get_or order j d) (subst (λ r. IsBefore held trail r (get_or order j d)) e (pairwise i j d l m))
+
+pub differ_entered : (order : List RunId) (run : RunId) → (Contains order run → ⊥) → AllPairs Differ order → AllPairs Differ (order ++ run ∷ [])
+differ_entered order run is_new differ = all_pairs_push Differ order run differ (λ k d h e. is_new (subst (Contains order) e (Contains-get_or order k d h)))
+
+-- ---- the order of a sort
+
+abbrev pub rule_lt : Holds → List Judged → RunId → RunId → Bool
+rule_lt held trail r s = is_lt (rule_cmp held (reverse trail) r s)
+
+pub in_order_sorted : (held : Holds) (trail : List Judged) (order : List RunId) → IsSortedBy (rule_lt held trail) order → AllPairs Differ order → AllPairs (IsBefore held trail) order
+in_order_sorted held trail order sorted differ i j d l m =
+    step (one_of_two held trail (get_or order i d) (get_or order j d) (differ i j d l m))
+  where
+    at_most : i < j → (i : ℕ) × (i < j)
+    at_most h = (i, h)
+
+    step : IsBefore held trail (get_or order i d) (get_or order j d) ⊎ IsBefore held trail (get_or order j d) (get_or order i d) → IsBefore held trail (get_or order i d) (get_or order j d)
+    step (inl before) = before
+    step (inr after) = absurd (false≢true (sym (sorted_far (rule_lt held trail) (ranks_by (rule_total held (reverse trail)) (λ r. r)) order sorted i j d (omega arith) m) ∙ before_test held trail (get_or order j d) (get_or order i d) after))
+
+-- ---- a group that moves
+
+pairs_append : {X : Type 0} (R : X → X → Type 0) (P Q : X → Type 0) → ((x y : X) → P x → Q y → R x y) → (xs ys : List X) → All P xs → All Q ys → AllPairs R xs → AllPairs R ys → AllPairs R (xs ++ ys)
+pairs_append R P Q across [] ys all_p all_q left right = right
+pairs_append R P Q across (x ∷ xs) ys all_p all_q left right =
+    AllPairs-cons R x (xs ++ ys)
+    (All-append (R x) xs ys (λ k d h. left 0 (suc k) d (omega arith) (omega arith)) (All-weaker Q (R x) (λ y q. across x y (all_p 0 x (omega arith)) q) ys all_q))
+    (pairs_append R P Q across xs ys (λ k d h. all_p (suc k) d (omega arith)) all_q (λ i j d l m. left (suc i) (suc j) d (omega arith) (omega arith)) right)
+
+pub in_order_moved : (held : Holds) (trail : List Judged) (doc : DocId) (relevant : Bool) (order : List RunId) → AllPairs (IsBefore held trail) order
+    → AllPairs (IsBefore held (trail ++ record { doc = doc; relevant = Some relevant } ∷ [])) (moved held doc relevant order)
+in_order_moved held trail doc relevant order pairwise =
+    let first : RunId → Bool = λ run. is_first_side (Some relevant) (held run doc) in
+    let second : RunId → Bool = λ run. not (first run) in
+    let firsts = filter_passes first order in
+    let seconds = filter_passes second order in
+    pairs_append (IsBefore held (trail ++ record { doc = doc; relevant = Some relevant } ∷ [])) (λ run. first run ≡ true) (λ run. second run ≡ true) (before_across held trail doc relevant) (filter first order) (filter second order) firsts seconds
+    (λ i j d l m. before_on_one_side held trail doc relevant _ _ (firsts i d (omega arith) ∙ sym (firsts j d m)) (AllPairs-filter (IsBefore held trail) first order pairwise i j d l m))
+    (λ i j d l m. before_on_one_side held trail doc relevant _ _ (both_false (first (get_or (filter second order) i d)) (first (get_or (filter second order) j d)) (seconds i d (omega arith)) (seconds j d m)) (AllPairs-filter (IsBefore held trail) second order pairwise i j d l m))
+  where
+    both_false : (t u : Bool) → not t ≡ true → not u ≡ true → t ≡ u
+    both_false true u p q = absurd (false≢true p)
+    both_false false true p q = absurd (false≢true q)
+    both_false false false p q = refl
+
+pub runs_moved : (held : Holds) (doc : DocId) (relevant : Bool) (order : List RunId) → IsPermutation order (moved held doc relevant order)
+runs_moved held doc relevant order =
+    let first : RunId → Bool = λ run. is_first_side (Some relevant) (held run doc) in
+    IsPermutation-filter_both first (λ run. not (first run)) (λ run. refl) order
+
+-- ---- a run that leaves
+
+abbrev another : RunId → RunId → Bool
+another run other = not (eqb other.0 run.0)
+
+pub gone_filtered : (run : RunId) (order : List RunId) → Contains (filter (another run) order) run → ⊥
+gone_filtered run order among =
+    let passes = All-contains (λ other. another run other ≡ true) (filter (another run) order) run (filter_passes (another run) order) among in
+    false≢true (sym (ap not (eq-eqb run.0 run.0 refl)) ∙ passes)
+
+pub in_order_filtered : (runs : List Held) (trail : List Judged) (order : List RunId) (run : RunId) → IsInOrder runs trail order → IsInOrder runs trail (filter (another run) order)
+in_order_filtered runs trail order run before = record {
+  in_pool = All-filter (another run) (λ other. IsTrue (has_run other runs)) order before.in_pool;
+  pairwise = AllPairs-filter (IsBefore (holds runs) trail) (another run) order before.pairwise;
+}
+
+-- ---- a pool in which another run changed
+
+pub in_order_outlasts : (before after : List Held) (run : RunId) (trail : List Judged) (order : List RunId) → KeepsOthers before after run → (Contains order run → ⊥) → IsInOrder before trail order → IsInOrder after trail order
+in_order_outlasts before after run trail order keeps absent was =
+    let other : (k : ℕ) (d : RunId) → k < length order → get_or order k d ≢ run = λ k d h e. absent (subst (Contains order) e (Contains-get_or order k d h)) in
+    record {
+      in_pool = λ k d h. keeps.in_pool (get_or order k d) (other k d h) ∙ was.in_pool k d h;
+      pairwise = λ i j d l m.
+          before_by_holdings (holds before) (holds after) trail (get_or order i d) (get_or order j d)
+          (λ doc. keeps.holdings (get_or order i d) doc (other i d (omega arith)))
+          (λ doc. keeps.holdings (get_or order j d) doc (other j d m))
+          (was.pairwise i j d l m);
+    }
+
+-- ---- a grade that changes
+
+pub grade_set : (trail : List Judged) (index : ℕ) (judged : Judged) (relevant : Option Bool) → index < length trail → judged ≡ get_or trail index judged → set trail index (record { doc = judged.doc; relevant = relevant }) ≡ regraded trail index relevant
+grade_set [] index judged relevant h e = absurd (omega arith)
+grade_set (first ∷ trail) zero judged relevant h e = let change : Judged → List Judged = λ j. record { doc = j.doc; relevant = relevant } ∷ trail in ap change e
+grade_set (first ∷ trail) (suc index) judged relevant h e = ap (λ rest. first ∷ rest) (grade_set trail index judged relevant (omega arith) e)
+
+-- ---- the calls of a queue
+
+-- runs of the pool that were sorted by the rule
+pub in_order_resorted : (runs : List Held) (trail : List Judged) (order sorted : List RunId) → All (λ run. IsTrue (has_run run runs)) order → AllPairs Differ order → IsPermutation order sorted
+    → (AllPairs Differ order → AllPairs (IsBefore (holds runs) trail) sorted) → IsInOrder runs trail sorted
+in_order_resorted runs trail order sorted in_pool differ permuted pairwise = record {
+  in_pool = All-permutation (λ run. IsTrue (has_run run runs)) order sorted permuted in_pool;
+  pairwise = pairwise differ;
+}
+
+pub in_order_entered : (runs : List Held) (trail : List Judged) (order sorted : List RunId) (run : RunId) → IsTrue (has_run run runs) → (Contains order run → ⊥) → IsInOrder runs trail order → IsPermutation (order ++ run ∷ []) sorted
+    → (AllPairs Differ (order ++ run ∷ []) → AllPairs (IsBefore (holds runs) trail) sorted) → IsInOrder runs trail sorted
+in_order_entered runs trail order sorted run in_pool is_new was permuted =
+    in_order_resorted runs trail (order ++ run ∷ []) sorted (All-push (λ other. IsTrue (has_run other runs)) order run was.in_pool in_pool)
+    (differ_entered order run is_new (differ_in_order (holds runs) trail order was.pairwise)) permuted
+
+pub in_order_judged : (runs : List Held) (trail : List Judged) (doc : DocId) (relevant : Bool) (order : List RunId) → IsInOrder runs trail order
+    → IsInOrder runs (trail ++ record { doc = doc; relevant = Some relevant } ∷ []) (moved (holds runs) doc relevant order)
+in_order_judged runs trail doc relevant order was = record {
+  in_pool = All-permutation (λ run. IsTrue (has_run run runs)) order (moved (holds runs) doc relevant order) (runs_moved (holds runs) doc relevant order) was.in_pool;
+  pairwise = in_order_moved (holds runs) trail doc relevant order was.pairwise;
+}

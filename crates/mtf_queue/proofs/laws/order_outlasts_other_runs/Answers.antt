@@ -1,0 +1,5 @@
+use Rattle.mtf_queue.proofs.Keeping.{in_order_outlasts}
+use Rattle.mtf_queue.proofs.laws.order_outlasts_other_runs.Goals as goal
+
+pub returns : goal.returns
+returns c = in_order_outlasts

@@ -1,0 +1,2 @@
+pub mod QueueView
+pub mod Rule

@@ -1,0 +1,18 @@
+ghost use Rattle.std.specs.Prelude.{◌≡◌, ◌≢◌, ◌⊎◌, List, Contains};
+ghost use Rattle.depth_pool.specs.Holdings.{Held, KeepsOthers};
+ghost use Rattle.depth_pool.specs.declared.runs.RunId.{RunId};
+ghost use Rattle.mtf_queue.specs.Rule.{Holds, IsBefore, IsInOrder};
+ghost use Rattle.mtf_queue.specs.declared.rule.Judged.{Judged};
+
+/// The rule is a total order of the runs, whatever they hold and whatever was judged.
+pub fn rule_is_total_order()
+    ensures not_itself { (held : Holds) (trail : List Judged) (r : RunId) → ¬ IsBefore held trail r r }
+    ensures one_of_two { (held : Holds) (trail : List Judged) (r s : RunId) → r ≢ s → IsBefore held trail r s ⊎ IsBefore held trail s r }
+    ensures chain { (held : Holds) (trail : List Judged) (r s t : RunId) → IsBefore held trail r s → IsBefore held trail s t → IsBefore held trail r t }
+{}
+
+/// A pool in which only a run changed that isn't in the queue keeps the queue's order.
+pub fn order_outlasts_other_runs()
+    ensures { (before after : List Held) (run : RunId) (trail : List Judged) (order : List RunId) → KeepsOthers before after run
+        → ¬ Contains order run → IsInOrder before trail order → IsInOrder after trail order }
+{}
