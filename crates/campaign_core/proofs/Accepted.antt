@@ -1,5 +1,5 @@
 -- What a Submit comes to that no refusal meets.
-use Rattle.std.proofs.Common.{◌≡◌, ◌+◌, ◌<◌, ◌≤◌, subst, false, List, [], ◌∷◌, ◌++◌, suc, arith, length-append, None, Ok, length, refl}
+use Rattle.std.proofs.Common.{◌≡◌, ◌+◌, ◌<◌, ◌≤◌, subst, true, false, List, [], ◌∷◌, ◌++◌, suc, arith, length-append, None, Ok, length, refl}
 use Rattle.std.proofs.lemmas.Bool.{le-ltb, lt-leb}
 use Rattle.std.specs.List.{fold, flat_map}
 use Rattle.std.specs.Int.{to_le_bytes, w32}
@@ -12,7 +12,10 @@ use Rattle.rulebook.specs.declared.ask.Command.{Command}
 use Rattle.rulebook.specs.declared.reply.Reply.TheVariants as reply
 use Rattle.rulebook.specs.Words.{Text, each_once}
 use Rattle.decimal_rank.specs.Names.{with_name}
-use Rattle.rulebook.specs.Campaign.{History, runs, is_taken, line_count, docnos, submitted_lines, submitted_docnos}
+use Rattle.rulebook.specs.declared.rules.Phase.{Phase}
+use Rattle.rulebook.specs.declared.rules.Phase.TheVariants.{Collecting, Judging, Published}
+use Rattle.rulebook.specs.Refusals.{is_phase}
+use Rattle.rulebook.specs.Campaign.{History, phase, runs, is_taken, line_count, docnos, submitted_lines, submitted_docnos}
 use Rattle.rulebook.specs.Answers.{unknown_line, submit_ruling}
 
 -- the docnos of the history, and then those of a run
@@ -20,15 +23,21 @@ pub each_once-submitted : (H : History) (lists : List TopicList)
     → each_once (submitted_docnos H ++ docnos lists) ≡ fold with_name (each_once (submitted_docnos H)) (docnos lists)
 each_once-submitted H lists = fold-append with_name [] (submitted_docnos H) (docnos lists)
 
+pub collecting-from : (p : Phase) → is_phase Collecting p ≡ true → p ≡ Collecting
+collecting-from Collecting is = refl
+collecting-from Judging is = cc is
+collecting-from Published is = cc is
+
 pub submit-accepted : (H : History) (run : Text) (lists : List TopicList)
+    → phase H ≡ Collecting
     → is_taken H run ≡ false
     → unknown_line H lists ≡ None
     → length (runs H) < MAX_RUNS
     → submitted_lines H + line_count lists ≤ MAX_LINES
     → length (each_once (submitted_docnos H ++ docnos lists)) ≤ MAX_DOCNOS
     → submit_ruling H run lists ≡ Ok (reply.Submitted run (length lists) (line_count lists))
-submit-accepted H run lists new known runs_fit lines_fit docnos_fit =
-    rw (new, known, lt-leb MAX_RUNS (length (runs H)) runs_fit, le-ltb MAX_LINES (submitted_lines H + line_count lists) lines_fit, le-ltb MAX_DOCNOS (length (each_once (submitted_docnos H ++ docnos lists))) docnos_fit) refl
+submit-accepted H run lists collecting new known runs_fit lines_fit docnos_fit =
+    rw (collecting, new, known, lt-leb MAX_RUNS (length (runs H)) runs_fit, le-ltb MAX_LINES (submitted_lines H + line_count lists) lines_fit, le-ltb MAX_DOCNOS (length (each_once (submitted_docnos H ++ docnos lists))) docnos_fit) refl
 
 -- A run's lists and lines are no more than the bytes of their spelling.
 docs-bytes : (docs : List Text) → length docs ≤ length (flat_map short docs)

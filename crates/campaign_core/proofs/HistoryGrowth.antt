@@ -12,7 +12,7 @@ use Rattle.rulebook.specs.declared.entry.EntryCore.{EntryCore}
 use Rattle.rulebook.specs.Campaign.{History, Run, runs, run_in, line_count, docnos, submitted_lines, submitted_docnos}
 use Rattle.campaign_core.specs.Growth.{lists_in}
 
-runs-push : (H : History) (e : Entry) → runs (H ++ e ∷ []) ≡ runs H ++ runs (e ∷ [])
+pub runs-push : (H : History) (e : Entry) → runs (H ++ e ∷ []) ≡ runs H ++ runs (e ∷ [])
 runs-push H e = filter_map-append (λ e. run_in e.core.command) H (e ∷ [])
 
 lines-of-one : (run : Option Run) → sum_by (λ run. line_count run.lists) (filter_map (λ run. run) (run ∷ [])) ≡ line_count (option_map_or (λ run. run.lists) run [])

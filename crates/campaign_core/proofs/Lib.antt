@@ -1,5 +1,9 @@
-pub mod TextLists
 pub mod Accepted
+pub mod Commits
 pub mod HistoryGrowth
 pub mod Legality
-pub mod Commits
+pub mod Naming
+pub mod Ordered
+pub mod PoolFacts
+pub mod Told
+pub mod Tests

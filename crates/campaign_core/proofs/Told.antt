@@ -129,6 +129,15 @@ plain-of who number c moment is =
     let d = both_true (is_name who.name && is_number number && nat_le moment MAX_MOMENT) (is_plain c) b.1 in
     d.1
 
+pub moment-of : (who : Caller) (number : Option ℕ) (c : Command) (moment : ℕ) → is_well_addressed who number (Act c) moment ≡ true → moment ≤ MAX_MOMENT
+moment-of who number c moment is =
+    let core = core_of who number moment c in
+    let a = both_true (is_built (Act c) && may_give who.role c && has_spelling core) (nat_le (length (entry_bytes core)) MAX_ENTRY_BYTES) is in
+    let b = both_true (is_built (Act c) && may_give who.role c) (has_spelling core) a.0 in
+    let d = both_true (is_name who.name && is_number number && nat_le moment MAX_MOMENT) (is_plain c) b.1 in
+    let f = both_true (is_name who.name && is_number number) (nat_le moment MAX_MOMENT) d.0 in
+    leb-true _ _ f.1
+
 abbrev plain_run : Text → List TopicList → Bool
 plain_run name lists = is_name name && nat_lt 0 (length lists) && list_all is_plain_list lists
 

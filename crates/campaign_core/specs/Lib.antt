@@ -1,5 +1,8 @@
-pub mod Joining
-pub mod Seen
 pub mod Growth
-pub mod State
+pub mod Joining
 pub mod Kept
+pub mod Numbers
+pub mod Plans
+pub mod Seen
+pub mod State
+pub mod Topics

@@ -3,11 +3,13 @@
 
 mod docnos;
 mod looks;
+mod plans;
 mod pools;
 mod rulings;
 mod state;
 #[cfg(test)]
 mod tests;
+mod topics;
 mod verdict;
 
 pub use state::State;

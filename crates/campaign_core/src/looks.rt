@@ -1,11 +1,24 @@
 ghost use Rattle.std.specs.Prelude.{◌≡◌, ℕ, ◌<◌, ◌^◌, length, is_some};
 ghost use Rattle.std.specs.List.{list_any};
 ghost use Rattle.std.specs.Str.{bytes_eq};
-ghost use Rattle.rulebook.specs.Campaign.{has_topics, topics as topics_of, topics_in, runs, is_taken, line_count as lines_of, submitted_lines as submitted_lines_of};
+ghost use Rattle.rulebook.specs.Campaign.{rules_of, has_topics, topics as topics_of, topics_in, runs, is_taken, line_count as lines_of, submitted_lines as submitted_lines_of};
 ghost use Rattle.rulebook.specs.Answers.{unknown_line};
 
 use rulebook::{Command, Entry};
 use trec_formats::{Topic, TopicList};
+
+/// The depth of the rules that the first entry has.
+pub(crate) fn depth(history: &[Entry]) -> u32
+    ensures { result ≡ (rules_of history.now).depth }
+{
+    match history.first() {
+        Some(entry) => match &entry.core.command {
+            Command::Found { rules } => u32::from(rules.depth),
+            _ => 0,
+        },
+        None => 0,
+    }
+}
 
 /// Whether the campaign has its topics.
 pub(crate) fn has_topics(history: &[Entry]) -> bool

@@ -2,21 +2,21 @@ ghost use Rattle.std.specs.Prelude.{◌≡◌, ◌≤◌, ◌<◌, ◌^◌, ◌+
 ghost use Rattle.rulebook.specs.declared.limits.TheConstants.{MAX_LINES, MAX_DOCNOS, MAX_ENTRY_BYTES};
 ghost use Rattle.rulebook.specs.declared.ask.Ask.TheVariants.{Act};
 ghost use Rattle.rulebook.specs.Words.{each_once};
-ghost use Rattle.rulebook.specs.Campaign.{line_count as lines_of, submitted_lines as submitted_lines_of, submitted_docnos, lines_with, docnos_with};
-ghost use Rattle.rulebook.specs.Answers.{topics_ruling, submit_ruling, pool_ruling, ruled, reply_of, moment_after};
+ghost use Rattle.rulebook.specs.declared.rules.Phase.TheVariants.{Collecting};
+ghost use Rattle.rulebook.specs.Refusals.{is_phase};
+ghost use Rattle.rulebook.specs.Campaign.{History, phase as phase_of, line_count as lines_of, submitted_lines as submitted_lines_of, submitted_docnos, lines_with, docnos_with};
+ghost use Rattle.rulebook.specs.Answers.{topics_ruling, submit_ruling, open_ruling, ruled, moment_after};
 ghost use Rattle.rulebook.specs.Spelling.{command_bytes};
 ghost use Rattle.rulebook.specs.Legal.{is_built};
 ghost use Rattle.campaign_core.specs.Growth.{BeginsWith, lists_in};
 
 use crate::docnos::add_docnos;
 use crate::looks::{
-    has_topic, has_topics, is_taken, line_count, submitted_lines, submitted_runs, topics,
-    unknown_line,
+    has_topics, is_taken, line_count, submitted_lines, submitted_runs, unknown_line,
 };
-use crate::pools::pool;
 use decimal_rank::{Memory, Names, Text};
 use rulebook::{
-    Command, Entry, EntryCore, MAX_DOCNOS, MAX_LINES, MAX_RUNS, MAX_TOPICS, Quantity, Refusal,
+    Command, Entry, EntryCore, MAX_DOCNOS, MAX_LINES, MAX_RUNS, MAX_TOPICS, Phase, Quantity, Refusal,
     Reply,
 };
 use std::alloc::Global;
@@ -35,11 +35,13 @@ pub(crate) fn moment_after(history: &[Entry], moment: u64) -> u64
 /// What a command comes to. Where it is accepted, its docnos are added to those of the history.
 pub(crate) fn ruled(
     history: &[Entry],
+    phase: Phase,
     docnos: &mut Names,
     core: &EntryCore,
 ) -> Result<Result<Reply, Refusal>, Memory>
     requires built { IsTrue (is_built (Act core.now.command)) }
     requires short { length (command_bytes core.now.command) ≤ MAX_ENTRY_BYTES }
+    requires phase { phase ≡ phase_of history.now }
     requires docnos_are { docnos.old ≡ each_once (submitted_docnos history.now) }
     requires docnos_fit { length docnos.old ≤ MAX_DOCNOS }
     requires lines_fit { submitted_lines_of history.now ≤ MAX_LINES }
@@ -53,15 +55,26 @@ pub(crate) fn ruled(
     ensures grown { BeginsWith docnos.old docnos.new }
 {
     match &core.command {
-        Command::Topics { topics } => Ok(topics_ruling(history, topics.items())),
-        Command::Submit { run, lists } => submit_ruling(history, docnos, run, lists.items()),
+        Command::Topics { topics } => Ok(topics_ruling(history, phase, topics.items())),
+        Command::Submit { run, lists } => {
+            submit_ruling(history, phase, docnos, run, lists.items())
+        }
+        Command::Open => Ok(open_ruling(phase)),
         _ => unreachable!(),
     }
 }
 
-pub(crate) fn topics_ruling(history: &[Entry], topics: &[Topic]) -> Result<Reply, Refusal>
+pub(crate) fn topics_ruling(
+    history: &[Entry],
+    phase: Phase,
+    topics: &[Topic],
+) -> Result<Reply, Refusal>
+    requires { phase ≡ phase_of history.now }
     ensures { result ≡ topics_ruling history.now topics.now }
 {
+    if !is_collecting(phase) {
+        return Err(Refusal::WrongPhase { phase });
+    }
     if has_topics(history) {
         return Err(Refusal::TopicsFixed);
     }
@@ -77,6 +90,7 @@ pub(crate) fn topics_ruling(history: &[Entry], topics: &[Topic]) -> Result<Reply
 
 fn submit_ruling(
     history: &[Entry],
+    phase: Phase,
     docnos: &mut Names,
     run: &Text,
     lists: &[TopicList],
@@ -85,12 +99,16 @@ fn submit_ruling(
     requires docnos_fit { length docnos.old ≤ MAX_DOCNOS }
     requires lines_fit { submitted_lines_of history.now ≤ MAX_LINES }
     requires within { length lists.now + lines_of lists.now ≤ MAX_ENTRY_BYTES }
+    requires phase { phase ≡ phase_of history.now }
     ensures ruling { IfOk result (λ told. told ≡ submit_ruling history.now run.now lists.now) }
     ensures lines { IfOk result (λ told. OnOk told (lines_with history.now lists.now ≤ MAX_LINES)) }
     ensures docnos { IfOk result (λ told. OnOk told (docnos.new ≡ docnos_with history.now lists.now)) }
     ensures docnos_fit { IfOk result (λ told. OnOk told (length docnos.new ≤ MAX_DOCNOS)) }
     ensures grown { BeginsWith docnos.old docnos.new }
 {
+    if !is_collecting(phase) {
+        return Ok(Err(Refusal::WrongPhase { phase }));
+    }
     if is_taken(history, run.bytes()) {
         return Ok(Err(Refusal::TagTaken));
     }
@@ -115,6 +133,22 @@ fn submit_ruling(
     }))
 }
 
+fn open_ruling(phase: Phase) -> Result<Reply, Refusal>
+    ensures { (H : History) → phase ≡ phase_of H → result ≡ open_ruling H }
+{
+    if is_collecting(phase) {
+        Ok(Reply::Done)
+    } else {
+        Err(Refusal::WrongPhase { phase })
+    }
+}
+
+fn is_collecting(phase: Phase) -> bool
+    ensures { result ≡ is_phase Collecting phase }
+{
+    matches!(phase, Phase::Collecting)
+}
+
 fn limit(which: Quantity) -> Refusal
     ensures { result ≡ Refusal.Limit which }
 {
@@ -127,14 +161,4 @@ pub(crate) fn exceeds(limit: u32, before: u64, added: u64) -> bool
     ensures { result ≡ nat_lt limit (before + added) }
 {
     before + added > limit as u64
-}
-
-pub(crate) fn pool_reply(alloc: Global, history: &[Entry], topic: Text) -> Result<Reply, Memory>
-    ensures { IfOk result (λ reply. reply ≡ reply_of (pool_ruling history.now topic)) }
-{
-    if !has_topic(topics(history), topic.bytes()) {
-        return Ok(Reply::Refused(Refusal::UnknownTopic));
-    }
-    let docs = pool(alloc, history, topic.bytes())?;
-    Ok(Reply::Pool { topic, docs })
 }

@@ -1,17 +1,24 @@
-ghost use Rattle.std.specs.Prelude.{◌≡◌, ℕ, ◌<◌, ◌≤◌, ◌∷◌, [], ◌++◌, length, MatchResult, vec_len, vec_capacity, IfOk, OnOk, OnErr, IsTrue, None, Some};
+ghost use Rattle.std.specs.Prelude.{◌≡◌, ℕ, List, ◌<◌, ◌≤◌, ◌∷◌, [], ◌++◌, length, map, MatchResult, vec_len, vec_capacity, IfOk, OnOk, OnErr, IsTrue, None, Some};
 ghost use Rattle.rulebook.specs.declared.ask.Ask.TheVariants.{Act};
-ghost use Rattle.rulebook.specs.declared.limits.TheConstants.{MAX_ENTRIES, MAX_LINES, MAX_DOCNOS};
+ghost use Rattle.rulebook.specs.declared.limits.TheConstants.{MAX_ENTRIES, MAX_LINES, MAX_DOCNOS, MAX_RUNS};
 ghost use Rattle.rulebook.specs.Words.{each_once};
-ghost use Rattle.rulebook.specs.Spelling.{are_rules};
-ghost use Rattle.rulebook.specs.Campaign.{phase as phase_of, submitted_lines, submitted_docnos};
+ghost use Rattle.rulebook.specs.Spelling.{are_rules, differ};
+ghost use Rattle.rulebook.specs.Campaign.{docs_on, phase as phase_of, runs, submitted_lines, submitted_docnos};
 ghost use Rattle.rulebook.specs.Answers.{answer, moment_after as moment_of, ruled as ruled_of};
-ghost use Rattle.rulebook.specs.Legal.{is_well_addressed, founding, IsLegal};
-ghost use Rattle.campaign_core.specs.Growth.{BeginsWith};
+ghost use Rattle.rulebook.specs.Legal.{is_built, is_well_addressed, founding, IsLegal};
+ghost use Rattle.campaign_core.specs.Growth.{BeginsWith, lists_in};
 ghost use Rattle.campaign_core.specs.Joining.{MayJoin};
+ghost use Rattle.campaign_core.specs.Numbers.{are_named};
+ghost use Rattle.campaign_core.specs.Plans.{CarriesOut, RoomFor, phase_after, topics_after};
 ghost use Rattle.campaign_core.specs.State.{IsRuling, IsVerdict};
+ghost use Rattle.campaign_core.specs.Topics.{kept};
 
-use crate::rulings::{moment_after, pool_reply, ruled};
+use crate::plans::{Plan, plan_of};
+use crate::pools::pool_reply;
+use crate::rulings::{moment_after, ruled};
+use crate::topics::{TopicState, add_runs};
 use crate::verdict::{Prepared, Verdict};
+use depth_pool::greatest_run_goes_last;
 use decimal_rank::{Memory, Names, Steps, Text};
 use rulebook::{
     Ask, Caller, Command, Entry, EntryCore, MAX_ENTRIES, Phase, Quantity, Query, Refusal, Reply,
@@ -27,11 +34,21 @@ use std::sync::ledger::Ledger;
 #[derive(Drop)]
 pub struct State {
     history: Vec<Entry>,
+    phase: Phase,
     /// The docnos of the history, and then those of the last request that was prepared.
     docnos: Names,
     /// How many docnos the history has.
     docnos_kept: u32,
-    prepared: Option<Snapshot<Entry>>,
+    /// The campaign's topics, in the order of their entry.
+    topics: Vec<TopicState>,
+    prepared: Option<Ready>,
+}
+
+/// The entry that is prepared, and what it changes beside the history.
+#[derive(Drop)]
+struct Ready {
+    entry: Snapshot<Entry>,
+    plan: Plan,
 }
 
 impl Model for State {
@@ -44,7 +61,7 @@ impl Model for State {
 
     ghost view = { λ s. record {
       history = s.history.items;
-      prepared = option_map (λ e. e.value) s.prepared;
+      prepared = option_map (λ ready. ready.entry.value) s.prepared;
     } };
 
     ghost invariant = { IsKept };
@@ -74,8 +91,10 @@ impl State {
         })?;
         Ok(State {
             history,
+            phase: Phase::Collecting,
             docnos: Names::new(alloc),
             docnos_kept: 0,
+            topics: Vec::new(alloc),
             prepared: None,
         })
     }
@@ -91,7 +110,7 @@ impl State {
     pub fn phase(&self) -> Phase
         ensures { result ≡ phase_of self.now.history }
     {
-        Phase::Collecting
+        self.phase
     }
 
     /// Works out what the rules answer. What was prepared before and not committed is dropped.
@@ -114,7 +133,9 @@ impl State {
             Ask::Act(command) => self.prepare_command(who, number, command, moment),
             Ask::See(Query::Pool { topic }) => {
                 let alloc = *self.history.allocator();
-                Ok(Verdict::Told(pool_reply(alloc, &self.history, topic)?))
+                self.docnos.cut(self.docnos_kept);
+                let reply = pool_reply(alloc, &self.topics, &self.docnos, topic)?;
+                Ok(Verdict::Told(reply))
             }
             Ask::See(_) => unreachable!(),
         }
@@ -131,7 +152,11 @@ impl State {
         let reply = p.reply;
         self.history.push_reserved(p.entry);
         self.docnos_kept = self.docnos.len();
-        self.prepared = None;
+        // a run of the greatest number stands last in a pool
+        greatest_run_goes_last();
+        if let Some(ready) = self.prepared.take() {
+            carry_out(ready.plan, &mut self.topics, &mut self.phase);
+        }
         reply
     }
 
@@ -178,9 +203,18 @@ impl State {
             command,
         };
         self.docnos.cut(self.docnos_kept);
-        match accepted(&mut self.history, &mut self.docnos, core)? {
-            Ok(prepared) => {
-                self.prepared = Some(Snapshot::of(&prepared.entry));
+        match accepted(
+            &mut self.history,
+            self.phase,
+            &mut self.topics,
+            &mut self.docnos,
+            core,
+        )? {
+            Ok((prepared, plan)) => {
+                self.prepared = Some(Ready {
+                    entry: Snapshot::of(&prepared.entry),
+                    plan,
+                });
                 Ok(Verdict::Ready(prepared))
             }
             Err(refusal) => Ok(Verdict::Told(Reply::Refused(refusal))),
@@ -188,29 +222,48 @@ impl State {
     }
 }
 
-/// The entry of a command with its docnos added, or the first refusal of the command.
+/// Carries out the plan of an entry that joins the history.
+fn carry_out(plan: Plan, topics: &mut Vec<TopicState>, phase: &mut Phase)
+    requires rooms { RoomFor plan topics.old.items }
+    ensures topics { map kept topics.new.items ≡ topics_after plan topics.old.items }
+    ensures phase { phase.new ≡ phase_after plan phase.old }
+{
+    match plan {
+        Plan::Topics(given) => *topics = given,
+        Plan::Run(run) => add_runs(topics, run),
+        Plan::Open => *phase = Phase::Judging,
+    }
+}
+
+/// The entry of a command with its docnos added and its plan, or the first refusal of the command.
 fn accepted(
     history: &mut Vec<Entry>,
+    phase: Phase,
+    topics: &mut Vec<TopicState>,
     docnos: &mut Names,
     core: EntryCore,
-) -> Result<Result<Prepared, Refusal>, Memory>
+) -> Result<Result<(Prepared, Plan), Refusal>, Memory>
     requires addressed { IsTrue (is_well_addressed core.caller core.number (Act core.command) core.moment) }
+    requires phase { phase ≡ phase_of history.old.items }
     requires latest { moment_of history.old.items core.moment ≡ core.moment }
     requires entries_fit { length history.old.items < MAX_ENTRIES }
     requires docnos_are { docnos.old ≡ each_once (submitted_docnos history.old.items) }
     requires docnos_fit { length docnos.old ≤ MAX_DOCNOS }
     requires lines_fit { submitted_lines history.old.items ≤ MAX_LINES }
+    requires runs_fit { length (runs history.old.items) ≤ MAX_RUNS }
     ensures history { history.new.items ≡ history.old.items }
+    ensures topics { map kept topics.new.items ≡ map kept topics.old.items }
     ensures grown { BeginsWith docnos.old docnos.new }
     ensures ruling { let ruling = ruled_of history.old.items core.caller core.moment core.command in
         IfOk result (IsRuling ruling) }
-    ensures core { IfOk result (λ accepted. IfOk accepted (λ entry. entry.core ≡ core)) }
-    ensures joins { IfOk result (λ accepted. IfOk accepted (MayJoin history.old.items docnos.new)) }
+    ensures core { IfOk result (λ accepted. IfOk accepted (λ ready. ready.0.core ≡ core)) }
+    ensures joins { IfOk result (λ accepted. IfOk accepted (λ ready. MayJoin history.old.items docnos.new ready.0)) }
     ensures room { let has_room = vec_len history.new < vec_capacity history.new in
         IfOk result (λ accepted. OnOk accepted has_room) }
+    ensures plan { IfOk result (λ accepted. IfOk accepted (λ ready. CarriesOut history.old.items docnos.new topics.new.items core.command ready.1)) }
 {
-    match ruled(history, docnos, &core)? {
-        Ok(reply) => Ok(Ok(made_ready(history, core, reply)?)),
+    match ruled(history, phase, docnos, &core)? {
+        Ok(reply) => Ok(Ok(made_ready(history, topics, docnos, core, reply)?)),
         Err(refusal) => {
             drop(core);
             Ok(Err(refusal))
@@ -218,17 +271,31 @@ fn accepted(
     }
 }
 
-/// The entry of an accepted command, for which the history then has room.
-fn made_ready(history: &mut Vec<Entry>, core: EntryCore, reply: Reply) -> Result<Prepared, Memory>
+/// The entry of an accepted command, and its plan. The history and the topics then have room.
+fn made_ready(
+    history: &mut Vec<Entry>,
+    topics: &mut Vec<TopicState>,
+    docnos: &Names,
+    core: EntryCore,
+    reply: Reply,
+) -> Result<(Prepared, Plan), Memory>
+    requires built { IsTrue (is_built (Act core.command)) }
+    requires few { (topic : List ℕ) → length (docs_on (lists_in core.command) topic) ≤ 1000 }
+    requires distinct { (topic : List ℕ) → IsTrue (differ (docs_on (lists_in core.command) topic)) }
+    requires named { (topic : List ℕ) → IsTrue (are_named docnos.now (docs_on (lists_in core.command) topic)) }
+    requires runs { length (runs history.old.items) < 65536 }
     ensures history { history.new.items ≡ history.old.items }
+    ensures topics { map kept topics.new.items ≡ map kept topics.old.items }
     ensures room { OnOk result (vec_len history.new < vec_capacity history.new) }
-    ensures entry { IfOk result (λ prepared. prepared ≡ record { core = core; reply = reply }) }
+    ensures entry { IfOk result (λ ready. ready.0 ≡ record { core = core; reply = reply }) }
+    ensures plan { IfOk result (λ ready. CarriesOut history.old.items docnos.now topics.new.items core.command ready.1) }
 {
     history.reserve(1)?;
     let alloc = *history.allocator();
+    let plan = plan_of(alloc, history, topics, docnos, &core.command)?;
     let entry = Entry {
         core,
         reply: reply.copy(alloc)?,
     };
-    Ok(Prepared { entry, reply })
+    Ok((Prepared { entry, reply }, plan))
 }

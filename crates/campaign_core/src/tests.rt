@@ -124,6 +124,15 @@ fn topics(alloc: Global, state: &mut State) -> Result<Reply, Memory> {
     )
 }
 
+// The reply to the Open command.
+fn opened(alloc: Global, state: &mut State) -> Result<Reply, Memory> {
+    answered(
+        state,
+        &caller(alloc, b"org", Role::Organiser)?,
+        Ask::Act(Command::Open),
+    )
+}
+
 // A run with one list, on the topic 1.
 fn run_of(alloc: Global, run: &[u8], docs: &[u8]) -> Result<Ask, Memory>
     ensures { let docs = map (λ doc. doc ∷ []) docs.now in
@@ -282,6 +291,31 @@ fn refused_requests_add_nothing(rt: HostRuntime) -> Result<(), Fail> {
     Ok(())
 }
 
+fn is_wrong_phase(reply: &Reply) -> bool {
+    matches!(
+        reply,
+        Reply::Refused(Refusal::WrongPhase {
+            phase: Phase::Judging
+        })
+    )
+}
+
+#[test]
+fn an_opened_campaign_takes_no_runs(rt: HostRuntime) -> Result<(), Fail> {
+    let alloc = rt.alloc();
+    let mut state = campaign(alloc, 3)?;
+    submitted(alloc, &mut state, b"X", b"abe")?;
+    assert!(rt; matches!(opened(alloc, &mut state)?, Reply::Done));
+    assert_eq!(rt; state.phase(), Phase::Judging);
+    assert!(rt; is_wrong_phase(&submitted(alloc, &mut state, b"Y", b"cdf")?));
+    assert!(rt; is_wrong_phase(&topics(alloc, &mut state)?));
+    assert!(rt; is_wrong_phase(&opened(alloc, &mut state)?));
+    assert_eq!(rt; state.entries(), 4);
+    let docs = pool(alloc, &mut state, b"1")?;
+    assert_eq!(rt; pooled(alloc, &docs)?.as_slice(), b"abe".as_slice());
+    Ok(())
+}
+
 #[test]
 fn a_cancelled_run_leaves_nothing(rt: HostRuntime) -> Result<(), Fail> {
     let alloc = rt.alloc();
@@ -303,14 +337,14 @@ fn no_more_topics_than_the_limit(rt: HostRuntime) -> Result<(), Fail> {
     }
     assert!(rt;
         matches!(
-            topics_ruling(&[], &topics),
+            topics_ruling(&[], Phase::Collecting, &topics),
             Ok(Reply::Topics { topics: 250 })
         )
     );
     topics.push(topic(alloc, b"2")?)?;
     let which = Quantity::Topics;
     assert_eq!(rt;
-        topics_ruling(&[], &topics).err(),
+        topics_ruling(&[], Phase::Collecting, &topics).err(),
         Some(Refusal::Limit { which })
     );
     Ok(())

@@ -77,8 +77,8 @@ impl Names {
         self.set[doc.0 as usize].as_slice()
     }
 
-    // The name of a number, and nothing past the end.
-    pub(crate) fn docno(&self, doc: DocId) -> &[u8]
+    /// The name of a number, and no byte where there is none.
+    pub fn docno(&self, doc: DocId) -> &[u8]
         ensures { result.now ≡ docno_of self.now doc.0 }
     {
         match self.set.get_index(doc.0 as usize) {

@@ -6,6 +6,7 @@ use Rattle.trec_formats.specs.declared.TopicList.{TopicList}
 use Rattle.rulebook.specs.declared.rules.Rules.{Rules}
 use Rattle.rulebook.specs.declared.rules.Role.TheVariants.{Organiser, Group}
 use Rattle.rulebook.specs.declared.rules.Caller.{Caller}
+use Rattle.rulebook.specs.declared.rules.Phase.TheVariants.{Collecting, Judging}
 use Rattle.rulebook.specs.declared.ask.Command.{Command}
 use Rattle.rulebook.specs.declared.ask.Command.TheVariants as command
 use Rattle.rulebook.specs.declared.ask.Query.TheVariants as query
@@ -18,7 +19,7 @@ use Rattle.rulebook.specs.declared.reply.Reply.TheVariants as reply
 use Rattle.rulebook.specs.declared.entry.Entry.{Entry}
 use Rattle.rulebook.specs.declared.limits.TheConstants.{MAX_LINES, MAX_DOCNOS, MAX_ENTRIES, MAX_MOMENT, MAX_ENTRY_BYTES}
 use Rattle.rulebook.specs.Words.{Text}
-use Rattle.rulebook.specs.Campaign.{History, pool}
+use Rattle.rulebook.specs.Campaign.{History, phase, pool}
 use Rattle.rulebook.specs.Answers.{answer}
 use Rattle.rulebook.specs.Legal.{core_of, founding, is_well_addressed, IsLegal}
 
@@ -118,6 +119,39 @@ as-many-topics-as-there-may-be = refl
 -- An older moment doesn't count: the entry is of the last entry's moment.
 older-moment : (answer (campaign 3) group None (Act (submitted (codes "Z") (codes "a" ∷ []))) 900).added ≡ (answer (campaign 3) group None (Act (submitted (codes "Z") (codes "a" ∷ []))) 1000).added
 older-moment = refl
+
+-- Once it is opened, a campaign takes no topics and no runs, and isn't opened again.
+abbrev opened : History
+opened = after (campaign 3) organiser command.Open
+
+opening : replied (campaign 3) organiser (Act command.Open) ≡ reply.Done
+opening = refl
+
+judging-from-then-on : phase opened ≡ Judging
+judging-from-then-on = refl
+
+collecting-before : phase (campaign 3) ≡ Collecting
+collecting-before = refl
+
+no-run-after-opening : replied opened group (Act (submitted (codes "Z") (codes "a" ∷ []))) ≡ reply.Refused (refusal.WrongPhase Judging)
+no-run-after-opening = refl
+
+phase-before-name : replied opened group (Act X) ≡ reply.Refused (refusal.WrongPhase Judging)
+phase-before-name = refl
+
+no-topics-after-opening : replied opened organiser (Act (command.Topics (pooling ∷ []))) ≡ reply.Refused (refusal.WrongPhase Judging)
+no-topics-after-opening = refl
+
+opened-once : replied opened organiser (Act command.Open) ≡ reply.Refused (refusal.WrongPhase Judging)
+opened-once = refl
+
+pool-after-opening : pool opened (codes "1") ≡ pool (campaign 3) (codes "1")
+pool-after-opening = refl
+
+opened-is-legal : IsLegal opened
+unfolding is_name is_docno
+opened-is-legal =
+    ((rules 3, refl, refl), (record { addressed = refl; added = refl }, (record { addressed = refl; added = refl }, (record { addressed = refl; added = refl }, (record { addressed = refl; added = refl }, tt)))))
 
 addressed : is_well_addressed group None (Act X) 1000 ≡ true
 unfolding is_name is_docno

@@ -45,10 +45,14 @@ submit_ruling H run lists =
     ∷ (refusal.Limit quantity.Docnos when nat_lt MAX_DOCNOS (length (docnos_with H lists))) ∷ [])
     (Ok (reply.Submitted run (length lists) (line_count lists)))
 
+abbrev pub open_ruling : History → Ruling
+open_ruling H = unless (wrong_phase_unless Collecting H ∷ []) (Ok reply.Done)
+
 -- What a caller's command comes to at a moment. No request gives another command yet.
 abbrev pub ruled : History → Caller → ℕ → Command → Ruling
 ruled H who now (command.Topics topics) = topics_ruling H topics
 ruled H who now (command.Submit run lists) = submit_ruling H run lists
+ruled H who now command.Open = open_ruling H
 ruled H who now _ = Err (refusal.WrongPhase (phase H))
 
 -- What each query comes to.

@@ -1,5 +1,5 @@
 -- Rules, phase, topics, runs and pools of a campaign whose list of accepted entries is H.
-use Rattle.std.specs.Prelude.{ℕ, Bool, ◌+◌, List, [], ◌++◌, Option, None, Some, ◌∷◌, take, length, unwrap_or, is_some, slice_get, sum_by}
+use Rattle.std.specs.Prelude.{ℕ, Bool, true, false, if◌then◌else◌, ◌+◌, List, [], ◌++◌, Option, None, Some, ◌∷◌, take, length, unwrap_or, is_some, slice_get, sum_by}
 use Rattle.std.specs.List.{list_any, filter_map, find, flat_map}
 use Rattle.std.specs.Option.{option_map_or}
 use Rattle.std.specs.Str.{bytes_eq}
@@ -7,7 +7,7 @@ use Rattle.trec_formats.specs.declared.Topic.{Topic}
 use Rattle.trec_formats.specs.declared.TopicList.{TopicList}
 use Rattle.rulebook.specs.declared.rules.Rules.{Rules}
 use Rattle.rulebook.specs.declared.rules.Phase.{Phase}
-use Rattle.rulebook.specs.declared.rules.Phase.TheVariants.{Collecting}
+use Rattle.rulebook.specs.declared.rules.Phase.TheVariants.{Collecting, Judging, Published}
 use Rattle.rulebook.specs.declared.ask.Command.{Command}
 use Rattle.rulebook.specs.declared.ask.Command.TheVariants as command
 use Rattle.rulebook.specs.declared.entry.Entry.{Entry}
@@ -33,9 +33,19 @@ rules_of (e ∷ _) = unwrap_or (rules_in e.core.command) no_rules
 
 -- Phase
 
--- Collecting from the founding on. No entry ends it yet: an Open entry will make it Judging, and a Publish entry Published.
+abbrev pub opens : Command → Bool
+opens command.Open = true
+opens _ = false
+
+abbrev pub publishes : Command → Bool
+publishes command.Publish = true
+publishes _ = false
+
+-- Collecting from the founding on, Judging from an Open entry on, Published from a Publish entry on
 abbrev pub phase : History → Phase
-phase H = Collecting
+phase H =
+    if list_any (λ e. publishes e.core.command) H then Published
+    else (if list_any (λ e. opens e.core.command) H then Judging else Collecting)
 
 -- Topics
 

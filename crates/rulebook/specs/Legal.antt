@@ -23,6 +23,7 @@ use Rattle.rulebook.specs.Campaign.{History}
 abbrev pub is_built : Ask → Bool
 is_built (Act (command.Topics topics)) = true
 is_built (Act (command.Submit run lists)) = true
+is_built (Act command.Open) = true
 is_built (See (query.Pool topic)) = true
 is_built _ = false
 

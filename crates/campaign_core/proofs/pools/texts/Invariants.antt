@@ -1,5 +1,6 @@
 use Rattle.std.proofs.Common.{◌≡◌, map, take}
+use Rattle.decimal_rank.specs.Names.{docno_of}
 use Rattle.campaign_core.proofs.pools.texts.Given as goal
 
-abbrev pub invariant-loop-docno : goal.invariant-loop-docno
-invariant-loop-docno l = l.texts.items ≡ map (λ docno. docno.now) (take l.docno-index l.docnos)
+abbrev pub invariant-loop-doc : goal.invariant-loop-doc
+invariant-loop-doc l = l.texts.items ≡ map (λ doc. docno_of l.docnos doc.0) (take l.doc-index l.docs)

@@ -1,16 +1,37 @@
-use Rattle.std.proofs.Common.{◌≡◌, ◌++◌, ◌∙◌, ap, sym, rules, Ok}
-use Rattle.rulebook.specs.Words.{each_once}
+use Rattle.std.proofs.Common.{◌≡◌, ◌++◌, ◌∙◌, ◌<◌, ap, sym, rules, Ok, true, ℕ, List, length, arith}
+use Rattle.rulebook.specs.Words.{contains_text, each_once}
 use Rattle.rulebook.specs.Campaign.{submitted_docnos, docnos}
+use Rattle.rulebook.specs.Spelling.{is_plain}
 use Rattle.rulebook.specs.Answers.{ruled}
 use Rattle.campaign_core.specs.Growth.{lists_in}
+use Rattle.campaign_core.specs.Numbers.{are_named}
 use Rattle.campaign_core.proofs.Legality.{accepted-by}
 use Rattle.campaign_core.proofs.HistoryGrowth.{submitted_lines-core, submitted_docnos-core}
+use Rattle.campaign_core.proofs.Naming.{each_named}
+use Rattle.campaign_core.proofs.PoolFacts.{lists-named}
+use Rattle.campaign_core.proofs.Tests.{all_back}
+use Rattle.campaign_core.proofs.Told.{docs-plain, plain-of}
 use Rattle.campaign_core.proofs.state.accepted.Goals as goal
+
+pub made_ready-requires-clause-few : goal.made_ready-requires-clause-few
+made_ready-requires-clause-few c = λ topic. (docs-plain c.args.core.command topic (plain-of c.args.core.caller c.args.core.number c.args.core.command c.args.core.moment c.requires.addressed)).0
+
+pub made_ready-requires-clause-distinct : goal.made_ready-requires-clause-distinct
+made_ready-requires-clause-distinct c = λ topic. (docs-plain c.args.core.command topic (plain-of c.args.core.caller c.args.core.number c.args.core.command c.args.core.moment c.requires.addressed)).1
+
+pub made_ready-requires-clause-named : goal.made_ready-requires-clause-named
+made_ready-requires-clause-named c = λ topic.
+    let H = c.args.history.now.items in
+    let lists = lists_in c.args.core.command in
+    let added : c.ruled.new.docnos ≡ each_once (submitted_docnos H ++ docnos lists) = search rules in
+    let all : are_named c.ruled.new.docnos (docnos lists) ≡ true =
+    rw added (all_back (contains_text (each_once (submitted_docnos H ++ docnos lists))) (submitted_docnos H) (docnos lists) (each_named (submitted_docnos H ++ docnos lists))) in
+    lists-named c.ruled.new.docnos lists all topic
 
 pub returns-in_ok-made_ready-in-Ok-clause-joins : goal.returns-in_ok-made_ready-in-Ok-clause-joins
 returns-in_ok-made_ready-in-Ok-clause-joins c =
     let H = c.args.history.now.items in
-    let entry = c.in_ok-made_ready-in-Ok.field-0 in
+    let entry = c.in_ok-made_ready-in-Ok.field-0.0 in
     let added : c.ruled.new.docnos ≡ each_once (submitted_docnos H ++ docnos (lists_in c.args.core.command)) = search rules in
     let ruled_ok : ruled H c.args.core.caller c.args.core.moment c.args.core.command ≡ Ok entry.reply = search rules in
     record {

@@ -1,14 +1,28 @@
-use Rattle.std.proofs.Common.{◌≡◌, ◌++◌, ◌∷◌, [], Some, ap, ◌∙◌, refl}
+use Rattle.std.proofs.Common.{◌≡◌, ◌++◌, ◌∷◌, [], Some, ap, sym, ◌∙◌, refl}
 use Rattle.std.specs.Option.{option_map}
-use Rattle.campaign_core.proofs.Commits.{ready-of, kept-after}
+use Rattle.rulebook.specs.declared.entry.Entry.{Entry}
+use Rattle.campaign_core.specs.declared.state.Ready.{Ready}
+use Rattle.campaign_core.proofs.Commits.{carried-out, is-ready, kept-after, room-for, same-entry}
 use Rattle.campaign_core.proofs.state.State.commit.Goals as goal
+
+pub carry_out-requires : goal.carry_out-requires
+carry_out-requires g c =
+    let s = c.self.inside in
+    let p = c.in-Some.ready in
+    let ready = is-ready s p (sym c.take.ensures.value ∙ c.in-Some.is) c.self.invariant in
+    record { rooms = room-for s p.entry.value p.plan c.self.invariant ready.carries_out }
 
 pub invariant_of-self : goal.invariant_of-self
 invariant_of-self g c =
-    let prepared : option_map (λ p. p.value) c.self.inside.prepared ≡ Some c.args.p = ap (λ seen. seen.prepared) c.self.view_is ∙ c.requires in
-    let grown : c.push_reserved.new.self.items ≡ c.self.inside.history.items ++ c.args.p ∷ []
-    = c.push_reserved.ensures.items ∙ ap (λ e. c.self.inside.history.items ++ e ∷ []) c.p.view_is in
-    kept-after c.self.inside _ c.args.p c.self.invariant (ready-of c.self.inside c.args.p prepared c.self.invariant) grown refl c.len-self-inside.ensures.len refl
+    let s = c.self.inside in
+    let p = c.in-Some.ready in
+    let e = p.entry.value in
+    let there : s.prepared ≡ Some p = sym c.take.ensures.value ∙ c.in-Some.is in
+    let seen : option_map (λ (p : Ready). p.entry.value) s.prepared ≡ Some c.args.p = ap (λ seen. seen.prepared) c.self.view_is ∙ c.requires in
+    let ready = is-ready s p there c.self.invariant in
+    let grown : c.push_reserved.new.self.items ≡ s.history.items ++ e ∷ []
+    = c.push_reserved.ensures.items ∙ ap (λ e. s.history.items ++ e ∷ []) (c.p.view_is ∙ sym (same-entry s.prepared p c.args.p there seen)) in
+    kept-after s _ e p.plan c.self.invariant ready (carried-out c.greatest_run_goes_last.ensures s e p.plan c.self.invariant ready ready.carries_out) grown c.carry_out.ensures.phase refl c.len-self-inside.ensures.len c.carry_out.ensures.topics c.take.ensures.after
 
-pub returns-clause-legal : goal.returns-clause-legal
-returns-clause-legal g c = let kept = invariant_of-self g c in kept.legal
+pub returns-in-Some-clause-legal : goal.returns-in-Some-clause-legal
+returns-in-Some-clause-legal g c = let kept = invariant_of-self g c in kept.legal
