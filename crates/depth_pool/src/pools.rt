@@ -126,7 +126,7 @@ impl Pool {
         // names tell with their length that no name stands twice
         let _ = names.len();
         let mut docs = docs_held(&self.index, alloc)?;
-        docs.sort_unstable_by(|a, b| docno(names, *a).cmp(docno(names, *b)));
+        docs.sort_unstable_by(|a, b| names.docno(*a).cmp(names.docno(*b)));
         Ok(docs)
     }
 }
@@ -138,17 +138,6 @@ fn forget(index: &mut Index, reserved: &mut Option<Vec<DocId>>)
 {
     if let Some(docs) = reserved.take() {
         drop_empties(index, docs.as_slice());
-    }
-}
-
-// The docno of a document, and nothing past the end of the names.
-fn docno(names: &Names, doc: DocId) -> &[u8]
-    ensures { result.now ≡ docno_of names.now doc.0 }
-{
-    if doc.0 < names.len() {
-        names.name(doc)
-    } else {
-        &[]
     }
 }
 
