@@ -38,7 +38,7 @@ use Rattle.campaign_core.proofs.HistoryGrowth.{runs-push}
 use Rattle.campaign_core.proofs.Legality.{IsLegal-push, moment_after-push}
 use Rattle.campaign_core.proofs.Naming.{docs-kept, each_named}
 use Rattle.campaign_core.proofs.PoolFacts.{held-named}
-use Rattle.campaign_core.proofs.Tests.{all_back, all_front, each_cons}
+use Rattle.campaign_core.proofs.ListFacts.{all_back, all_front, each_cons}
 use Rattle.campaign_core.proofs.Told.{no_topics, open-told, plain-of, ruled_ok, some_lists, submit-told, topics-told, topics_known}
 
 -- the entry that clauses see as prepared is the one that is ready

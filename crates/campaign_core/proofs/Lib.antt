@@ -2,9 +2,9 @@ pub mod Accepted
 pub mod Commits
 pub mod HistoryGrowth
 pub mod Legality
+pub mod ListFacts
 pub mod Naming
 pub mod Ordered
 pub mod PoolFacts
 pub mod Queues
 pub mod Told
-pub mod Tests

@@ -10,7 +10,7 @@ use Rattle.std.proofs.lemmas.Cmp.{nat_list_cmp_total}
 use Rattle.std.proofs.lemmas.Map.Text.{is_eq-slice_cmp}
 use Rattle.std.proofs.lemmas.Slice.Eq.{bytes_eq-Decides}
 use Rattle.rulebook.specs.Words.{Text, in_order}
-use Rattle.campaign_core.proofs.Tests.{all_head, all_tail, all_cons, both_true}
+use Rattle.campaign_core.proofs.ListFacts.{all_head, all_tail, all_cons, both_true}
 
 abbrev text_cmp : Text → Text → Ordering
 text_cmp = slice_cmp nat_cmp

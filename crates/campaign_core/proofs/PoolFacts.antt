@@ -23,7 +23,7 @@ use Rattle.campaign_core.specs.Topics.{KeptTopic, held_of, kept, kept_of, pool_o
 use Rattle.campaign_core.specs.declared.topics.TopicState.{TopicState}
 use Rattle.campaign_core.proofs.Naming.{docno-back, docnos-back, each_named, numbers-within}
 use Rattle.campaign_core.proofs.Ordered.{Rises, below, in_order-all, in_order-any, in_order-rises}
-use Rattle.campaign_core.proofs.Tests.{all_back, all_cons, all_front, all_head, all_tail, all_take, and_true, any_map, each_cons, pairs_cons}
+use Rattle.campaign_core.proofs.ListFacts.{all_back, all_cons, all_front, all_head, all_tail, all_take, and_true, any_map, each_cons, pairs_cons}
 
 -- What a run holds is named.
 

@@ -7,7 +7,7 @@ use Rattle.depth_pool.specs.Holdings.{Held, has_run, put_before, with_run}
 use Rattle.mtf_queue.specs.Rule.{IsInOrder}
 use Rattle.campaign_core.specs.Topics.{IsQueued}
 use Rattle.campaign_core.specs.declared.topics.TopicState.{TopicState}
-use Rattle.campaign_core.proofs.Tests.{each_cons}
+use Rattle.campaign_core.proofs.ListFacts.{each_cons}
 
 abbrev numbers : List Held → List RunId
 numbers runs = map (λ held. held.run) runs

@@ -31,7 +31,7 @@ use Rattle.trec_formats.specs.Names.{is_between, is_docno, is_name}
 use Rattle.rulebook.specs.Spelling.{differ, entry_bytes, has_spelling, is_ascending, is_number, is_plain, is_plain_list}
 use Rattle.campaign_core.specs.Growth.{lists_in}
 use Rattle.campaign_core.proofs.Accepted.{collecting-from}
-use Rattle.campaign_core.proofs.Tests.{all_head, all_tail, both_true}
+use Rattle.campaign_core.proofs.ListFacts.{all_head, all_tail, both_true}
 
 -- the tests before an accepted reply don't hold
 

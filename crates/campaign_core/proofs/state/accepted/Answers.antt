@@ -9,7 +9,7 @@ use Rattle.campaign_core.proofs.Legality.{accepted-by}
 use Rattle.campaign_core.proofs.HistoryGrowth.{submitted_lines-core, submitted_docnos-core}
 use Rattle.campaign_core.proofs.Naming.{each_named}
 use Rattle.campaign_core.proofs.PoolFacts.{lists-named}
-use Rattle.campaign_core.proofs.Tests.{all_back}
+use Rattle.campaign_core.proofs.ListFacts.{all_back}
 use Rattle.campaign_core.proofs.Told.{docs-plain, plain-of}
 use Rattle.campaign_core.proofs.state.accepted.Goals as goal
 

@@ -1,7 +1,7 @@
 use Rattle.std.proofs.Common.{◌≡◌, ◌≢◌, ◌<◌, ◌∙◌, ℕ, ap, arith, length, get_or, set, get_or-set_other, get_or-set_same, below_more}
 use Rattle.campaign_core.specs.Topics.{IsQueued, after_run, kept}
 use Rattle.campaign_core.specs.declared.topics.TopicState.{TopicState}
-use Rattle.campaign_core.proofs.Tests.{get_or_default, map_alike}
+use Rattle.campaign_core.proofs.ListFacts.{get_or_default, map_alike}
 use Rattle.campaign_core.proofs.topics.add_runs.Goals as goal
 
 pub returns-clause-kept : goal.returns-clause-kept

@@ -5,7 +5,7 @@ use Rattle.decimal_rank.specs.Places.{AreDistinct}
 use Rattle.rulebook.specs.Words.{contains_text}
 use Rattle.campaign_core.specs.Numbers.{docs_in}
 use Rattle.campaign_core.proofs.Naming.{is_found, numbers-differ}
-use Rattle.campaign_core.proofs.Tests.{all_at}
+use Rattle.campaign_core.proofs.ListFacts.{all_at}
 use Rattle.campaign_core.proofs.topics.ranking_of.Goals as goal
 
 pub unwrap-requires : goal.unwrap-requires

@@ -2,7 +2,7 @@ use Rattle.std.proofs.Common.{◌≡◌, ◌≢◌, ◌<◌, ◌∙◌, ℕ, ari
 use Rattle.campaign_core.specs.Topics.{AwaitsRun, IsQueued, kept}
 use Rattle.campaign_core.specs.declared.topics.TopicState.{TopicState}
 use Rattle.campaign_core.proofs.Queues.{all-set}
-use Rattle.campaign_core.proofs.Tests.{map-set_same}
+use Rattle.campaign_core.proofs.ListFacts.{map-set_same}
 use Rattle.campaign_core.proofs.topics.reserve_runs.Goals as goal
 
 pub returns-in_err-reserve_run-clause-kept : goal.returns-in_err-reserve_run-clause-kept
