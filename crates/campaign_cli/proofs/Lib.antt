@@ -3,6 +3,9 @@ pub mod Grades
 pub mod Judged
 pub mod Listed
 pub mod MemoryForms
+pub mod OnTopic
+pub mod Order
+pub mod Places
 pub mod Printed
 pub mod Ranked
 pub mod Tallies

@@ -1,5 +1,5 @@
--- The tables by which qrels are looked up.
-use Rattle.std.specs.Prelude.{◌≡◌, ◌≢◌, ◌≤◌, ◌+◌, ◌&&◌, ℕ, true, List, Option, length, All, AllPairs, unwrap_or, bytes_eq, nat_le, if◌then◌else◌}
+-- The lines of qrels by topic, and the table by which the grades of a topic are looked up.
+use Rattle.std.specs.Prelude.{◌≡◌, ◌≢◌, ◌≤◌, ℕ, Bool, true, false, List, Option, length, map, filter, find, option_map, count_by, All, AllPairs, bytes_eq, nat_le, nat_lt}
 use Rattle.std.specs.Cmp.Lexicographic.{slice_cmp}
 use Rattle.std.specs.HashMap.{HashMap, get_by}
 use Rattle.std.specs.Ordering.{nat_cmp, is_lt}
@@ -8,37 +8,48 @@ use Rattle.std.specs.declared.hash.BuildHasherDefault.{BuildHasherDefault}
 use denote.Ref.{Bor}
 use Rattle.trec_formats.specs.declared.lists.TopicList.{TopicList}
 use Rattle.trec_formats.specs.declared.qrels.QrelLine.{QrelLine}
+use Rattle.measures.specs.declared.cells.Cell.{Cell}
+use Rattle.measures.specs.Cells.{cell_of}
 use Rattle.campaign_cli.specs.declared.judgements.Tally.{Tally}
-use Rattle.campaign_cli.specs.Evaluations.{level, relevant_on, non_relevant_on}
+use Rattle.campaign_cli.specs.Evaluations.{level}
 
--- how the documents of a topic are judged
-abbrev pub tally_on : List QrelLine → List ℕ → Tally
-tally_on qrels topic = record { relevant = relevant_on qrels topic; others = non_relevant_on qrels topic }
+-- the lines that references lead to
+abbrev pub shown : List (Bor QrelLine) → List QrelLine
+shown lines = map (λ line. line.now) lines
 
-abbrev pub no_tally : Tally
-no_tally = record { relevant = 0; others = 0 }
+-- the lines of a topic
+abbrev pub lines_on : List ℕ → List QrelLine → List QrelLine
+lines_on topic qrels = filter (λ line. bytes_eq line.topic topic) qrels
 
--- one more judged document
-abbrev pub tally_more : Tally → ℕ → Tally
-tally_more tally grade = if nat_le level grade
-    then record { relevant = tally.relevant + 1; others = tally.others }
-    else record { relevant = tally.relevant; others = tally.others + 1 }
+abbrev pub topic_lt : QrelLine → QrelLine → Bool
+topic_lt a b = is_lt (slice_cmp nat_cmp a.topic b.topic)
 
-abbrev pub Tallies : Type 0
-Tallies = HashMap (Bor (List ℕ)) Tally (BuildHasherDefault FoldHasher)
+-- no line's topic is below that of an earlier line
+abbrev pub IsAscending : List QrelLine → Type 0
+IsAscending lines = AllPairs (λ a b. topic_lt b a ≡ false) lines
 
-abbrev pub tally_at : Tallies → List ℕ → Tally
-tally_at tallies topic = unwrap_or (get_by (λ key. bytes_eq topic key.now) tallies) no_tally
+-- the lines by ascending topic, those of each topic in their order
+pub record AreByTopic (qrels order : List QrelLine) : Type 0 where
+  pub ascending : IsAscending order
+  pub same : (topic : List ℕ) → lines_on topic order ≡ lines_on topic qrels
 
--- a topic and a docno
-abbrev pub Key : Type 0
-Key = Bor (List ℕ) × Bor (List ℕ)
+-- how the documents of some lines are judged
+abbrev pub tally_in : List QrelLine → Tally
+tally_in lines = record { relevant = count_by (λ line. nat_le level line.grade) lines; others = count_by (λ line. nat_lt line.grade level) lines }
+
+-- the grade of a document in some lines, of which the first counts
+abbrev pub grade_in : List QrelLine → List ℕ → Option ℕ
+grade_in lines doc = option_map (λ line. line.grade) (find (λ line. bytes_eq line.doc doc) lines)
+
+-- the cell of a topic, by its documents and its lines
+abbrev pub cell_in : List (List ℕ) → List QrelLine → Cell
+cell_in docs lines = cell_of (map (grade_in lines) docs) (tally_in lines).relevant (tally_in lines).others level
 
 abbrev pub Grades : Type 0
-Grades = HashMap Key ℕ (BuildHasherDefault FoldHasher)
+Grades = HashMap (Bor (List ℕ)) ℕ (BuildHasherDefault FoldHasher)
 
-abbrev pub grade_at : Grades → List ℕ → List ℕ → Option ℕ
-grade_at grades topic doc = get_by (λ key. bytes_eq topic key.0.now && bytes_eq doc key.1.now) grades
+abbrev pub grade_at : Grades → List ℕ → Option ℕ
+grade_at grades doc = get_by (λ key. bytes_eq doc key.now) grades
 
 -- ranked lists by ascending topic, each of at most 1,000 documents that differ
 pub record AreRankedLists (lists : List TopicList) : Type 0 where

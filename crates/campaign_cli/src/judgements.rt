@@ -1,6 +1,6 @@
-ghost use Rattle.std.specs.Prelude.{◌≡◌, ◌≤◌, ◌^◌, ◌<◌, ◌+◌, ℕ, List, length, take, IfOk, OnOk, if◌then◌else◌, bytes_eq, option_map};
-ghost use Rattle.campaign_cli.specs.Evaluations.{grade_on, topics_of as qrels_topics};
-ghost use Rattle.campaign_cli.specs.Tables.{tally_on, tally_at, tally_more, grade_at};
+ghost use Rattle.std.specs.Prelude.{◌≡◌, ◌≤◌, ℕ, List, length, IfOk};
+ghost use Rattle.campaign_cli.specs.Evaluations.{topics_of as qrels_topics};
+ghost use Rattle.campaign_cli.specs.Tables.{shown, lines_on, IsAscending, AreByTopic, tally_in, grade_at, grade_in};
 
 use decimal_rank::{Memory, Names};
 use std::alloc::Global;
@@ -31,64 +31,64 @@ pub(crate) fn topics_of(alloc: Global, qrels: &[QrelLine]) -> Result<Names, Memo
     Ok(topics)
 }
 
-/// How the documents of each topic are judged.
-pub(crate) fn tallies_of(alloc: Global, qrels: &[QrelLine]) -> Result<HashMap<&[u8], Tally>, Memory>
-    requires { length qrels.now ≤ 268435456 }
-    ensures { IfOk result (λ tallies. (topic : List ℕ) → tally_at tallies topic ≡ tally_on qrels.now topic) }
+/// References to the lines.
+fn lent(alloc: Global, qrels: &[QrelLine]) -> Result<Vec<&QrelLine>, Memory>
+    ensures { IfOk result (λ order. shown order.items ≡ qrels.now) }
 {
-    let mut tallies = HashMap::new(alloc);
-    for line in qrels {
-        count(&mut tallies, line.topic.bytes(), line.grade)?;
-    }
-    Ok(tallies)
+    Ok(qrels.iter().collect(alloc)?)
 }
 
-fn count<'a>(
-    tallies: &mut HashMap<&'a [u8], Tally>,
-    topic: &'a [u8],
-    grade: u8,
-) -> Result<(), Memory>
-    requires relevant { (tally_at tallies.old topic.now).relevant < 2 ^ 31 }
-    requires others { (tally_at tallies.old topic.now).others < 2 ^ 31 }
-    ensures { OnOk result ((other : List ℕ) → tally_at tallies.new other
-        ≡ (if bytes_eq topic.now other then tally_more (tally_at tallies.old topic.now) grade else tally_at tallies.old other)) }
+/// The lines by ascending topic, those of each topic in their order.
+pub(crate) fn by_topic(alloc: Global, qrels: &[QrelLine]) -> Result<Vec<&QrelLine>, Memory>
+    ensures { IfOk result (λ order. AreByTopic qrels.now (shown order.items)) }
 {
-    let mut tally = tally_of(tallies, topic);
-    if LEVEL <= grade {
-        tally.relevant += 1;
-    } else {
-        tally.others += 1;
-    }
-    tallies.insert(topic, tally)?;
-    Ok(())
+    let mut order = lent(alloc, qrels)?;
+    order.sort_by(|a, b| a.topic.bytes().cmp(b.topic.bytes()))?;
+    Ok(order)
 }
 
-/// How the documents of a topic are judged.
-pub(crate) fn tally_of(tallies: &HashMap<&[u8], Tally>, topic: &[u8]) -> Tally
-    ensures { result ≡ tally_at tallies.now topic.now }
+/// The lines of a topic, in lines by ascending topic.
+pub(crate) fn judged_on<'a, 'b>(order: &'a [&'b QrelLine], topic: &[u8]) -> &'a [&'b QrelLine]
+    requires { IsAscending (shown order.now) }
+    ensures { shown result.now ≡ lines_on topic.now (shown order.now) }
 {
-    match tallies.get(&topic) {
-        Some(tally) => *tally,
-        None => Tally {
-            relevant: 0,
-            others: 0,
-        },
-    }
+    let start = order.partition_point(|line| line.topic.bytes().cmp(topic).is_lt());
+    let end = order.partition_point(|line| line.topic.bytes().cmp(topic).is_le());
+    &order[start..end]
 }
 
-/// The grade of each judged document, by topic and docno.
-pub(crate) fn grades_of(
+/// How the documents of some lines are judged.
+pub(crate) fn tally_of(lines: &[&QrelLine]) -> Tally
+    requires { length lines.now ≤ 268435456 }
+    ensures { result ≡ tally_in (shown lines.now) }
+{
+    let mut tally = Tally {
+        relevant: 0,
+        others: 0,
+    };
+    for line in lines {
+        if LEVEL <= line.grade {
+            tally.relevant += 1;
+        } else {
+            tally.others += 1;
+        }
+    }
+    tally
+}
+
+/// The grade of each document of some lines.
+pub(crate) fn grades_of<'a>(
     alloc: Global,
-    qrels: &[QrelLine],
-) -> Result<HashMap<(&[u8], &[u8]), u8>, Memory>
-    ensures { IfOk result (λ grades. (topic doc : List ℕ) → grade_at grades topic doc ≡ grade_on qrels.now topic doc) }
+    lines: &[&'a QrelLine],
+) -> Result<HashMap<&'a [u8], u8>, Memory>
+    ensures { IfOk result (λ grades. (doc : List ℕ) → grade_at grades doc ≡ grade_in (shown lines.now) doc) }
 {
-    let mut grades = HashMap::with_capacity(alloc, qrels.len())?;
-    for line in qrels {
-        let key = (line.topic.bytes(), line.doc.bytes());
+    let mut grades = HashMap::with_capacity(alloc, lines.len())?;
+    for line in lines {
+        let doc = line.doc.bytes();
         // of two lines the first counts
-        if let Some(first) = grades.insert(key, line.grade)? {
-            grades.insert(key, first)?;
+        if let Some(first) = grades.insert(doc, line.grade)? {
+            grades.insert(doc, first)?;
         }
     }
     Ok(grades)

@@ -1,7 +1,6 @@
 -- Places of documents in a list.
-use Rattle.std.proofs.Common.{◌≡◌, ◌≢◌, ℕ, zero, suc, ◌+◌, ◌-◌, ◌<◌, ◌≤◌, Bool, true, false, cond, not, ltb, eqb, List, [], ◌∷◌, ◌++◌, length, map, take, get_or, Some, None, Option, is_some, slice_get, IfSome, IfNone, refl, sym, ap, ◌∙◌, arith, length-append, add-zero, subst, le_of_lt}
-use Rattle.std.specs.List.{position, position_or_len, AllPairs, enumerate_from, All, Any}
-use Rattle.std.specs.List.Sorted.{IsPermutation, IsNonDecreasingBy}
+use Rattle.std.proofs.Common.{◌≡◌, ◌≢◌, ℕ, suc, ◌+◌, ◌-◌, ◌<◌, ◌≤◌, Bool, true, false, cond, not, ltb, eqb, List, [], ◌∷◌, ◌++◌, length, map, take, get_or, Some, None, Option, is_some, slice_get, IfSome, IfNone, refl, sym, ap, ◌∙◌, arith, length-append, add-zero, subst, le_of_lt}
+use Rattle.std.specs.List.{position, position_or_len, enumerate_from, All, Any}
 use Rattle.std.specs.Option.{option_map}
 use Rattle.std.proofs.lemmas.Bool.Decides.{nat_tests}
 use Rattle.std.proofs.lemmas.List.{take_more, take-map, get_or-map, get_or-take, length-map, map-append, length-take-le}
@@ -9,7 +8,6 @@ use Rattle.std.proofs.lemmas.List.FromFn.{length-enumerate_from, get_or-enumerat
 use Rattle.std.proofs.lemmas.List.Sorted.{All-permutation, IsPermutation-sym}
 use Rattle.std.proofs.lemmas.List.Folds.{position_or_len_push}
 use Rattle.std.proofs.lemmas.List.Quantifiers.{all_pairs_push}
-use Rattle.std.specs.Ordering.{nat_cmp, is_eq}
 use Rattle.std.proofs.lemmas.List.Quantifiers.{position-Some}
 use Rattle.std.proofs.lemmas.Option.{same_Some, slice_get-get_or}
 use borrow.Author.Tests.{eqb-true, lt-ltb}
@@ -133,12 +131,9 @@ place_in-push docs last doc =
 
 -- ---- what a map notes of the documents so far
 
-cmp_test : (m n : ℕ) → is_eq (nat_cmp m n) ≡ eqb m n
-cmp_test m n = grind (arith, nat_tests)
-
 -- a key's place after its document was noted where it had none
 pub noted : (docs : List DocId) (last : DocId) (old new : ℕ → Option ℕ) → ((q : ℕ) → old q ≡ place_in docs (numbered q)) → old last.0 ≡ None
-    → ((q : ℕ) → new q ≡ cond (is_eq (nat_cmp last.0 q)) (Some (length docs + 1)) (old q)) → (q : ℕ) → new q ≡ place_in (docs ++ last ∷ []) (numbered q)
+    → ((q : ℕ) → new q ≡ cond (eqb last.0 q) (Some (length docs + 1)) (old q)) → (q : ℕ) → new q ≡ place_in (docs ++ last ∷ []) (numbered q)
 noted docs last old new was none is q = is q ∙ by (eqb last.0 q) refl ∙ sym (place_in-push docs last (numbered q))
   where
     none_of : (r : Option ℕ) → r ≡ cond (is_some r) r None
@@ -146,14 +141,14 @@ noted docs last old new was none is q = is q ∙ by (eqb last.0 q) refl ∙ sym 
     none_of (Some n) = refl
 
     by : (t : Bool) → eqb last.0 q ≡ t
-        → cond (is_eq (nat_cmp last.0 q)) (Some (length docs + 1)) (old q) ≡ cond (is_some (place_in docs (numbered q))) (place_in docs (numbered q)) (cond (eqb last.0 q) (Some (length docs + 1)) None)
+        → cond (eqb last.0 q) (Some (length docs + 1)) (old q) ≡ cond (is_some (place_in docs (numbered q))) (place_in docs (numbered q)) (cond (eqb last.0 q) (Some (length docs + 1)) None)
     by true e =
         let here : last.0 ≡ q = eqb-true last.0 q e in
         let free : place_in docs (numbered q) ≡ None = sym (was q) ∙ ap old (sym here) ∙ none in
-        ap (λ t. cond t (Some (length docs + 1)) (old q)) (cmp_test last.0 q ∙ e)
+        ap (λ t. cond t (Some (length docs + 1)) (old q)) e
         ∙ sym (ap (λ r. cond (is_some r) r (cond (eqb last.0 q) (Some (length docs + 1)) None)) free ∙ ap (λ t. cond t (Some (length docs + 1)) None) e)
     by false e =
-        ap (λ t. cond t (Some (length docs + 1)) (old q)) (cmp_test last.0 q ∙ e) ∙ was q ∙ none_of (place_in docs (numbered q))
+        ap (λ t. cond t (Some (length docs + 1)) (old q)) e ∙ was q ∙ none_of (place_in docs (numbered q))
         ∙ sym (ap (λ t. cond (is_some (place_in docs (numbered q))) (place_in docs (numbered q)) (cond t (Some (length docs + 1)) None)) e)
 
 -- distinct documents and one that has no place among them

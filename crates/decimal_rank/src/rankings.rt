@@ -11,7 +11,7 @@ use crate::naming::{DocId, Names};
 use crate::storage::Memory;
 use std::alloc::{AllocError, AllocFailed, Global};
 use std::cmp::Ordering;
-use std::collections::BTreeMap;
+use std::collections::HashMap;
 use std::marker::Model;
 use std::sync::ledger::Ledger;
 
@@ -78,7 +78,7 @@ fn first_repeat(alloc: Global, lines: &[Scored]) -> Result<Option<(u32, u32)>, M
     ensures { IfOk result (λ found. MatchOption found (AreDistinct (map (λ line. line.doc) lines.now))
         (λ p. IsFirstRepeat (map (λ line. line.doc) lines.now) p.0 p.1)) }
 {
-    let mut line_of = BTreeMap::new(alloc);
+    let mut line_of = HashMap::with_capacity(alloc, lines.len())?;
     for (i, line) in lines.iter().enumerate() {
         let second = i as u32 + 1;
         if let Some(first) = line_of.insert(line.doc.0, second)? {
@@ -118,9 +118,10 @@ fn docs_of(alloc: Global, order: &[&Scored]) -> Result<Vec<DocId>, Memory>
 fn standing(names: &Names, a: &Scored, b: &Scored) -> Ordering
     ensures { result ≡ standing_cmp (standing_of names.now a.now) (standing_of names.now b.now) }
 {
-    a.score
-        .compare(&b.score)
-        .then(names.docno(a.doc).cmp(names.docno(b.doc)))
+    match a.score.compare(&b.score) {
+        Ordering::Equal => names.docno(a.doc).cmp(names.docno(b.doc)),
+        unequal => unequal,
+    }
 }
 
 impl Model for Ranking {

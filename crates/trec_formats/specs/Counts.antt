@@ -1,9 +1,12 @@
 -- How many lines each topic has, as a map keeps it.
-use Rattle.std.specs.Prelude.{ℕ, List, unwrap_or}
-use Rattle.std.specs.Cmp.Lexicographic.{slice_cmp}
-use Rattle.std.specs.Ordering.{nat_cmp}
-use Rattle.std.specs.BTreeMap.{BTreeMap, get_by}
+use Rattle.std.specs.Prelude.{ℕ, List, unwrap_or, bytes_eq}
+use Rattle.std.specs.HashMap.{HashMap, get_by}
+use Rattle.std.specs.declared.hash.FoldHasher.{FoldHasher}
+use Rattle.std.specs.declared.hash.BuildHasherDefault.{BuildHasherDefault}
 use denote.Ref.{Bor}
 
-abbrev pub count_at : BTreeMap (Bor (List ℕ)) ℕ → List ℕ → ℕ
-count_at counts topic = unwrap_or (get_by (λ key. slice_cmp nat_cmp topic key.now) counts) 0
+abbrev pub Counts : Type 0
+Counts = HashMap (Bor (List ℕ)) ℕ (BuildHasherDefault FoldHasher)
+
+abbrev pub count_at : Counts → List ℕ → ℕ
+count_at counts topic = unwrap_or (get_by (λ key. bytes_eq topic key.now) counts) 0

@@ -10,7 +10,7 @@ use crate::lines::{cut_field, next_row};
 use crate::names::{copy_of, is_docno, is_name};
 use decimal_rank::{Decimal, Memory, Text};
 use std::alloc::Global;
-use std::collections::BTreeMap;
+use std::collections::HashMap;
 
 /// The most lines of a topic.
 const TOPIC_LINES: u32 = 1000;
@@ -73,7 +73,7 @@ fn run_fields(line: &[u8]) -> Result<RunFields<'_>, Kind>
 }
 
 /// Counts one more line of a topic, where it has fewer than the most. Whether it had.
-fn count_line<'a>(counts: &mut BTreeMap<&'a [u8], u32>, topic: &'a [u8]) -> Result<bool, Memory>
+fn count_line<'a>(counts: &mut HashMap<&'a [u8], u32>, topic: &'a [u8]) -> Result<bool, Memory>
     requires { count_at counts.old topic.now ≤ TOPIC_LINES }
     ensures { IfOk result (λ counted. MatchBool counted
         ((count_at counts.old topic.now ≢ TOPIC_LINES)
@@ -97,7 +97,7 @@ pub fn read_run(alloc: Global, bytes: &[u8]) -> Result<Vec<RunLine>, FormatEnd>
     ensures fault { IfFault result (IsRunFault bytes.now) }
 {
     let mut lines = Vec::new(alloc);
-    let mut counts = BTreeMap::new(alloc);
+    let mut counts = HashMap::new(alloc);
     let mut number = 0;
     let mut rest = bytes;
     while let Some(row) = next_row(number, rest) {

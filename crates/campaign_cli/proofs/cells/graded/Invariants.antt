@@ -3,4 +3,4 @@ use Rattle.campaign_cli.specs.Tables.{grade_at}
 use Rattle.campaign_cli.proofs.cells.graded.Given as goal
 
 abbrev pub invariant-loop-doc : goal.invariant-loop-doc
-invariant-loop-doc l = l.graded.items ≡ map (grade_at l.grades l.topic) (take l.doc-index l.docs)
+invariant-loop-doc l = l.graded.items ≡ map (grade_at l.grades) (take l.doc-index l.docs)

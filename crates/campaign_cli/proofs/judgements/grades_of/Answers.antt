@@ -1,31 +1,28 @@
-use Rattle.std.proofs.Common.{◌≡◌, ◌∙◌, ap, sym, cond, ℕ, List, Option, Some, None}
+use Rattle.std.proofs.Common.{◌≡◌, ◌∙◌, ap, sym, cond, take, ℕ, List, Option, Some}
 use Rattle.std.specs.Option.{is_some}
-use Rattle.std.proofs.lemmas.List.{take_all}
-use Rattle.campaign_cli.specs.Evaluations.{grade_on}
-use Rattle.campaign_cli.specs.Tables.{Key, grade_at}
-use Rattle.campaign_cli.proofs.Grades.{grade_on-more, grade_at-inserted, graded_more, judges, newly_graded, put_back}
+use Rattle.std.specs.Str.{bytes_eq}
+use Rattle.std.proofs.lemmas.Map.Text.{hash_map_updates_str}
+use Rattle.campaign_cli.specs.Tables.{shown, grade_at, grade_in}
+use Rattle.campaign_cli.proofs.Grades.{grade_in-more, graded_more, newly_graded, put_back}
 use Rattle.campaign_cli.proofs.judgements.grades_of.Goals as goal
 use Rattle.campaign_cli.proofs.judgements.grades_of.Goals.{in-Some+in_ok-insert, in_default}
 
 pub loop-line-preserved : goal.loop-line-preserved
-loop-line-preserved c = λ topic doc.
-    let line = c.line-item.result in
-    let before : List ℕ → List ℕ → Option ℕ = grade_at c.loop-line.grades in
-    let key : Key = (c.bytes.result, c.bytes-in-loop-line.result) in
-    let was : before line.topic line.doc ≡ c.in_ok-first.field-0 =
-    sym (ap (λ t. before t line.doc) c.bytes.ensures) ∙ sym (ap (λ d. before c.bytes.result.now d) c.bytes-in-loop-line.ensures) ∙ sym c.in_ok-first.ensures.old in
-    let inserted = grade_at-inserted c.loop-line.grades c.insert.new.self key line line.grade c.in_ok-first.ensures.updates.0 c.bytes.ensures c.bytes-in-loop-line.ensures topic doc in
-    let more : grade_at c.match-branch-3.grades topic doc ≡ graded_more (before topic doc) (judges line topic doc) line.grade =
+loop-line-preserved c = λ doc.
+    let line = c.line-item.result.now in
+    let before : List ℕ → Option ℕ = grade_at c.loop-line.grades in
+    let key = c.bytes-doc.result.now in
+    let was : before key ≡ c.in_ok-first.field-0 = sym c.in_ok-first.ensures.old in
+    let inserted = hash_map_updates_str key c.loop-line.grades c.insert.new.self (Some line.grade) c.in_ok-first.ensures.updates doc in
+    let more : grade_at c.match-branch-3.grades doc ≡ graded_more (before doc) (bytes_eq key doc) line.grade =
     elim c.match-branch-3.branch [
-      | in-Some+in_ok-insert w ↦ ap (λ g. grade_at g topic doc) w.grades-is
-          ∙ grade_at-inserted c.insert.new.self w.insert-in-Some.new.self key line w.in-Some.first w.in_ok-insert.ensures.updates.0 c.bytes.ensures c.bytes-in-loop-line.ensures topic doc
-          ∙ ap (λ o. cond (judges line topic doc) (Some w.in-Some.first) o) inserted
-          ∙ put_back before line topic doc w.in-Some.first (was ∙ w.in-Some.is)
-      | in_default w ↦ ap (λ g. grade_at g topic doc) w.grades-is ∙ inserted ∙ newly_graded before line topic doc (ap is_some was ∙ ap is_some w.in_default.is)
+      | in-Some+in_ok-insert w ↦ ap (λ g. grade_at g doc) w.grades-is
+          ∙ hash_map_updates_str key c.insert.new.self w.insert-in-Some.new.self (Some w.in-Some.first) w.in_ok-insert.ensures.updates doc
+          ∙ ap (λ o. cond (bytes_eq key doc) (Some w.in-Some.first) o) inserted
+          ∙ put_back before key doc line.grade w.in-Some.first (was ∙ w.in-Some.is)
+      | in_default w ↦ ap (λ g. grade_at g doc) w.grades-is ∙ inserted ∙ newly_graded before key doc line.grade (ap is_some was ∙ ap is_some w.in_default.is)
     ] in
     more
-    ∙ ap (λ o. graded_more o (judges line topic doc) line.grade) (c.loop-line.invariant topic doc)
-    ∙ sym (grade_on-more c.args.qrels.now c.loop-line.line-index line topic doc c.loop-line-test.true c.line-item.is)
-
-pub returns : goal.returns
-returns c = λ topic doc. c.loop-line.invariant topic doc ∙ ap (λ lines. grade_on lines topic doc) (take_all c.loop-line.line-index c.args.qrels.now c.loop-line-test.false)
+    ∙ ap (λ o. graded_more o (bytes_eq key doc) line.grade) (c.loop-line.invariant doc)
+    ∙ ap (λ k. graded_more (grade_in (shown (take c.loop-line.line-index c.args.lines.now)) doc) (bytes_eq k doc) line.grade) c.bytes-doc.ensures
+    ∙ sym (grade_in-more c.args.lines.now c.loop-line.line-index c.line-item.result doc c.loop-line-test.true c.line-item.is)

@@ -1,6 +1,5 @@
-use Rattle.std.proofs.Common.{◌≡◌, arith, length, refl, ap, sym, ◌∙◌, take}
+use Rattle.std.proofs.Common.{◌≡◌, arith, length, refl, ap, sym, ◌∙◌}
 use Rattle.std.specs.Option.{is_some}
-use Rattle.campaign_cli.specs.Evaluations.{topics_of}
 use Rattle.decimal_rank.specs.Names.{number_of, with_name}
 use Rattle.campaign_cli.proofs.Topics.{topics_of-more, length-topics_of-le, still_some, with_name-known}
 use Rattle.campaign_cli.proofs.judgements.topics_of.Goals as goal
