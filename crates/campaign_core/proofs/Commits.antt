@@ -1,5 +1,5 @@
 -- What a state keeps true when its prepared entry joins the history.
-use Rattle.std.proofs.Common.{◌≡◌, ◌≢◌, ◌||◌, ◌<◌, ◌≤◌, ◌+◌, ℕ, suc, zero, Bool, true, false, List, ◌++◌, ◌∷◌, [], Option, None, Some, Ok, length, map, take, get_or, length-append, subst, arith, refl, sym, ap, ◌∙◌, lit≤}
+use Rattle.std.proofs.Common.{◌≡◌, ◌≢◌, ◌||◌, ◌<◌, ◌≤◌, ◌+◌, ℕ, suc, Bool, true, false, List, ◌++◌, ◌∷◌, [], Option, None, Some, length, map, take, get_or, length-append, subst, arith, refl, sym, ap, ◌∙◌, lit≤}
 use Rattle.std.specs.Prelude.{◌==◌, All, MatchOption, if◌then◌else◌, slice_get, unwrap_or}
 use Rattle.std.proofs.lemmas.Bool.{ne_eqb}
 use Rattle.std.specs.List.{enumerate_from, filter_map, flat_map, list_any}
@@ -8,22 +8,19 @@ use Rattle.std.proofs.Math.Seq.{take-length}
 use Rattle.std.proofs.lemmas.List.{append-nil, map-append, take-map}
 use Rattle.std.proofs.lemmas.List.Elements.{filter_map-append}
 use Rattle.std.proofs.lemmas.List.Folds.{list_any-append}
-use Rattle.std.proofs.lemmas.List.FromFn.{length-enumerate_from}
 use Rattle.decimal_rank.specs.declared.naming.DocId.{DocId}
 use Rattle.depth_pool.specs.declared.runs.RunId.{RunId}
 use Rattle.depth_pool.specs.Holdings.{Held, has_run, with_run}
 use Rattle.trec_formats.specs.declared.Topic.{Topic}
 use Rattle.trec_formats.specs.declared.TopicList.{TopicList}
 use Rattle.rulebook.specs.declared.limits.TheConstants.{MAX_RUNS}
-use Rattle.rulebook.specs.declared.ask.Command.{Command}
-use Rattle.rulebook.specs.declared.ask.Command.TheVariants as command
 use Rattle.rulebook.specs.declared.entry.Entry.{Entry}
 use Rattle.rulebook.specs.declared.rules.Rules.{Rules}
 use Rattle.rulebook.specs.declared.rules.Phase.{Phase}
 use Rattle.rulebook.specs.declared.rules.Phase.TheVariants.{Collecting, Judging, Published}
 use Rattle.rulebook.specs.Words.{Text, contains_text, each_once}
 use Rattle.rulebook.specs.Campaign.{History, Run, docnos, docs_on, has_topics, held, opens, phase, publishes, rules_of, run_in, runs, submitted_docnos, topics, topics_in}
-use Rattle.rulebook.specs.Legal.{IsLegal, IsAccepted}
+use Rattle.rulebook.specs.Legal.{IsLegal}
 use Rattle.campaign_core.specs.Growth.{BeginsWith}
 use Rattle.campaign_core.specs.Kept.{IsKept, IsReady}
 use Rattle.campaign_core.specs.Numbers.{are_named, doc_in, docs_in, names_of}

@@ -1,9 +1,9 @@
 -- The pool of a topic, by the numbers of its documents.
-use Rattle.std.proofs.Common.{◌≡◌, ◌&&◌, ◌||◌, ◌<◌, ◌+◌, ◌==◌, ℕ, suc, zero, Bool, true, false, cond, List, [], ◌∷◌, ◌++◌, length, map, take, find, refl, sym, ap, ◌∙◌, arith, subst, Option, None, Some}
+use Rattle.std.proofs.Common.{◌≡◌, ◌||◌, ◌<◌, ◌+◌, ◌==◌, ℕ, Bool, true, false, cond, List, [], ◌∷◌, length, map, find, refl, sym, ap, ◌∙◌, arith, subst, Option, None, Some}
 use Rattle.std.specs.Prelude.{All}
 use Rattle.std.specs.Cmp.Lexicographic.{slice_cmp}
 use Rattle.std.specs.List.{list_all, list_any, flat_map, enumerate_from}
-use Rattle.std.specs.Option.{option_map, option_map_or}
+use Rattle.std.specs.Option.{option_map_or}
 use Rattle.std.specs.Ordering.{nat_cmp, is_lt}
 use Rattle.std.specs.Str.{bytes_eq}
 use Rattle.std.proofs.lemmas.List.Folds.{list_all-append, list_any-append}
@@ -16,14 +16,14 @@ use Rattle.trec_formats.specs.declared.TopicList.{TopicList}
 use Rattle.rulebook.specs.declared.reply.Reply.TheVariants as reply
 use Rattle.rulebook.specs.declared.reply.Refusal.TheVariants as refusal
 use Rattle.rulebook.specs.Answers.{pool_ruling, reply_of}
-use Rattle.rulebook.specs.Campaign.{History, Run, docnos, docs_on, held, is_topic, live, pool, rules_of, runs, submitted_docnos, topics}
-use Rattle.rulebook.specs.Words.{Text, contains_text, in_order}
+use Rattle.rulebook.specs.Campaign.{History, Run, docnos, docs_on, held, is_topic, live, pool, rules_of, submitted_docnos}
+use Rattle.rulebook.specs.Words.{Text, contains_text}
 use Rattle.campaign_core.specs.Numbers.{are_named, doc_in, docs_in, names_of}
 use Rattle.campaign_core.specs.Topics.{KeptTopic, held_of, kept, kept_of, pool_of}
 use Rattle.campaign_core.specs.declared.topics.TopicState.{TopicState}
 use Rattle.campaign_core.proofs.Naming.{docno-back, docnos-back, each_named, numbers-within}
 use Rattle.campaign_core.proofs.Ordered.{Rises, below, in_order-all, in_order-any, in_order-rises}
-use Rattle.campaign_core.proofs.ListFacts.{all_back, all_cons, all_front, all_head, all_tail, all_take, and_true, any_map, each_cons, pairs_cons}
+use Rattle.campaign_core.proofs.ListFacts.{all_back, all_front, all_head, all_tail, all_take, and_true, any_map, each_cons, pairs_cons}
 
 -- What a run holds is named.
 

@@ -1,5 +1,5 @@
 -- What is so where the rules accept a command.
-use Rattle.std.proofs.Common.{◌≡◌, ◌||◌, ◌<◌, ◌≤◌, ◌==◌, ℕ, Bool, true, false, not, cond, List, [], ◌∷◌, length, map, find, refl, sym, ap, ◌∙◌, arith, Option, None, Some, Ok, Err, leb-true, subst}
+use Rattle.std.proofs.Common.{◌≡◌, ◌||◌, ◌<◌, ◌≤◌, ◌==◌, ℕ, Bool, true, false, not, cond, List, [], ◌∷◌, length, map, find, refl, ap, arith, Option, None, Some, Ok, Err, leb-true, subst}
 use Rattle.std.proofs.lemmas.Bool.{leb-false, ltb-true}
 use Rattle.std.specs.Prelude.{◌&&◌, if◌then◌else◌, nat_le, nat_lt, min, slice_get, unwrap_or}
 use Rattle.std.specs.List.{filter_map, list_all, list_any, filter, reduce}
@@ -10,8 +10,7 @@ use Rattle.rulebook.specs.declared.ask.Ask.TheVariants.{Act}
 use Rattle.rulebook.specs.declared.ask.Command.{Command}
 use Rattle.rulebook.specs.declared.ask.Command.TheVariants as command
 use Rattle.rulebook.specs.declared.rules.Caller.{Caller}
-use Rattle.rulebook.specs.declared.rules.Phase.{Phase}
-use Rattle.rulebook.specs.declared.rules.Phase.TheVariants.{Collecting, Judging, Published}
+use Rattle.rulebook.specs.declared.rules.Phase.TheVariants.{Collecting}
 use Rattle.rulebook.specs.declared.reply.Reply.{Reply}
 use Rattle.rulebook.specs.declared.reply.Reply.TheVariants as reply
 use Rattle.rulebook.specs.declared.reply.Refusal.TheVariants as refusal

@@ -1,5 +1,5 @@
 -- Docnos by their numbers.
-use Rattle.std.specs.Prelude.{ℕ, List, map, Bool}
+use Rattle.std.specs.Prelude.{List, map, Bool}
 use Rattle.std.specs.List.{list_all, position_or_len}
 use Rattle.std.specs.Str.{bytes_eq}
 use Rattle.decimal_rank.specs.declared.naming.DocId.{DocId}

@@ -1,7 +1,6 @@
-use Rattle.std.proofs.Common.{◌≡◌, ◌++◌, ◌∙◌, ◌<◌, ap, sym, rules, Ok, true, ℕ, List, length, arith}
+use Rattle.std.proofs.Common.{◌≡◌, ◌++◌, ◌∙◌, ap, sym, rules, Ok, true}
 use Rattle.rulebook.specs.Words.{contains_text, each_once}
 use Rattle.rulebook.specs.Campaign.{submitted_docnos, docnos}
-use Rattle.rulebook.specs.Spelling.{is_plain}
 use Rattle.rulebook.specs.Answers.{ruled}
 use Rattle.campaign_core.specs.Growth.{lists_in}
 use Rattle.campaign_core.specs.Numbers.{are_named}

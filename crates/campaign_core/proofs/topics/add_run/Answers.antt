@@ -1,4 +1,4 @@
-use Rattle.std.proofs.Common.{◌≡◌, ◌∙◌}
+use Rattle.std.proofs.Common.{◌∙◌}
 use Rattle.campaign_core.proofs.Queues.{not-queued, queued-runs}
 use Rattle.campaign_core.proofs.topics.add_run.Goals as goal
 

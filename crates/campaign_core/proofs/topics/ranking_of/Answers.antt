@@ -1,4 +1,4 @@
-use Rattle.std.proofs.Common.{◌≡◌, ◌∙◌, ap, sym, true, subst, arith}
+use Rattle.std.proofs.Common.{◌≡◌, ◌∙◌, ap, sym, true, subst}
 use Rattle.std.proofs.lemmas.List.{take_all}
 use Rattle.decimal_rank.specs.Names.{number_of}
 use Rattle.decimal_rank.specs.Places.{AreDistinct}

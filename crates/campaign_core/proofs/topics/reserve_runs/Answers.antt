@@ -1,4 +1,4 @@
-use Rattle.std.proofs.Common.{◌≡◌, ◌≢◌, ◌<◌, ◌∙◌, ℕ, arith, length, get_or, set, get_or-set_other, get_or-set_same, below_more}
+use Rattle.std.proofs.Common.{◌≢◌, ◌<◌, ◌∙◌, ℕ, arith, length, get_or, set, get_or-set_other, get_or-set_same, below_more}
 use Rattle.campaign_core.specs.Topics.{AwaitsRun, IsQueued, kept}
 use Rattle.campaign_core.specs.declared.topics.TopicState.{TopicState}
 use Rattle.campaign_core.proofs.Queues.{all-set}

@@ -1,6 +1,5 @@
 use Rattle.std.proofs.Common.{◌≡◌, ◌++◌, ◌∷◌, [], Some, ap, sym, ◌∙◌, refl}
 use Rattle.std.specs.Option.{option_map}
-use Rattle.rulebook.specs.declared.entry.Entry.{Entry}
 use Rattle.campaign_core.specs.declared.state.Ready.{Ready}
 use Rattle.campaign_core.proofs.Commits.{carried-out, is-ready, kept-after, room-for, same-entry}
 use Rattle.campaign_core.proofs.state.State.commit.Goals as goal

@@ -1,4 +1,4 @@
-use Rattle.std.proofs.Common.{◌≡◌, ◌<◌, ◌≤◌, ◌∙◌, ap, sym, rules, map, length, vec_len, vec_capacity, subst}
+use Rattle.std.proofs.Common.{◌≡◌, ◌<◌, ◌≤◌, ◌∙◌, ap, sym, rules, map, length, vec_len, vec_capacity}
 use Rattle.rulebook.specs.declared.entry.Entry.{Entry}
 use Rattle.rulebook.specs.declared.limits.TheConstants.{MAX_ENTRIES, MAX_MOMENT}
 use Rattle.rulebook.specs.Words.{each_once}
