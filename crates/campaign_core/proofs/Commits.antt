@@ -28,7 +28,7 @@ use Rattle.campaign_core.specs.Growth.{BeginsWith}
 use Rattle.campaign_core.specs.Kept.{IsKept, IsReady}
 use Rattle.campaign_core.specs.Numbers.{are_named, doc_in, docs_in, names_of}
 use Rattle.campaign_core.specs.Plans.{CarriesOut, RoomFor, phase_after, topics_after}
-use Rattle.campaign_core.specs.Topics.{AwaitsRun, HasRoom, KeptTopic, after_run, empty_topic, held_of, kept, kept_of, pool_of, topic_ids}
+use Rattle.campaign_core.specs.Topics.{AwaitsRun, HasRoom, IsQueued, KeptTopic, after_run, empty_topic, held_of, kept, kept_of, pool_of, topic_ids}
 use Rattle.campaign_core.specs.declared.plans.Plan.{Plan}
 use Rattle.campaign_core.specs.declared.plans.Plan.TheVariants as plan
 use Rattle.campaign_core.specs.declared.state.Ready.{Ready}
@@ -244,7 +244,7 @@ pub record IsCarriedOut (s : Inside) (e : Entry) (p : Plan) : Type 0 where
 
 module _ (goes_last : (new : Held) (hs : List Held) → All (λ h. h.run.0 < new.run.0) hs → with_run new hs ≡ hs ++ new ∷ []) where
   pub carried-out : (s : Inside) (e : Entry) (p : Plan) → IsKept s → IsReady s e p → CarriesOut s.history.items s.docnos s.topics.items e.core.command p → IsCarriedOut s e p
-  carried-out s e (plan.Topics made) kept_s ready (given, is, made_is) =
+  carried-out s e (plan.Topics made) kept_s ready (given, is, made_is, queued) =
       let H = s.history.items in
       let told = topics-told H given e.reply (rw is at (ruled_ok H e ready.joins.accepted)) in
       let none : runs (H ++ e ∷ []) ≡ [] = no-run H e (ap run_in is) ∙ kept_s.topics_first told.1 in
@@ -287,7 +287,7 @@ module _ (goes_last : (new : Held) (hs : List Held) → All (λ h. h.run.0 < new
 awaits-room : (names : List Text) (lists : List TopicList) (t : TopicState) → AwaitsRun names lists t → HasRoom t
 awaits-room names lists t awaits =
     let Room : Option (List DocId) → Type 0 = λ o. MatchOption o ⊥ (λ docs. t.pool.room ≡ Some (take t.pool.depth docs)) in
-    subst Room (sym awaits.ranking) awaits.room
+    record { ranking = subst Room (sym awaits.ranking) awaits.room; place = awaits.place }
 
 runs-below : (H : History) (ts : List TopicState) (ids : List Text) (run : RunId) → map kept ts ≡ map (kept_of H) ids → run.0 ≡ length (runs H) → All (λ t. has_run run t.pool.runs ≡ false) ts
 runs-below H [] ids run same number = λ k d within. absurd (omega (arith, within))
@@ -301,7 +301,7 @@ runs-below H (t ∷ ts) (id ∷ ids) run same number =
     (runs-below H ts ids run tail number)
 
 pub room-for : (s : Inside) (e : Entry) (p : Plan) → IsKept s → CarriesOut s.history.items s.docnos s.topics.items e.core.command p → RoomFor p s.topics.items
-room-for s e (plan.Topics made) kept_s fits = tt
+room-for s e (plan.Topics made) kept_s (given, is, made_is, queued) = queued
 room-for s e (plan.Run run) kept_s (name, lists, is, number, awaits) =
     ((λ k d within. awaits-room s.docnos lists (get_or s.topics.items k d) (awaits k d within)), runs-below s.history.items s.topics.items (topic_ids s.history.items) run kept_s.topics_are number)
 room-for s e plan.Open kept_s fits = tt
@@ -312,9 +312,10 @@ pub kept-after : (s after : Inside) (e : Entry) (p : Plan) → IsKept s → IsRe
     → after.docnos ≡ s.docnos
     → after.docnos_kept ≡ length s.docnos
     → map kept after.topics.items ≡ topics_after p s.topics.items
+    → All IsQueued after.topics.items
     → after.prepared ≡ None
     → IsKept after
-kept-after s after e p kept_s ready done grown phase_is docnos_is docnos_kept_is topics_are forgotten =
+kept-after s after e p kept_s ready done grown phase_is docnos_is docnos_kept_is topics_are queued forgotten =
     record {
       legal = rw grown (IsLegal-push s.history.items e kept_s.legal ready.joins.accepted);
       phase_is = phase_is ∙ done.phase_is ∙ ap phase (sym grown);
@@ -327,5 +328,6 @@ kept-after s after e p kept_s ready done grown phase_is docnos_is docnos_kept_is
       docnos_are = rw (grown, docnos_is, ready.joins.docnos_are) (take-length (each_once (submitted_docnos (s.history.items ++ e ∷ []))));
       docnos_kept_are = rw (docnos_kept_is, ready.joins.docnos_are, grown) refl;
       topics_are = topics_are ∙ done.topics_are ∙ ap (λ J. map (kept_of J) (topic_ids J)) (sym grown);
+      queued = queued;
       ready = rw forgotten tt;
     }

@@ -5,5 +5,6 @@ pub mod Legality
 pub mod Naming
 pub mod Ordered
 pub mod PoolFacts
+pub mod Queues
 pub mod Told
 pub mod Tests

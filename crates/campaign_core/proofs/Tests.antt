@@ -58,6 +58,12 @@ pub any_map : {X Y : Type 0} (p : Y → Bool) (f : X → Y) (xs : List X) → li
 any_map p f [] = refl
 any_map p f (x ∷ xs) = ap (λ t. p (f x) || t) (any_map p f xs)
 
+-- within a list no default is read
+pub get_or_default : {X : Type 0} (xs : List X) (i : ℕ) (d e : X) → i < length xs → get_or xs i d ≡ get_or xs i e
+get_or_default [] i d e within = absurd (omega (arith, within))
+get_or_default (x ∷ xs) zero d e within = refl
+get_or_default (x ∷ xs) (suc i) d e within = get_or_default xs i d e (omega (arith, within))
+
 -- an element written in place of another that f sees alike
 pub map-set_same : {X Y : Type 0} (f : X → Y) (xs : List X) (i : ℕ) (y d : X) → i < length xs → f y ≡ f (get_or xs i d) → map f (set xs i y) ≡ map f xs
 map-set_same f [] i y d within same = absurd (omega (arith, within))

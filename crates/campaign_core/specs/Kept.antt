@@ -1,5 +1,5 @@
 -- What a state keeps true of its fields.
-use Rattle.std.specs.Prelude.{◌≡◌, ◌<◌, ◌≤◌, false, List, [], MatchOption, length, map, vec_len, vec_capacity}
+use Rattle.std.specs.Prelude.{◌≡◌, ◌<◌, ◌≤◌, false, List, [], All, MatchOption, length, map, vec_len, vec_capacity}
 use Rattle.rulebook.specs.declared.limits.TheConstants.{MAX_RUNS, MAX_ENTRIES, MAX_LINES, MAX_DOCNOS, MAX_MOMENT}
 use Rattle.rulebook.specs.declared.entry.Entry.{Entry}
 use Rattle.rulebook.specs.Words.{Text, each_once}
@@ -10,7 +10,7 @@ use Rattle.campaign_core.specs.Joining.{MayJoin}
 use Rattle.campaign_core.specs.Growth.{BeginsWith}
 use Rattle.campaign_core.specs.Numbers.{names_of}
 use Rattle.campaign_core.specs.Plans.{CarriesOut}
-use Rattle.campaign_core.specs.Topics.{kept, kept_of, topic_ids}
+use Rattle.campaign_core.specs.Topics.{IsQueued, kept, kept_of, topic_ids}
 use Rattle.campaign_core.specs.declared.plans.Plan.{Plan}
 use Rattle.campaign_core.specs.declared.state.State.TheInside.{Inside}
 use Rattle.campaign_core.specs.declared.topics.TopicState.{TopicState}
@@ -42,4 +42,5 @@ pub record IsKept (s : Inside) : Type 0 where
   pub docnos_are : BeginsWith (each_once (submitted_docnos s.history.items)) s.docnos
   pub docnos_kept_are : s.docnos_kept ≡ length (each_once (submitted_docnos s.history.items))
   pub topics_are : map kept s.topics.items ≡ map (kept_of s.history.items) (topic_ids s.history.items)
+  pub queued : All IsQueued s.topics.items
   pub ready : MatchOption s.prepared (Unit {0}) (λ p. IsReady s p.entry.value p.plan)

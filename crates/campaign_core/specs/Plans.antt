@@ -12,12 +12,12 @@ use Rattle.rulebook.specs.Campaign.{History, rules_of, runs}
 use Rattle.campaign_core.specs.declared.plans.Plan.{Plan}
 use Rattle.campaign_core.specs.declared.plans.Plan.TheVariants as plan
 use Rattle.campaign_core.specs.declared.topics.TopicState.{TopicState}
-use Rattle.campaign_core.specs.Topics.{AwaitsRun, HasRoom, KeptTopic, after_run, empty_topic, kept}
+use Rattle.campaign_core.specs.Topics.{AwaitsRun, HasRoom, IsQueued, KeptTopic, after_run, empty_topic, kept}
 
 -- The plan carries out the command: the topics before any run; or the next run, for which each topic has room; or the opening.
 abbrev pub CarriesOut : History → List Text → List TopicState → Command → Plan → Type 0
 CarriesOut H names topics c (plan.Topics made) =
-    (given : List Topic) × (c ≡ command.Topics given) × (map kept made.items ≡ map (λ topic. empty_topic (rules_of H).depth topic.id) given)
+    (given : List Topic) × (c ≡ command.Topics given) × (map kept made.items ≡ map (λ topic. empty_topic (rules_of H).depth topic.id) given) × All IsQueued made.items
 CarriesOut H names topics c (plan.Run run) =
     (name : Text) × (lists : List TopicList) × (c ≡ command.Submit name lists) × (run.0 ≡ length (runs H)) × All (AwaitsRun names lists) topics
 CarriesOut H names topics c plan.Open = c ≡ command.Open
@@ -25,7 +25,8 @@ CarriesOut H names topics c plan.Open = c ≡ command.Open
 -- a run may be added to each topic
 abbrev pub RoomFor : Plan → List TopicState → Type 0
 RoomFor (plan.Run run) topics = All HasRoom topics × All (λ topic. has_run run topic.pool.runs ≡ false) topics
-RoomFor _ topics = Unit {0}
+RoomFor (plan.Topics made) topics = All IsQueued made.items
+RoomFor plan.Open topics = Unit {0}
 
 -- the topics once the plan is carried out
 abbrev pub topics_after : Plan → List TopicState → List KeptTopic

@@ -1,8 +1,9 @@
 -- What is kept of the topics, as the history has it.
-use Rattle.std.specs.Prelude.{◌≡◌, ℕ, List, [], map, take, Some, MatchOption, unwrap_or}
+use Rattle.std.specs.Prelude.{◌≡◌, ◌≤◌, ℕ, List, [], map, take, Some, IsPermutation, MatchOption, unwrap_or}
 use Rattle.std.specs.List.{enumerate_from}
 use Rattle.depth_pool.specs.declared.runs.RunId.{RunId}
 use Rattle.depth_pool.specs.Holdings.{Held, with_run}
+use Rattle.mtf_queue.specs.Rule.{IsInOrder}
 use Rattle.trec_formats.specs.declared.TopicList.{TopicList}
 use Rattle.rulebook.specs.Words.{Text}
 use Rattle.rulebook.specs.Campaign.{History, Run, docs_on, held, live, rules_of, topics}
@@ -41,10 +42,18 @@ topic_ids H = map (λ topic. topic.id) (topics H)
 pub record AwaitsRun (names : List Text) (lists : List TopicList) (topic : TopicState) : Type 0 where
   pub ranking : topic.ranking ≡ Some (docs_in names (docs_on lists topic.id))
   pub room : topic.pool.room ≡ Some (take topic.pool.depth (docs_in names (docs_on lists topic.id)))
+  pub place : 1 ≤ topic.queue.spare
 
 -- there is room for some run
-abbrev pub HasRoom : TopicState → Type 0
-HasRoom topic = MatchOption topic.ranking ⊥ (λ docs. topic.pool.room ≡ Some (take topic.pool.depth docs))
+pub record HasRoom (topic : TopicState) : Type 0 where
+  pub ranking : MatchOption topic.ranking ⊥ (λ docs. topic.pool.room ≡ Some (take topic.pool.depth docs))
+  pub place : 1 ≤ topic.queue.spare
+
+-- The runs of the pool stand in the judging order. No document is judged yet.
+pub record IsQueued (topic : TopicState) : Type 0 where
+  pub runs : IsPermutation (map (λ held. held.run) topic.pool.runs) topic.queue.order
+  pub in_order : IsInOrder topic.pool.runs topic.queue.trail topic.queue.order
+  pub unjudged : topic.queue.trail ≡ []
 
 -- the topic with the run for which there was room
 abbrev pub after_run : RunId → TopicState → KeptTopic

@@ -1,4 +1,4 @@
-ghost use Rattle.std.specs.Prelude.{◌≡◌, ◌<◌, ◌≤◌, ℕ, List, IfOk, IsTrue, length, map};
+ghost use Rattle.std.specs.Prelude.{◌≡◌, ◌<◌, ◌≤◌, ℕ, List, All, IfOk, IsTrue, length, map};
 ghost use Rattle.rulebook.specs.Campaign.{docs_on, runs};
 ghost use Rattle.rulebook.specs.Legal.{is_built};
 ghost use Rattle.rulebook.specs.Spelling.{differ};
@@ -6,7 +6,7 @@ ghost use Rattle.rulebook.specs.declared.ask.Ask.TheVariants.{Act};
 ghost use Rattle.campaign_core.specs.Growth.{lists_in};
 ghost use Rattle.campaign_core.specs.Numbers.{are_named};
 ghost use Rattle.campaign_core.specs.Plans.{CarriesOut};
-ghost use Rattle.campaign_core.specs.Topics.{kept};
+ghost use Rattle.campaign_core.specs.Topics.{IsQueued, kept};
 
 use crate::looks::{depth, submitted_runs};
 use crate::topics::{TopicState, new_topics, reserve_runs};
@@ -40,6 +40,7 @@ pub(crate) fn plan_of(
     requires named { (topic : List ℕ) → IsTrue (are_named docnos.now (docs_on (lists_in command.now) topic)) }
     requires runs { length (runs history.now) < 65536 }
     ensures kept { map kept topics.new ≡ map kept topics.old }
+    ensures queued { All IsQueued topics.old → All IsQueued topics.new }
     ensures plan { IfOk result (CarriesOut history.now docnos.now topics.new command.now) }
 {
     match command {

@@ -16,8 +16,8 @@ use crate::looks::{
 };
 use decimal_rank::{Memory, Names, Text};
 use rulebook::{
-    Command, Entry, EntryCore, MAX_DOCNOS, MAX_LINES, MAX_RUNS, MAX_TOPICS, Phase, Quantity, Refusal,
-    Reply,
+    Command, Entry, EntryCore, MAX_DOCNOS, MAX_LINES, MAX_RUNS, MAX_TOPICS, Phase, Quantity,
+    Refusal, Reply,
 };
 use std::alloc::Global;
 use trec_formats::{Topic, TopicList};

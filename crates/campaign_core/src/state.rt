@@ -1,4 +1,4 @@
-ghost use Rattle.std.specs.Prelude.{◌≡◌, ℕ, List, ◌<◌, ◌≤◌, ◌∷◌, [], ◌++◌, length, map, MatchResult, vec_len, vec_capacity, IfOk, OnOk, OnErr, IsTrue, None, Some};
+ghost use Rattle.std.specs.Prelude.{◌≡◌, ℕ, List, All, ◌<◌, ◌≤◌, ◌∷◌, [], ◌++◌, length, map, MatchResult, vec_len, vec_capacity, IfOk, OnOk, OnErr, IsTrue, None, Some};
 ghost use Rattle.rulebook.specs.declared.ask.Ask.TheVariants.{Act};
 ghost use Rattle.rulebook.specs.declared.limits.TheConstants.{MAX_ENTRIES, MAX_LINES, MAX_DOCNOS, MAX_RUNS};
 ghost use Rattle.rulebook.specs.Words.{each_once};
@@ -11,15 +11,15 @@ ghost use Rattle.campaign_core.specs.Joining.{MayJoin};
 ghost use Rattle.campaign_core.specs.Numbers.{are_named};
 ghost use Rattle.campaign_core.specs.Plans.{CarriesOut, RoomFor, phase_after, topics_after};
 ghost use Rattle.campaign_core.specs.State.{IsRuling, IsVerdict};
-ghost use Rattle.campaign_core.specs.Topics.{kept};
+ghost use Rattle.campaign_core.specs.Topics.{IsQueued, kept};
 
 use crate::plans::{Plan, plan_of};
 use crate::pools::pool_reply;
 use crate::rulings::{moment_after, ruled};
 use crate::topics::{TopicState, add_runs};
 use crate::verdict::{Prepared, Verdict};
-use depth_pool::greatest_run_goes_last;
 use decimal_rank::{Memory, Names, Steps, Text};
+use depth_pool::greatest_run_goes_last;
 use rulebook::{
     Ask, Caller, Command, Entry, EntryCore, MAX_ENTRIES, Phase, Quantity, Query, Refusal, Reply,
     Role, Rules,
@@ -225,7 +225,9 @@ impl State {
 /// Carries out the plan of an entry that joins the history.
 fn carry_out(plan: Plan, topics: &mut Vec<TopicState>, phase: &mut Phase)
     requires rooms { RoomFor plan topics.old.items }
+    requires queued { All IsQueued topics.old.items }
     ensures topics { map kept topics.new.items ≡ topics_after plan topics.old.items }
+    ensures queued { All IsQueued topics.new.items }
     ensures phase { phase.new ≡ phase_after plan phase.old }
 {
     match plan {
@@ -253,6 +255,7 @@ fn accepted(
     requires runs_fit { length (runs history.old.items) ≤ MAX_RUNS }
     ensures history { history.new.items ≡ history.old.items }
     ensures topics { map kept topics.new.items ≡ map kept topics.old.items }
+    ensures queued { All IsQueued topics.old.items → All IsQueued topics.new.items }
     ensures grown { BeginsWith docnos.old docnos.new }
     ensures ruling { let ruling = ruled_of history.old.items core.caller core.moment core.command in
         IfOk result (IsRuling ruling) }
@@ -286,6 +289,7 @@ fn made_ready(
     requires runs { length (runs history.old.items) < 65536 }
     ensures history { history.new.items ≡ history.old.items }
     ensures topics { map kept topics.new.items ≡ map kept topics.old.items }
+    ensures queued { All IsQueued topics.old.items → All IsQueued topics.new.items }
     ensures room { OnOk result (vec_len history.new < vec_capacity history.new) }
     ensures entry { IfOk result (λ ready. ready.0 ≡ record { core = core; reply = reply }) }
     ensures plan { IfOk result (λ ready. CarriesOut history.old.items docnos.now topics.new.items core.command ready.1) }

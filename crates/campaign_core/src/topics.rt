@@ -4,11 +4,12 @@ ghost use Rattle.depth_pool.specs.Holdings.{has_run};
 ghost use Rattle.rulebook.specs.Campaign.{docs_on};
 ghost use Rattle.rulebook.specs.Spelling.{differ};
 ghost use Rattle.campaign_core.specs.Numbers.{are_named, docs_in};
-ghost use Rattle.campaign_core.specs.Topics.{AwaitsRun, HasRoom, after_run, empty_topic, kept};
+ghost use Rattle.campaign_core.specs.Topics.{AwaitsRun, HasRoom, IsQueued, after_run, empty_topic, kept};
 
 use crate::pools::docs_on;
 use decimal_rank::{Memory, Names, Ranking, Text};
 use depth_pool::{Pool, RunId};
+use mtf_queue::{Queue, order_outlasts_other_runs};
 use std::alloc::Global;
 use trec_formats::{Topic, TopicList};
 
@@ -17,6 +18,7 @@ use trec_formats::{Topic, TopicList};
 pub(crate) struct TopicState {
     pub(crate) id: Text,
     pub(crate) pool: Pool,
+    pub(crate) queue: Queue,
     /// The documents by rank of the run that is prepared.
     pub(crate) ranking: Option<Ranking>,
 }
@@ -34,13 +36,15 @@ pub(crate) fn new_topics(
     topics: &[Topic],
     depth: u32,
 ) -> Result<Vec<TopicState>, Memory>
-    ensures { IfOk result (λ states. map kept states.items ≡ map (λ topic. empty_topic depth topic.id) topics.now) }
+    ensures kept { IfOk result (λ states. map kept states.items ≡ map (λ topic. empty_topic depth topic.id) topics.now) }
+    ensures queued { IfOk result (λ states. All IsQueued states.items) }
 {
     let mut states = Vec::with_capacity(alloc, topics.len())?;
     for topic in topics {
         states.push(TopicState {
             id: topic.id.copy()?,
             pool: Pool::new(alloc, depth),
+            queue: Queue::new(alloc),
             ranking: None,
         })?;
     }
@@ -72,10 +76,12 @@ fn reserve_run(
     requires distinct { (topic : List ℕ) → IsTrue (differ (docs_on lists.now topic)) }
     requires named { (topic : List ℕ) → IsTrue (are_named docnos.now (docs_on lists.now topic)) }
     ensures kept { kept topic.new ≡ kept topic.old }
+    ensures queued { IsQueued topic.old → IsQueued topic.new }
     ensures room { OnOk result (AwaitsRun docnos.now lists.now topic.new) }
 {
     let ranking = ranking_of(alloc, docs_on(lists, topic.id.bytes()), docnos)?;
     topic.pool.reserve(&ranking)?;
+    topic.queue.reserve()?;
     topic.ranking = Some(ranking);
     Ok(())
 }
@@ -91,6 +97,7 @@ pub(crate) fn reserve_runs(
     requires distinct { (topic : List ℕ) → IsTrue (differ (docs_on lists.now topic)) }
     requires named { (topic : List ℕ) → IsTrue (are_named docnos.now (docs_on lists.now topic)) }
     ensures kept { map kept topics.new ≡ map kept topics.old }
+    ensures queued { All IsQueued topics.old → All IsQueued topics.new }
     ensures rooms { OnOk result (All (AwaitsRun docnos.now lists.now) topics.new) }
 {
     for topic in topics.iter_mut() {
@@ -103,10 +110,15 @@ pub(crate) fn reserve_runs(
 fn add_run(topic: &mut TopicState, run: RunId)
     requires room { HasRoom topic.old }
     requires is_new { has_run run topic.old.pool.runs ≡ false }
-    ensures { kept topic.new ≡ after_run run topic.old }
+    requires queued { IsQueued topic.old }
+    ensures kept { kept topic.new ≡ after_run run topic.old }
+    ensures queued { IsQueued topic.new }
 {
+    // the runs that were there keep their order
+    order_outlasts_other_runs();
     if let Some(ranking) = topic.ranking.take() {
         topic.pool.add_run(run, &ranking);
+        topic.queue.enter(run, &topic.pool);
     }
 }
 
@@ -114,7 +126,9 @@ fn add_run(topic: &mut TopicState, run: RunId)
 pub(crate) fn add_runs(topics: &mut [TopicState], run: RunId)
     requires rooms { All HasRoom topics.old }
     requires is_new { All (λ topic. has_run run topic.pool.runs ≡ false) topics.old }
-    ensures { map kept topics.new ≡ map (after_run run) topics.old }
+    requires queued { All IsQueued topics.old }
+    ensures kept { map kept topics.new ≡ map (after_run run) topics.old }
+    ensures queued { All IsQueued topics.new }
 {
     for topic in topics.iter_mut() {
         add_run(topic, run);

@@ -22,7 +22,8 @@ use Rattle.rulebook.specs.declared.rules.Caller.{Caller}
 use Rattle.rulebook.specs.Answers.{Answer, answer, acting, adding_nothing, reply_of, submit_ruling, pool_ruling, unknown_line, moment_after}
 use Rattle.rulebook.specs.Campaign.{History, line_count, is_taken, is_topic, runs, pool, lines_with, docnos_with}
 use Rattle.rulebook.specs.Legal.{is_well_addressed, core_of}
-use Rattle.rulebook.specs.Refusals.{Ruling, unless, ◌when◌}
+use Rattle.rulebook.specs.Refusals.{Ruling, unless, ◌when◌, wrong_phase_unless}
+use Rattle.rulebook.specs.declared.rules.Phase.TheVariants.{Collecting}
 use Rattle.rulebook.specs.Spelling.{entry_bytes, short, listed, list_bytes, is_plain, is_plain_list, is_ascending, has_spelling, differ}
 use Rattle.rulebook.specs.Roles.{is_group}
 use Rattle.campaign_server.specs.declared.answers.Answered.TheVariants as answered
@@ -193,7 +194,8 @@ acting_ruled core ruling r (inr (cause, is)) = inl (cause, ap (acting core) is)
 
 abbrev submit_tests : History → List ℕ → List TopicList → List (Option Refusal)
 submit_tests H run lists =
-    (refusal.TagTaken when is_taken H run)
+    wrong_phase_unless Collecting H
+    ∷ (refusal.TagTaken when is_taken H run)
     ∷ option_map refusal.LineTopic (unknown_line H lists)
     ∷ (refusal.Limit quantity.Runs when nat_le MAX_RUNS (length (runs H)))
     ∷ (refusal.Limit quantity.Lines when nat_lt MAX_LINES (lines_with H lists))

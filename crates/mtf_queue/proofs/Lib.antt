@@ -1,3 +1,4 @@
 pub mod Comparing
 pub mod Grouping
 pub mod Keeping
+pub mod Playing

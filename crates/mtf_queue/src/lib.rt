@@ -12,3 +12,8 @@ mod rule;
 pub use laws::{order_outlasts_other_runs, rule_is_total_order};
 pub use queues::Queue;
 pub use rule::Judged;
+
+#[cfg(test)]
+mod played;
+#[cfg(test)]
+mod tests;

@@ -24,7 +24,8 @@ pub(crate) fn move_group<L: Ledger>(
     let mut front = 0;
     for at in 0..order.len() {
         let run = order[at];
-        if pool.holds(run, doc, steps) == relevant {
+        let is_first = pool.holds(run, doc, steps) == relevant;
+        if is_first {
             order[front] = run;
             front += 1;
         } else {

@@ -5,7 +5,7 @@ use Rattle.depth_pool.specs.declared.runs.RunId.{RunId}
 use Rattle.mtf_queue.specs.Rule.{is_first_side}
 use Rattle.mtf_queue.proofs.Grouping.{all_moved, first_from_test, moved_at, moved_behind, moved_front}
 use Rattle.mtf_queue.proofs.moves.move_group.Goals as goal
-use Rattle.mtf_queue.proofs.moves.move_group.Goals.{then-holds-relevant, else-holds-relevant}
+use Rattle.mtf_queue.proofs.moves.move_group.Goals.{then-is_first, else-is_first}
 
 pub unwrap-requires : goal.unwrap-requires
 unwrap-requires g c =
@@ -20,17 +20,17 @@ loop-at-preserved g c =
     let was = c.loop-at.invariant.0 in
     let here : c.loop-at.at < length c.loop-at.order.items = omega (arith, was.len, c.loop-at.invariant.3, c.loop-at-test.true) in
     let steps : c.holds.new.steps ≡ c.args.steps.now + (c.loop-at.at + 1) = omega (arith, c.holds.ensures.cost, c.loop-at.invariant.1) in
-    elim c.if-holds-relevant.branch [
-      | then-holds-relevant w ↦ (
+    elim c.if-is_first.branch [
+      | then-is_first w ↦ (
         moved_at first old (set c.loop-at.order.items c.loop-at.front run) c.loop-at.behind.items (c.loop-at.at + 1) (c.loop-at.front + 1) _ _ _ (ap (λ v. v.items) w.order-is) (ap (λ v. v.items) w.behind-is) w.front-is
-            (moved_front first old c.loop-at.order.items c.loop-at.behind.items c.loop-at.at c.loop-at.front run was here c.index-run.ensures (first_from_test _ _ _ (sym (ap (λ b. beq b c.args.relevant) c.holds.ensures.value) ∙ w.if-holds-relevant.true))),
+            (moved_front first old c.loop-at.order.items c.loop-at.behind.items c.loop-at.at c.loop-at.front run was here c.index-run.ensures (first_from_test _ _ _ (sym (ap (λ b. beq b c.args.relevant) c.holds.ensures.value) ∙ w.if-is_first.true))),
         steps,
         omega (arith, ap vec_capacity w.behind-is, c.loop-at.invariant.2),
         c.loop-at.invariant.3,
       )
-      | else-holds-relevant w ↦ (
+      | else-is_first w ↦ (
         moved_at first old c.loop-at.order.items (c.loop-at.behind.items ++ run ∷ []) (c.loop-at.at + 1) c.loop-at.front _ _ _ (ap (λ v. v.items) w.order-is) (ap (λ v. v.items) w.behind-is ∙ w.push.ensures.items ∙ ap (λ b. cond b (c.loop-at.behind.items ++ run ∷ []) c.loop-at.behind.items) (ap is_ok w.unwrap.ensures)) w.front-is
-            (moved_behind first old c.loop-at.order.items c.loop-at.behind.items c.loop-at.at c.loop-at.front run was here c.index-run.ensures (first_from_test _ _ _ (sym (ap (λ b. beq b c.args.relevant) c.holds.ensures.value) ∙ w.if-holds-relevant.false))),
+            (moved_behind first old c.loop-at.order.items c.loop-at.behind.items c.loop-at.at c.loop-at.front run was here c.index-run.ensures (first_from_test _ _ _ (sym (ap (λ b. beq b c.args.relevant) c.holds.ensures.value) ∙ w.if-is_first.false))),
         steps,
         omega (arith, ap vec_capacity w.behind-is, w.push.ensures.capacity, c.loop-at.invariant.2),
         c.loop-at.invariant.3,

@@ -10,7 +10,7 @@ carry_out-requires g c =
     let s = c.self.inside in
     let p = c.in-Some.ready in
     let ready = is-ready s p (sym c.take.ensures.value ∙ c.in-Some.is) c.self.invariant in
-    record { rooms = room-for s p.entry.value p.plan c.self.invariant ready.carries_out }
+    record { rooms = room-for s p.entry.value p.plan c.self.invariant ready.carries_out; queued = c.self.invariant.queued }
 
 pub invariant_of-self : goal.invariant_of-self
 invariant_of-self g c =
@@ -22,7 +22,7 @@ invariant_of-self g c =
     let ready = is-ready s p there c.self.invariant in
     let grown : c.push_reserved.new.self.items ≡ s.history.items ++ e ∷ []
     = c.push_reserved.ensures.items ∙ ap (λ e. s.history.items ++ e ∷ []) (c.p.view_is ∙ sym (same-entry s.prepared p c.args.p there seen)) in
-    kept-after s _ e p.plan c.self.invariant ready (carried-out c.greatest_run_goes_last.ensures s e p.plan c.self.invariant ready ready.carries_out) grown c.carry_out.ensures.phase refl c.len-self-inside.ensures.len c.carry_out.ensures.topics c.take.ensures.after
+    kept-after s _ e p.plan c.self.invariant ready (carried-out c.greatest_run_goes_last.ensures s e p.plan c.self.invariant ready ready.carries_out) grown c.carry_out.ensures.phase refl c.len-self-inside.ensures.len c.carry_out.ensures.topics c.carry_out.ensures.queued c.take.ensures.after
 
 pub returns-in-Some-clause-legal : goal.returns-in-Some-clause-legal
 returns-in-Some-clause-legal g c = let kept = invariant_of-self g c in kept.legal

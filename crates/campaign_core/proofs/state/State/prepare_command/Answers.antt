@@ -34,5 +34,6 @@ invariant_of-self-in-Ok c =
       docnos_are = rw same docnos_are;
       docnos_kept_are = rw same kept.docnos_kept_are;
       topics_are = c.in_ok-prepared.ensures.topics ∙ kept.topics_are ∙ ap (λ H. map (kept_of H) (topic_ids H)) (sym same);
+      queued = c.in_ok-prepared.ensures.queued kept.queued;
       ready = record { joins = rw same joins; moment_fits = moment_fits; entries_fit = rw same entries_fit; room = room; carries_out = rw same carries_out };
     }

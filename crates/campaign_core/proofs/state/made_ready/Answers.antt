@@ -1,0 +1,28 @@
+use Rattle.std.proofs.Common.{◌≡◌, List, ap, arith, length, subst, sym}
+use Rattle.std.specs.Prelude.{All}
+use Rattle.std.proofs.lemmas.List.{with_items_is}
+use Rattle.campaign_core.specs.Plans.{CarriesOut}
+use Rattle.campaign_core.specs.Topics.{IsQueued}
+use Rattle.campaign_core.specs.declared.topics.TopicState.{TopicState}
+use Rattle.campaign_core.proofs.state.made_ready.Goals as goal
+
+pub returns-in_err-plan-clause-queued : goal.returns-in_err-plan-clause-queued
+returns-in_err-plan-clause-queued c = λ all.
+    let long : length c.plan_of.new.topics ≡ c.args.topics.now.len = omega (arith, c.plan_of.auto.topics, ap length c.deref_mut.ensures.value, c.args.topics.now.ok.0) in
+    subst (All IsQueued) (sym (with_items_is c.args.topics.now c.plan_of.new.topics long)) (c.plan_of.ensures.queued (rw c.deref_mut.ensures.value all))
+
+pub returns-in_err-copy-clause-queued : goal.returns-in_err-copy-clause-queued
+returns-in_err-copy-clause-queued c = λ all.
+    let long : length c.plan_of.new.topics ≡ c.args.topics.now.len = omega (arith, c.plan_of.auto.topics, ap length c.deref_mut.ensures.value, c.args.topics.now.ok.0) in
+    subst (All IsQueued) (sym (with_items_is c.args.topics.now c.plan_of.new.topics long)) (c.plan_of.ensures.queued (rw c.deref_mut.ensures.value all))
+
+pub returns-clause-queued : goal.returns-clause-queued
+returns-clause-queued c = λ all.
+    let long : length c.plan_of.new.topics ≡ c.args.topics.now.len = omega (arith, c.plan_of.auto.topics, ap length c.deref_mut.ensures.value, c.args.topics.now.ok.0) in
+    subst (All IsQueued) (sym (with_items_is c.args.topics.now c.plan_of.new.topics long)) (c.plan_of.ensures.queued (rw c.deref_mut.ensures.value all))
+
+pub returns-clause-plan : goal.returns-clause-plan
+returns-clause-plan c =
+    let long : length c.plan_of.new.topics ≡ c.args.topics.now.len = omega (arith, c.plan_of.auto.topics, ap length c.deref_mut.ensures.value, c.args.topics.now.ok.0) in
+    let Out : List TopicState → Type 0 = λ topics. CarriesOut c.args.history.now.items c.args.docnos.now topics c.args.core.command c.in_ok-plan.plan in
+    subst Out (sym (with_items_is c.args.topics.now c.plan_of.new.topics long)) (rw (c.deref.ensures.value, c.in_ok-reserve.ensures.items) at c.in_ok-plan.ensures.plan)
