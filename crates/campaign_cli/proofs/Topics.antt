@@ -1,12 +1,14 @@
 -- The topics of qrels, one line after another.
-use Rattle.std.proofs.Common.{◌≡◌, ◌<◌, ◌≤◌, ◌+◌, ℕ, Bool, true, false, List, [], ◌∷◌, ◌++◌, Option, Some, None, length, map, take, get_or, refl, sym, ap, ◌∙◌, arith, length-append}
-use Rattle.std.specs.List.{fold, list_any}
-use Rattle.std.specs.Option.{is_some, option_map}
+use Rattle.std.proofs.Common.{◌≡◌, ◌<◌, ◌≤◌, ◌+◌, ℕ, Bool, true, false, List, [], ◌∷◌, ◌++◌, Option, Some, None, length, map, take, get_or, slice_get, cond, ltb, ltb-false, refl, sym, ap, ◌∙◌, arith, length-append}
+use Rattle.std.specs.List.{fold, list_any, position, position_or_len}
+use Rattle.std.specs.Option.{is_some}
 use Rattle.std.specs.Str.{bytes_eq}
 use Rattle.std.proofs.lemmas.List.{take_more, map-append, length-take-le, length-map}
 use Rattle.std.proofs.lemmas.List.Folds.{list_any_at}
 use Rattle.std.proofs.lemmas.List.Quantifiers.{position-Some}
-use Rattle.std.proofs.lemmas.List.Sums.{fold-append}
+use Rattle.std.proofs.lemmas.List.Sums.{fold-append, fails_before_first}
+use Rattle.std.proofs.lemmas.Option.{get_or_from_slice_get, slice_get_within}
+use Rattle.std.proofs.lemmas.Slice.Eq.{bytes_eq-Decides}
 use Rattle.decimal_rank.specs.Names.{number_of, with_name}
 use Rattle.trec_formats.specs.declared.qrels.QrelLine.{QrelLine}
 use Rattle.campaign_cli.specs.Evaluations.{topics_of}
@@ -44,6 +46,16 @@ with_name-known names name (Some i) is some =
     let known : list_any (bytes_eq name) names ≡ true = list_any_at (bytes_eq name) names i name at.0 at.1 in
     rw known refl
 
-pub still_some : {X Y : Type 0} (f : X → Y) (o : Option X) → is_some (option_map f o) ≡ is_some o
-still_some f None = refl
-still_some f (Some x) = refl
+is_some-position : {X : Type 0} (p : X → Bool) (xs : List X) (i : ℕ) (d : X) → i < length xs → p (get_or xs i d) ≡ true → true ≡ is_some (position p xs)
+is_some-position p xs i d within here = by (ltb (position_or_len p xs) (length xs)) refl
+  where
+    by : (t : Bool) → ltb (position_or_len p xs) (length xs) ≡ t → true ≡ is_some (cond t (Some (position_or_len p xs)) None)
+    by true is = refl
+    by false is =
+        let no : p (get_or xs i d) ≡ false = fails_before_first p xs i d (omega (arith, within, ltb-false _ _ is)) in
+        cc (no, here)
+
+-- a name that is there has a number
+pub known_at : (names : List (List ℕ)) (name topic : List ℕ) (i : ℕ) → slice_get names i ≡ Some name → name ≡ topic → true ≡ is_some (number_of names topic)
+known_at names name topic i at same =
+    is_some-position (bytes_eq topic) names i name (slice_get_within names i name at) (ap (bytes_eq topic) (get_or_from_slice_get names i name name at) ∙ (bytes_eq-Decides topic name).1 (sym same))

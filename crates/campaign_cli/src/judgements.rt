@@ -1,8 +1,10 @@
 ghost use Rattle.std.specs.Prelude.{◌≡◌, ◌≤◌, ℕ, List, length, IfOk};
+ghost use Rattle.std.specs.Option.{is_some};
+ghost use Rattle.decimal_rank.specs.Names.{number_of};
 ghost use Rattle.campaign_cli.specs.Evaluations.{topics_of as qrels_topics};
 ghost use Rattle.campaign_cli.specs.Tables.{shown, lines_on, IsAscending, AreByTopic, tally_in, grade_at, grade_in};
 
-use decimal_rank::{Memory, Names};
+use decimal_rank::{DocId, Memory, Names};
 use std::alloc::Global;
 use std::collections::HashMap;
 use trec_formats::QrelLine;
@@ -24,11 +26,22 @@ pub(crate) fn topics_of(alloc: Global, qrels: &[QrelLine]) -> Result<Names, Memo
 {
     let mut topics = Names::new(alloc);
     for line in qrels {
-        if topics.find(line.topic.bytes()).is_none() {
+        if !is_known(&topics, line.topic.bytes()) {
             topics.add(line.topic.copy()?)?;
         }
     }
     Ok(topics)
+}
+
+/// Whether a topic is there; mostly it's the newest, since the lines of a topic stand together.
+fn is_known(topics: &Names, topic: &[u8]) -> bool
+    ensures { result ≡ is_some (number_of topics.now topic.now) }
+{
+    let count = topics.len();
+    if count > 0 && topics.name(DocId(count - 1)) == topic {
+        return true;
+    }
+    topics.find(topic).is_some()
 }
 
 /// References to the lines.
