@@ -5,8 +5,10 @@
 
 mod document;
 mod given;
+mod laws;
 
 pub use document::Labels;
+pub use laws::{effective_without_ruling, one_label_changes};
 
 #[cfg(test)]
 mod tests;

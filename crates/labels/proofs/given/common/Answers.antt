@@ -1,6 +1,4 @@
-use Rattle.std.proofs.Common.{◌≡◌, ◌∙◌, ap, sym, eqb, cond, drop, Some, None}
-use Rattle.std.specs.List.{list_all}
-use Rattle.labels.specs.declared.given.Given.{Given}
+use Rattle.std.proofs.Common.{◌∙◌, ap, sym, cond, Some, None}
 use Rattle.labels.proofs.Agreeing.{common_is}
 use Rattle.labels.proofs.given.common.Goals as goal
 

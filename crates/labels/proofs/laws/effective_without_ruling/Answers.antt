@@ -1,0 +1,5 @@
+use Rattle.labels.proofs.Meaning.{agreed}
+use Rattle.labels.proofs.laws.effective_without_ruling.Goals as goal
+
+pub returns : goal.returns
+returns c = agreed
