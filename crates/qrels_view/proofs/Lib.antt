@@ -1,0 +1,2 @@
+pub mod Grading
+pub mod Sorting

@@ -1,0 +1,8 @@
+use decimal_rank::DocId;
+
+/// A document and its grade. It is `None` while the document has no grade.
+#[derive(Clone, Copy, Debug, PartialEq, Eq)]
+pub struct Graded {
+    pub doc: DocId,
+    pub grade: Option<u8>,
+}

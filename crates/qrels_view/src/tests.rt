@@ -1,0 +1,128 @@
+ghost use Rattle.std.specs.Prelude.{◌≡◌, ◌<◌, All, length};
+ghost use Rattle.std.specs.Bool.{OnTrue};
+
+use crate::View;
+use decimal_rank::{DocId, Names, Text};
+use std::alloc::Global;
+use std::test::Fail;
+
+// Gives a document a grade, or takes it away. False where the trail has no room for one more.
+fn grade(view: &mut View, doc: u32, new: Option<u8>) -> Result<bool, Fail> {
+    if view.trail().len() >= 1000 {
+        return Ok(false);
+    }
+    view.reserve()?;
+    let old = view.effective(DocId(doc));
+    view.apply(DocId(doc), old, new);
+    Ok(true)
+}
+
+const A: u32 = 0;
+
+const B: u32 = 1;
+
+const E: u32 = 2;
+
+// A document and its new grade, and after it the relevant documents, the others with a grade, and
+// the trail.
+type Step = (u32, Option<u8>, u32, u32, &'static [DocId]);
+
+fn steps() -> [Step; 9] {
+    [
+        (B, Some(1), 1, 0, &[DocId(B)]),
+        (E, Some(0), 1, 1, &[DocId(B), DocId(E)]),
+        // a document that never had a grade, and has none
+        (A, None, 1, 1, &[DocId(B), DocId(E)]),
+        (A, Some(2), 2, 1, &[DocId(B), DocId(E), DocId(A)]),
+        // grades that change and that go
+        (B, Some(0), 1, 2, &[DocId(B), DocId(E), DocId(A)]),
+        (B, None, 1, 1, &[DocId(B), DocId(E), DocId(A)]),
+        (E, None, 1, 0, &[DocId(B), DocId(E), DocId(A)]),
+        (B, None, 1, 0, &[DocId(B), DocId(E), DocId(A)]),
+        (B, Some(2), 2, 0, &[DocId(B), DocId(E), DocId(A)]),
+    ]
+}
+
+#[test]
+fn grades_come_and_change_and_go(rt: HostRuntime) -> Result<(), Fail> {
+    let mut view = View::new(rt.alloc(), 1);
+    for (doc, new, relevant, non_relevant, trail) in steps() {
+        assert!(rt; grade(&mut view, doc, new)?);
+        assert_eq!(rt; view.effective(DocId(doc)), new);
+        assert_eq!(rt; view.relevant(), relevant);
+        assert_eq!(rt; view.non_relevant(), non_relevant);
+        assert_eq!(rt; view.trail(), trail);
+    }
+    Ok(())
+}
+
+#[test]
+fn a_level_of_two(rt: HostRuntime) -> Result<(), Fail> {
+    let mut view = View::new(rt.alloc(), 2);
+    assert!(rt; grade(&mut view, A, Some(1))?);
+    assert!(rt; grade(&mut view, B, Some(2))?);
+    assert!(rt; grade(&mut view, E, Some(3))?);
+    assert_eq!(rt; view.relevant(), 2);
+    assert_eq!(rt; view.non_relevant(), 1);
+    Ok(())
+}
+
+// Whether each document of the trail has a name.
+fn are_named(view: &View, names: &Names) -> bool
+    ensures { OnTrue result (All (λ graded. graded.doc.0 < length names.now) view.now.graded) }
+{
+    let len = names.len();
+    for doc in view.trail() {
+        if doc.0 >= len {
+            return false;
+        }
+    }
+    true
+}
+
+// The qrels text after a line. It is empty where a document has no name.
+fn text_after(alloc: Global, line: &[u8], view: &View, names: &Names) -> Result<Vec<u8>, Fail> {
+    let mut out = Vec::new(alloc);
+    if are_named(view, names) {
+        out.extend_from_slice(line)?;
+        view.write(alloc, b"7", names, &mut out)?;
+    }
+    Ok(out)
+}
+
+fn add(alloc: Global, names: &mut Names, name: &[u8]) -> Result<(), Fail> {
+    if names.len() < 1000 {
+        names.add(Text::new(Vec::from_slice(alloc, name)?))?;
+    }
+    Ok(())
+}
+
+#[test]
+fn lines_stand_by_docno(rt: HostRuntime) -> Result<(), Fail> {
+    let alloc = rt.alloc();
+    let mut names = Names::new(alloc);
+    for name in [b"d9", b"d3", b"D9", b"d1"] {
+        add(alloc, &mut names, name)?;
+    }
+    let mut view = View::new(alloc, 1);
+    assert!(rt; grade(&mut view, 1, Some(10))?);
+    assert!(rt; grade(&mut view, 0, Some(0))?);
+    assert!(rt; grade(&mut view, 3, Some(1))?);
+    assert!(rt; grade(&mut view, 2, Some(255))?);
+    assert!(rt; grade(&mut view, 3, None)?);
+    let text = text_after(alloc, b"6 0 d 1\n", &view, &names)?;
+    assert_eq!(rt;
+        text.as_slice(),
+        b"6 0 d 1\n7 0 D9 255\n7 0 d3 10\n7 0 d9 0\n".as_slice()
+    );
+    Ok(())
+}
+
+#[test]
+fn no_grade_no_line(rt: HostRuntime) -> Result<(), Fail> {
+    let alloc = rt.alloc();
+    let view = View::new(alloc, 1);
+    let text = text_after(alloc, b"", &view, &Names::new(alloc))?;
+    assert_eq!(rt; text.as_slice(), b"".as_slice());
+    Ok(())
+}

@@ -1,0 +1,182 @@
+ghost use Rattle.std.specs.Prelude.{◌≡◌, ◌+◌, ◌<◌, ◌≤◌, ◌^◌, ◌++◌, ◌||◌, [], true, All, IfOk, OnOk, count_by, is_some, length, vec_capacity, vec_len};
+ghost use Rattle.indexmap.specs.IndexMap.{spare};
+ghost use Rattle.decimal_rank.specs.Places.{AreDistinct};
+ghost use Rattle.qrels_view.specs.Grades.{docs_of, effective_in, graded_of, is_non_relevant, is_relevant, with_grade};
+ghost use Rattle.qrels_view.specs.Lines.{qrels_text};
+
+use crate::counts::{is_non_relevant, is_relevant, recount};
+use crate::grades::Graded;
+use crate::text::{by_docno, write_lines};
+use decimal_rank::{DocId, Memory, Names};
+use indexmap::IndexMap;
+use std::alloc::Global;
+use std::marker::Model;
+
+/// The effective grades of one topic. Contracts see the level, each document of the trail once with
+/// its grade, in the order of the first grades, and the room for more documents. A document is
+/// relevant where its grade is at least the level.
+#[derive(Drop)]
+pub struct View {
+    level: u8,
+    trail: Vec<DocId>,
+    // by the number of the document, in the order of the trail
+    grades: IndexMap<u32, Option<u8>>,
+    relevant: u32,
+    non_relevant: u32,
+}
+
+impl Model for View {
+    ghost use Rattle.std.specs.Prelude.{◌-◌, min, vec_len, vec_capacity};
+    ghost use Rattle.indexmap.specs.IndexMap.{spare};
+    ghost use Rattle.qrels_view.specs.Seen.{IsKept, Seen};
+    ghost use Rattle.qrels_view.specs.Grades.{graded_of};
+
+    ghost Value = { Seen };
+
+    ghost view = { λ view. record {
+      level = view.level;
+      graded = graded_of view.grades.entries;
+      spare = min (vec_capacity view.trail - vec_len view.trail) (spare view.grades);
+    } };
+
+    ghost invariant = { λ view. IsKept view.level view.trail.items (graded_of view.grades.entries) view.relevant view.non_relevant };
+}
+
+impl View {
+    /// No document yet.
+    pub fn new(alloc: Global, level: u8) -> View
+        ensures level { result.level ≡ level }
+        ensures graded { result.graded ≡ [] }
+    {
+        View {
+            level,
+            trail: Vec::new(alloc),
+            grades: IndexMap::new(alloc),
+            relevant: 0,
+            non_relevant: 0,
+        }
+    }
+
+    /// Makes room for one more document.
+    pub fn reserve(&mut self) -> Result<(), Memory>
+        ensures room { OnOk result (1 ≤ self.new.spare) }
+        ensures level { self.new.level ≡ self.old.level }
+        ensures graded { self.new.graded ≡ self.old.graded }
+    {
+        self.trail.reserve(1)?;
+        self.grades.reserve(1)?;
+        Ok(())
+    }
+
+    /// Gives a document, whose grade now is `old`, the grade `new`, or takes its grade away. A
+    /// document of the trail keeps its place, and another goes last with its first grade.
+    pub fn apply(&mut self, doc: DocId, old: Option<u8>, new: Option<u8>)
+        requires room { 1 ≤ self.old.spare }
+        requires few { length self.old.graded + 1 < 2 ^ 32 }
+        requires grade_now { old ≡ effective_in self.old.graded doc }
+        ensures graded { self.new.graded ≡ with_grade doc new self.old.graded }
+        ensures level { self.new.level ≡ self.old.level }
+    {
+        if old.is_none() && new.is_none() {
+            return;
+        }
+        let level = self.level;
+        self.relevant = recount(
+            self.relevant,
+            is_relevant(level, old),
+            is_relevant(level, new),
+        );
+        self.non_relevant = recount(
+            self.non_relevant,
+            is_non_relevant(level, old),
+            is_non_relevant(level, new),
+        );
+        put_grade(&mut self.trail, &mut self.grades, doc, new);
+    }
+
+    /// The grade of a document now.
+    pub fn effective(&self, doc: DocId) -> Option<u8>
+        ensures { result ≡ effective_in self.now.graded doc }
+    {
+        *self.grades.get(&doc.0)?
+    }
+
+    /// How many documents are relevant.
+    pub fn relevant(&self) -> u32
+        ensures { result ≡ count_by (λ graded. is_relevant self.now.level graded.grade) self.now.graded }
+    {
+        self.relevant
+    }
+
+    /// How many documents have a grade and aren't relevant.
+    pub fn non_relevant(&self) -> u32
+        ensures { result ≡ count_by (λ graded. is_non_relevant self.now.level graded.grade) self.now.graded }
+    {
+        self.non_relevant
+    }
+
+    /// The documents in the order of their first grades, each once.
+    pub fn trail(&self) -> &[DocId]
+        ensures docs { result.now ≡ docs_of self.now.graded }
+        ensures len { length result.now ≡ length self.now.graded }
+        ensures once { AreDistinct result.now }
+    {
+        // the grades tell with their length that no document stands twice
+        let _ = self.grades.len();
+        self.trail.as_slice()
+    }
+
+    /// Appends the qrels line of each document that has a grade, by docno in byte order. Where there
+    /// is no memory for all lines the first of them may stand there.
+    pub fn write(
+        &self,
+        alloc: Global,
+        topic: &[u8],
+        names: &Names,
+        out: &mut Vec<u8>,
+    ) -> Result<(), Memory>
+        requires docs_named { All (λ graded. graded.doc.0 < length names.now) self.now.graded }
+        ensures { OnOk result (out.new.items ≡ out.old.items ++ qrels_text topic.now names.now self.now.graded) }
+    {
+        // names tell with their length that no name stands twice, and grades that no document does
+        let _ = names.len();
+        let _ = self.grades.len();
+        let mut graded = listed(alloc, &self.grades)?;
+        graded.sort_unstable_by(|a, b| by_docno(names, a.doc, b.doc));
+        write_lines(topic, names, graded.as_slice(), out)
+    }
+}
+
+// Gives a document a grade. It keeps its place, and goes last where it wasn't there.
+fn put_grade(
+    trail: &mut Vec<DocId>,
+    grades: &mut IndexMap<u32, Option<u8>>,
+    doc: DocId,
+    grade: Option<u8>,
+)
+    requires trail_room { vec_len trail.old < vec_capacity trail.old }
+    requires grades_room { 1 ≤ spare grades.old }
+    requires trail_is { trail.old.items ≡ docs_of (graded_of grades.old.entries) }
+    requires not_none_twice { is_some grade || is_some (effective_in (graded_of grades.old.entries) doc) ≡ true }
+    ensures trail_is { trail.new.items ≡ docs_of (graded_of grades.new.entries) }
+    ensures graded { graded_of grades.new.entries ≡ with_grade doc grade (graded_of grades.old.entries) }
+{
+    let before = grades.insert(doc.0, grade).unwrap();
+    if before.is_none() {
+        trail.push(doc).unwrap();
+    }
+}
+
+// The documents with their grades, in the order of the trail.
+fn listed(alloc: Global, grades: &IndexMap<u32, Option<u8>>) -> Result<Vec<Graded>, Memory>
+    ensures { IfOk result (λ graded. graded.items ≡ graded_of grades.now.entries) }
+{
+    let mut graded = Vec::with_capacity(alloc, grades.len())?;
+    for (doc, grade) in grades {
+        graded.push(Graded {
+            doc: DocId(*doc),
+            grade: *grade,
+        })?;
+    }
+    Ok(graded)
+}
