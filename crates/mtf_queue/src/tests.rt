@@ -198,7 +198,7 @@ fn step(
             topic.judge(doc, dice.below(2) == 0)?;
         }
         _ => {
-            let place = dice.below(DOCS);
+            let place = dice.below(DOCS + 1);
             let relevant = match dice.below(3) {
                 0 => None,
                 1 => Some(false),
