@@ -176,7 +176,10 @@ fn a_topic_has_at_most_a_thousand_lines(rt: HostRuntime) -> Result<(), Fail> {
     run.push_str("1 Q0 E 1 1 t\n")?;
     let (status, out) = scored(&rt, Some(run.as_bytes()), Some(QRELS))?;
     assert_eq!(rt; status, 3);
-    assert_eq!(rt; out.written(), b"input: r.txt line 1001 too-long\n".as_slice());
+    assert_eq!(rt;
+        out.written(),
+        b"input: r.txt line 1001 too-long\n".as_slice()
+    );
     Ok(())
 }
 

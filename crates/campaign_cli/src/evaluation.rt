@@ -15,8 +15,8 @@ use itoa::Buffer as Digits;
 use measures::{mean, write_summary};
 use std::alloc::Global;
 use trec_formats::{
-    FormatEnd, FormatFault, Kind, QrelLine, TopicList, cause_name, one_qrels_reading, one_run_reading, rank_run, read_qrels,
-    read_run,
+    FormatEnd, FormatFault, Kind, QrelLine, TopicList, cause_name, one_qrels_reading,
+    one_run_reading, rank_run, read_qrels, read_run,
 };
 
 /// What an evaluation comes to.

@@ -84,7 +84,7 @@ impl FormatEnd {
 impl From<Memory> for FormatEnd {
     ghost use Rattle.trec_formats.specs.declared.faults.FormatEnd.TheVariants.{Memory as NoMemory};
     ghost use Rattle.std.specs.Prelude.{◌≡◌};
-ghost use Rattle.trec_formats.specs.FaultNames.{cause_name, kind_name};
+    ghost use Rattle.trec_formats.specs.FaultNames.{cause_name, kind_name};
 
     ghost from_gives = { λ _ e. e ≡ NoMemory };
 
@@ -96,7 +96,7 @@ ghost use Rattle.trec_formats.specs.FaultNames.{cause_name, kind_name};
 impl From<AllocError> for FormatEnd {
     ghost use Rattle.trec_formats.specs.declared.faults.FormatEnd.TheVariants.{Memory};
     ghost use Rattle.std.specs.Prelude.{◌≡◌};
-ghost use Rattle.trec_formats.specs.FaultNames.{cause_name, kind_name};
+    ghost use Rattle.trec_formats.specs.FaultNames.{cause_name, kind_name};
 
     ghost from_gives = { λ _ e. e ≡ Memory };
 
@@ -108,7 +108,7 @@ ghost use Rattle.trec_formats.specs.FaultNames.{cause_name, kind_name};
 impl<T: Drop> From<AllocFailed<T>> for FormatEnd {
     ghost use Rattle.trec_formats.specs.declared.faults.FormatEnd.TheVariants.{Memory};
     ghost use Rattle.std.specs.Prelude.{◌≡◌};
-ghost use Rattle.trec_formats.specs.FaultNames.{cause_name, kind_name};
+    ghost use Rattle.trec_formats.specs.FaultNames.{cause_name, kind_name};
 
     ghost from_gives = { λ _ e. e ≡ Memory };
 
