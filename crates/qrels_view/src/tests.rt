@@ -101,7 +101,7 @@ fn add(alloc: Global, names: &mut Names, name: &[u8]) -> Result<(), Fail> {
 fn lines_stand_by_docno(rt: HostRuntime) -> Result<(), Fail> {
     let alloc = rt.alloc();
     let mut names = Names::new(alloc);
-    for name in [b"d9", b"d3", b"D9", b"d1"] {
+    for name in [b"d9", b"d3", b"E9", b"d1"] {
         add(alloc, &mut names, name)?;
     }
     let mut view = View::new(alloc, 1);
@@ -113,7 +113,7 @@ fn lines_stand_by_docno(rt: HostRuntime) -> Result<(), Fail> {
     let text = text_after(alloc, b"6 0 d 1\n", &view, &names)?;
     assert_eq!(rt;
         text.as_slice(),
-        b"6 0 d 1\n7 0 D9 255\n7 0 d3 10\n7 0 d9 0\n".as_slice()
+        b"6 0 d 1\n7 0 E9 255\n7 0 d3 10\n7 0 d9 0\n".as_slice()
     );
     Ok(())
 }
