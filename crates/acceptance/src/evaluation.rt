@@ -9,7 +9,13 @@ const RUN: &[u8] = b"1 Q0 A 1 3 t\n1 Q0 B 2 2 t\n1 Q0 C 3 1 t\n";
 const QRELS: &[u8] = b"1 0 A 1\n1 0 B 0\n1 0 C 1\n1 0 D 1\n";
 
 const SCORES: &[u8] =
-    b"r.txt\tall\tnum_rel_ret\t2\nr.txt\tall\tmap\t0.5556\nr.txt\tall\tP_10\t0.2000\n";
+    b"r.txt\tall\tnum_q\t1\nr.txt\tall\tnum_ret\t3\nr.txt\tall\tnum_rel\t3\nr.txt\tall\tnum_rel_ret\t2\nr.txt\tall\tmap\t0.5556\nr.txt\tall\tRprec\t0.6667\nr.txt\tall\tbpref\t0.3333\nr.txt\tall\trecip_rank\t1.0000\nr.txt\tall\tP_5\t0.4000\nr.txt\tall\tP_10\t0.2000\nr.txt\tall\tP_15\t0.1333\nr.txt\tall\tP_20\t0.1000\nr.txt\tall\tP_30\t0.0667\nr.txt\tall\tP_100\t0.0200\nr.txt\tall\tP_200\t0.0100\nr.txt\tall\tP_500\t0.0040\nr.txt\tall\tP_1000\t0.0020\n";
+
+const MEASURES: &str =
+    "num_q num_ret num_rel num_rel_ret map Rprec bpref recip_rank P_5 P_10 P_15 P_20 P_30 P_100 P_200 P_500 P_1000";
+
+const VALUES: &str =
+    "1 3 3 2 0.5556 0.6667 0.3333 1.0000 0.4000 0.2000 0.1333 0.1000 0.0667 0.0200 0.0100 0.0040 0.0020";
 
 fn text(alloc: Global, bytes: &[u8]) -> Result<Text, Fail> {
     Ok(Text::new(Vec::from_slice(alloc, bytes)?))
@@ -61,51 +67,85 @@ fn scored(
     Ok((status.0, out))
 }
 
+// The lines of these values, in the order of the measures.
+fn lines_of(alloc: Global, values: &str) -> Result<Vec<u8>, Fail> {
+    let mut lines = Vec::new(alloc);
+    for (measure, value) in MEASURES.split_whitespace().zip(values.split_whitespace()) {
+        lines.extend_from_slice(b"r.txt\tall\t")?;
+        lines.extend_from_slice(measure.as_bytes())?;
+        lines.extend_from_slice(b"\t")?;
+        lines.extend_from_slice(value.as_bytes())?;
+        lines.extend_from_slice(b"\n")?;
+    }
+    Ok(lines)
+}
+
+#[test]
+fn a_summary_has_seventeen_lines(rt: HostRuntime) -> Result<(), Fail> {
+    let (status, out) = scored(&rt, Some(RUN), Some(QRELS))?;
+    assert_eq!(rt; status, 0);
+    assert_eq!(rt; out.written(), SCORES);
+    Ok(())
+}
+
 #[test]
 fn a_run_is_scored_against_qrels(rt: HostRuntime) -> Result<(), Fail> {
-    let cases: [(&[u8], &[u8], &[u8]); 8] = [
-        (RUN, QRELS, SCORES),
+    let cases: [(&[u8], &[u8], &str); 10] = [
+        (RUN, QRELS, VALUES),
         // equal scores stand by descending docno: C, B, A
         (
             b"1 Q0 A 1 2 t\n1 Q0 B 2 2.00 t\n1 Q0 C 3 20e-1 t\n",
             b"1 0 C 1\n",
-            b"r.txt\tall\tnum_rel_ret\t1\nr.txt\tall\tmap\t1.0000\nr.txt\tall\tP_10\t0.1000\n",
+            "1 3 1 1 1.0000 1.0000 1.0000 1.0000 0.2000 0.1000 0.0667 0.0500 0.0333 0.0100 0.0050 0.0020 0.0010",
         ),
         // B, A, D, C, F, E
         (
             b"1 Q0 A 1 1e-5 t\n1 Q0 B 1 .00001 t\n1 Q0 C 1 -0 t\n1 Q0 D 1 0 t\n1 Q0 E 1 -5. t\n1 Q0 F 1 -.5 t\n",
             b"1 0 B 1\n1 0 D 1\n1 0 F 1\n",
-            b"r.txt\tall\tnum_rel_ret\t3\nr.txt\tall\tmap\t0.7556\nr.txt\tall\tP_10\t0.3000\n",
+            "1 6 3 3 0.7556 0.6667 1.0000 1.0000 0.6000 0.3000 0.2000 0.1500 0.1000 0.0300 0.0150 0.0060 0.0030",
         ),
         // the last line without its line feed, and white space of each kind
         (
             b"\n1\tQ0\x0bA\x0c1 3 t\r\n 1 Q0 B 2 2 t\n\n1 Q0 C 3 1 t",
             QRELS,
-            SCORES,
+            VALUES,
         ),
         // the rank column and the order of the lines aren't looked at
-        (b"1 Q0 C 1 1 t\n1 Q0 B 1 2 t\n1 Q0 A 9 3 t\n", QRELS, SCORES),
+        (b"1 Q0 C 1 1 t\n1 Q0 B 1 2 t\n1 Q0 A 9 3 t\n", QRELS, VALUES),
+        // no document is judged lower
         (
             RUN,
             b"1 0 A 1\n1 0 D 1\n",
-            b"r.txt\tall\tnum_rel_ret\t1\nr.txt\tall\tmap\t0.5000\nr.txt\tall\tP_10\t0.1000\n",
+            "1 3 2 1 0.5000 0.5000 0.5000 1.0000 0.2000 0.1000 0.0667 0.0500 0.0333 0.0100 0.0050 0.0020 0.0010",
         ),
+        // no document is relevant
         (
             RUN,
             b"1 0 A 0\n",
-            b"r.txt\tall\tnum_rel_ret\t0\nr.txt\tall\tmap\t0.0000\nr.txt\tall\tP_10\t0.0000\n",
+            "1 3 0 0 0.0000 0.0000 0.0000 0.0000 0.0000 0.0000 0.0000 0.0000 0.0000 0.0000 0.0000 0.0000 0.0000",
         ),
         // a topic that the run lacks counts as 0, and one that the qrels lack isn't looked at
         (
             b"3 Q0 A 1 1 t\n1 Q0 A 1 2 t\n1 Q0 B 1 2 t\n",
             b"2 0 A 1\n1 0 A 1\n",
-            b"r.txt\tall\tnum_rel_ret\t1\nr.txt\tall\tmap\t0.2500\nr.txt\tall\tP_10\t0.0500\n",
+            "2 2 2 1 0.2500 0.0000 0.5000 0.2500 0.1000 0.0500 0.0333 0.0250 0.0167 0.0050 0.0025 0.0010 0.0005",
+        ),
+        // three relevant and three judged lower, of which each run has its own
+        (
+            b"1 Q0 a 1 3 t\n1 Q0 b 2 2 t\n1 Q0 e 3 1 t\n",
+            b"1 0 a 0\n1 0 b 1\n1 0 c 1\n1 0 d 0\n1 0 e 0\n1 0 f 2\n",
+            "1 3 3 1 0.1667 0.3333 0.2222 0.5000 0.2000 0.1000 0.0667 0.0500 0.0333 0.0100 0.0050 0.0020 0.0010",
+        ),
+        (
+            b"1 Q0 c 1 3 t\n1 Q0 d 2 2 t\n1 Q0 f 3 1 t\n",
+            b"1 0 a 0\n1 0 b 1\n1 0 c 1\n1 0 d 0\n1 0 e 0\n1 0 f 2\n",
+            "1 3 3 2 0.5556 0.6667 0.5556 1.0000 0.4000 0.2000 0.1333 0.1000 0.0667 0.0200 0.0100 0.0040 0.0020",
         ),
     ];
-    for (run, qrels, scores) in cases {
+    for (run, qrels, values) in cases {
         let (status, out) = scored(&rt, Some(run), Some(qrels))?;
         assert_eq!(rt; status, 0);
-        assert_eq!(rt; out.written(), scores);
+        assert_eq!(rt; out.written(), lines_of(rt.alloc(), values)?.as_slice());
     }
     Ok(())
 }

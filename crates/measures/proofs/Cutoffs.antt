@@ -18,7 +18,7 @@ cutoff_positive (suc (suc (suc (suc (suc (suc (suc zero))))))) h = omega arith
 cutoff_positive (suc (suc (suc (suc (suc (suc (suc (suc zero)))))))) h = omega arith
 cutoff_positive (suc (suc (suc (suc (suc (suc (suc (suc (suc i))))))))) h = absurd (omega arith)
 
-relevant_to-le : (level : ℕ) (grades : List (Option ℕ)) (k : ℕ) → relevant_to level grades k ≤ k
+pub relevant_to-le : (level : ℕ) (grades : List (Option ℕ)) (k : ℕ) → relevant_to level grades k ≤ k
 relevant_to-le level grades k = omega (arith, count_by-le-length (is_relevant level) (take k grades), length-take k grades)
 
 -- no more documents are relevant up to a cutoff than the cutoff has

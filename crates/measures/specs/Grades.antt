@@ -16,6 +16,10 @@ is_non_relevant level (Some grade) = nat_lt grade level
 abbrev pub relevant_to : ℕ → List (Option ℕ) → ℕ → ℕ
 relevant_to level grades k = count_by (is_relevant level) (take k grades)
 
+-- the documents in ranks 1 to k that are judged and not relevant
+abbrev pub non_relevant_to : ℕ → List (Option ℕ) → ℕ → ℕ
+non_relevant_to level grades k = count_by (is_non_relevant level) (take k grades)
+
 -- the sum of f over the ranks of the relevant documents
 abbrev pub sum_over_relevant : ℕ → List (Option ℕ) → (ℕ → ℕ) → ℕ
 sum_over_relevant level grades f =

@@ -3,14 +3,14 @@ use Rattle.std.specs.Prelude.{⊤, ℕ, ◌*◌, ◌/◌, ◌^◌, ◌<◌, ◌�
 use Rattle.std.specs.List.{range_with_len}
 use Rattle.measures.specs.declared.cells.Cell.{Cell}
 use Rattle.measures.specs.declared.means.Measure.{Measure}
-use Rattle.measures.specs.declared.means.Measure.TheVariants.{Map, Precision}
+use Rattle.measures.specs.declared.means.Measure.TheVariants.{Map, RPrec, Bpref, RecipRank, Precision}
 use Rattle.measures.specs.declared.means.Summary.{Summary}
 use Rattle.measures.specs.Cells.{cutoffs}
 
 -- a measure P_k is named by its place among the cutoffs, from 0
 abbrev pub IsMeasure : Measure → Type 0
-IsMeasure Map = ⊤
 IsMeasure (Precision place) = place < 9
+IsMeasure _ = ⊤
 
 -- a over b, rounded down
 abbrev pub fixed_of : ℕ → ℕ → ℕ
@@ -19,6 +19,9 @@ fixed_of a b = a * 10 ^ 15 / b
 -- the value on a topic that has relevant documents
 abbrev pub share_of : Measure → Cell → ℕ
 share_of Map cell = cell.ap_sum / cell.rel
+share_of RPrec cell = fixed_of cell.r_prec cell.rel
+share_of Bpref cell = fixed_of cell.bpref_num cell.bpref_den
+share_of RecipRank cell = if cell.first == 0 then 0 else fixed_of 1 cell.first
 share_of (Precision place) cell = fixed_of (slice_index cell.at place) (slice_index cutoffs place)
 
 -- the value on a topic: 0 where no document is relevant
@@ -29,16 +32,32 @@ value_of measure cell = if cell.rel == 0 then 0 else share_of measure cell
 abbrev pub mean_by : (Cell → ℕ) → List Cell → ℕ
 mean_by value cells = if length cells == 0 then 0 else sum_by value cells / length cells
 
--- the means over the counted topics, of which each has one cell
+-- the sums and means over the counted topics, of which each has one cell
 unfoldable pub summary_of : List Cell → Summary
 summary_of cells = record {
   topics = length cells;
+  ret = sum_by (λ cell. cell.ret) cells;
+  rel = sum_by (λ cell. cell.rel) cells;
   rel_ret = sum_by (λ cell. cell.rel_ret) cells;
   map = mean_by (value_of Map) cells;
+  r_prec = mean_by (value_of RPrec) cells;
+  bpref = mean_by (value_of Bpref) cells;
+  recip = mean_by (value_of RecipRank) cells;
   at = map (λ place. mean_by (value_of (Precision place)) cells) (range_with_len 0 9);
 }
 
 -- each mean is at most 1
 pub record IsProper (summary : Summary) : Type 0 where
   pub map : summary.map ≤ 10 ^ 15
+  pub r_prec : summary.r_prec ≤ 10 ^ 15
+  pub bpref : summary.bpref ≤ 10 ^ 15
+  pub recip : summary.recip ≤ 10 ^ 15
   pub at : (i : ℕ) → i < 9 → slice_index summary.at i ≤ 10 ^ 15
+
+-- the mean of a measure in a summary
+abbrev pub mean_in : Summary → Measure → ℕ
+mean_in summary Map = summary.map
+mean_in summary RPrec = summary.r_prec
+mean_in summary Bpref = summary.bpref
+mean_in summary RecipRank = summary.recip
+mean_in summary (Precision place) = slice_index summary.at place

@@ -1,6 +1,6 @@
-ghost use Rattle.std.specs.Prelude.{◌≡◌, ◌*◌, ◌^◌, ◌≤◌, length, map, count_by};
-ghost use Rattle.measures.specs.Grades.{is_relevant as relevant_is, is_non_relevant as non_relevant_is, relevant_to as relevant_to_rank};
-ghost use Rattle.measures.specs.Cells.{cutoffs, ap_sum_of, cell_of, IsSound};
+ghost use Rattle.std.specs.Prelude.{◌≡◌, ◌*◌, ◌^◌, ◌<◌, ◌≤◌, IfSome, length, map, count_by, position};
+ghost use Rattle.measures.specs.Grades.{is_relevant as relevant_is, is_non_relevant as non_relevant_is, relevant_to as relevant_to_rank, sum_over_relevant};
+ghost use Rattle.measures.specs.Cells.{cutoffs, first_relevant as first_relevant_rank, ap_sum_of, left_of_cap, bpref_num as bpref_num_of, bpref_den as bpref_den_of, cell_of, IsSound};
 
 /// The cutoffs k of the measures P_k.
 pub const CUTOFFS: [u32; 9] = [5, 10, 15, 20, 30, 100, 200, 500, 1000];
@@ -9,15 +9,20 @@ pub const CUTOFFS: [u32; 9] = [5, 10, 15, 20, 30, 100, 200, 500, 1000];
 const ONE: u64 = 1_000_000_000_000_000;
 
 /// The counts and sums of one ranked list on one topic: the documents retrieved, the topic's
-/// relevant documents, the relevant ones retrieved, those within each of `CUTOFFS`, and the sum,
-/// in units of 10^-15, from which average precision is taken.
+/// relevant documents, the relevant ones retrieved, those within each of `CUTOFFS` and within the
+/// first `rel` ranks; the rank of the first relevant one, or 0; the sum, in units of 10^-15, from
+/// which average precision is taken; and bpref's numerator and denominator.
 #[derive(Clone, Copy, Debug, PartialEq, Eq)]
 pub struct Cell {
     pub ret: u32,
     pub rel: u32,
     pub rel_ret: u32,
     pub at: [u32; 9],
+    pub r_prec: u32,
+    pub first: u32,
     pub ap_sum: u64,
+    pub bpref_num: u64,
+    pub bpref_den: u64,
 }
 
 /// The cell of a ranked list from its effective grades by rank. The topic has `r` relevant
@@ -37,7 +42,11 @@ pub fn scratch(grades: &[Option<u8>], r: u32, n: u32, level: u8) -> Cell
         rel: r,
         rel_ret: relevant_in(level, grades),
         at: relevant_within(level, grades),
+        r_prec: relevant_to(level, grades, r),
+        first: first_relevant(level, grades),
         ap_sum: precision_sum(level, grades),
+        bpref_num: bpref_num(level, grades, r, n),
+        bpref_den: bpref_den(r, n),
     }
 }
 
@@ -92,4 +101,75 @@ fn precision_sum(level: u8, grades: &[Option<u8>]) -> u64
         }
     }
     sum
+}
+
+fn first_place(level: u8, grades: &[Option<u8>]) -> Option<usize>
+    ensures place { result ≡ position (relevant_is level) grades.now }
+    ensures within { IfSome result (λ place. place < length grades.now) }
+{
+    grades.iter().position(|grade| is_relevant(level, *grade))
+}
+
+fn first_relevant(level: u8, grades: &[Option<u8>]) -> u32
+    requires { length grades.now ≤ 1000 }
+    ensures { result ≡ first_relevant_rank level grades.now }
+{
+    match first_place(level, grades) {
+        Some(place) => place as u32 + 1,
+        None => 0,
+    }
+}
+
+fn is_judged_lower(level: u8, grade: Option<u8>) -> bool
+    ensures { result ≡ non_relevant_is level grade }
+{
+    grade.is_some_and(|grade| grade < level)
+}
+
+/// The sum, over the relevant documents, of what those that are judged lower above each leave of
+/// the cap.
+fn preference_sum(level: u8, grades: &[Option<u8>], cap: u64) -> u64
+    requires length { length grades.now ≤ 1000 }
+    requires few { cap ≤ 268435456 }
+    ensures sum { result ≡ sum_over_relevant level grades.now (left_of_cap level grades.now cap) }
+    ensures bound { result ≤ count_by (relevant_is level) grades.now * cap }
+{
+    let mut lower: u64 = 0;
+    let mut sum: u64 = 0;
+    for grade in grades {
+        if is_relevant(level, *grade) {
+            sum += cap - cap.min(lower);
+        } else if is_judged_lower(level, *grade) {
+            lower += 1;
+        }
+    }
+    sum
+}
+
+fn bpref_num(level: u8, grades: &[Option<u8>], r: u32, n: u32) -> u64
+    requires length { length grades.now ≤ 1000 }
+    requires relevant { count_by (relevant_is level) grades.now ≤ r }
+    requires few { r ≤ 268435456 }
+    ensures num { result ≡ bpref_num_of level grades.now r n }
+    ensures within { result ≤ bpref_den_of r n }
+{
+    let cap = r.min(n) as u64;
+    if cap == 0 {
+        return relevant_in(level, grades) as u64;
+    }
+    preference_sum(level, grades, cap)
+}
+
+fn bpref_den(r: u32, n: u32) -> u64
+    requires { r ≤ 268435456 }
+    ensures den { result ≡ bpref_den_of r n }
+    ensures positive { 0 < result }
+{
+    if r == 0 {
+        return 1;
+    }
+    match r.min(n) {
+        0 => r as u64,
+        cap => r as u64 * cap as u64,
+    }
 }

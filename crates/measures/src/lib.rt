@@ -5,10 +5,12 @@
 mod cells;
 mod means;
 mod score_lines;
+mod totals;
 
 pub use cells::{CUTOFFS, Cell, scratch};
-pub use means::{Measure, Summary, fixed, mean};
-pub use score_lines::{write_four, write_summary};
+pub use means::{Measure, Summary, fixed};
+pub use score_lines::{write_cell, write_four, write_summary};
+pub use totals::{Totals, mean};
 
 #[cfg(test)]
 mod tests;

@@ -1,8 +1,11 @@
-ghost use Rattle.std.specs.Prelude.{◌≡◌, ◌^◌, ◌≤◌, ◌++◌, OnOk, OnErr, codes, decimal};
-ghost use Rattle.measures.specs.Means.{IsProper};
-ghost use Rattle.measures.specs.ScoreLines.{four_decimals, score_line, summary_text};
+ghost use Rattle.std.specs.Prelude.{◌≡◌, ◌^◌, ◌≤◌, ◌++◌, OnOk, OnErr};
+ghost use Rattle.measures.specs.Cells.{IsSound};
+ghost use Rattle.measures.specs.Means.{IsProper, mean_in};
+ghost use Rattle.measures.specs.ScoreLines.{four_decimals, line_start, count_line, value_line, count_lines, measure_lines, precision_lines, cell_text, summary_text};
 
+use crate::cells::Cell;
 use crate::means::Summary;
+use crate::totals::mean;
 use decimal_rank::Memory;
 use itoa::Buffer;
 
@@ -26,7 +29,21 @@ pub fn write_four(value: u64, out: &mut Vec<u8>) -> Result<(), Memory>
     Ok(())
 }
 
-/// Appends the lines of a summary, with topic `all`. On want of memory nothing is appended.
+/// Appends the 16 lines of a cell. On want of memory nothing is appended.
+#[tactic(auto, using(std::proofs::lemmas::Grind::common_steps))]
+pub fn write_cell(run: &[u8], topic: &[u8], cell: &Cell, out: &mut Vec<u8>) -> Result<(), Memory>
+    requires { IsSound cell.now }
+    ensures ok { OnOk result (out.new.items ≡ out.old.items ++ cell_text run.now topic.now cell.now) }
+    ensures err { OnErr result (out.new.items ≡ out.old.items) }
+{
+    let mut lines = Vec::new(*out.allocator());
+    // the means over one topic are its values
+    write_scores(run, topic, &mean(&[*cell]), &mut lines)?;
+    out.extend_from_slice(&lines)?;
+    Ok(())
+}
+
+/// Appends the 17 lines of a summary, with topic `all`. On want of memory nothing is appended.
 #[tactic(auto, using(std::proofs::lemmas::Grind::common_steps), unfolding(crate::specs::ScoreLines::summary_text))]
 pub fn write_summary(run: &[u8], summary: &Summary, out: &mut Vec<u8>) -> Result<(), Memory>
     requires { IsProper summary.now }
@@ -34,36 +51,130 @@ pub fn write_summary(run: &[u8], summary: &Summary, out: &mut Vec<u8>) -> Result
     ensures err { OnErr result (out.new.items ≡ out.old.items) }
 {
     let mut page = Vec::new(*out.allocator());
-    write_count(run, b"num_rel_ret", summary.rel_ret, &mut page)?;
-    write_value(run, b"map", summary.map, &mut page)?;
-    write_value(run, b"P_10", summary.at[1], &mut page)?;
+    write_count(run, b"all", b"num_q", summary.topics as u64, &mut page)?;
+    write_scores(run, b"all", summary, &mut page)?;
     out.extend_from_slice(&page)?;
     Ok(())
 }
 
-fn write_count(run: &[u8], measure: &[u8], count: u64, page: &mut Vec<u8>) -> Result<(), Memory>
-    ensures { OnOk result (page.new.items ≡ page.old.items ++ score_line run.now (codes "all") measure.now (decimal count)) }
+/// Appends the lines of a summary that a cell has too.
+#[tactic(auto, using(std::proofs::lemmas::Grind::common_steps))]
+fn write_scores(
+    run: &[u8],
+    topic: &[u8],
+    summary: &Summary,
+    page: &mut Vec<u8>,
+) -> Result<(), Memory>
+    requires { IsProper summary.now }
+    ensures { OnOk result (page.new.items ≡ page.old.items
+        ++ count_lines run.now topic.now summary.now.ret summary.now.rel summary.now.rel_ret
+        ++ measure_lines run.now topic.now (mean_in summary.now)
+        ++ precision_lines run.now topic.now (mean_in summary.now)) }
 {
-    write_line(run, measure, Buffer::new().format(count).as_bytes(), page)
+    write_counts(run, topic, summary, page)?;
+    write_measures(run, topic, summary, page)?;
+    write_precisions(run, topic, summary, page)
 }
 
-fn write_value(run: &[u8], measure: &[u8], value: u64, page: &mut Vec<u8>) -> Result<(), Memory>
+#[tactic(auto, using(std::proofs::lemmas::Grind::common_steps), unfolding(crate::specs::ScoreLines::count_lines))]
+fn write_counts(
+    run: &[u8],
+    topic: &[u8],
+    summary: &Summary,
+    page: &mut Vec<u8>,
+) -> Result<(), Memory>
+    ensures { OnOk result (page.new.items ≡ page.old.items ++ count_lines run.now topic.now summary.now.ret summary.now.rel summary.now.rel_ret) }
+{
+    write_count(run, topic, b"num_ret", summary.ret, page)?;
+    write_count(run, topic, b"num_rel", summary.rel, page)?;
+    write_count(run, topic, b"num_rel_ret", summary.rel_ret, page)?;
+    Ok(())
+}
+
+#[tactic(auto, using(std::proofs::lemmas::Grind::common_steps), unfolding(crate::specs::ScoreLines::measure_lines))]
+fn write_measures(
+    run: &[u8],
+    topic: &[u8],
+    summary: &Summary,
+    page: &mut Vec<u8>,
+) -> Result<(), Memory>
+    requires { IsProper summary.now }
+    ensures { OnOk result (page.new.items ≡ page.old.items ++ measure_lines run.now topic.now (mean_in summary.now)) }
+{
+    write_value(run, topic, b"map", summary.map, page)?;
+    write_value(run, topic, b"Rprec", summary.r_prec, page)?;
+    write_value(run, topic, b"bpref", summary.bpref, page)?;
+    write_value(run, topic, b"recip_rank", summary.recip, page)?;
+    Ok(())
+}
+
+#[tactic(auto, using(std::proofs::lemmas::Grind::common_steps), unfolding(crate::specs::ScoreLines::precision_lines))]
+fn write_precisions(
+    run: &[u8],
+    topic: &[u8],
+    summary: &Summary,
+    page: &mut Vec<u8>,
+) -> Result<(), Memory>
+    requires { IsProper summary.now }
+    ensures { OnOk result (page.new.items ≡ page.old.items ++ precision_lines run.now topic.now (mean_in summary.now)) }
+{
+    write_value(run, topic, b"P_5", summary.at[0], page)?;
+    write_value(run, topic, b"P_10", summary.at[1], page)?;
+    write_value(run, topic, b"P_15", summary.at[2], page)?;
+    write_value(run, topic, b"P_20", summary.at[3], page)?;
+    write_value(run, topic, b"P_30", summary.at[4], page)?;
+    write_value(run, topic, b"P_100", summary.at[5], page)?;
+    write_value(run, topic, b"P_200", summary.at[6], page)?;
+    write_value(run, topic, b"P_500", summary.at[7], page)?;
+    write_value(run, topic, b"P_1000", summary.at[8], page)?;
+    Ok(())
+}
+
+fn write_count(
+    run: &[u8],
+    topic: &[u8],
+    measure: &[u8],
+    count: u64,
+    page: &mut Vec<u8>,
+) -> Result<(), Memory>
+    ensures { OnOk result (page.new.items ≡ page.old.items ++ count_line run.now topic.now measure.now count) }
+{
+    write_line_start(run, topic, measure, page)?;
+    page.extend_from_slice(Buffer::new().format(count).as_bytes())?;
+    page.extend_from_slice(b"\n")?;
+    Ok(())
+}
+
+fn write_value(
+    run: &[u8],
+    topic: &[u8],
+    measure: &[u8],
+    value: u64,
+    page: &mut Vec<u8>,
+) -> Result<(), Memory>
     requires { value ≤ 10 ^ 15 }
-    ensures { OnOk result (page.new.items ≡ page.old.items ++ score_line run.now (codes "all") measure.now (four_decimals value)) }
+    ensures { OnOk result (page.new.items ≡ page.old.items ++ value_line run.now topic.now measure.now value) }
 {
-    let mut text = Vec::new(*page.allocator());
-    write_four(value, &mut text)?;
-    write_line(run, measure, &text, page)
+    write_line_start(run, topic, measure, page)?;
+    write_four(value, page)?;
+    page.extend_from_slice(b"\n")?;
+    Ok(())
 }
 
-fn write_line(run: &[u8], measure: &[u8], value: &[u8], page: &mut Vec<u8>) -> Result<(), Memory>
-    ensures { OnOk result (page.new.items ≡ page.old.items ++ score_line run.now (codes "all") measure.now value.now) }
+/// Appends what stands before the value of a line.
+fn write_line_start(
+    run: &[u8],
+    topic: &[u8],
+    measure: &[u8],
+    page: &mut Vec<u8>,
+) -> Result<(), Memory>
+    ensures { OnOk result (page.new.items ≡ page.old.items ++ line_start run.now topic.now measure.now) }
 {
     page.extend_from_slice(run)?;
-    page.extend_from_slice(b"\tall\t")?;
+    page.extend_from_slice(b"\t")?;
+    page.extend_from_slice(topic)?;
+    page.extend_from_slice(b"\t")?;
     page.extend_from_slice(measure)?;
     page.extend_from_slice(b"\t")?;
-    page.extend_from_slice(value)?;
-    page.extend_from_slice(b"\n")?;
     Ok(())
 }

@@ -1,0 +1,5 @@
+use Rattle.measures.proofs.PreferenceSum.{IsPreferred}
+use Rattle.measures.proofs.cells.preference_sum.Given as goal
+
+abbrev pub invariant-loop-grade : goal.invariant-loop-grade
+invariant-loop-grade l = IsPreferred l.level l.grades l.cap l.grade-index l.lower l.sum
