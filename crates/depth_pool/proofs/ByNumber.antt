@@ -1,12 +1,12 @@
 -- A run's place among the runs by number.
-use Rattle.std.proofs.Common.{◌≡◌, ℕ, suc, ◌+◌, ◌<◌, Bool, true, false, cond, not, ◌||◌, ◌&&◌, eqb, List, [], ◌∷◌, length, get_or, refl, sym, ap, ◌∙◌, arith}
+use Rattle.std.proofs.Common.{◌≡◌, ℕ, suc, ◌+◌, ◌<◌, Bool, true, false, cond, not, ◌||◌, ◌&&◌, eqb, List, [], ◌∷◌, length, get_or, slice_get, Option, Some, None, refl, sym, ap, ◌∙◌, arith}
 use Rattle.std.specs.List.{list_any, All, position_or_len, remove}
 use Rattle.std.proofs.lemmas.Bool.{false≢true}
 use Rattle.std.proofs.lemmas.Bool.Decides.{nat_tests}
 use borrow.Author.Tests.{eqb-true}
 use Rattle.decimal_rank.specs.declared.naming.DocId.{DocId}
 use Rattle.depth_pool.specs.declared.runs.RunId.{RunId}
-use Rattle.depth_pool.specs.Holdings.{Held, AreByNumber, has_doc, has_run, holds, without_run}
+use Rattle.depth_pool.specs.Holdings.{Held, AreByNumber, docs_of, has_doc, has_run, holds, without_run}
 use Rattle.depth_pool.proofs.Lists.{pairs_head, pairs_tail, all_tail}
 
 abbrev IsBelow : Held → Held → Type 0
@@ -45,6 +45,34 @@ removed run (held ∷ runs) by_number h = step (eqb held.run.0 run.0) refl (remo
         → remove (held ∷ runs) (cond (not t) (1 + position_or_len (is_run run) runs) 0) ≡ cond (not t) (held ∷ without_run run runs) (without_run run runs)
     step true e later any = sym (none_behind held.run.0 runs (pairs_head IsBelow held runs by_number) run (sym (eqb-true _ _ e))).0
     step false e later any = ap (remove (held ∷ runs)) (let next : 1 + position_or_len (is_run run) runs ≡ suc (position_or_len (is_run run) runs) = omega arith in next) ∙ ap (λ z. held ∷ z) (later any)
+
+-- what `get` gives at the index of a run
+abbrev pub docs_found : Option Held → List DocId
+docs_found None = []
+docs_found (Some held) = held.docs
+
+pub docs_looked_up : (run : RunId) (runs : List Held) → docs_found (slice_get runs (position_or_len (is_run run) runs)) ≡ docs_of runs run
+docs_looked_up run [] = refl
+docs_looked_up run (held ∷ runs) = step (eqb held.run.0 run.0) (docs_looked_up run runs)
+  where
+    step : (t : Bool) → docs_found (slice_get runs (position_or_len (is_run run) runs)) ≡ docs_of runs run
+        → docs_found (slice_get (held ∷ runs) (cond (not t) (1 + position_or_len (is_run run) runs) 0)) ≡ cond t held.docs (docs_of runs run)
+    step true rest = refl
+    step false rest = ap (λ i. docs_found (slice_get (held ∷ runs) i)) (let next : 1 + position_or_len (is_run run) runs ≡ suc (position_or_len (is_run run) runs) = omega arith in next) ∙ rest
+
+-- a run holds the documents that it is listed with
+pub docs_held : (run : RunId) (runs : List Held) (doc : DocId) → AreByNumber runs → has_doc doc (docs_of runs run) ≡ holds runs run doc
+docs_held run [] doc by_number = refl
+docs_held run (held ∷ runs) doc by_number = step (eqb held.run.0 run.0) refl (docs_held run runs doc (pairs_tail IsBelow held runs by_number))
+  where
+    or_none : (b rest : Bool) → rest ≡ false → b ≡ (b || rest)
+    or_none true rest e = refl
+    or_none false rest e = sym e
+
+    step : (t : Bool) → eqb held.run.0 run.0 ≡ t → has_doc doc (docs_of runs run) ≡ holds runs run doc
+        → has_doc doc (cond t held.docs (docs_of runs run)) ≡ ((t && has_doc doc held.docs) || holds runs run doc)
+    step true e later = or_none (has_doc doc held.docs) (holds runs run doc) ((none_behind held.run.0 runs (pairs_head IsBelow held runs by_number) run (sym (eqb-true _ _ e))).1 doc)
+    step false e later = later
 
 pub docs_at : (run : RunId) (runs : List Held) (d : Held) (doc : DocId) → AreByNumber runs → has_run run runs ≡ true → has_doc doc (get_or runs (position_or_len (is_run run) runs) d).docs ≡ holds runs run doc
 docs_at run [] d doc by_number h = absurd (false≢true h)

@@ -1,3 +1,4 @@
+pub mod Counts
 pub mod Holders
 pub mod Listing
 pub mod Lists

@@ -26,7 +26,7 @@ use Rattle.depth_pool.specs.Index.{doc_cmp, held_docs, is_held}
 use Rattle.depth_pool.proofs.Lists.{all_tail}
 use Rattle.depth_pool.proofs.Writes.{is_eq-nat_cmp}
 
-abbrev IndexEntry : Type 0
+abbrev pub IndexEntry : Type 0
 IndexEntry = DocId × SmallVec RunId
 
 -- ---- which documents are listed
@@ -37,7 +37,7 @@ flip_test m n = grind (arith, nat_tests)
 less_differs : (m n : ℕ) → nat_cmp m n ≡ Less → eqb m n ≡ false
 less_differs m n h = sym (is_eq-nat_cmp m n) ∙ ap is_eq h
 
-listed-cons : (entry : IndexEntry) (entries : List IndexEntry) → held_docs (entry ∷ entries) ≡ cond (is_held entry) (entry.0 ∷ held_docs entries) (held_docs entries)
+pub listed-cons : (entry : IndexEntry) (entries : List IndexEntry) → held_docs (entry ∷ entries) ≡ cond (is_held entry) (entry.0 ∷ held_docs entries) (held_docs entries)
 listed-cons entry entries = step (is_held entry)
   where
     step : (t : Bool) → map (λ e. e.0) (cond t (entry ∷ filter is_held entries) (filter is_held entries)) ≡ cond t (entry.0 ∷ held_docs entries) (held_docs entries)

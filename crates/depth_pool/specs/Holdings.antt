@@ -1,9 +1,10 @@
 -- Which documents the runs of a pool hold.
-use Rattle.std.specs.Prelude.{◌≡◌, ◌≢◌, ℕ, ◌<◌, ◌==◌, ◌&&◌, nat_lt, Bool, true, not, List, [], ◌∷◌, Option, map, filter, AllPairs, if◌then◌else◌}
+use Rattle.std.specs.Prelude.{◌≡◌, ◌≢◌, ℕ, ◌<◌, ◌==◌, ◌&&◌, nat_lt, Bool, true, not, List, [], ◌∷◌, Option, length, map, filter, AllPairs, if◌then◌else◌}
 use Rattle.std.specs.Cmp.Lexicographic.{slice_cmp}
 use Rattle.std.specs.List.{list_any}
 use Rattle.std.specs.Ordering.{nat_cmp, is_lt}
 use Rattle.decimal_rank.specs.Names.{docno_of}
+use Rattle.decimal_rank.specs.Places.{AreDistinct}
 use Rattle.decimal_rank.specs.declared.naming.DocId.{DocId}
 use Rattle.depth_pool.specs.declared.runs.RunId.{RunId}
 
@@ -26,6 +27,11 @@ has_doc doc docs = list_any (λ other. other.0 == doc.0) docs
 abbrev pub has_run : RunId → List Held → Bool
 has_run run runs = list_any (λ held. held.run.0 == run.0) runs
 
+-- the documents that a run of the pool holds, by rank: none where it isn't in the pool
+abbrev pub docs_of : List Held → RunId → List DocId
+docs_of [] run = []
+docs_of (held ∷ later) run = if held.run.0 == run.0 then held.docs else docs_of later run
+
 -- whether a run of the pool holds a document
 abbrev pub holds : List Held → RunId → DocId → Bool
 holds runs run doc = list_any (λ held. (held.run.0 == run.0) && has_doc doc held.docs) runs
@@ -33,6 +39,10 @@ holds runs run doc = list_any (λ held. (held.run.0 == run.0) && has_doc doc hel
 -- whether some run of the pool holds a document
 abbrev pub some_run_holds : DocId → List Held → Bool
 some_run_holds doc runs = list_any (λ held. has_doc doc held.docs) runs
+
+-- so many documents pass a test: so long is each list that has just those, each once
+abbrev pub IsCount : (DocId → Bool) → ℕ → Type 0
+IsCount passes count = (docs : List DocId) → AreDistinct docs → ((doc : DocId) → has_doc doc docs ≡ passes doc) → count ≡ length docs
 
 -- the runs that hold a document, by number
 abbrev pub holders_of : DocId → List Held → List RunId

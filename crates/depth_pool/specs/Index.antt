@@ -1,5 +1,5 @@
 -- The index of a pool: the runs that hold each document.
-use Rattle.std.specs.Prelude.{◌≡◌, ◌==◌, nat_lt, Bool, true, false, not, List, [], length, map, filter, All}
+use Rattle.std.specs.Prelude.{◌≡◌, ℕ, ◌==◌, nat_lt, Bool, true, false, not, List, [], length, map, filter, All}
 use Rattle.std.specs.BTreeMap.{BTreeMap, get}
 use Rattle.std.specs.Option.{option_map_or}
 use Rattle.std.specs.Ordering.{nat_cmp}
@@ -8,7 +8,7 @@ use Rattle.smallvec.specs.SmallVec.{SmallVec}
 use Rattle.decimal_rank.specs.declared.naming.DocId.{DocId}
 use Rattle.decimal_rank.specs.Places.{AreDistinct}
 use Rattle.depth_pool.specs.declared.runs.RunId.{RunId}
-use Rattle.depth_pool.specs.Holdings.{Held, AreByNumber, holders_of, put_before}
+use Rattle.depth_pool.specs.Holdings.{Held, AreByNumber, IsCount, holders_of, put_before, some_run_holds}
 
 -- by number
 abbrev pub doc_cmp : DocId → DocId → Ordering
@@ -21,6 +21,10 @@ Index = BTreeMap DocId (SmallVec RunId)
 -- the runs that stand at a document
 abbrev pub holders_at : Index → DocId → List RunId
 holders_at index doc = option_map_or (λ holders. holders.items) (get doc_cmp index doc) []
+
+-- whether a run stands at a document
+abbrev pub has_holder : Index → DocId → Bool
+has_holder index doc = nat_lt 0 (length (holders_at index doc))
 
 -- whether one more run fits at a document with no memory taken
 abbrev pub has_room : Index → DocId → Bool
@@ -47,7 +51,8 @@ pub record IsReserved (index : Index) (docs : List DocId) : Type 0 where
   pub distinct : AreDistinct docs
   pub room : All (λ doc. has_room index doc ≡ true) docs
 
--- the runs stand by number, and the index has the holders of each document
-pub record IsPool (runs : List Held) (index : Index) : Type 0 where
+-- the runs stand by number, the index has the holders of each document, and the count is that of the documents that a run holds
+pub record IsPool (runs : List Held) (index : Index) (total : ℕ) : Type 0 where
   pub by_number : AreByNumber runs
   pub holders : (doc : DocId) → holders_at index doc ≡ holders_of doc runs
+  pub count : IsCount (λ doc. some_run_holds doc runs) total

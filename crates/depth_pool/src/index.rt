@@ -1,10 +1,10 @@
-ghost use Rattle.std.specs.Prelude.{◌≡◌, ◌≢◌, ◌<◌, ◌==◌, nat_lt, true, List, OnOk, IfOk, All, if◌then◌else◌, length};
+ghost use Rattle.std.specs.Prelude.{◌≡◌, ◌≢◌, ℕ, ◌+◌, ◌<◌, ◌≤◌, ◌==◌, ◌&&◌, nat_lt, not, true, List, OnOk, IfOk, All, if◌then◌else◌, length};
 ghost use Rattle.std.specs.List.{position_or_len};
 ghost use Rattle.std.specs.BTreeMap.{IsOrdered};
 ghost use Rattle.smallvec.specs.SmallVec.{HasRoomFor};
 ghost use Rattle.decimal_rank.specs.declared.naming.DocId.{DocId};
-ghost use Rattle.depth_pool.specs.Holdings.{has_doc};
-ghost use Rattle.depth_pool.specs.Index.{IsReserved, doc_cmp, has_room, held_docs, holders_at, with_holder, without_holder};
+ghost use Rattle.depth_pool.specs.Holdings.{IsCount, has_doc};
+ghost use Rattle.depth_pool.specs.Index.{IsReserved, doc_cmp, has_holder, has_room, held_docs, holders_at, with_holder, without_holder};
 
 use crate::runs::RunId;
 use decimal_rank::{DocId, Memory};
@@ -95,45 +95,77 @@ fn drop_empty(index: &mut Index, doc: DocId)
     }
 }
 
-// Puts a run at a document where there is room.
-fn add_holder(index: &mut Index, doc: DocId, run: RunId)
+// Puts a run at a document where there is room. Tells whether it is the first there.
+fn add_holder(index: &mut Index, doc: DocId, run: RunId) -> bool
     requires { has_room index.old doc ≡ true }
     ensures holders { (other : DocId) → holders_at index.new other ≡ (if doc.0 == other.0 then with_holder run (holders_at index.old other) else holders_at index.old other) }
     ensures rooms { (other : DocId) → other ≢ doc → has_room index.new other ≡ has_room index.old other }
+    ensures first { result ≡ not (has_holder index.old doc) }
 {
-    if let Some(holders) = index.get_mut(&doc) {
-        put_holder(holders, run);
+    match index.get_mut(&doc) {
+        Some(holders) => {
+            let is_first = holders.is_empty();
+            put_holder(holders, run);
+            is_first
+        }
+        None => true,
     }
 }
 
-// Puts a run at each document.
-pub(crate) fn add_holders(index: &mut Index, docs: &[DocId], run: RunId)
+// Puts a run at each document. Gives how many more documents have a holder then.
+pub(crate) fn add_holders(index: &mut Index, docs: &[DocId], run: RunId) -> usize
     requires { IsReserved index.old docs.now }
-    ensures { (other : DocId) → holders_at index.new other ≡ (if has_doc other docs.now then with_holder run (holders_at index.old other) else holders_at index.old other) }
+    ensures count { (count : ℕ) → IsCount (has_holder index.old) count → IsCount (has_holder index.new) (count + result) }
+    ensures holders { (other : DocId) → holders_at index.new other ≡ (if has_doc other docs.now then with_holder run (holders_at index.old other) else holders_at index.old other) }
 {
+    let mut more = 0;
     for doc in docs {
-        add_holder(index, *doc, run);
+        let is_first = add_holder(index, *doc, run);
+        if is_first {
+            more += 1;
+        }
     }
+    more
 }
 
-// Takes a run away from a document.
-fn remove_holder(index: &mut Index, doc: DocId, run: RunId)
+// Takes a run away from a document. Tells whether it was the last there.
+fn remove_holder(index: &mut Index, doc: DocId, run: RunId) -> bool
     ensures holders { (other : DocId) → holders_at index.new other ≡ (if doc.0 == other.0 then without_holder run (holders_at index.old other) else holders_at index.old other) }
     ensures rooms { (other : DocId) → has_room index.old other ≡ true → has_room index.new other ≡ true }
+    ensures last { result ≡ (has_holder index.old doc && not (has_holder index.new doc)) }
 {
-    if let Some(holders) = index.get_mut(&doc) {
-        holders.retain(|holder| holder.0 != run.0);
+    match index.get_mut(&doc) {
+        Some(holders) => take_holder(holders, run),
+        None => false,
     }
 }
 
-// Takes a run away from each document.
-pub(crate) fn remove_holders(index: &mut Index, docs: &[DocId], run: RunId)
+// Takes a run out. Tells whether it was the last.
+fn take_holder(holders: &mut SmallVec<RunId, 8>, run: RunId) -> bool
+    ensures items { holders.new.items ≡ without_holder run holders.old.items }
+    ensures len { length holders.new.items ≤ length holders.old.items }
+    ensures capacity { holders.new.capacity ≡ holders.old.capacity }
+    ensures last { result ≡ (nat_lt 0 (length holders.old.items) && not (nat_lt 0 (length holders.new.items))) }
+{
+    let had_one = !holders.is_empty();
+    holders.retain(|holder| holder.0 != run.0);
+    had_one && holders.is_empty()
+}
+
+// Takes a run away from each document. Gives how many documents fewer have a holder then.
+pub(crate) fn remove_holders(index: &mut Index, docs: &[DocId], run: RunId) -> usize
+    ensures count { (count : ℕ) → IsCount (has_holder index.new) count → IsCount (has_holder index.old) (count + result) }
     ensures holders { (other : DocId) → holders_at index.new other ≡ (if has_doc other docs.now then without_holder run (holders_at index.old other) else holders_at index.old other) }
     ensures rooms { (other : DocId) → has_room index.old other ≡ true → has_room index.new other ≡ true }
 {
+    let mut fewer = 0;
     for doc in docs {
-        remove_holder(index, *doc, run);
+        let was_last = remove_holder(index, *doc, run);
+        if was_last {
+            fewer += 1;
+        }
     }
+    fewer
 }
 
 // The documents that have a holder.

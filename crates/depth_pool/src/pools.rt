@@ -3,10 +3,10 @@ ghost use Rattle.decimal_rank.specs.Names.{docno_of};
 ghost use Rattle.decimal_rank.specs.Places.{AreDistinct};
 ghost use Rattle.decimal_rank.specs.declared.naming.DocId.{DocId};
 ghost use Rattle.depth_pool.specs.Index.{holders_at};
-ghost use Rattle.depth_pool.specs.Holdings.{AreByDocno, AreByNumber, KeepsOthers, has_doc, has_run, holders_of, holds, some_run_holds, with_run, without_run};
+ghost use Rattle.depth_pool.specs.Holdings.{AreByDocno, AreByNumber, IsCount, KeepsOthers, docs_of, has_doc, has_run, holders_of, holds, some_run_holds, with_run, without_run};
 
 use crate::index::{Index, add_holders, docs_held, drop_empties, make_rooms, remove_holders};
-use crate::runs::{RunDocs, RunId, put_run, take_run};
+use crate::runs::{RunDocs, RunId, docs_of, put_run, take_run};
 use decimal_rank::{DocId, Memory, Names, Ranking, Steps};
 use std::alloc::Global;
 use std::collections::BTreeMap;
@@ -22,6 +22,8 @@ pub struct Pool {
     runs: Vec<RunDocs>,
     // an entry for each document that a run held at some time, and for each with reserved room
     index: Index,
+    // how many documents some run holds
+    held_docs: usize,
     reserved: Option<Vec<DocId>>,
 }
 
@@ -35,7 +37,7 @@ impl Model for Pool {
 
     ghost view = { λ pool. record { depth = pool.depth; runs = pool.runs.items; room = option_map (λ docs. docs.items) pool.reserved } };
 
-    ghost invariant = { λ pool. IsPool pool.runs.items pool.index × ForSome pool.reserved (λ docs. IsReserved pool.index docs.items × (vec_len pool.runs < vec_capacity pool.runs)) };
+    ghost invariant = { λ pool. IsPool pool.runs.items pool.index pool.held_docs × ForSome pool.reserved (λ docs. IsReserved pool.index docs.items × (vec_len pool.runs < vec_capacity pool.runs)) };
 }
 
 impl Pool {
@@ -49,6 +51,7 @@ impl Pool {
             depth,
             runs: Vec::new(alloc),
             index: BTreeMap::new(alloc),
+            held_docs: 0,
             reserved: None,
         }
     }
@@ -78,7 +81,10 @@ impl Pool {
         ensures depth { self.new.depth ≡ self.old.depth }
     {
         if let Some(docs) = self.reserved.take() {
-            add_holders(&mut self.index, docs.as_slice(), run);
+            let more = add_holders(&mut self.index, docs.as_slice(), run);
+            // the index tells with its length that no document stands twice
+            let _entries = self.index.len();
+            self.held_docs += more;
             put_run(&mut self.runs, RunDocs { run, docs });
         }
     }
@@ -92,7 +98,11 @@ impl Pool {
         ensures room { self.new.room ≡ self.old.room }
     {
         let docs = take_run(&mut self.runs, run);
-        remove_holders(&mut self.index, docs.as_slice(), run);
+        // the index tells with its length that no document stands twice
+        let _before = self.index.len();
+        let fewer = remove_holders(&mut self.index, docs.as_slice(), run);
+        let _after = self.index.len();
+        self.held_docs -= fewer;
     }
 
     /// The runs that hold a document, by number, in one step. A step is a look-up by document.
@@ -115,6 +125,21 @@ impl Pool {
         ensures cost { steps.new ≡ steps.old + 1 }
     {
         self.holders(doc, steps).binary_search(&run).is_ok()
+    }
+
+    /// The documents that a run holds, by rank. There are none where it isn't in the pool.
+    pub fn held(&self, run: RunId) -> &[DocId]
+        ensures docs { result.now ≡ docs_of self.now.runs run }
+        ensures each { (doc : DocId) → has_doc doc result.now ≡ holds self.now.runs run doc }
+    {
+        docs_of(self.runs.as_slice(), run)
+    }
+
+    /// How many documents some run holds.
+    pub fn len(&self) -> usize
+        ensures { IsCount (λ doc. some_run_holds doc self.now.runs) result }
+    {
+        self.held_docs
     }
 
     /// The documents that some run holds, each once, by docno.

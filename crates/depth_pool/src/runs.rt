@@ -1,7 +1,7 @@
 ghost use Rattle.std.specs.Prelude.{◌≡◌, ◌+◌, ◌<◌, ◌==◌, IsTrue, vec_len, vec_capacity, nat_lt};
 ghost use Rattle.std.specs.List.{position_or_len};
 ghost use Rattle.decimal_rank.specs.declared.naming.DocId.{DocId};
-ghost use Rattle.depth_pool.specs.Holdings.{Held, AreByNumber, has_run, has_doc, holds, with_run, without_run};
+ghost use Rattle.depth_pool.specs.Holdings.{Held, AreByNumber, docs_of, has_run, has_doc, holds, with_run, without_run};
 
 use decimal_rank::DocId;
 use std::marker::Model;
@@ -60,7 +60,17 @@ pub(crate) fn take_run(runs: &mut Vec<RunDocs>, run: RunId) -> Vec<DocId>
     docs
 }
 
-// The index of a run.
+// The documents that a run holds.
+pub(crate) fn docs_of(runs: &[RunDocs], run: RunId) -> &[DocId]
+    ensures { result.now ≡ docs_of runs.now run }
+{
+    match runs.get(index_of(runs, run)) {
+        Some(held) => held.docs.as_slice(),
+        None => &[],
+    }
+}
+
+// The index of a run, or the number of runs where it isn't there.
 fn index_of(runs: &[RunDocs], run: RunId) -> usize
     ensures { result ≡ position_or_len (λ held. held.run.0 == run.0) runs.now }
 {

@@ -137,6 +137,23 @@ fn a_run_holds_what_stands_within_the_depth(rt: HostRuntime) -> Result<(), Fail>
     Ok(())
 }
 
+#[test]
+fn the_documents_of_a_run_stand_by_rank(rt: HostRuntime) -> Result<(), Fail> {
+    let mut pool = filled(rt.alloc(), RunId(2), RunId(1), RunId(0))?;
+    let cases: [(u16, &[DocId]); 4] = [
+        (0, &[DocId(0), DocId(1), DocId(4)]),
+        (1, &[DocId(2), DocId(3), DocId(5)]),
+        (2, &[DocId(4), DocId(2)]),
+        (3, &[]),
+    ];
+    for (run, docs) in cases {
+        assert_eq!(rt; pool.held(RunId(run)), docs);
+    }
+    pool.drop_run(RunId(1));
+    assert!(rt; pool.held(RunId(1)).is_empty());
+    Ok(())
+}
+
 // Names of the documents 0 to 5, whose order isn't that of the numbers.
 fn six_names(alloc: Global) -> Result<Names, Fail> {
     let mut names = Names::new(alloc);
@@ -161,9 +178,11 @@ fn the_documents_of_a_pool_stand_by_docno(rt: HostRuntime) -> Result<(), Fail> {
         let mut pool = filled(alloc, RunId(first), RunId(1), RunId(third))?;
         let docs = pool.docs(alloc, &names)?;
         assert_eq!(rt; docs.as_slice(), all.as_slice());
+        assert_eq!(rt; pool.len(), 6);
         pool.drop_run(RunId(1));
         let docs = pool.docs(alloc, &names)?;
         assert_eq!(rt; docs.as_slice(), left.as_slice());
+        assert_eq!(rt; pool.len(), 4);
     }
     Ok(())
 }

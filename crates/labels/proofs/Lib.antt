@@ -1,3 +1,6 @@
 pub mod Agreeing
+pub mod Disagreeing
+pub mod Documents
+pub mod Entries
 pub mod Meaning
 pub mod Setting

@@ -1,2 +1,4 @@
 pub mod Grades
 pub mod Labelled
+pub mod Marked
+pub mod Markings

@@ -1,5 +1,5 @@
 use super::*;
-use decimal_rank::Text;
+use decimal_rank::{DocId, Text};
 use std::alloc::Global;
 use std::test::Fail;
 
@@ -117,6 +117,122 @@ fn the_label_of_each_assessor(rt: HostRuntime) -> Result<(), Fail> {
     let rows = [(P, Some(0)), (Q, Some(2)), (R, None)];
     for (assessor, grade) in rows {
         assert_eq!(rt; labels.grade_of(assessor), grade);
+    }
+    Ok(())
+}
+
+// What happens to a document of a topic.
+#[derive(Drop)]
+enum Mark {
+    // an assessor's grade
+    Set(u32, &'static [u8], u8),
+    Rule(u32, u8),
+}
+
+// Marks a document. False where a ruling comes before the first label.
+fn play_at(alloc: Global, marks: &mut Marks, mark: &Mark) -> Result<bool, Fail> {
+    match mark {
+        Mark::Set(doc, assessor, grade) => {
+            set_at(alloc, marks, DocId(*doc), assessor, *grade)?;
+            Ok(true)
+        }
+        Mark::Rule(doc, grade) => Ok(rule_at(marks, DocId(*doc), *grade)),
+    }
+}
+
+fn set_at(
+    alloc: Global,
+    marks: &mut Marks,
+    doc: DocId,
+    assessor: &[u8],
+    grade: u8,
+) -> Result<(), Fail> {
+    let assessor = Text::new(Vec::from_slice(alloc, assessor)?);
+    marks.reserve(doc)?;
+    if marks.count(doc) < u32::MAX {
+        marks.set(doc, assessor, grade);
+    }
+    Ok(())
+}
+
+fn rule_at(marks: &mut Marks, doc: DocId, grade: u8) -> bool {
+    let is_marked = marks.count(doc) > 0;
+    if is_marked {
+        marks.rule(doc, grade);
+    }
+    is_marked
+}
+
+const A: u32 = 4;
+
+const B: u32 = 2;
+
+const C: u32 = 9;
+
+// Marks of three documents, after each of which: the document, its labels, its effective grade where
+// two labels are needed, and the documents that show a disagreement.
+type Row = (Mark, u32, u32, Option<u8>, &'static [DocId]);
+
+fn rows() -> [Row; 9] {
+    [
+        (Mark::Set(B, P, 1), B, 1, None, &[]),
+        (Mark::Set(A, P, 1), A, 1, None, &[]),
+        (Mark::Set(A, Q, 2), A, 2, None, &[DocId(A)]),
+        // the order is that of the first labels
+        (Mark::Set(B, Q, 0), B, 2, None, &[DocId(B), DocId(A)]),
+        (Mark::Rule(B, 3), B, 2, Some(3), &[DocId(A)]),
+        // a label in place of the assessor's earlier one
+        (Mark::Set(A, Q, 1), A, 2, Some(1), &[]),
+        (Mark::Set(A, P, 0), A, 2, None, &[DocId(A)]),
+        (Mark::Set(B, P, 2), B, 2, Some(3), &[DocId(A)]),
+        (Mark::Set(A, R, 0), A, 3, None, &[]),
+    ]
+}
+
+#[test]
+fn the_marks_of_three_documents(rt: HostRuntime) -> Result<(), Fail> {
+    let alloc = rt.alloc();
+    let mut marks = Marks::new(alloc);
+    for (call, doc, count, effective, disagreements) in rows() {
+        assert!(rt; play_at(alloc, &mut marks, &call)?);
+        assert_eq!(rt; marks.count(DocId(doc)), count);
+        assert_eq!(rt; marks.effective(2, DocId(doc)), effective);
+        let listed = marks.disagreements(alloc, 2)?;
+        assert_eq!(rt; listed.as_slice(), disagreements);
+    }
+    let listed = marks.disagreements(alloc, 1)?;
+    assert!(rt; listed.is_empty());
+    Ok(())
+}
+
+#[test]
+fn the_label_of_each_assessor_of_each_document(rt: HostRuntime) -> Result<(), Fail> {
+    let alloc = rt.alloc();
+    let mut marks = Marks::new(alloc);
+    let calls = [
+        Mark::Set(A, P, 1),
+        Mark::Set(B, Q, 2),
+        Mark::Rule(A, 3),
+        Mark::Set(A, P, 0),
+    ];
+    for call in &calls {
+        assert!(rt; play_at(alloc, &mut marks, call)?);
+    }
+    assert!(rt; !rule_at(&mut marks, DocId(C), 1));
+    let labels = [
+        (P, A, Some(0)),
+        (Q, A, None),
+        (P, B, None),
+        (Q, B, Some(2)),
+        (P, C, None),
+    ];
+    for (assessor, doc, grade) in labels {
+        assert_eq!(rt; marks.grade_of(assessor, DocId(doc)), grade);
+        assert_eq!(rt; marks.has_label(assessor, DocId(doc)), grade.is_some());
+    }
+    let effective = [(A, Some(3)), (B, Some(2)), (C, None)];
+    for (doc, grade) in effective {
+        assert_eq!(rt; marks.effective(1, DocId(doc)), grade);
     }
     Ok(())
 }

@@ -2,3 +2,4 @@ pub mod Comparing
 pub mod Grouping
 pub mod Keeping
 pub mod Playing
+pub mod First

@@ -1,5 +1,6 @@
 -- The judging rule: which of two runs comes first.
-use Rattle.std.specs.Prelude.{ℕ, zero, suc, nat_lt, Bool, true, false, not, ◌&&◌, List, [], ◌∷◌, ◌++◌, Option, Some, None, is_some, IsTrue, filter, find, reverse, All, AllPairs}
+use Rattle.std.specs.Prelude.{ℕ, zero, suc, nat_lt, Bool, true, false, not, ◌&&◌, ◌||◌, ◌==◌, List, [], ◌∷◌, ◌++◌, Option, Some, None, is_some, IsTrue, filter, find, reverse, All, AllPairs}
+use Rattle.std.specs.List.{list_all}
 use Rattle.std.specs.Ordering.{nat_cmp, ordering_then}
 use Rattle.std.specs.declared.cmp.Ordering.{Ordering}
 use Rattle.decimal_rank.specs.declared.naming.DocId.{DocId}
@@ -47,6 +48,11 @@ Holds = RunId → DocId → Bool
 -- r comes before s
 abbrev pub IsBefore : Holds → List Judged → RunId → RunId → Type 0
 IsBefore held trail r s = IsTrue (comes_before (λ run. run.0) (λ judged. judged.relevant) (λ run judged. held run judged.doc) trail r s)
+
+-- of these runs the one that comes before each other one
+abbrev pub first_of : List Held → List Judged → List RunId → Option RunId
+first_of runs trail candidates =
+    find (λ r. list_all (λ s. (r.0 == s.0) || comes_before (λ run. run.0) (λ judged. judged.relevant) (λ run judged. holds runs run judged.doc) trail r s) candidates) candidates
 
 -- each run of the queue is in the pool, and of any two the earlier in the list comes before the later.
 -- No run comes before itself, so each stands once

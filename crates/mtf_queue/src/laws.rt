@@ -1,7 +1,7 @@
-ghost use Rattle.std.specs.Prelude.{◌≡◌, ◌≢◌, ◌⊎◌, List, Contains};
+ghost use Rattle.std.specs.Prelude.{◌≡◌, ◌≢◌, ◌⊎◌, Bool, List, Contains, IsPermutation, filter, find};
 ghost use Rattle.depth_pool.specs.Holdings.{Held, KeepsOthers};
 ghost use Rattle.depth_pool.specs.declared.runs.RunId.{RunId};
-ghost use Rattle.mtf_queue.specs.Rule.{Holds, IsBefore, IsInOrder};
+ghost use Rattle.mtf_queue.specs.Rule.{Holds, IsBefore, IsInOrder, first_of};
 ghost use Rattle.mtf_queue.specs.declared.rule.Judged.{Judged};
 
 /// The rule is a total order of the runs, whatever they hold and whatever was judged.
@@ -15,4 +15,10 @@ pub fn rule_is_total_order()
 pub fn order_outlasts_other_runs()
     ensures { (before after : List Held) (run : RunId) (trail : List Judged) (order : List RunId) → KeepsOthers before after run
         → ¬ Contains order run → IsInOrder before trail order → IsInOrder after trail order }
+{}
+
+/// The first run of an order that passes a test is the one that comes before each other that passes.
+pub fn first_that_passes()
+    ensures { (runs : List Held) (trail : List Judged) (order all : List RunId) (passes : RunId → Bool) → IsInOrder runs trail order
+        → IsPermutation all order → find passes order ≡ first_of runs trail (filter passes all) }
 {}

@@ -9,7 +9,7 @@ mod moves;
 mod queues;
 mod rule;
 
-pub use laws::{order_outlasts_other_runs, rule_is_total_order};
+pub use laws::{first_that_passes, order_outlasts_other_runs, rule_is_total_order};
 pub use queues::Queue;
 pub use rule::Judged;
 

@@ -1,2 +1,3 @@
 pub mod Grading
+pub mod Placing
 pub mod Sorting

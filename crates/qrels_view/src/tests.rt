@@ -57,8 +57,28 @@ fn grades_come_and_change_and_go(rt: HostRuntime) -> Result<(), Fail> {
 }
 
 #[test]
+fn the_place_of_a_document_stays(rt: HostRuntime) -> Result<(), Fail> {
+    let mut view = View::new(rt.alloc(), 1);
+    let steps = [
+        (B, Some(1), [None, Some(1), None]),
+        (E, Some(0), [None, Some(1), Some(2)]),
+        (B, None, [None, Some(1), Some(2)]),
+        (A, Some(2), [Some(3), Some(1), Some(2)]),
+        (E, Some(3), [Some(3), Some(1), Some(2)]),
+    ];
+    for (doc, new, [a, b, e]) in steps {
+        assert!(rt; grade(&mut view, doc, new)?);
+        assert_eq!(rt; view.place(DocId(A)), a);
+        assert_eq!(rt; view.place(DocId(B)), b);
+        assert_eq!(rt; view.place(DocId(E)), e);
+    }
+    Ok(())
+}
+
+#[test]
 fn a_level_of_two(rt: HostRuntime) -> Result<(), Fail> {
     let mut view = View::new(rt.alloc(), 2);
+    assert_eq!(rt; view.level(), 2);
     assert!(rt; grade(&mut view, A, Some(1))?);
     assert!(rt; grade(&mut view, B, Some(2))?);
     assert!(rt; grade(&mut view, E, Some(3))?);

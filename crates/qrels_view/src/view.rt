@@ -1,6 +1,6 @@
-ghost use Rattle.std.specs.Prelude.{◌≡◌, ◌+◌, ◌<◌, ◌≤◌, ◌^◌, ◌++◌, ◌||◌, [], true, All, IfOk, OnOk, count_by, is_some, length, vec_capacity, vec_len};
+ghost use Rattle.std.specs.Prelude.{◌≡◌, ◌+◌, ◌<◌, ◌≤◌, ◌^◌, ◌++◌, ◌||◌, [], true, All, IfOk, IfSome, OnOk, count_by, is_some, length, vec_capacity, vec_len};
 ghost use Rattle.indexmap.specs.IndexMap.{spare};
-ghost use Rattle.decimal_rank.specs.Places.{AreDistinct};
+ghost use Rattle.decimal_rank.specs.Places.{AreDistinct, place_in};
 ghost use Rattle.qrels_view.specs.Grades.{docs_of, effective_in, graded_of, is_non_relevant, is_relevant, with_grade};
 ghost use Rattle.qrels_view.specs.Lines.{qrels_text};
 
@@ -101,6 +101,13 @@ impl View {
         *self.grades.get(&doc.0)?
     }
 
+    /// The grade from which on a document is relevant.
+    pub fn level(&self) -> u8
+        ensures { result ≡ self.now.level }
+    {
+        self.level
+    }
+
     /// How many documents are relevant.
     pub fn relevant(&self) -> u32
         ensures { result ≡ count_by (λ graded. is_relevant self.now.level graded.grade) self.now.graded }
@@ -124,6 +131,15 @@ impl View {
         // the grades tell with their length that no document stands twice
         let _ = self.grades.len();
         self.trail.as_slice()
+    }
+
+    /// The place of a document in the trail, from 1.
+    pub fn place(&self, doc: DocId) -> Option<u32>
+        ensures place { result ≡ place_in (docs_of self.now.graded) doc }
+        ensures within { IfSome result (λ place. (1 ≤ place) × (place ≤ length self.now.graded)) }
+    {
+        let index = self.grades.get_index_of(&doc.0)?;
+        Some(index as u32 + 1)
     }
 
     /// Appends the qrels line of each document that has a grade, by docno in byte order. Where there

@@ -1,0 +1,16 @@
+use Rattle.std.proofs.Common.{sym, subst}
+use Rattle.indexmap.specs.IndexMap.{spare}
+use Rattle.labels.specs.Markings.{HasRoom, marked_of, room_at}
+use Rattle.labels.proofs.Documents.{EachLabelled, labelled_then}
+use Rattle.labels.proofs.marks.Marks.rule.Goals as goal
+
+pub invariant_of-self : goal.invariant_of-self
+invariant_of-self c = record {
+  labelled = subst EachLabelled (sym c.put_ruling.ensures.marked) (labelled_then c.args.doc c.args.grade (marked_of c.self.inside.marked.entries) c.self.invariant.labelled);
+  given = c.self.invariant.given;
+  ruling = c.self.invariant.ruling;
+  room_is = λ doc is.
+      let room = c.self.invariant.room_is doc is in
+      let slots = subst (λ slots. HasRoom (room_at c.self.inside.marked.entries doc) slots c.self.inside.fresh.spare) (sym c.put_ruling.ensures.spare) room in
+      subst (λ room. HasRoom room (spare c.put_ruling.new.marked) c.self.inside.fresh.spare) (sym (c.put_ruling.ensures.rooms doc)) slots;
+}

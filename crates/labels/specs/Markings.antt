@@ -1,0 +1,36 @@
+-- What contracts see of `Marks`, and what it keeps.
+use Rattle.std.specs.Prelude.{◌≡◌, ℕ, ◌≤◌, ◌==◌, nat_lt, List, [], Option, Some, None, length, map}
+use Rattle.std.specs.Map.{lookup}
+use Rattle.std.specs.Option.{ForSome}
+use Rattle.decimal_rank.specs.declared.naming.DocId.{DocId}
+use Rattle.labels.specs.Labelled.{Labelled}
+use Rattle.labels.specs.Marked.{Marked, given_at, is_marked}
+
+-- the documents that have a label, in the order of their first labels, and the one for which there is room for one more label
+pub record Markings : Type 0 where
+  pub marked : List Marked
+  pub room : Option DocId
+
+-- the documents with their labels, from pairs of a document's number and its labels
+abbrev pub marked_of : List (ℕ × Labelled) → List Marked
+marked_of entries = map (λ entry. record { doc = record { 0 = entry.0 }; given = entry.1.given; ruling = entry.1.ruling }) entries
+
+-- each document's number, and the room for more labels of it
+abbrev pub rooms_of : List (ℕ × Labelled) → List (ℕ × ℕ)
+rooms_of entries = map (λ entry. (entry.0, entry.1.spare)) entries
+
+-- the room for more labels of a document
+abbrev pub room_at : List (ℕ × Labelled) → DocId → Option ℕ
+room_at entries doc = lookup (λ number. doc.0 == number) (rooms_of entries)
+
+-- room for one more label: at the document's labels, or, where it has none, for one more document and in the labels that it will get
+abbrev pub HasRoom : Option ℕ → ℕ → ℕ → Type 0
+HasRoom (Some spare) slots fresh = 1 ≤ spare
+HasRoom None slots fresh = (1 ≤ slots) × (1 ≤ fresh)
+
+-- each document that is there has a label, the labels for a new one are empty, and there is the room that contracts see
+pub record IsKept (entries : List (ℕ × Labelled)) (slots : ℕ) (fresh : Labelled) (room : Option DocId) : Type 0 where
+  pub labelled : (doc : DocId) → is_marked (marked_of entries) doc ≡ nat_lt 0 (length (given_at (marked_of entries) doc))
+  pub given : fresh.given ≡ []
+  pub ruling : fresh.ruling ≡ None
+  pub room_is : ForSome room (λ doc. HasRoom (room_at entries doc) slots fresh.spare)

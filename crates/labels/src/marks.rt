@@ -1,0 +1,202 @@
+ghost use Rattle.std.specs.Prelude.{◌≡◌, ℕ, ◌+◌, ◌-◌, ◌<◌, ◌≤◌, ◌^◌, ◌↔◌, [], None, Some, IfOk, IsTrue, OnOk, length};
+ghost use Rattle.indexmap.specs.IndexMap.{spare};
+ghost use Rattle.decimal_rank.specs.Places.{AreDistinct};
+ghost use Rattle.decimal_rank.specs.declared.naming.DocId.{DocId};
+ghost use Rattle.labels.specs.Labelled.{IsOncePerAssessor, has_label, label_of};
+ghost use Rattle.labels.specs.Marked.{disagreeing, disagrees_at, docs_in, effective_at, given_at, is_listed, is_marked, with_label_at, with_ruling_at};
+ghost use Rattle.labels.specs.Markings.{HasRoom, marked_of, room_at};
+
+use crate::document::Labels;
+use decimal_rank::{DocId, Memory, Text};
+use indexmap::IndexMap;
+use std::alloc::Global;
+use std::marker::Model;
+use std::mem::replace;
+
+// The labels by the number of the document, in the order of the first labels.
+type ByNumber = IndexMap<u32, Labels>;
+
+/// The labels of all documents of one topic, and the last ruling on each. A document gets in with its
+/// first label. Contracts see the documents in the order of their first labels, and the one for which
+/// there is room for one more label.
+#[derive(Drop)]
+pub struct Marks {
+    marked: ByNumber,
+    // the labels that the next new document gets, still empty
+    fresh: Labels,
+    room: Option<DocId>,
+}
+
+impl Model for Marks {
+    ghost use Rattle.indexmap.specs.IndexMap.{spare};
+    ghost use Rattle.labels.specs.Markings.{IsKept, Markings, marked_of};
+
+    ghost Value = { Markings };
+
+    ghost view = { λ marks. record { marked = marked_of marks.marked.entries; room = marks.room } };
+
+    ghost invariant = { λ marks. IsKept marks.marked.entries (spare marks.marked) marks.fresh marks.room };
+}
+
+impl Marks {
+    /// No document yet.
+    pub fn new(alloc: Global) -> Marks
+        ensures marked { result.marked ≡ [] }
+        ensures room { result.room ≡ None }
+    {
+        Marks {
+            marked: IndexMap::new(alloc),
+            fresh: Labels::new(alloc),
+            room: None,
+        }
+    }
+
+    /// Makes room for one more label of this document, until the next `reserve` or `set`.
+    pub fn reserve(&mut self, doc: DocId) -> Result<(), Memory>
+        ensures room { OnOk result (self.new.room ≡ Some doc) }
+        ensures marked { self.new.marked ≡ self.old.marked }
+    {
+        self.room = None;
+        let made = make_room(&mut self.marked, &mut self.fresh, doc);
+        if made.is_ok() {
+            self.room = Some(doc);
+        }
+        made
+    }
+
+    /// The grade that an assessor gives a document, in place of this assessor's earlier one.
+    pub fn set(&mut self, doc: DocId, assessor: Text, grade: u8)
+        requires room { self.old.room ≡ Some doc }
+        requires few { length (given_at self.old.marked doc) < 2 ^ 32 - 1 }
+        ensures marked { self.new.marked ≡ with_label_at doc assessor grade self.old.marked }
+        ensures room { self.new.room ≡ None }
+    {
+        self.room = None;
+        put_label(&mut self.marked, &mut self.fresh, doc, assessor, grade);
+    }
+
+    /// The grade of a ruling on a document, in place of the earlier one.
+    pub fn rule(&mut self, doc: DocId, grade: u8)
+        requires { IsTrue (is_marked self.old.marked doc) }
+        ensures marked { self.new.marked ≡ with_ruling_at doc grade self.old.marked }
+        ensures room { self.new.room ≡ self.old.room }
+    {
+        put_ruling(&mut self.marked, doc, grade);
+    }
+
+    /// The number of labels of a document, of which each assessor has one at most.
+    pub fn count(&self, doc: DocId) -> u32
+        ensures count { result ≡ length (given_at self.now.marked doc) }
+        ensures once_per_assessor { IsOncePerAssessor (given_at self.now.marked doc) }
+        ensures marked { IsTrue (is_marked self.now.marked doc) ↔ (1 ≤ result) }
+        ensures once { AreDistinct (docs_in self.now.marked) }
+    {
+        // the map tells with its length that no document stands twice
+        let _ = self.marked.len();
+        count_of(&self.marked, doc)
+    }
+
+    /// Whether an assessor has given a document a grade.
+    pub fn has_label(&self, assessor: &[u8], doc: DocId) -> bool
+        ensures { result ≡ has_label assessor.now (given_at self.now.marked doc) }
+    {
+        self.grade_of(assessor, doc).is_some()
+    }
+
+    /// The grade of an assessor's label of a document.
+    pub fn grade_of(&self, assessor: &[u8], doc: DocId) -> Option<u8>
+        ensures { result ≡ label_of assessor.now (given_at self.now.marked doc) }
+    {
+        self.marked.get(&doc.0)?.grade_of(assessor)
+    }
+
+    /// The last ruling on a document, or else the grade of exactly `need` labels that agree.
+    pub fn effective(&self, need: u32, doc: DocId) -> Option<u8>
+        ensures { result ≡ effective_at need self.now.marked doc }
+    {
+        self.marked.get(&doc.0)?.effective(need)
+    }
+
+    /// The documents that show a disagreement, in the order of their first labels.
+    pub fn disagreements(&self, alloc: Global, need: u32) -> Result<Vec<DocId>, Memory>
+        ensures listed { IfOk result (λ docs. docs.items ≡ disagreeing need self.now.marked) }
+        ensures each { IfOk result (λ docs. (doc : DocId) → is_listed docs.items doc ≡ disagrees_at need self.now.marked doc) }
+    {
+        // the map tells with its length that no document stands twice
+        let _ = self.marked.len();
+        disagreements_of(alloc, &self.marked, need)
+    }
+}
+
+// Makes room for one more label of a document.
+fn make_room(marked: &mut ByNumber, fresh: &mut Labels, doc: DocId) -> Result<(), Memory>
+    ensures marked { marked_of marked.new.entries ≡ marked_of marked.old.entries }
+    ensures given { fresh.new.given ≡ fresh.old.given }
+    ensures ruling { fresh.new.ruling ≡ fresh.old.ruling }
+    ensures room { OnOk result (HasRoom (room_at marked.new.entries doc) (spare marked.new) fresh.new.spare) }
+{
+    match marked.get_mut(&doc.0) {
+        Some(labels) => labels.reserve(),
+        None => {
+            marked.reserve(1)?;
+            fresh.reserve()
+        }
+    }
+}
+
+// Puts an assessor's grade at a document, for which there is room.
+fn put_label(marked: &mut ByNumber, fresh: &mut Labels, doc: DocId, assessor: Text, grade: u8)
+    requires room { HasRoom (room_at marked.old.entries doc) (spare marked.old) fresh.old.spare }
+    requires few { length (given_at (marked_of marked.old.entries) doc) < 2 ^ 32 - 1 }
+    requires given { fresh.old.given ≡ [] }
+    requires ruling { fresh.old.ruling ≡ None }
+    ensures marked { marked_of marked.new.entries ≡ with_label_at doc assessor grade (marked_of marked.old.entries) }
+    ensures given { fresh.new.given ≡ [] }
+    ensures ruling { fresh.new.ruling ≡ None }
+{
+    match marked.get_mut(&doc.0) {
+        Some(labels) => labels.set(assessor, grade),
+        None => {
+            let empty = Labels::new(*marked.allocator());
+            let mut labels = replace(fresh, empty);
+            labels.set(assessor, grade);
+            marked.insert(doc.0, labels).unwrap();
+        }
+    }
+}
+
+// Puts the grade of a ruling at a document that is there.
+fn put_ruling(marked: &mut ByNumber, doc: DocId, grade: u8)
+    requires { IsTrue (is_marked (marked_of marked.old.entries) doc) }
+    ensures marked { marked_of marked.new.entries ≡ with_ruling_at doc grade (marked_of marked.old.entries) }
+    ensures rooms { (other : DocId) → room_at marked.new.entries other ≡ room_at marked.old.entries other }
+    ensures spare { spare marked.new ≡ spare marked.old }
+{
+    if let Some(labels) = marked.get_mut(&doc.0) {
+        labels.rule(grade);
+    }
+}
+
+// The number of labels of a document.
+fn count_of(marked: &ByNumber, doc: DocId) -> u32
+    ensures count { result ≡ length (given_at (marked_of marked.now.entries) doc) }
+    ensures once_per_assessor { IsOncePerAssessor (given_at (marked_of marked.now.entries) doc) }
+{
+    match marked.get(&doc.0) {
+        Some(labels) => labels.count(),
+        None => 0,
+    }
+}
+
+// The documents that show a disagreement, in their order.
+fn disagreements_of(alloc: Global, marked: &ByNumber, need: u32) -> Result<Vec<DocId>, Memory>
+    ensures { IfOk result (λ docs. docs.items ≡ disagreeing need (marked_of marked.now.entries)) }
+{
+    let mut docs = Vec::new(alloc);
+    for (doc, labels) in marked {
+        if labels.disagrees(need) {
+            docs.push(DocId(*doc))?;
+        }
+    }
+    Ok(docs)
+}

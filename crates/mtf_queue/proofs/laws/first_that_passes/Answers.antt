@@ -1,0 +1,5 @@
+use Rattle.mtf_queue.proofs.First.{first-passes}
+use Rattle.mtf_queue.proofs.laws.first_that_passes.Goals as goal
+
+pub returns : goal.returns
+returns c = first-passes
