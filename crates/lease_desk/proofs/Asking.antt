@@ -1,0 +1,77 @@
+-- What is counted along a chain is what is asked for.
+use Rattle.std.proofs.Common.{◌≡◌, ℕ, ◌+◌, Bool, true, false, ◌&&◌, ◌||◌, eqb, nat_lt, List, [], ◌∷◌, Some, None, count_by, refl, sym, ap, ◌∙◌, arith}
+use Rattle.std.specs.List.{list_any}
+use Rattle.std.proofs.lemmas.Bool.{eq-eqb, lt-ltb}
+use Rattle.std.proofs.lemmas.Bool.Decides.{nat_tests}
+use Rattle.std.proofs.lemmas.Slice.Eq.{bytes_eq-Decides}
+use Rattle.decimal_rank.specs.declared.naming.DocId.{DocId}
+use Rattle.lease_desk.specs.Chained.{document_of, is_asked, name_hash, same_document}
+use Rattle.lease_desk.specs.Leases.{has_live, is_live, is_of, is_on, live_of, live_on, live_on_topic}
+use Rattle.lease_desk.specs.declared.leases.Lease.{Lease}
+use Rattle.lease_desk.proofs.Counting.{as_number, count-cons}
+
+-- ---- tests
+
+flip : (m n : ℕ) → eqb m n ≡ eqb n m
+flip m n = grind (arith, nat_tests)
+
+pub count_alike : {X : Type 0} (p q : X → Bool) → ((x : X) → p x ≡ q x) → (xs : List X) → count_by p xs ≡ count_by q xs
+count_alike p q alike [] = refl
+count_alike p q alike (x ∷ xs) =
+    count-cons p x xs ∙ ap (λ t. as_number t + count_by p xs) (alike x) ∙ ap (λ n. as_number (q x) + n) (count_alike p q alike xs) ∙ sym (count-cons q x xs)
+
+-- a count over 0 says that some element passes
+pub some_counted : {X : Type 0} (p : X → Bool) (xs : List X) → nat_lt 0 (count_by p xs) ≡ list_any p xs
+some_counted p [] = refl
+some_counted p (x ∷ xs) = ap (nat_lt 0) (count-cons p x xs) ∙ step (p x) (some_counted p xs)
+  where
+    step : (t : Bool) → nat_lt 0 (count_by p xs) ≡ list_any p xs → nat_lt 0 (as_number t + count_by p xs) ≡ (t || list_any p xs)
+    step true rest = lt-ltb 0 (1 + count_by p xs) (omega arith)
+    step false rest = let none : 0 + count_by p xs ≡ count_by p xs = omega arith in ap (nat_lt 0) none ∙ rest
+
+-- ---- what is asked for
+
+pub on_topic : (leases : List Lease) (topic now : ℕ) → count_by (λ lease. eqb topic lease.topic && is_asked None lease && is_live lease now) leases ≡ live_on_topic leases topic now
+on_topic leases topic now = count_alike _ _ (λ lease. ap (λ t. t && is_live lease now) (whole (eqb topic lease.topic) ∙ flip topic lease.topic)) leases
+  where
+    whole : (t : Bool) → (t && true) ≡ t
+    whole true = refl
+    whole false = refl
+
+document_alike : (topic : ℕ) (doc : DocId) (lease : Lease) → same_document (topic, doc.0) (document_of lease) ≡ is_on topic doc lease
+document_alike topic doc lease = ap (λ t. t && eqb doc.0 lease.doc.0) (flip topic lease.topic) ∙ ap (λ t. eqb lease.topic topic && t) (flip doc.0 lease.doc.0)
+
+pub on_document : (leases : List Lease) (topic : ℕ) (doc : DocId) (now : ℕ)
+    → count_by (λ lease. same_document (topic, doc.0) (document_of lease) && is_asked None lease && is_live lease now) leases ≡ live_on leases topic doc now
+on_document leases topic doc now = count_alike _ _ (λ lease. ap (λ t. t && is_live lease now) (whole (same_document (topic, doc.0) (document_of lease)) ∙ document_alike topic doc lease)) leases
+  where
+    whole : (t : Bool) → (t && true) ≡ t
+    whole true = refl
+    whole false = refl
+
+pub of_assessor : (leases : List Lease) (assessor : List ℕ) (now : ℕ)
+    → count_by (λ lease. eqb (name_hash assessor) (name_hash lease.assessor) && is_asked (Some assessor) lease && is_live lease now) leases ≡ live_of leases assessor now
+of_assessor leases assessor now = count_alike _ _ (λ lease. ap (λ t. t && is_live lease now) (step lease (is_of assessor lease) refl)) leases
+  where
+    step : (lease : Lease) (t : Bool) → is_of assessor lease ≡ t → (eqb (name_hash assessor) (name_hash lease.assessor) && is_of assessor lease) ≡ is_of assessor lease
+    step lease true e =
+        let same : lease.assessor ≡ assessor = (bytes_eq-Decides lease.assessor assessor).0 e in
+        ap (λ t. t && is_of assessor lease) (eq-eqb _ _ (ap name_hash (sym same)))
+    step lease false e = ap (λ t. eqb (name_hash assessor) (name_hash lease.assessor) && t) e ∙ none (eqb (name_hash assessor) (name_hash lease.assessor)) ∙ sym e
+      where
+        none : (t : Bool) → (t && false) ≡ false
+        none true = refl
+        none false = refl
+
+pub has_one : (leases : List Lease) (assessor : List ℕ) (topic : ℕ) (doc : DocId) (now : ℕ)
+    → nat_lt 0 (count_by (λ lease. same_document (topic, doc.0) (document_of lease) && is_asked (Some assessor) lease && is_live lease now) leases) ≡ has_live leases assessor topic doc now
+has_one leases assessor topic doc now =
+    let asked : Lease → Bool = λ lease. is_of assessor lease && is_on topic doc lease && is_live lease now in
+    ap (nat_lt 0) (count_alike _ asked (λ lease. ap (λ t. t && is_live lease now) (ap (λ t. t && is_of assessor lease) (document_alike topic doc lease) ∙ swap (is_on topic doc lease) (is_of assessor lease))) leases)
+    ∙ some_counted asked leases
+  where
+    swap : (s t : Bool) → (s && t) ≡ (t && s)
+    swap true true = refl
+    swap true false = refl
+    swap false true = refl
+    swap false false = refl

@@ -1,0 +1,15 @@
+//! The leases of a campaign, in the order of their numbers, and how many of them are live on a
+//! document, on a topic and of an assessor.
+#![tactic(auto)]
+
+mod chains;
+mod desk;
+mod hashing;
+mod leases;
+mod walking;
+
+pub use desk::Desk;
+pub use leases::{Lease, LeaseEnd};
+
+#[cfg(test)]
+mod tests;

@@ -1,0 +1,50 @@
+ghost use Rattle.std.specs.Prelude.{◌≡◌, ◌<◌, ◌≤◌, ◌^◌, ◌&&◌, Bool, count_by, length};
+ghost use Rattle.std.specs.Option.{option_map};
+ghost use Rattle.lease_desk.specs.Chained.{IsChainOf, LeadBack, is_asked, up_to};
+ghost use Rattle.lease_desk.specs.Leases.{is_live};
+ghost use Rattle.lease_desk.specs.declared.leases.Lease.{Lease};
+
+use crate::chains::Link;
+use crate::leases::Lease;
+
+// How many leases of one key are live: of one assessor, or of all. The walk goes from the newest
+// back to where no earlier one can be live.
+pub(crate) fn count_live(
+    leases: &[Lease],
+    links: &[Link],
+    newest: Option<u32>,
+    assessor: Option<&[u8]>,
+    now: u64,
+) -> u32
+    requires as_many { length links.now ≡ length leases.now }
+    requires within { up_to newest ≤ length leases.now }
+    requires back { LeadBack links.now }
+    requires few { length leases.now < 2 ^ 32 }
+    ensures { (key : Lease → Bool) → IsChainOf key leases.now links.now newest
+        → result ≡ count_by (λ lease. key lease && is_asked (option_map (λ name. name.now) assessor.entry) lease && is_live lease now) leases.now }
+{
+    let mut count = 0;
+    let mut next = newest;
+    while let Some(place) = next {
+        let place = place as usize;
+        if links[place].latest_until <= now {
+            return count;
+        }
+        if counts(&leases[place], assessor, now) {
+            count += 1;
+        }
+        next = links[place].previous;
+    }
+    count
+}
+
+// Whether a lease is live, and of the assessor that is asked for.
+fn counts(lease: &Lease, assessor: Option<&[u8]>, now: u64) -> bool
+    ensures { result ≡ is_asked (option_map (λ name. name.now) assessor.entry) lease.now && is_live lease.now now }
+{
+    let is_asked = match assessor {
+        Some(name) => lease.assessor.bytes() == name,
+        None => true,
+    };
+    is_asked && lease.end.is_none() && now < lease.until
+}

@@ -1,0 +1,5 @@
+mod Boards
+mod Grading
+mod Listing
+mod Rooms
+mod Standings

@@ -1,0 +1,53 @@
+use Rattle.std.proofs.Common.{◌≡◌, ◌≤◌, ◌∙◌, None, List, ap, sym, subst, arith, cond, eqb, get_or, length, map}
+use Rattle.std.specs.Prelude.{All}
+use Rattle.std.specs.List.{AllZip}
+use Rattle.std.specs.Vec.{with_items}
+use Rattle.std.proofs.lemmas.List.{with_items_is}
+use Rattle.score_index.specs.Kept.{IsKept, IsTopicKept, seen, spare, without_lists}
+use Rattle.score_index.specs.Scores.{Scores, TopicScores, docs_at, docs_in, new_topic}
+use Rattle.score_index.specs.Standing.{StandsFor, TopicStandsFor}
+use Rattle.score_index.specs.declared.topics.Topic.{Topic}
+use Rattle.score_index.proofs.Boards.{all_seen, docs_dropped}
+use Rattle.score_index.proofs.Listing.{zip-map}
+use Rattle.score_index.proofs.Standings.{kept-without, stands-without}
+use Rattle.score_index.proofs.board.Board.drop_run.Goals as goal
+
+pub invariant_of-self : goal.invariant_of-self
+invariant_of-self c =
+    let topics = c.self.inside.topics.items in
+    let new = c.drop_run.new.topics in
+    let long : length new ≡ c.self.inside.topics.len = omega (arith, c.drop_run.auto.topics, c.deref_mut.ensures.len) in
+    let items_are : (with_items c.self.inside.topics new).items ≡ new = with_items_is c.self.inside.topics new long in
+    let are : map seen new ≡ map (without_lists c.args.run) (map seen topics) = c.drop_run.ensures.seen ∙ ap (λ (ts : List Topic). map (without_lists c.args.run) (map seen ts)) c.deref_mut.ensures.value in
+    let level = c.self.inside.level in
+    let rooms = length c.self.inside.rooms.items in
+    let places : All (λ (topic : Topic). rooms ≤ spare topic) c.deref_mut.result.now = subst (All (λ (topic : Topic). rooms ≤ spare topic)) (sym c.deref_mut.ensures.value) c.self.invariant.places in
+    subst (λ (ts : List Topic). IsKept level ts rooms) (sym items_are) (record {
+      few = omega (arith, c.self.invariant.few, long, ap length c.deref_mut.ensures.value, c.drop_run.auto.topics);
+      topics_are = all_seen (IsTopicKept level) (without_lists c.args.run) topics new (kept-without level c.args.run) are c.self.invariant.topics_are;
+      places = c.drop_run.ensures.places rooms places;
+    })
+
+pub returns-clause-stands : goal.returns-clause-stands
+returns-clause-stands c = λ grades stood.
+    let topics = c.self.inside.topics.items in
+    let new = c.drop_run.new.topics in
+    let long : length new ≡ c.self.inside.topics.len = omega (arith, c.drop_run.auto.topics, c.deref_mut.ensures.len) in
+    let items_are : (with_items c.self.inside.topics new).items ≡ new = with_items_is c.self.inside.topics new long in
+    let are : map seen new ≡ map (without_lists c.args.run) (map seen topics) = c.drop_run.ensures.seen ∙ ap (λ (ts : List Topic). map (without_lists c.args.run) (map seen ts)) c.deref_mut.ensures.value in
+    let level = c.self.inside.level in
+    let held = subst (λ (s : Scores). StandsFor s grades) (sym c.self.view_is) stood in
+    let kept : AllZip (TopicStandsFor level) (map (without_lists c.args.run) (map seen topics)) grades =
+    zip-map (TopicStandsFor level) (without_lists c.args.run) (λ topic graded. stands-without level c.args.run topic graded) (map seen topics) grades held in
+    subst (λ (ts : List TopicScores). AllZip (TopicStandsFor level) ts grades) (sym (ap (map seen) items_are ∙ are)) kept
+
+pub returns-clause-lists : goal.returns-clause-lists
+returns-clause-lists c = λ other on.
+    let topics = c.self.inside.topics.items in
+    let new = c.drop_run.new.topics in
+    let long : length new ≡ c.self.inside.topics.len = omega (arith, c.drop_run.auto.topics, c.deref_mut.ensures.len) in
+    let items_are : (with_items c.self.inside.topics new).items ≡ new = with_items_is c.self.inside.topics new long in
+    let are : map seen new ≡ map (without_lists c.args.run) (map seen topics) = c.drop_run.ensures.seen ∙ ap (λ (ts : List Topic). map (without_lists c.args.run) (map seen ts)) c.deref_mut.ensures.value in
+    ap (λ (ts : List TopicScores). docs_in other (get_or ts on new_topic)) (ap (map seen) items_are ∙ are)
+    ∙ docs_dropped c.args.run other (map seen topics) on
+    ∙ ap (λ (s : Scores). cond (eqb c.args.run.0 other.0) None (docs_at s other on)) c.self.view_is

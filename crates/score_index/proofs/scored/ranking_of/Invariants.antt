@@ -1,0 +1,9 @@
+use Rattle.std.proofs.Common.{◌≤◌, length}
+use Rattle.decimal_rank.specs.Places.{AreDistinct}
+use Rattle.score_index.proofs.scored.ranking_of.Given as goal
+
+abbrev pub invariant-loop-doc : goal.invariant-loop-doc
+invariant-loop-doc l = record {
+  few : length l.listed.items ≤ 1000;
+  distinct : AreDistinct l.listed.items;
+}

@@ -1,0 +1,12 @@
+use Rattle.std.proofs.Common.{◌≡◌, ◌<◌, ◌≤◌, ℕ, get_or, map}
+use Rattle.std.specs.Prelude.{All}
+use Rattle.score_index.specs.Kept.{seen, spare}
+use Rattle.score_index.specs.declared.topics.Topic.{Topic}
+use Rattle.score_index.proofs.topics.reserve_lists.Given as goal
+
+abbrev pub invariant-loop-topic : goal.invariant-loop-topic
+invariant-loop-topic l = record {
+  seen_are : map seen l.topics ≡ map seen l.fn.topics;
+  room : (k : ℕ) (d : Topic) → k < l.topic-index → l.count ≤ spare (get_or l.topics k d);
+  places : (least : ℕ) → All (λ topic. least ≤ spare topic) l.fn.topics → All (λ topic. least ≤ spare topic) l.topics;
+}

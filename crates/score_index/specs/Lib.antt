@@ -1,0 +1,4 @@
+pub mod Kept
+pub mod Scored
+pub mod Scores
+pub mod Standing

@@ -1,0 +1,46 @@
+-- What contracts see of a board.
+use Rattle.std.specs.Prelude.{ℕ, ◌==◌, Bool, List, [], Option, count_by, find, slice_index_or}
+use Rattle.std.specs.Option.{option_map}
+use Rattle.decimal_rank.specs.declared.naming.DocId.{DocId}
+use Rattle.depth_pool.specs.declared.runs.RunId.{RunId}
+
+-- a run's list on a topic: its documents, and their grades, by rank
+pub record ScoreList : Type 0 where
+  pub run : RunId
+  pub docs : List DocId
+  pub grades : List (Option ℕ)
+
+-- a topic: how many documents are relevant, how many have a grade and aren't, and the lists of the runs
+pub record TopicScores : Type 0 where
+  pub relevant : ℕ
+  pub non_relevant : ℕ
+  pub lists : List ScoreList
+
+-- a board: its level, its topics, and the lengths of the lists for which there is room
+pub record Scores : Type 0 where
+  pub level : ℕ
+  pub topics : List TopicScores
+  pub rooms : List ℕ
+
+-- whether a list is a run's
+abbrev pub is_of : RunId → ScoreList → Bool
+is_of run list = list.run.0 == run.0
+
+-- the documents of a run by rank: none where it has no list
+abbrev pub docs_in : RunId → TopicScores → Option (List DocId)
+docs_in run topic = option_map (λ list. list.docs) (find (is_of run) topic.lists)
+
+-- a topic without grades and lists
+abbrev pub new_topic : TopicScores
+new_topic = record { relevant = 0; non_relevant = 0; lists = [] }
+
+abbrev pub topic_at : Scores → ℕ → TopicScores
+topic_at scores topic = slice_index_or scores.topics topic new_topic
+
+-- the documents of a run on a topic by rank: none where it has no list there
+abbrev pub docs_at : Scores → RunId → ℕ → Option (List DocId)
+docs_at scores run topic = docs_in run (topic_at scores topic)
+
+-- for how many lists of a length there is room
+abbrev pub rooms_for : ℕ → Scores → ℕ
+rooms_for len scores = count_by (λ room. room == len) scores.rooms

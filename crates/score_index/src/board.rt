@@ -1,0 +1,184 @@
+ghost use Rattle.std.specs.Prelude.{◌≡◌, ℕ, ◌+◌, ◌-◌, ◌<◌, ◌≤◌, ◌^◌, ◌==◌, ◌&&◌, [], true, None, Some, List, IfOk, IfSome, OnOk, OnErr, if◌then◌else◌, length, map, replicate, slice_set, count_by, position, remove, vec_len};
+ghost use Rattle.std.specs.Option.{option_copied};
+ghost use Rattle.depth_pool.specs.declared.runs.RunId.{RunId};
+ghost use Rattle.measures.specs.Cells.{IsSound};
+ghost use Rattle.measures.specs.Means.{IsProper, summary_of};
+ghost use Rattle.qrels_view.specs.Grades.{as_number, effective_in, is_non_relevant, is_relevant, with_grade};
+ghost use Rattle.qrels_view.specs.declared.grades.Graded.{Graded};
+ghost use Rattle.score_index.specs.Scores.{docs_at, rooms_for, topic_at};
+ghost use Rattle.score_index.specs.Standing.{StandsFor, StandsWith, TopicStandsFor, cell_from, cells_of, grades_at, listed_in};
+
+use crate::lists::{RunList, list_of, take_room, write_grades};
+use crate::topics::{
+    Topic, add_cell, add_list, cell_in, drop_run, new_topics, regrade, reserve_lists,
+};
+use decimal_rank::{DocId, Memory, Ranking, Steps};
+use depth_pool::RunId;
+use measures::{Cell, Summary, Totals};
+use qrels_view::View;
+use std::alloc::Global;
+use std::marker::{Brand, Model};
+use std::sync::ledger::{Blank, Ledger};
+
+/// The lists of the runs on each topic, with what their scores are taken from. Topics are numbered
+/// from 0. A board keeps no map of grades: contracts say which grades it stands for.
+#[derive(Drop)]
+pub struct Board {
+    level: u8,
+    topics: Vec<Topic>,
+    // the grades, none of them written yet, of each list for which there is room
+    rooms: Vec<Vec<Option<u8>>>,
+}
+
+impl Model for Board {
+    ghost use Rattle.std.specs.Prelude.{length, map, vec_len};
+    ghost use Rattle.score_index.specs.Scores.{Scores};
+    ghost use Rattle.score_index.specs.Kept.{IsKept, seen};
+
+    ghost Value = { Scores };
+
+    ghost view = { λ board. record {
+      level = board.level;
+      topics = map seen board.topics.items;
+      rooms = map (λ room. vec_len room) board.rooms.items;
+    } };
+
+    ghost invariant = { λ board. IsKept board.level board.topics.items (length board.rooms.items) };
+}
+
+impl Board {
+    /// So many topics, without grades and lists. A document is relevant where its grade is at least
+    /// the level.
+    pub fn new(alloc: Global, topics: u16, level: u8) -> Result<Board, Memory>
+        ensures level { IfOk result (λ board. board.level ≡ level) }
+        ensures topics { IfOk result (λ board. length board.topics ≡ topics) }
+        ensures lists { IfOk result (λ board. (run : RunId) (topic : ℕ) → docs_at board run topic ≡ None) }
+        ensures rooms { IfOk result (λ board. (len : ℕ) → rooms_for len board ≡ 0) }
+        ensures stands { IfOk result (λ board. StandsFor board (replicate topics [])) }
+    {
+        Ok(Board {
+            level,
+            topics: new_topics(alloc, topics)?,
+            rooms: Vec::new(alloc),
+        })
+    }
+
+    /// Makes room for one more list as long as this ranking, on any topic.
+    pub fn reserve(&mut self, ranking: &Ranking) -> Result<(), Memory>
+        ensures room { OnOk result ((len : ℕ) → rooms_for len self.new ≡ rooms_for len self.old + (if length ranking.now == len then 1 else 0)) }
+        ensures no_room { OnErr result (self.new.rooms ≡ self.old.rooms) }
+        ensures level { self.new.level ≡ self.old.level }
+        ensures topics { self.new.topics ≡ self.old.topics }
+    {
+        let alloc = *self.rooms.allocator();
+        let grades = vec![in alloc; None; ranking.len() as usize]?;
+        self.rooms.reserve(1)?;
+        let count = self.rooms.len() + 1;
+        reserve_lists(&mut self.topics, count)?;
+        self.rooms.push(grades).unwrap();
+        Ok(())
+    }
+
+    /// Gives back the room for a list as long as this ranking, as where its run isn't added after all.
+    pub fn drop_room(&mut self, ranking: &Ranking)
+        requires { 0 < rooms_for (length ranking.now) self.old }
+        ensures rooms { (len : ℕ) → rooms_for len self.new ≡ rooms_for len self.old - (if length ranking.now == len then 1 else 0) }
+        ensures level { self.new.level ≡ self.old.level }
+        ensures topics { self.new.topics ≡ self.old.topics }
+    {
+        take_room(&mut self.rooms, ranking.len() as usize);
+    }
+
+    /// Adds the list of a run on a topic, for which there is room. The view has the grades of the
+    /// topic's documents now.
+    pub fn add_run(&mut self, run: RunId, topic: u16, ranking: Ranking, view: &View)
+        requires topic { topic < length self.old.topics }
+        requires room { 0 < rooms_for (length ranking) self.old }
+        requires is_new { docs_at self.old run topic ≡ None }
+        requires grades { TopicStandsFor self.old.level (topic_at self.old topic) view.now.graded }
+        ensures stands { (grades : List (List Graded)) → StandsFor self.old grades → StandsFor self.new (slice_set grades topic view.now.graded) }
+        ensures lists { (other : RunId) (on : ℕ) → docs_at self.new other on ≡ (if (run.0 == other.0) && (topic == on) then Some ranking else docs_at self.old other on) }
+        ensures rooms { (len : ℕ) → rooms_for len self.new ≡ rooms_for len self.old - (if length ranking == len then 1 else 0) }
+        ensures level { self.new.level ≡ self.old.level }
+        ensures topics { length self.new.topics ≡ length self.old.topics }
+    {
+        let mut grades = take_room(&mut self.rooms, ranking.len() as usize);
+        write_grades::<Brand>(&mut grades, &ranking, view, Blank::new(1));
+        let list = RunList {
+            run,
+            ranking,
+            grades,
+        };
+        add_list(&mut self.topics[topic as usize], list);
+    }
+
+    /// Takes all lists of a run out.
+    pub fn drop_run(&mut self, run: RunId)
+        ensures stands { (grades : List (List Graded)) → StandsFor self.old grades → StandsFor self.new grades }
+        ensures lists { (other : RunId) (on : ℕ) → docs_at self.new other on ≡ (if run.0 == other.0 then None else docs_at self.old other on) }
+        ensures rooms { self.new.rooms ≡ self.old.rooms }
+        ensures level { self.new.level ≡ self.old.level }
+        ensures topics { length self.new.topics ≡ length self.old.topics }
+    {
+        drop_run(&mut self.topics, run);
+    }
+
+    /// Gives a document of a topic, whose grade now is `old`, the grade `new`, or takes its grade
+    /// away. A step is one of `Ranking::place_of`.
+    pub fn regrade<L: Ledger>(
+        &mut self,
+        topic: u16,
+        doc: DocId,
+        old: Option<u8>,
+        new: Option<u8>,
+        steps: &mut Steps<L>,
+    )
+        requires topic { topic < length self.old.topics }
+        requires grade_now { StandsWith self.old.level (topic_at self.old topic) doc old }
+        requires few { (topic_at self.old topic).relevant + as_number (is_relevant self.old.level new) - as_number (is_relevant self.old.level old) ≤ 268435456 }
+        requires few_others { (topic_at self.old topic).non_relevant + as_number (is_non_relevant self.old.level new) - as_number (is_non_relevant self.old.level old) ≤ 268435456 }
+        ensures stands { (grades : List (List Graded)) → StandsFor self.old grades → effective_in (grades_at grades topic) doc ≡ old
+            → StandsFor self.new (slice_set grades topic (with_grade doc new (grades_at grades topic))) }
+        ensures lists { (run : RunId) (on : ℕ) → docs_at self.new run on ≡ docs_at self.old run on }
+        ensures rooms { self.new.rooms ≡ self.old.rooms }
+        ensures level { self.new.level ≡ self.old.level }
+        ensures topics { length self.new.topics ≡ length self.old.topics }
+    {
+        let level = self.level;
+        let topic = &mut self.topics[topic as usize];
+        regrade(topic, level, doc, old, new, steps);
+    }
+
+    /// The cell of a run on a topic. Without a list there it is that of the empty list.
+    pub fn cell(&self, run: RunId, topic: u16) -> Cell
+        requires { topic < length self.now.topics }
+        ensures cell { (grades : List (List Graded)) → StandsFor self.now grades
+            → result ≡ cell_from self.now.level (grades_at grades topic) (listed_in run (topic_at self.now topic)) }
+        ensures sound { IsSound result }
+    {
+        cell_in(&self.topics[topic as usize], self.level, run)
+    }
+
+    /// The summary of a run over the counted topics: those where some document has a grade.
+    pub fn summary(&self, run: RunId) -> Summary
+        ensures summary { (grades : List (List Graded)) → StandsFor self.now grades
+            → result ≡ summary_of (cells_of self.now.level run self.now.topics grades) }
+        ensures proper { IsProper result }
+    {
+        let mut totals = Totals::new();
+        for topic in &self.topics {
+            add_cell(&mut totals, topic, self.level, run);
+        }
+        totals.mean()
+    }
+
+    /// The ranking of a run on a topic, as it was added.
+    pub fn ranking(&self, run: RunId, topic: u16) -> Option<&Ranking>
+        requires { topic < length self.now.topics }
+        ensures { option_copied result ≡ docs_at self.now run topic }
+    {
+        let lists = self.topics[topic as usize].lists.as_slice();
+        let list = list_of(lists, run)?;
+        Some(&list.ranking)
+    }
+}

@@ -1,0 +1,18 @@
+//! The scores of the runs of a campaign while it goes on: the cell of each run on each topic, and
+//! its summary over the topics, after each change of a grade.
+#![tactic(auto)]
+
+mod board;
+mod laws;
+mod lists;
+mod topics;
+
+pub use board::Board;
+pub use laws::each_topic_stands;
+
+#[cfg(test)]
+mod course;
+#[cfg(test)]
+mod scored;
+#[cfg(test)]
+mod tests;

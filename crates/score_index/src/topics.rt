@@ -1,0 +1,145 @@
+ghost use Rattle.std.specs.Prelude.{◌≡◌, ℕ, ◌+◌, ◌-◌, ◌*◌, ◌<◌, ◌≤◌, ◌^◌, ◌++◌, ◌∷◌, [], true, All, IfOk, OnOk, List, length, map, if◌then◌else◌, vec_capacity};
+ghost use Rattle.measures.specs.Cells.{IsSound};
+ghost use Rattle.measures.specs.Totals.{sums_of};
+ghost use Rattle.measures.specs.declared.cells.Cell.{Cell as OneCell};
+ghost use Rattle.qrels_view.specs.Grades.{as_number, is_non_relevant, is_relevant};
+ghost use Rattle.score_index.specs.Kept.{IsTopicKept, has_grades, kept_cell, seen, spare, with_list, with_regrade, without_lists};
+ghost use Rattle.score_index.specs.Scores.{TopicScores, new_topic};
+
+use crate::lists::{RunList, drop_lists, list_of, regrade_lists};
+use decimal_rank::{DocId, Memory, Steps};
+use depth_pool::RunId;
+use measures::{Cell, Totals, scratch};
+use std::alloc::Global;
+use std::sync::ledger::Ledger;
+
+// A topic: how many documents are relevant, how many have a grade and aren't, and the runs' lists.
+#[derive(Drop)]
+pub(crate) struct Topic {
+    pub(crate) relevant: u32,
+    pub(crate) non_relevant: u32,
+    pub(crate) lists: Vec<RunList>,
+}
+
+// Topics without grades and lists.
+pub(crate) fn new_topics(alloc: Global, count: u16) -> Result<Vec<Topic>, Memory>
+    ensures topics { IfOk result (λ topics. All (λ topic. seen topic ≡ new_topic) topics.items) }
+    ensures count { IfOk result (λ topics. length topics.items ≡ count) }
+{
+    let mut topics = Vec::with_capacity(alloc, count as usize)?;
+    for _ in 0..count {
+        topics.push(Topic {
+            relevant: 0,
+            non_relevant: 0,
+            lists: Vec::new(alloc),
+        })?;
+    }
+    Ok(topics)
+}
+
+// Makes room for so many more lists on each topic.
+pub(crate) fn reserve_lists(topics: &mut [Topic], count: usize) -> Result<(), Memory>
+    ensures seen { map seen topics.new ≡ map seen topics.old }
+    ensures room { OnOk result (All (λ topic. count ≤ spare topic) topics.new) }
+    ensures places { (least : ℕ) → All (λ topic. least ≤ spare topic) topics.old → All (λ topic. least ≤ spare topic) topics.new }
+{
+    for topic in topics.iter_mut() {
+        topic.lists.reserve(count)?;
+    }
+    Ok(())
+}
+
+// Adds a list.
+pub(crate) fn add_list(topic: &mut Topic, list: RunList)
+    requires { 1 ≤ spare topic.old }
+    ensures seen { seen topic.new ≡ with_list list (seen topic.old) }
+    ensures places { spare topic.old ≤ spare topic.new + 1 }
+{
+    topic.lists.push(list).unwrap();
+}
+
+// Takes the lists of a run out.
+pub(crate) fn drop_run(topics: &mut [Topic], run: RunId)
+    ensures seen { map seen topics.new ≡ map (without_lists run) (map seen topics.old) }
+    ensures places { (least : ℕ) → All (λ topic. least ≤ spare topic) topics.old → All (λ topic. least ≤ spare topic) topics.new }
+{
+    for topic in topics.iter_mut() {
+        drop_lists(&mut topic.lists, run);
+    }
+}
+
+fn is_relevant(level: u8, grade: Option<u8>) -> bool
+    ensures { result ≡ is_relevant level grade }
+{
+    grade.is_some_and(|grade| level <= grade)
+}
+
+fn is_non_relevant(level: u8, grade: Option<u8>) -> bool
+    ensures { result ≡ is_non_relevant level grade }
+{
+    grade.is_some_and(|grade| grade < level)
+}
+
+// A count after one document was counted or not, and now is or not.
+fn recount(count: u32, was: bool, is: bool) -> u32
+    requires least { as_number was ≤ count }
+    requires most { count + as_number is - as_number was < 2 ^ 32 }
+    ensures { result ≡ count + as_number is - as_number was }
+{
+    count - u32::from(was) + u32::from(is)
+}
+
+// Gives a document, whose grade now is `old`, the grade `new`, or takes its grade away.
+pub(crate) fn regrade<L: Ledger>(
+    topic: &mut Topic,
+    level: u8,
+    doc: DocId,
+    old: Option<u8>,
+    new: Option<u8>,
+    steps: &mut Steps<L>,
+)
+    requires as_long { All (λ list. length list.grades ≡ length list.docs) topic.old.lists.items }
+    requires relevant { as_number (is_relevant level old) ≤ topic.old.relevant }
+    requires non_relevant { as_number (is_non_relevant level old) ≤ topic.old.non_relevant }
+    requires few { topic.old.relevant + as_number (is_relevant level new) - as_number (is_relevant level old) < 2 ^ 32 }
+    requires few_others { topic.old.non_relevant + as_number (is_non_relevant level new) - as_number (is_non_relevant level old) < 2 ^ 32 }
+    ensures seen { seen topic.new ≡ with_regrade level doc old new (seen topic.old) }
+    ensures places { spare topic.new ≡ spare topic.old }
+{
+    topic.relevant = recount(
+        topic.relevant,
+        is_relevant(level, old),
+        is_relevant(level, new),
+    );
+    topic.non_relevant = recount(
+        topic.non_relevant,
+        is_non_relevant(level, old),
+        is_non_relevant(level, new),
+    );
+    regrade_lists(&mut topic.lists, doc, new, steps);
+}
+
+// The cell of a run, which without a list is that of the empty list.
+pub(crate) fn cell_in(topic: &Topic, level: u8, run: RunId) -> Cell
+    requires { IsTopicKept level (seen topic.now) }
+    ensures cell { result ≡ kept_cell level run (seen topic.now) }
+    ensures sound { IsSound result }
+{
+    match list_of(topic.lists.as_slice(), run) {
+        Some(list) => scratch(&list.grades, topic.relevant, topic.non_relevant, level),
+        None => scratch(&[], topic.relevant, topic.non_relevant, level),
+    }
+}
+
+// Adds the cell of a run where the topic has a document with a grade.
+pub(crate) fn add_cell(totals: &mut Totals, topic: &Topic, level: u8, run: RunId)
+    requires few { totals.old.topics + 1 < 2 ^ 32 }
+    requires kept { IsTopicKept level (seen topic.now) }
+    ensures sums { (cells : List OneCell) → totals.old ≡ sums_of cells
+        → totals.new ≡ sums_of (cells ++ (if has_grades (seen topic.now) then kept_cell level run (seen topic.now) ∷ [] else [])) }
+    ensures topics { totals.new.topics ≤ totals.old.topics + 1 }
+{
+    if topic.relevant + topic.non_relevant > 0 {
+        totals.add(&cell_in(topic, level, run));
+    }
+}
