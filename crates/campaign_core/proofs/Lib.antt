@@ -8,3 +8,25 @@ pub mod Ordered
 pub mod PoolFacts
 pub mod Queues
 pub mod Told
+pub mod Desks
+pub mod Quiet
+pub mod Steps
+pub mod PoolSteps
+pub mod LeaseSteps
+pub mod LabelSteps
+pub mod Accepting
+pub mod Marking
+pub mod Places
+pub mod Planning
+pub mod Following
+pub mod Named
+pub mod NamedDocs
+pub mod Preparing
+pub mod LeaseFacts
+pub mod AmendFacts
+mod Dedup
+mod Numbering
+mod Disagreeing
+mod QrelsLines
+mod Progressing
+mod Paging

@@ -79,3 +79,8 @@ map_alike f g (x ∷ xs) (y ∷ ys) long alike =
     let head : f x ≡ g y = alike 0 x y (omega arith) in
     let rest : map f xs ≡ map g ys = map_alike f g xs ys (omega (arith, long)) (λ k d e within. alike (suc k) d e (omega (arith, within))) in
     ap (λ z. z ∷ map f xs) head ∙ ap (λ zs. g y ∷ zs) rest
+
+pub map-set : {X Y : Type 0} (f : X → Y) (xs : List X) (i : ℕ) (y : X) → map f (set xs i y) ≡ set (map f xs) i (f y)
+map-set f [] i y = refl
+map-set f (x ∷ xs) zero y = refl
+map-set f (x ∷ xs) (suc i) y = ap (λ ys. f x ∷ ys) (map-set f xs i y)

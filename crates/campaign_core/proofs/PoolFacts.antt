@@ -76,7 +76,7 @@ held_by H topic doc (run ∷ rs) n =
     ∙ ap (λ t. list_any (is_doc (names_of H) doc) (held H topic run) || t) (held_by H topic doc rs (n + 1))
     ∙ sym (list_any-append (is_doc (names_of H) doc) (held H topic run) (flat_map (held H topic) rs))
 
-same-docs : (H : History) (topic : Text) (doc : DocId) → some_run_holds doc (pool_of H topic) ≡ has_doc doc (docs_in (names_of H) (pool H topic))
+pub same-docs : (H : History) (topic : Text) (doc : DocId) → some_run_holds doc (pool_of H topic) ≡ has_doc doc (docs_in (names_of H) (pool H topic))
 same-docs H topic doc =
     held_by H topic doc (live H) 0
     ∙ sym (in_order-any (is_doc (names_of H) doc) (flat_map (held H topic) (live H)))
@@ -100,7 +100,7 @@ by-docno names (x ∷ xs) named up =
     (all-before names x xs (all_head (contains_text names) x xs named) (all_tail (contains_text names) x xs named) up.0)
     (by-docno names xs (all_tail (contains_text names) x xs named) up.1)
 
-pool-named : (H : History) (topic : Text) → are_named (names_of H) (pool H topic) ≡ true
+pub pool-named : (H : History) (topic : Text) → are_named (names_of H) (pool H topic) ≡ true
 pool-named H topic = in_order-all (contains_text (names_of H)) (flat_map (held H topic) (live H)) (all-named H topic)
 
 -- documents by docno that are those of the pool

@@ -1,10 +1,10 @@
 -- The queues of the topics.
-use Rattle.std.proofs.Common.{◌≡◌, ◌||◌, ◌<◌, ℕ, suc, zero, Bool, true, false, cond, List, [], ◌∷◌, length, map, set, get_or, refl, ap, ◌∙◌, arith, eq-eqb}
+use Rattle.std.proofs.Common.{◌≡◌, ◌||◌, ◌<◌, ℕ, suc, zero, Bool, true, false, cond, List, [], ◌∷◌, length, map, set, get_or, refl, sym, ap, ◌∙◌, arith, eq-eqb}
 use Rattle.std.specs.Prelude.{◌==◌, All, Contains, IsPermutation}
 use Rattle.std.proofs.lemmas.List.Sorted.{Contains-permutation, IsPermutation-append_comm, IsPermutation-append_left, IsPermutation-cons, IsPermutation-map, IsPermutation-refl, IsPermutation-sym, IsPermutation-trans}
 use Rattle.depth_pool.specs.declared.runs.RunId.{RunId}
 use Rattle.depth_pool.specs.Holdings.{Held, has_run, put_before, with_run}
-use Rattle.campaign_core.specs.Topics.{IsQueued}
+use Rattle.campaign_core.specs.Topics.{IsQueued, judged_of}
 use Rattle.campaign_core.specs.declared.topics.TopicState.{TopicState}
 use Rattle.campaign_core.proofs.ListFacts.{each_cons}
 
@@ -46,11 +46,11 @@ queued-runs runs order later new same entered =
     (IsPermutation-trans (new.run ∷ numbers runs) (new.run ∷ order) later (IsPermutation-cons new.run (numbers runs) order same) entered)
 
 -- a topic before any run
-pub fresh : (topic : TopicState) → topic.pool.runs ≡ [] → topic.queue.order ≡ [] → topic.queue.trail ≡ [] → IsQueued topic
-fresh topic no_runs no_order no_trail = record {
+pub fresh : (topic : TopicState) → topic.pool.runs ≡ [] → topic.queue.order ≡ [] → topic.queue.trail ≡ [] → topic.view.graded ≡ [] → IsQueued topic
+fresh topic no_runs no_order no_trail no_grade = record {
   runs = rw (no_runs, no_order) (let none : List RunId = [] in IsPermutation-refl none);
   in_order = rw no_order (record { in_pool = λ k d within. absurd (omega (arith, within)); pairwise = λ i j d less within. absurd (omega (arith, within)) });
-  unjudged = no_trail;
+  trail_is = no_trail ∙ sym (ap (map (judged_of topic.view.level)) no_grade);
 }
 
 -- what holds of all, and of an element written among them

@@ -1,16 +1,25 @@
 -- What a state keeps true of its fields.
-use Rattle.std.specs.Prelude.{◌≡◌, ◌<◌, ◌≤◌, false, List, [], All, MatchOption, length, map, vec_len, vec_capacity}
-use Rattle.rulebook.specs.declared.limits.TheConstants.{MAX_RUNS, MAX_ENTRIES, MAX_LINES, MAX_DOCNOS, MAX_MOMENT}
+use Rattle.std.specs.Prelude.{◌≡◌, ◌<◌, ◌≤◌, ℕ, false, List, [], All, MatchOption, None, IsTrue, length, map, vec_len, vec_capacity}
+use Rattle.rulebook.specs.declared.limits.TheConstants.{MAX_RUNS, MAX_ENTRIES, MAX_LINES, MAX_DOCNOS, MAX_MOMENT, MAX_TOPICS}
 use Rattle.rulebook.specs.declared.entry.Entry.{Entry}
 use Rattle.rulebook.specs.Words.{Text, each_once}
 use Rattle.rulebook.specs.Campaign.{History, has_topics, phase, runs, submitted_lines, submitted_docnos}
 use Rattle.rulebook.specs.Answers.{moment_after}
 use Rattle.rulebook.specs.Legal.{IsLegal}
+use Rattle.rulebook.specs.Grades.{given_labels, ruling, trail}
+use Rattle.rulebook.specs.Leases.{leases}
+use Rattle.rulebook.specs.Spelling.{differ}
+use Rattle.rulebook.specs.declared.rules.Phase.TheVariants.{Collecting}
+use Rattle.decimal_rank.specs.declared.naming.DocId.{DocId}
+use Rattle.labels.specs.Marked.{given_at}
+use Rattle.lease_desk.specs.declared.leases.Lease.{Lease}
 use Rattle.campaign_core.specs.Joining.{MayJoin}
+use Rattle.campaign_core.specs.Labelling.{IsLabelled}
+use Rattle.campaign_core.specs.Leasing.{IsLeased}
 use Rattle.campaign_core.specs.Growth.{BeginsWith}
 use Rattle.campaign_core.specs.Numbers.{names_of}
 use Rattle.campaign_core.specs.Plans.{CarriesOut}
-use Rattle.campaign_core.specs.Topics.{IsQueued, kept, kept_of, topic_ids}
+use Rattle.campaign_core.specs.Topics.{IsQueued, LabelledTopic, kept, kept_of, labelled_of, topic_ids}
 use Rattle.campaign_core.specs.declared.plans.Plan.{Plan}
 use Rattle.campaign_core.specs.declared.state.State.TheInside.{Inside}
 use Rattle.campaign_core.specs.declared.topics.TopicState.{TopicState}
@@ -20,13 +29,35 @@ pub record StandsFor (H : History) (topics : List TopicState) (names : List Text
   pub names_are : names ≡ names_of H
   pub topics_are : map kept topics ≡ map (kept_of H) (topic_ids H)
 
+-- Each topic has its pool, its labels and its judging order, and the desk has the leases.
+pub record KnowsAll (H : History) (topics : List TopicState) (desk : List Lease) : Type 0 where
+  pub topics_are : map kept topics ≡ map (kept_of H) (topic_ids H)
+  pub labels_are : All (IsLabelled H (names_of H)) (map labelled_of topics)
+  pub queued : All IsQueued topics
+  pub leased : IsLeased H (names_of H) desk
+  pub topics_differ : IsTrue (differ (topic_ids H))
+  pub topics_fit : length (topic_ids H) ≤ MAX_TOPICS
+
+-- Nothing is leased or labelled.
+pub record IsUnjudged (H : History) (topics : List LabelledTopic) : Type 0 where
+  pub no_lease : leases H ≡ []
+  pub no_label : given_labels H ≡ []
+  pub no_ruling : (topic doc : Text) → ruling H topic doc ≡ None
+  pub no_trail : (topic : Text) → trail H topic ≡ []
+  pub no_mark : All (λ topic. topic.marked ≡ []) topics
+
+-- No more labels and no more grades than entries.
+pub record IsFew (entries : ℕ) (topic : LabelledTopic) : Type 0 where
+  pub few_labels : (doc : DocId) → length (given_at topic.marked doc) ≤ entries
+  pub few_grades : length topic.graded ≤ entries
+
 -- The prepared entry may join the history, which has room for it, and the plan carries it out.
 pub record IsReady (s : Inside) (e : Entry) (plan : Plan) : Type 0 where
   pub joins : MayJoin s.history.items s.docnos e
   pub moment_fits : e.core.moment ≤ MAX_MOMENT
   pub entries_fit : length s.history.items < MAX_ENTRIES
   pub room : vec_len s.history < vec_capacity s.history
-  pub carries_out : CarriesOut s.history.items s.docnos s.topics.items e.core.command plan
+  pub carries_out : CarriesOut s.history.items s.docnos s.topics.items s.desk e plan
 
 -- The history is legal and within the limits, and the first docnos are those of the history. Others may follow, from requests that weren't committed.
 pub record IsKept (s : Inside) : Type 0 where
@@ -38,9 +69,16 @@ pub record IsKept (s : Inside) : Type 0 where
   pub runs_fit : length (runs s.history.items) ≤ MAX_RUNS
   -- no run comes before the topics
   pub topics_first : has_topics s.history.items ≡ false → runs s.history.items ≡ []
+  pub topics_differ : IsTrue (differ (topic_ids s.history.items))
+  pub topics_fit : length (topic_ids s.history.items) ≤ MAX_TOPICS
   pub docnos_fit : s.docnos_kept ≤ MAX_DOCNOS
   pub docnos_are : BeginsWith (each_once (submitted_docnos s.history.items)) s.docnos
   pub docnos_kept_are : s.docnos_kept ≡ length (each_once (submitted_docnos s.history.items))
   pub topics_are : map kept s.topics.items ≡ map (kept_of s.history.items) (topic_ids s.history.items)
+  pub labels_are : All (IsLabelled s.history.items (names_of s.history.items)) (map labelled_of s.topics.items)
   pub queued : All IsQueued s.topics.items
+  pub leased : IsLeased s.history.items (names_of s.history.items) s.desk.leases
+  -- documents are judged once the campaign is opened
+  pub unjudged : phase s.history.items ≡ Collecting → IsUnjudged s.history.items (map labelled_of s.topics.items)
+  pub few : All (IsFew (length s.history.items)) (map labelled_of s.topics.items)
   pub ready : MatchOption s.prepared (Unit {0}) (λ p. IsReady s p.entry.value p.plan)

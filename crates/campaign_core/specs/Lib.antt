@@ -6,3 +6,7 @@ pub mod Plans
 pub mod Seen
 pub mod State
 pub mod Topics
+pub mod Labelling
+pub mod Leasing
+pub mod Texts
+pub mod Printed

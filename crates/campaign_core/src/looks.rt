@@ -1,22 +1,21 @@
 ghost use Rattle.std.specs.Prelude.{◌≡◌, ℕ, ◌<◌, ◌^◌, length, is_some};
 ghost use Rattle.std.specs.List.{list_any};
 ghost use Rattle.std.specs.Str.{bytes_eq};
-ghost use Rattle.rulebook.specs.Campaign.{rules_of, has_topics, topics as topics_of, topics_in, runs, is_taken, line_count as lines_of, submitted_lines as submitted_lines_of};
+ghost use Rattle.rulebook.specs.Campaign.{rules_of, has_topics, title, topics as topics_of, topics_in, runs, is_taken, line_count as lines_of, submitted_lines as submitted_lines_of};
 ghost use Rattle.rulebook.specs.Answers.{unknown_line};
+ghost use Rattle.rulebook.specs.Legal.{IsLegal};
 
-use rulebook::{Command, Entry};
+use rulebook::{Command, Entry, Rules};
 use trec_formats::{Topic, TopicList};
 
-/// The depth of the rules that the first entry has.
-pub(crate) fn depth(history: &[Entry]) -> u32
-    ensures { result ≡ (rules_of history.now).depth }
+/// The rules, which the first entry has.
+pub(crate) fn rules(history: &[Entry]) -> &Rules
+    requires { IsLegal history.now }
+    ensures { result.now ≡ rules_of history.now }
 {
-    match history.first() {
-        Some(entry) => match &entry.core.command {
-            Command::Found { rules } => u32::from(rules.depth),
-            _ => 0,
-        },
-        None => 0,
+    match &history[0].core.command {
+        Command::Found { rules } => rules,
+        _ => unreachable!(),
     }
 }
 
@@ -50,6 +49,18 @@ pub(crate) fn has_topic(topics: &[Topic], id: &[u8]) -> bool
     ensures { result ≡ list_any (λ t. bytes_eq t.id id.now) topics.now }
 {
     topics.iter().any(|topic| topic.id.bytes() == id)
+}
+
+/// The title of a topic of the campaign: empty where it isn't one.
+pub(crate) fn title<'a>(history: &'a [Entry], id: &[u8]) -> &'a [u8]
+    ensures { result.now ≡ title history.now id.now }
+{
+    for topic in topics(history) {
+        if topic.id.bytes() == id {
+            return topic.title.bytes();
+        }
+    }
+    &[]
 }
 
 /// The least line of a list whose topic isn't a topic of the campaign.

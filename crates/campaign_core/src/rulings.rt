@@ -1,5 +1,5 @@
 ghost use Rattle.std.specs.Prelude.{◌≡◌, ◌≤◌, ◌<◌, ◌^◌, ◌+◌, ◌∷◌, [], ◌++◌, length, IfOk, OnOk, IsTrue, nat_lt, max};
-ghost use Rattle.rulebook.specs.declared.limits.TheConstants.{MAX_LINES, MAX_DOCNOS, MAX_ENTRY_BYTES};
+ghost use Rattle.rulebook.specs.declared.limits.TheConstants.{MAX_LINES, MAX_DOCNOS, MAX_ENTRIES, MAX_ENTRY_BYTES, MAX_MOMENT};
 ghost use Rattle.rulebook.specs.declared.ask.Ask.TheVariants.{Act};
 ghost use Rattle.rulebook.specs.Words.{each_once};
 ghost use Rattle.rulebook.specs.declared.rules.Phase.TheVariants.{Collecting};
@@ -7,14 +7,19 @@ ghost use Rattle.rulebook.specs.Refusals.{is_phase};
 ghost use Rattle.rulebook.specs.Campaign.{History, phase as phase_of, line_count as lines_of, submitted_lines as submitted_lines_of, submitted_docnos, lines_with, docnos_with};
 ghost use Rattle.rulebook.specs.Answers.{topics_ruling, submit_ruling, open_ruling, ruled, moment_after};
 ghost use Rattle.rulebook.specs.Spelling.{command_bytes};
-ghost use Rattle.rulebook.specs.Legal.{is_built};
+ghost use Rattle.rulebook.specs.Legal.{IsLegal, is_built};
+ghost use Rattle.campaign_core.specs.Kept.{KnowsAll};
 ghost use Rattle.campaign_core.specs.Growth.{BeginsWith, lists_in};
 
+use crate::amending::{amend_ruling, rule_ruling};
 use crate::docnos::add_docnos;
+use crate::leasing::{grade_ruling, lease_ruling, release_ruling};
 use crate::looks::{
     has_topics, is_taken, line_count, submitted_lines, submitted_runs, unknown_line,
 };
+use crate::topics::TopicState;
 use decimal_rank::{Memory, Names, Text};
+use lease_desk::Desk;
 use rulebook::{
     Command, Entry, EntryCore, MAX_DOCNOS, MAX_LINES, MAX_RUNS, MAX_TOPICS, Phase, Quantity,
     Refusal, Reply,
@@ -34,17 +39,24 @@ pub(crate) fn moment_after(history: &[Entry], moment: u64) -> u64
 
 /// What a command comes to. Where it is accepted, its docnos are added to those of the history.
 pub(crate) fn ruled(
+    alloc: Global,
     history: &[Entry],
     phase: Phase,
+    topics: &[TopicState],
     docnos: &mut Names,
+    desk: &Desk,
     core: &EntryCore,
 ) -> Result<Result<Reply, Refusal>, Memory>
     requires built { IsTrue (is_built (Act core.now.command)) }
     requires short { length (command_bytes core.now.command) ≤ MAX_ENTRY_BYTES }
     requires phase { phase ≡ phase_of history.now }
+    requires legal { IsLegal history.now }
+    requires stands { KnowsAll history.now topics.now desk.now.leases }
     requires docnos_are { docnos.old ≡ each_once (submitted_docnos history.now) }
     requires docnos_fit { length docnos.old ≤ MAX_DOCNOS }
     requires lines_fit { submitted_lines_of history.now ≤ MAX_LINES }
+    requires entries_fit { length history.now ≤ MAX_ENTRIES }
+    requires moment_fits { core.now.moment ≤ MAX_MOMENT }
     ensures ruling { let ruling = ruled history.now core.now.caller core.now.moment core.now.command in
         IfOk result (λ told. told ≡ ruling) }
     ensures lines { let lists = lists_in core.now.command in
@@ -60,6 +72,19 @@ pub(crate) fn ruled(
             submit_ruling(history, phase, docnos, run, lists.items())
         }
         Command::Open => Ok(open_ruling(phase)),
+        Command::Lease { topic } => {
+            lease_ruling(alloc, history, phase, topics, docnos, desk, core, topic)
+        }
+        Command::Grade { lease, grade } => grade_ruling(
+            alloc, history, phase, topics, docnos, desk, core, *lease, *grade,
+        ),
+        Command::Release { lease } => Ok(release_ruling(history, phase, desk, core, *lease)),
+        Command::Amend { topic, doc, grade } => Ok(amend_ruling(
+            history, phase, topics, docnos, core, topic, doc, *grade,
+        )),
+        Command::Rule { topic, doc, grade } => Ok(rule_ruling(
+            history, phase, topics, docnos, topic, doc, *grade,
+        )),
         _ => unreachable!(),
     }
 }

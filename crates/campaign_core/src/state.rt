@@ -1,28 +1,31 @@
-ghost use Rattle.std.specs.Prelude.{◌≡◌, ℕ, List, All, ◌<◌, ◌≤◌, ◌∷◌, [], ◌++◌, length, map, MatchResult, vec_len, vec_capacity, IfOk, OnOk, OnErr, IsTrue, None, Some};
+ghost use Rattle.std.specs.Prelude.{◌≡◌, ℕ, List, All, ◌<◌, ◌≤◌, ◌∷◌, [], ◌++◌, length, map, MatchResult, vec_len, vec_capacity, IfOk, OnOk, OnErr, IsTrue, None, Ok, Some};
 ghost use Rattle.rulebook.specs.declared.ask.Ask.TheVariants.{Act};
 ghost use Rattle.rulebook.specs.declared.limits.TheConstants.{MAX_ENTRIES, MAX_LINES, MAX_DOCNOS, MAX_RUNS};
 ghost use Rattle.rulebook.specs.Words.{each_once};
 ghost use Rattle.rulebook.specs.Spelling.{are_rules, differ};
-ghost use Rattle.rulebook.specs.Campaign.{docs_on, phase as phase_of, runs, submitted_lines, submitted_docnos};
+ghost use Rattle.rulebook.specs.Campaign.{docnos_with, docs_on, phase as phase_of, runs, submitted_lines, submitted_docnos};
 ghost use Rattle.rulebook.specs.Answers.{answer, moment_after as moment_of, ruled as ruled_of};
 ghost use Rattle.rulebook.specs.Legal.{is_built, is_well_addressed, founding, IsLegal};
 ghost use Rattle.campaign_core.specs.Growth.{BeginsWith, lists_in};
 ghost use Rattle.campaign_core.specs.Joining.{MayJoin};
 ghost use Rattle.campaign_core.specs.Numbers.{are_named};
-ghost use Rattle.campaign_core.specs.Plans.{CarriesOut, RoomFor, phase_after, topics_after};
+ghost use Rattle.campaign_core.specs.Kept.{KnowsAll};
+ghost use Rattle.campaign_core.specs.Plans.{AreLabelsAfter, CarriesOut, RoomFor, leases_after, phase_after, topics_after};
 ghost use Rattle.campaign_core.specs.State.{IsRuling, IsVerdict};
-ghost use Rattle.campaign_core.specs.Topics.{IsQueued, kept};
+ghost use Rattle.campaign_core.specs.Topics.{IsQueued, kept, labelled_of};
 
 use crate::plans::{Plan, plan_of};
-use crate::pools::pool_reply;
+use crate::queries::told;
 use crate::rulings::{moment_after, ruled};
-use crate::topics::{TopicState, add_runs};
+use crate::topics::{TopicState, add_runs, label_of, rule_of};
 use crate::verdict::{Prepared, Verdict};
 use decimal_rank::{Memory, Names, Steps, Text};
 use depth_pool::greatest_run_goes_last;
+use labels::{marks_follow_labels, marks_follow_rulings};
+use lease_desk::{Desk, LeaseEnd};
 use rulebook::{
-    Ask, Caller, Command, Entry, EntryCore, MAX_ENTRIES, Phase, Quantity, Query, Refusal, Reply,
-    Role, Rules,
+    Ask, Caller, Command, Entry, EntryCore, MAX_ENTRIES, Phase, Quantity, Refusal, Reply, Role,
+    Rules, labels_join, quiet_entries_keep_grades, rulings_join,
 };
 use std::alloc::Global;
 use std::marker::Model;
@@ -41,6 +44,8 @@ pub struct State {
     docnos_kept: u32,
     /// The campaign's topics, in the order of their entry.
     topics: Vec<TopicState>,
+    /// The leases, by the numbers of their topics and documents.
+    desk: Desk,
     prepared: Option<Ready>,
 }
 
@@ -95,6 +100,7 @@ impl State {
             docnos: Names::new(alloc),
             docnos_kept: 0,
             topics: Vec::new(alloc),
+            desk: Desk::new(alloc),
             prepared: None,
         })
     }
@@ -131,18 +137,18 @@ impl State {
         self.forget();
         match ask {
             Ask::Act(command) => self.prepare_command(who, number, command, moment),
-            Ask::See(Query::Pool { topic }) => {
+            Ask::See(query) => {
                 let alloc = *self.history.allocator();
+                let now = moment_after(&self.history, moment);
                 self.docnos.cut(self.docnos_kept);
-                let reply = pool_reply(alloc, &self.topics, &self.docnos, topic)?;
+                let reply = told(alloc, &self.topics, &self.docnos, &self.desk, now, query)?;
                 Ok(Verdict::Told(reply))
             }
-            Ask::See(_) => unreachable!(),
         }
     }
 
     /// Adds the prepared entry, and gives its reply.
-    pub fn commit<L: Ledger>(&mut self, p: Prepared, _steps: &mut Steps<L>) -> Reply
+    pub fn commit<L: Ledger>(&mut self, p: Prepared, steps: &mut Steps<L>) -> Reply
         requires { self.old.prepared ≡ Some p }
         ensures history { self.new.history ≡ self.old.history ++ p ∷ [] }
         ensures prepared { self.new.prepared ≡ None }
@@ -152,10 +158,22 @@ impl State {
         let reply = p.reply;
         self.history.push_reserved(p.entry);
         self.docnos_kept = self.docnos.len();
-        // a run of the greatest number stands last in a pool
+        // a run of the greatest number stands last in a pool, and an entry changes the grades of
+        // one document at most
         greatest_run_goes_last();
+        quiet_entries_keep_grades();
+        labels_join();
+        marks_follow_labels();
+        rulings_join();
+        marks_follow_rulings();
         if let Some(ready) = self.prepared.take() {
-            carry_out(ready.plan, &mut self.topics, &mut self.phase);
+            carry_out(
+                ready.plan,
+                &mut self.topics,
+                &mut self.desk,
+                &mut self.phase,
+                steps,
+            );
         }
         reply
     }
@@ -208,6 +226,7 @@ impl State {
             self.phase,
             &mut self.topics,
             &mut self.docnos,
+            &mut self.desk,
             core,
         )? {
             Ok((prepared, plan)) => {
@@ -223,17 +242,37 @@ impl State {
 }
 
 /// Carries out the plan of an entry that joins the history.
-fn carry_out(plan: Plan, topics: &mut Vec<TopicState>, phase: &mut Phase)
-    requires rooms { RoomFor plan topics.old.items }
+fn carry_out<L: Ledger>(
+    plan: Plan,
+    topics: &mut Vec<TopicState>,
+    desk: &mut Desk,
+    phase: &mut Phase,
+    steps: &mut Steps<L>,
+)
+    requires rooms { RoomFor plan topics.old.items desk.old }
     requires queued { All IsQueued topics.old.items }
     ensures topics { map kept topics.new.items ≡ topics_after plan topics.old.items }
+    ensures labelled { AreLabelsAfter plan topics.old.items (map labelled_of topics.new.items) }
     ensures queued { All IsQueued topics.new.items }
+    ensures leases { desk.new.leases ≡ leases_after plan desk.old.leases }
     ensures phase { phase.new ≡ phase_after plan phase.old }
 {
     match plan {
         Plan::Topics(given) => *topics = given,
         Plan::Run(run) => add_runs(topics, run),
         Plan::Open => *phase = Phase::Judging,
+        Plan::Lease(topic, doc, until, assessor) => {
+            desk.grant(assessor, topic, doc, until);
+        }
+        Plan::Label(number, topic, doc, assessor, grade) => {
+            label_of(topics, topic as usize, doc, assessor, grade, steps);
+            desk.end(number, LeaseEnd::Graded);
+        }
+        Plan::Amend(topic, doc, assessor, grade) => {
+            label_of(topics, topic as usize, doc, assessor, grade, steps);
+        }
+        Plan::Rule(topic, doc, grade) => rule_of(topics, topic as usize, doc, grade, steps),
+        Plan::Release(number) => desk.end(number, LeaseEnd::Released),
     }
 }
 
@@ -243,10 +282,13 @@ fn accepted(
     phase: Phase,
     topics: &mut Vec<TopicState>,
     docnos: &mut Names,
+    desk: &mut Desk,
     core: EntryCore,
 ) -> Result<Result<(Prepared, Plan), Refusal>, Memory>
     requires addressed { IsTrue (is_well_addressed core.caller core.number (Act core.command) core.moment) }
     requires phase { phase ≡ phase_of history.old.items }
+    requires legal { IsLegal history.old.items }
+    requires stands { KnowsAll history.old.items topics.old.items desk.old.leases }
     requires latest { moment_of history.old.items core.moment ≡ core.moment }
     requires entries_fit { length history.old.items < MAX_ENTRIES }
     requires docnos_are { docnos.old ≡ each_once (submitted_docnos history.old.items) }
@@ -255,7 +297,9 @@ fn accepted(
     requires runs_fit { length (runs history.old.items) ≤ MAX_RUNS }
     ensures history { history.new.items ≡ history.old.items }
     ensures topics { map kept topics.new.items ≡ map kept topics.old.items }
+    ensures labelled { map labelled_of topics.new.items ≡ map labelled_of topics.old.items }
     ensures queued { All IsQueued topics.old.items → All IsQueued topics.new.items }
+    ensures leases { desk.new.leases ≡ desk.old.leases }
     ensures grown { BeginsWith docnos.old docnos.new }
     ensures ruling { let ruling = ruled_of history.old.items core.caller core.moment core.command in
         IfOk result (IsRuling ruling) }
@@ -263,10 +307,11 @@ fn accepted(
     ensures joins { IfOk result (λ accepted. IfOk accepted (λ ready. MayJoin history.old.items docnos.new ready.0)) }
     ensures room { let has_room = vec_len history.new < vec_capacity history.new in
         IfOk result (λ accepted. OnOk accepted has_room) }
-    ensures plan { IfOk result (λ accepted. IfOk accepted (λ ready. CarriesOut history.old.items docnos.new topics.new.items core.command ready.1)) }
+    ensures plan { IfOk result (λ accepted. IfOk accepted (λ ready. CarriesOut history.old.items docnos.new topics.new.items desk.new ready.0 ready.1)) }
 {
-    match ruled(history, phase, docnos, &core)? {
-        Ok(reply) => Ok(Ok(made_ready(history, topics, docnos, core, reply)?)),
+    let alloc = *history.allocator();
+    match ruled(alloc, history, phase, topics, docnos, desk, &core)? {
+        Ok(reply) => Ok(Ok(made_ready(history, topics, docnos, desk, core, reply)?)),
         Err(refusal) => {
             drop(core);
             Ok(Err(refusal))
@@ -279,24 +324,31 @@ fn made_ready(
     history: &mut Vec<Entry>,
     topics: &mut Vec<TopicState>,
     docnos: &Names,
+    desk: &mut Desk,
     core: EntryCore,
     reply: Reply,
 ) -> Result<(Prepared, Plan), Memory>
     requires built { IsTrue (is_built (Act core.command)) }
+    requires legal { IsLegal history.old.items }
+    requires accepted { ruled_of history.old.items core.caller core.moment core.command ≡ Ok reply }
+    requires stands { KnowsAll history.old.items topics.old.items desk.old.leases }
+    requires docnos_are { docnos.now ≡ docnos_with history.old.items (lists_in core.command) }
     requires few { (topic : List ℕ) → length (docs_on (lists_in core.command) topic) ≤ 1000 }
     requires distinct { (topic : List ℕ) → IsTrue (differ (docs_on (lists_in core.command) topic)) }
     requires named { (topic : List ℕ) → IsTrue (are_named docnos.now (docs_on (lists_in core.command) topic)) }
     requires runs { length (runs history.old.items) < 65536 }
     ensures history { history.new.items ≡ history.old.items }
     ensures topics { map kept topics.new.items ≡ map kept topics.old.items }
+    ensures labelled { map labelled_of topics.new.items ≡ map labelled_of topics.old.items }
     ensures queued { All IsQueued topics.old.items → All IsQueued topics.new.items }
+    ensures leases { desk.new.leases ≡ desk.old.leases }
     ensures room { OnOk result (vec_len history.new < vec_capacity history.new) }
     ensures entry { IfOk result (λ ready. ready.0 ≡ record { core = core; reply = reply }) }
-    ensures plan { IfOk result (λ ready. CarriesOut history.old.items docnos.now topics.new.items core.command ready.1) }
+    ensures plan { IfOk result (λ ready. CarriesOut history.old.items docnos.now topics.new.items desk.new ready.0 ready.1) }
 {
     history.reserve(1)?;
     let alloc = *history.allocator();
-    let plan = plan_of(alloc, history, topics, docnos, &core.command)?;
+    let plan = plan_of(alloc, history, topics, docnos, desk, &core, &reply)?;
     let entry = Entry {
         core,
         reply: reply.copy(alloc)?,

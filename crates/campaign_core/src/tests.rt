@@ -17,11 +17,12 @@ use rulebook::{
 };
 use std::alloc::Global;
 use std::marker::Brand;
+use std::process::Abort;
 use std::sync::ledger::{Blank, Ledger};
 use std::test::Fail;
 use trec_formats::{Topic, TopicList};
 
-fn text(alloc: Global, bytes: &[u8]) -> Result<Text, Memory>
+pub(crate) fn text(alloc: Global, bytes: &[u8]) -> Result<Text, Memory>
     ensures { IfOk result (λ text. text ≡ bytes.now) }
 {
     Ok(Text::new(Vec::from_slice(alloc, bytes)?))
@@ -49,7 +50,7 @@ fn list(alloc: Global, topic: &[u8], line: u32, docs: &[u8]) -> Result<TopicList
     })
 }
 
-fn caller(alloc: Global, name: &[u8], role: Role) -> Result<Caller, Memory>
+pub(crate) fn caller(alloc: Global, name: &[u8], role: Role) -> Result<Caller, Memory>
     ensures { IfOk result (λ caller. caller ≡ record { name = name.now; role = role }) }
 {
     Ok(Caller {
@@ -70,24 +71,20 @@ fn topic(alloc: Global, id: &[u8]) -> Result<Topic, Memory>
     })
 }
 
-// A campaign of the topic 1.
+// A new campaign.
 fn campaign(alloc: Global, depth: u16) -> Result<State, Memory>
     requires within { depth ≤ 1000 }
     requires some { 0 < depth }
 {
-    let mut state = State::found(
-        alloc,
-        Rules {
-            depth,
-            term: 600,
-            hold: 2,
-            level: 1,
-            top_grade: 3,
-            doubles: Rows::new(Vec::new(alloc)),
-        },
-    )?;
-    topics(alloc, &mut state)?;
-    Ok(state)
+    let rules = Rules {
+        depth,
+        term: 600,
+        hold: 2,
+        level: 1,
+        top_grade: 3,
+        doubles: Rows::new(Vec::new(alloc)),
+    };
+    State::found(alloc, rules)
 }
 
 // The reply to a request at moment 1000, whose entry is committed.
@@ -100,7 +97,7 @@ fn answered(state: &mut State, who: &Caller, ask: Ask) -> Result<Reply, Memory>
     }
 }
 
-fn committed<L: Ledger>(state: &mut State, prepared: Prepared, blank: Blank) -> Reply
+pub(crate) fn committed<L: Ledger>(state: &mut State, prepared: Prepared, blank: Blank) -> Reply
     requires prepared { state.old.prepared ≡ Some prepared }
     requires name { blank.name ≡ L.name }
     requires parts { blank.parts ≡ L.parts }
@@ -111,7 +108,7 @@ fn committed<L: Ledger>(state: &mut State, prepared: Prepared, blank: Blank) -> 
 }
 
 // The reply to the Topics command of the topic 1.
-fn topics(alloc: Global, state: &mut State) -> Result<Reply, Memory> {
+pub(crate) fn topics(alloc: Global, state: &mut State) -> Result<Reply, Memory> {
     let mut topics = Vec::new(alloc);
     topics.push(topic(alloc, b"1")?)?;
     let command = Command::Topics {
@@ -125,7 +122,7 @@ fn topics(alloc: Global, state: &mut State) -> Result<Reply, Memory> {
 }
 
 // The reply to the Open command.
-fn opened(alloc: Global, state: &mut State) -> Result<Reply, Memory> {
+pub(crate) fn opened(alloc: Global, state: &mut State) -> Result<Reply, Memory> {
     answered(
         state,
         &caller(alloc, b"org", Role::Organiser)?,
@@ -148,7 +145,12 @@ fn run_of(alloc: Global, run: &[u8], docs: &[u8]) -> Result<Ask, Memory>
 }
 
 // The reply to such a run.
-fn submitted(alloc: Global, state: &mut State, run: &[u8], docs: &[u8]) -> Result<Reply, Memory>
+pub(crate) fn submitted(
+    alloc: Global,
+    state: &mut State,
+    run: &[u8],
+    docs: &[u8],
+) -> Result<Reply, Memory>
     requires { let group : Caller = record { name = codes "grp"; role = Group } in
         let docs = map (λ doc. doc ∷ []) docs.now in
         let list : TopicList = record { topic = codes "1"; line = 1; docs = docs } in
@@ -213,49 +215,56 @@ fn pool(alloc: Global, state: &mut State, topic: &[u8]) -> Result<Reply, Memory>
     )
 }
 
-// The docnos of a pool, one after another.
-fn pooled(alloc: Global, reply: &Reply) -> Result<Vec<u8>, Fail> {
-    let mut docs = Vec::new(alloc);
+fn is_pool(reply: &Reply, letters: &[u8]) -> bool {
     match reply {
-        Reply::Pool { docs: texts, .. } => {
-            for text in texts.items() {
-                docs.extend_from_slice(text.bytes())?;
-            }
-            Ok(docs)
+        Reply::Pool { docs, .. } => is_spelled(docs.items(), letters),
+        _ => false,
+    }
+}
+
+// Whether the texts have one byte each, and these.
+fn is_spelled(texts: &[Text], letters: &[u8]) -> bool {
+    if texts.len() != letters.len() {
+        return false;
+    }
+    for (text, letter) in texts.iter().zip(letters) {
+        if text.bytes() != [*letter].as_slice() {
+            return false;
         }
-        _ => Err(Fail::from("no pool")),
+    }
+    true
+}
+
+fn is_submitted(reply: &Reply) -> bool {
+    matches!(
+        reply,
+        Reply::Submitted {
+            topics: 1,
+            lines: 3,
+            ..
+        }
+    )
+}
+
+fn is_refused(reply: &Reply, wanted: Refusal) -> bool {
+    match reply {
+        Reply::Refused(refusal) => *refusal == wanted,
+        _ => false,
     }
 }
 
 #[test]
 fn two_runs_and_their_pool(rt: HostRuntime) -> Result<(), Fail> {
-    let alloc = rt.alloc();
-    let mut state = campaign(alloc, 3)?;
+    let mut state = campaign(rt.alloc(), 3)?;
+    two_runs(&rt, rt.alloc(), &mut state)
+}
+
+fn two_runs(rt: &impl Abort, alloc: Global, state: &mut State) -> Result<(), Fail> {
+    topics(alloc, state)?;
     assert_eq!(rt; state.entries(), 2);
-    let first = submitted(alloc, &mut state, b"X", b"abe")?;
-    assert!(rt;
-        matches!(
-            first,
-            Reply::Submitted {
-                topics: 1,
-                lines: 3,
-                ..
-            }
-        )
-    );
-    let second = submitted(alloc, &mut state, b"Y", b"cdf")?;
-    assert!(rt;
-        matches!(
-            second,
-            Reply::Submitted {
-                topics: 1,
-                lines: 3,
-                ..
-            }
-        )
-    );
-    let docs = pool(alloc, &mut state, b"1")?;
-    assert_eq!(rt; pooled(alloc, &docs)?.as_slice(), b"abcdef".as_slice());
+    assert!(rt; is_submitted(&submitted(alloc, state, b"X", b"abe")?));
+    assert!(rt; is_submitted(&submitted(alloc, state, b"Y", b"cdf")?));
+    assert!(rt; is_pool(&pool(alloc, state, b"1")?, b"abcdef"));
     assert_eq!(rt; state.entries(), 4);
     assert_eq!(rt; state.phase(), Phase::Collecting);
     Ok(())
@@ -263,68 +272,86 @@ fn two_runs_and_their_pool(rt: HostRuntime) -> Result<(), Fail> {
 
 #[test]
 fn a_pool_holds_the_ranks_up_to_the_depth(rt: HostRuntime) -> Result<(), Fail> {
-    let alloc = rt.alloc();
-    let mut state = campaign(alloc, 2)?;
-    submitted(alloc, &mut state, b"X", b"eba")?;
-    submitted(alloc, &mut state, b"Y", b"cef")?;
-    let docs = pool(alloc, &mut state, b"1")?;
-    assert_eq!(rt; pooled(alloc, &docs)?.as_slice(), b"bce".as_slice());
+    let mut state = campaign(rt.alloc(), 2)?;
+    two_runs_at_depth_two(&rt, rt.alloc(), &mut state)
+}
+
+fn two_runs_at_depth_two(rt: &impl Abort, alloc: Global, state: &mut State) -> Result<(), Fail> {
+    topics(alloc, state)?;
+    submitted(alloc, state, b"X", b"eba")?;
+    submitted(alloc, state, b"Y", b"cef")?;
+    assert!(rt; is_pool(&pool(alloc, state, b"1")?, b"bce"));
     Ok(())
 }
 
 #[test]
 fn refused_requests_add_nothing(rt: HostRuntime) -> Result<(), Fail> {
-    let alloc = rt.alloc();
-    let mut state = campaign(alloc, 3)?;
-    submitted(alloc, &mut state, b"X", b"abe")?;
-    let taken = submitted(alloc, &mut state, b"X", b"cdf")?;
-    assert!(rt; matches!(taken, Reply::Refused(Refusal::TagTaken)));
-    let taken_first = strayed(alloc, &mut state, b"X")?;
-    assert!(rt; matches!(taken_first, Reply::Refused(Refusal::TagTaken)));
-    let stray = strayed(alloc, &mut state, b"Z")?;
-    assert!(rt; matches!(stray, Reply::Refused(Refusal::LineTopic { line: 2 })));
-    let fixed = topics(alloc, &mut state)?;
-    assert!(rt; matches!(fixed, Reply::Refused(Refusal::TopicsFixed)));
-    let unknown = pool(alloc, &mut state, b"9")?;
-    assert!(rt; matches!(unknown, Reply::Refused(Refusal::UnknownTopic)));
+    let mut state = campaign(rt.alloc(), 3)?;
+    refused_runs(&rt, rt.alloc(), &mut state)
+}
+
+fn refused_runs(rt: &impl Abort, alloc: Global, state: &mut State) -> Result<(), Fail> {
+    topics(alloc, state)?;
+    submitted(alloc, state, b"X", b"abe")?;
+    assert!(rt; is_refused(&submitted(alloc, state, b"X", b"cdf")?, Refusal::TagTaken));
+    assert!(rt; is_refused(&strayed(alloc, state, b"X")?, Refusal::TagTaken));
+    assert!(rt;
+        is_refused(
+            &strayed(alloc, state, b"Z")?,
+            Refusal::LineTopic { line: 2 }
+        )
+    );
     assert_eq!(rt; state.entries(), 3);
     Ok(())
 }
 
-fn is_wrong_phase(reply: &Reply) -> bool {
-    matches!(
-        reply,
-        Reply::Refused(Refusal::WrongPhase {
-            phase: Phase::Judging
-        })
-    )
+#[test]
+fn topics_are_given_once(rt: HostRuntime) -> Result<(), Fail> {
+    let mut state = campaign(rt.alloc(), 3)?;
+    topics_again(&rt, rt.alloc(), &mut state)
+}
+
+fn topics_again(rt: &impl Abort, alloc: Global, state: &mut State) -> Result<(), Fail> {
+    topics(alloc, state)?;
+    assert!(rt; is_refused(&topics(alloc, state)?, Refusal::TopicsFixed));
+    assert!(rt; is_refused(&pool(alloc, state, b"9")?, Refusal::UnknownTopic));
+    assert_eq!(rt; state.entries(), 2);
+    Ok(())
 }
 
 #[test]
 fn an_opened_campaign_takes_no_runs(rt: HostRuntime) -> Result<(), Fail> {
-    let alloc = rt.alloc();
-    let mut state = campaign(alloc, 3)?;
-    submitted(alloc, &mut state, b"X", b"abe")?;
-    assert!(rt; matches!(opened(alloc, &mut state)?, Reply::Done));
+    let mut state = campaign(rt.alloc(), 3)?;
+    requests_after_opening(&rt, rt.alloc(), &mut state)
+}
+
+fn requests_after_opening(rt: &impl Abort, alloc: Global, state: &mut State) -> Result<(), Fail> {
+    let phase = Phase::Judging;
+    let closed = Refusal::WrongPhase { phase };
+    topics(alloc, state)?;
+    submitted(alloc, state, b"X", b"abe")?;
+    assert!(rt; matches!(opened(alloc, state)?, Reply::Done));
     assert_eq!(rt; state.phase(), Phase::Judging);
-    assert!(rt; is_wrong_phase(&submitted(alloc, &mut state, b"Y", b"cdf")?));
-    assert!(rt; is_wrong_phase(&topics(alloc, &mut state)?));
-    assert!(rt; is_wrong_phase(&opened(alloc, &mut state)?));
+    assert!(rt; is_refused(&submitted(alloc, state, b"Y", b"cdf")?, closed));
+    assert!(rt; is_refused(&topics(alloc, state)?, closed));
+    assert!(rt; is_refused(&opened(alloc, state)?, closed));
     assert_eq!(rt; state.entries(), 4);
-    let docs = pool(alloc, &mut state, b"1")?;
-    assert_eq!(rt; pooled(alloc, &docs)?.as_slice(), b"abe".as_slice());
+    assert!(rt; is_pool(&pool(alloc, state, b"1")?, b"abe"));
     Ok(())
 }
 
 #[test]
 fn a_cancelled_run_leaves_nothing(rt: HostRuntime) -> Result<(), Fail> {
-    let alloc = rt.alloc();
-    let mut state = campaign(alloc, 3)?;
-    assert_eq!(rt; cancelled(alloc, &mut state, b"X", b"abe")?, 1000);
+    let mut state = campaign(rt.alloc(), 3)?;
+    cancelled_and_submitted(&rt, rt.alloc(), &mut state)
+}
+
+fn cancelled_and_submitted(rt: &impl Abort, alloc: Global, state: &mut State) -> Result<(), Fail> {
+    topics(alloc, state)?;
+    assert_eq!(rt; cancelled(alloc, state, b"X", b"abe")?, 1000);
     assert_eq!(rt; state.entries(), 2);
-    submitted(alloc, &mut state, b"X", b"cdf")?;
-    let docs = pool(alloc, &mut state, b"1")?;
-    assert_eq!(rt; pooled(alloc, &docs)?.as_slice(), b"cdf".as_slice());
+    submitted(alloc, state, b"X", b"cdf")?;
+    assert!(rt; is_pool(&pool(alloc, state, b"1")?, b"cdf"));
     Ok(())
 }
 
@@ -352,23 +379,21 @@ fn no_more_topics_than_the_limit(rt: HostRuntime) -> Result<(), Fail> {
 
 #[test]
 fn no_more_runs_than_the_limit(rt: HostRuntime) -> Result<(), Fail> {
-    let alloc = rt.alloc();
-    let mut state = campaign(alloc, 3)?;
+    let mut state = campaign(rt.alloc(), 3)?;
+    runs_up_to_the_limit(&rt, rt.alloc(), &mut state)
+}
+
+fn runs_up_to_the_limit(rt: &impl Abort, alloc: Global, state: &mut State) -> Result<(), Fail> {
+    topics(alloc, state)?;
     for first in b'A'..=b'P' {
         for second in b'A'..=b'P' {
-            let reply = submitted(alloc, &mut state, &[first, second], b"a")?;
+            let reply = submitted(alloc, state, &[first, second], b"a")?;
             assert!(rt; matches!(reply, Reply::Submitted { .. }));
         }
     }
-    let last = submitted(alloc, &mut state, b"X", b"a")?;
-    assert!(rt;
-        matches!(
-            last,
-            Reply::Refused(Refusal::Limit {
-                which: Quantity::Runs
-            })
-        )
-    );
+    let which = Quantity::Runs;
+    let full = Refusal::Limit { which };
+    assert!(rt; is_refused(&submitted(alloc, state, b"X", b"a")?, full));
     assert_eq!(rt; state.entries(), 258);
     Ok(())
 }

@@ -1,3 +1,4 @@
+pub mod Added
 pub mod AnswerLengths
 pub mod Ending
 pub mod Fronts

@@ -1,1 +1,4 @@
 pub mod SmallCampaign
+pub mod JudgedCampaign
+pub mod Entering
+pub mod Listing

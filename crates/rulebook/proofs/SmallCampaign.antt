@@ -23,22 +23,22 @@ use Rattle.rulebook.specs.Campaign.{History, phase, pool}
 use Rattle.rulebook.specs.Answers.{answer}
 use Rattle.rulebook.specs.Legal.{core_of, founding, is_well_addressed, IsLegal}
 
-abbrev rules : ℕ → Rules
+abbrev pub rules : ℕ → Rules
 rules depth = record { depth = depth; term = 600; hold = 2; level = 1; top_grade = 3; doubles = [] }
 
-abbrev organiser : Caller
+abbrev pub organiser : Caller
 organiser = record { name = codes "org"; role = Organiser }
 
-abbrev group : Caller
+abbrev pub group : Caller
 group = record { name = codes "grp"; role = Group }
 
-abbrev pooling : Topic
+abbrev pub pooling : Topic
 pooling = record { id = codes "1"; title = codes "pooling"; desc = []; narr = [] }
 
 abbrev list_of : Text → ℕ → List Text → TopicList
 list_of topic line docs = record { topic = topic; line = line; docs = docs }
 
-abbrev submitted : Text → List Text → Command
+abbrev pub submitted : Text → List Text → Command
 submitted run docs = command.Submit run (list_of (codes "1") 1 docs ∷ [])
 
 abbrev X : Command
@@ -48,7 +48,7 @@ abbrev Y : Command
 Y = submitted (codes "Y") (codes "c" ∷ codes "d" ∷ codes "f" ∷ [])
 
 -- the list after one more request of a command, at moment 1000
-abbrev after : History → Caller → Command → History
+abbrev pub after : History → Caller → Command → History
 after H who c = H ++ (answer H who None (Act c) 1000).added
 
 abbrev founded : ℕ → History
@@ -58,7 +58,7 @@ abbrev with_topic : ℕ → History
 with_topic depth = after (founded depth) organiser (command.Topics (pooling ∷ []))
 
 -- the campaign with both runs, at a depth
-abbrev campaign : ℕ → History
+abbrev pub campaign : ℕ → History
 campaign depth = after (after (with_topic depth) group X) group Y
 
 -- the reply to a request at moment 1000
@@ -121,7 +121,7 @@ older-moment : (answer (campaign 3) group None (Act (submitted (codes "Z") (code
 older-moment = refl
 
 -- Once it is opened, a campaign takes no topics and no runs, and isn't opened again.
-abbrev opened : History
+abbrev pub opened : History
 opened = after (campaign 3) organiser command.Open
 
 opening : replied (campaign 3) organiser (Act command.Open) ≡ reply.Done

@@ -1,26 +1,32 @@
 -- The answer to an addressed request.
-use Rattle.std.specs.Prelude.{ℕ, not, ◌==◌, ◌-◌, List, [], ◌∷◌, Option, Ok, Err, if◌then◌else◌, map, length, nat_lt, nat_le, min, max, slice_get}
+use Rattle.std.specs.Prelude.{ℕ, not, ◌==◌, ◌+◌, ◌-◌, List, [], ◌∷◌, ◌++◌, Option, Ok, Err, if◌then◌else◌, map, length, nat_lt, nat_le, min, max, slice_get}
 use Rattle.std.specs.List.{filter, reduce}
 use Rattle.std.specs.Option.{option_map, option_map_or}
+use Rattle.std.specs.Str.{bytes_eq}
 use Rattle.trec_formats.specs.declared.Topic.{Topic}
 use Rattle.trec_formats.specs.declared.TopicList.{TopicList}
 use Rattle.rulebook.specs.declared.limits.TheConstants.{MAX_TOPICS, MAX_RUNS, MAX_LINES, MAX_DOCNOS, MAX_ENTRIES}
 use Rattle.rulebook.specs.declared.rules.Caller.{Caller}
-use Rattle.rulebook.specs.declared.rules.Phase.TheVariants.{Collecting}
+use Rattle.rulebook.specs.declared.rules.Phase.TheVariants.{Collecting, Judging}
 use Rattle.rulebook.specs.declared.ask.Command.{Command}
 use Rattle.rulebook.specs.declared.ask.Command.TheVariants as command
 use Rattle.rulebook.specs.declared.ask.Query.{Query}
 use Rattle.rulebook.specs.declared.ask.Query.TheVariants as query
 use Rattle.rulebook.specs.declared.ask.Ask.{Ask}
 use Rattle.rulebook.specs.declared.ask.Ask.TheVariants.{Act, See}
+use Rattle.rulebook.specs.declared.reply.Refusal.{Refusal}
 use Rattle.rulebook.specs.declared.reply.Refusal.TheVariants as refusal
 use Rattle.rulebook.specs.declared.reply.Quantity.TheVariants as quantity
 use Rattle.rulebook.specs.declared.reply.Reply.{Reply}
 use Rattle.rulebook.specs.declared.reply.Reply.TheVariants as reply
 use Rattle.rulebook.specs.declared.entry.EntryCore.{EntryCore}
 use Rattle.rulebook.specs.Words.{Text}
-use Rattle.rulebook.specs.Campaign.{History, has_topics, is_topic, runs, is_taken, line_count, lines_with, docnos_with, pool, phase}
-use Rattle.rulebook.specs.Refusals.{Ruling, ◌when◌, unless, wrong_phase_unless}
+use Rattle.rulebook.specs.Campaign.{History, has_topics, is_topic, runs, is_taken, line_count, lines_with, docnos_with, pool, phase, rules_of, title}
+use Rattle.rulebook.specs.Grades.{is_labelled, is_labelled_by}
+use Rattle.rulebook.specs.JudgingOrder.{named}
+use Rattle.rulebook.specs.Pages.{disagreements_page, progress_page, qrels_page}
+use Rattle.rulebook.specs.Leases.{Lease, is_ended, lease_numbered, leases, live_leases_of}
+use Rattle.rulebook.specs.Refusals.{Ruling, ◌when◌, given, unless, wrong_phase_unless}
 
 -- the least line of a list whose topic isn't a topic of the campaign
 abbrev pub unknown_line : History → List TopicList → Option ℕ
@@ -48,11 +54,62 @@ submit_ruling H run lists =
 abbrev pub open_ruling : History → Ruling
 open_ruling H = unless (wrong_phase_unless Collecting H ∷ []) (Ok reply.Done)
 
+abbrev pub lease_ruling : History → Caller → ℕ → Text → Ruling
+lease_ruling H who now topic =
+    unless (wrong_phase_unless Judging H
+    ∷ (refusal.UnknownTopic when not (is_topic H topic))
+    ∷ (refusal.TooMany (length (live_leases_of H now who.name)) when nat_le (rules_of H).hold (length (live_leases_of H now who.name))) ∷ [])
+    (given (named H now who.name topic) refusal.NothingLeft (λ doc.
+    Ok (reply.Leased (length (leases H) + 1) topic doc (now + (rules_of H).term) (title H topic))))
+
+-- The refusals of a request about a lease: it isn't the caller's, it ended, its moment passed.
+abbrev pub lease_refusals : History → Caller → ℕ → Lease → List (Option Refusal)
+lease_refusals H who now lease =
+    (refusal.NotYours when not (bytes_eq lease.assessor who.name))
+    ∷ (refusal.Ended when is_ended H lease.number)
+    ∷ (refusal.Expired lease.until when nat_le lease.until now) ∷ []
+
+-- a grade above the greatest
+abbrev pub grade_range : History → ℕ → Option Refusal
+grade_range H grade = refusal.GradeRange when nat_lt (rules_of H).top_grade grade
+
+abbrev pub grade_ruling : History → Caller → ℕ → ℕ → ℕ → Ruling
+grade_ruling H who now number grade =
+    unless (wrong_phase_unless Judging H ∷ [])
+    (given (lease_numbered H number) refusal.UnknownLease (λ lease.
+    unless (lease_refusals H who now lease ++ (refusal.GradeRange when nat_lt (rules_of H).top_grade grade) ∷ [])
+    (Ok (reply.Graded lease.topic lease.doc grade))))
+
+abbrev pub release_ruling : History → Caller → ℕ → ℕ → Ruling
+release_ruling H who now number =
+    unless (wrong_phase_unless Judging H ∷ [])
+    (given (lease_numbered H number) refusal.UnknownLease (λ lease.
+    unless (lease_refusals H who now lease) (Ok reply.Done)))
+
+abbrev pub amend_ruling : History → Caller → Text → Text → ℕ → Ruling
+amend_ruling H who topic doc grade =
+    unless (wrong_phase_unless Judging H
+    ∷ (refusal.UnknownTopic when not (is_topic H topic))
+    ∷ (refusal.NotLabelled when not (is_labelled_by H topic doc who.name))
+    ∷ grade_range H grade ∷ []) (Ok reply.Done)
+
+abbrev pub rule_ruling : History → Text → Text → ℕ → Ruling
+rule_ruling H topic doc grade =
+    unless (wrong_phase_unless Judging H
+    ∷ (refusal.UnknownTopic when not (is_topic H topic))
+    ∷ (refusal.NotLabelled when not (is_labelled H topic doc))
+    ∷ grade_range H grade ∷ []) (Ok reply.Done)
+
 -- What a caller's command comes to at a moment. No request gives another command yet.
 abbrev pub ruled : History → Caller → ℕ → Command → Ruling
 ruled H who now (command.Topics topics) = topics_ruling H topics
 ruled H who now (command.Submit run lists) = submit_ruling H run lists
 ruled H who now command.Open = open_ruling H
+ruled H who now (command.Lease topic) = lease_ruling H who now topic
+ruled H who now (command.Grade lease grade) = grade_ruling H who now lease grade
+ruled H who now (command.Release lease) = release_ruling H who now lease
+ruled H who now (command.Amend topic doc grade) = amend_ruling H who topic doc grade
+ruled H who now (command.Rule topic doc grade) = rule_ruling H topic doc grade
 ruled H who now _ = Err (refusal.WrongPhase (phase H))
 
 -- What each query comes to.
@@ -60,9 +117,16 @@ ruled H who now _ = Err (refusal.WrongPhase (phase H))
 abbrev pub pool_ruling : History → Text → Ruling
 pool_ruling H topic = unless ((refusal.UnknownTopic when not (is_topic H topic)) ∷ []) (Ok (reply.Pool topic (pool H topic)))
 
+-- A page is told to everyone who may ask for it.
+abbrev pub paged : Text → Ruling
+paged text = Ok (reply.Page text)
+
 -- What a caller's query comes to at a moment. No request asks another query yet.
 abbrev pub told : History → Caller → ℕ → Query → Ruling
 told H who now (query.Pool topic) = pool_ruling H topic
+told H who now query.Qrels = paged (qrels_page H)
+told H who now query.Disagreements = paged (disagreements_page H)
+told H who now query.Progress = paged (progress_page H now)
 told H who now _ = Ok (reply.Page [])
 
 abbrev pub reply_of : Ruling → Reply

@@ -1,6 +1,6 @@
 -- Rules, phase, topics, runs and pools of a campaign whose list of accepted entries is H.
 use Rattle.std.specs.Prelude.{ℕ, Bool, true, false, if◌then◌else◌, ◌+◌, List, [], ◌++◌, Option, None, Some, ◌∷◌, take, length, unwrap_or, is_some, slice_get, sum_by}
-use Rattle.std.specs.List.{list_any, filter_map, find, flat_map}
+use Rattle.std.specs.List.{list_any, filter_map, find, flat_map, enumerate_from}
 use Rattle.std.specs.Option.{option_map_or}
 use Rattle.std.specs.Str.{bytes_eq}
 use Rattle.trec_formats.specs.declared.Topic.{Topic}
@@ -11,7 +11,7 @@ use Rattle.rulebook.specs.declared.rules.Phase.TheVariants.{Collecting, Judging,
 use Rattle.rulebook.specs.declared.ask.Command.{Command}
 use Rattle.rulebook.specs.declared.ask.Command.TheVariants as command
 use Rattle.rulebook.specs.declared.entry.Entry.{Entry}
-use Rattle.rulebook.specs.Words.{Text, each_once, in_order}
+use Rattle.rulebook.specs.Words.{Text, contains_text, each_once, in_order}
 
 -- the accepted entries, from the first on
 abbrev pub History : Type 0
@@ -63,6 +63,16 @@ topics H = unwrap_or (slice_get (filter_map (λ e. topics_in e.core.command) H) 
 abbrev pub is_topic : History → Text → Bool
 is_topic H topic = list_any (λ t. bytes_eq t.id topic) (topics H)
 
+abbrev pub title : History → Text → Text
+title H topic = option_map_or (λ t. t.title) (find (λ t. bytes_eq t.id topic) (topics H)) []
+
+-- how many labels a document of the topic needs
+abbrev pub needed : Rules → Text → ℕ
+needed rules topic = if contains_text rules.doubles topic then 2 else 1
+
+abbrev pub need : History → Text → ℕ
+need H topic = needed (rules_of H) topic
+
 -- Runs
 
 -- a run as it was submitted
@@ -85,6 +95,10 @@ is_taken H name = list_any (λ run. bytes_eq run.name name) (runs H)
 -- the runs that take part: each submitted one. No entry ends a run's part yet; a Withdraw entry will.
 abbrev pub live : History → List Run
 live H = runs H
+
+-- the live runs, each with its number of submission
+abbrev pub numbered : History → List (ℕ × Run)
+numbered H = enumerate_from 0 (live H)
 
 abbrev pub line_count : List TopicList → ℕ
 line_count lists = sum_by (λ l. length l.docs) lists
@@ -116,6 +130,9 @@ docs_on lists topic = option_map_or (λ l. l.docs) (find (λ l. bytes_eq l.topic
 -- the documents that a run holds on a topic: those whose rank is at most the depth
 abbrev pub held : History → Text → Run → List Text
 held H topic run = take (rules_of H).depth (docs_on run.lists topic)
+
+abbrev pub holds : History → Text → Run → Text → Bool
+holds H topic run doc = contains_text (held H topic run) doc
 
 -- the documents that some live run holds, by docno
 abbrev pub pool : History → Text → List Text

@@ -24,7 +24,15 @@ abbrev pub is_built : Ask → Bool
 is_built (Act (command.Topics topics)) = true
 is_built (Act (command.Submit run lists)) = true
 is_built (Act command.Open) = true
+is_built (Act (command.Lease topic)) = true
+is_built (Act (command.Grade lease grade)) = true
+is_built (Act (command.Release lease)) = true
+is_built (Act (command.Amend topic doc grade)) = true
+is_built (Act (command.Rule topic doc grade)) = true
 is_built (See (query.Pool topic)) = true
+is_built (See query.Qrels) = true
+is_built (See query.Disagreements) = true
+is_built (See query.Progress) = true
 is_built _ = false
 
 -- whether the name that a query gives is one

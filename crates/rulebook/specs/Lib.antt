@@ -1,7 +1,12 @@
 pub mod Words
 pub mod Campaign
+pub mod Leases
+pub mod Grades
+pub mod JudgingOrder
+pub mod Pages
 pub mod Refusals
 pub mod Answers
 pub mod Spelling
 pub mod Roles
 pub mod Legal
+pub mod Entries

@@ -22,6 +22,11 @@ unless [] ruling = ruling
 unless (None ∷ tests) ruling = unless tests ruling
 unless (Some r ∷ tests) ruling = Err r
 
+-- the refusal where the value is missing, and else what follows from it
+abbrev pub given : {X : Type 0} → Option X → Refusal → (X → Ruling) → Ruling
+given None r ruling = Err r
+given (Some value) r ruling = ruling value
+
 abbrev pub is_phase : Phase → Phase → Bool
 is_phase Collecting Collecting = true
 is_phase Judging Judging = true

@@ -9,7 +9,7 @@ use Rattle.campaign_core.proofs.HistoryGrowth.{submitted_lines-core, submitted_d
 use Rattle.campaign_core.proofs.Naming.{each_named}
 use Rattle.campaign_core.proofs.PoolFacts.{lists-named}
 use Rattle.campaign_core.proofs.ListFacts.{all_back}
-use Rattle.campaign_core.proofs.Told.{docs-plain, plain-of}
+use Rattle.campaign_core.proofs.Told.{docs-plain, moment-of, plain-of}
 use Rattle.campaign_core.proofs.state.accepted.Goals as goal
 
 pub made_ready-requires-clause-few : goal.made_ready-requires-clause-few
@@ -39,3 +39,6 @@ returns-in_ok-made_ready-in-Ok-clause-joins c =
       docnos_fit = rw c.in-Ok.is at c.in_ok-reply.ensures.docnos_fit;
       docnos_are = added ∙ ap each_once (sym (submitted_docnos-core H entry c.args.core (search rules)));
     }
+
+pub ruled-requires-clause-moment_fits : goal.ruled-requires-clause-moment_fits
+ruled-requires-clause-moment_fits c = moment-of c.args.core.caller c.args.core.number c.args.core.command c.args.core.moment c.requires.addressed

@@ -14,5 +14,5 @@ returns-in-Some-clause-queued c =
     record {
       runs = rw c.add_run.ensures.runs (queued-runs t.pool.runs t.queue.order c.enter.new.self.order _ c.requires.queued.runs c.enter.ensures.runs);
       in_order = c.enter.ensures.in_order;
-      unjudged = c.enter.ensures.trail ∙ c.requires.queued.unjudged;
+      trail_is = c.enter.ensures.trail ∙ c.requires.queued.trail_is;
     }

@@ -1,5 +1,5 @@
 use Rattle.std.proofs.Common.{◌≢◌, ◌<◌, ◌∙◌, ℕ, arith, length, get_or, set, get_or-set_other, get_or-set_same, below_more}
-use Rattle.campaign_core.specs.Topics.{AwaitsRun, IsQueued, kept}
+use Rattle.campaign_core.specs.Topics.{AwaitsRun, IsQueued, kept, labelled_of}
 use Rattle.campaign_core.specs.declared.topics.TopicState.{TopicState}
 use Rattle.campaign_core.proofs.Queues.{all-set}
 use Rattle.campaign_core.proofs.ListFacts.{map-set_same}
@@ -9,6 +9,11 @@ pub returns-in_err-reserve_run-clause-kept : goal.returns-in_err-reserve_run-cla
 returns-in_err-reserve_run-clause-kept c =
     let within : c.loop-topic.topic-index < length c.loop-topic.topics = omega (arith, c.loop-topic-test.true, c.loop-topic.auto.topics) in
     map-set_same kept c.loop-topic.topics c.loop-topic.topic-index c.reserve_run.new.topic c.topic-item.result within c.reserve_run.ensures.kept ∙ c.loop-topic.invariant.kept
+
+pub returns-in_err-reserve_run-clause-labelled : goal.returns-in_err-reserve_run-clause-labelled
+returns-in_err-reserve_run-clause-labelled c =
+    let within : c.loop-topic.topic-index < length c.loop-topic.topics = omega (arith, c.loop-topic-test.true, c.loop-topic.auto.topics) in
+    map-set_same labelled_of c.loop-topic.topics c.loop-topic.topic-index c.reserve_run.new.topic c.topic-item.result within c.reserve_run.ensures.labelled ∙ c.loop-topic.invariant.labelled
 
 pub returns-in_err-reserve_run-clause-queued : goal.returns-in_err-reserve_run-clause-queued
 returns-in_err-reserve_run-clause-queued c = λ all.
@@ -26,6 +31,7 @@ loop-topic-preserved c =
     let Awaits : ℕ → Type 0 = λ k. (d : TopicState) → AwaitsRun c.args.docnos.now c.args.lists.now (get_or (set topics i new) k d) in
     record {
       kept = map-set_same kept topics i new c.topic-item.result within c.reserve_run.ensures.kept ∙ c.loop-topic.invariant.kept;
+      labelled = map-set_same labelled_of topics i new c.topic-item.result within c.reserve_run.ensures.labelled ∙ c.loop-topic.invariant.labelled;
       queued = λ all.
           let before = c.loop-topic.invariant.queued all in
           all-set IsQueued topics i new before (c.reserve_run.ensures.queued (before i c.topic-item.result within));

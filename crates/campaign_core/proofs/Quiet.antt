@@ -1,0 +1,131 @@
+-- What an entry leaves of labels and leases that gives none.
+use Rattle.std.proofs.Common.{◌≡◌, ◌||◌, ◌&&◌, ◌<◌, ◌≤◌, ℕ, suc, Bool, true, false, List, ◌++◌, ◌∷◌, [], Option, None, Some, Ok, Err, length, map, get_or, length-append, subst, arith, refl, sym, ap, ◌∙◌}
+use Rattle.std.specs.Prelude.{All}
+use Rattle.std.specs.List.{filter_map, list_all, list_any}
+use Rattle.std.proofs.lemmas.List.{append-nil}
+use Rattle.std.proofs.lemmas.List.Elements.{filter_map-append}
+use Rattle.std.proofs.lemmas.List.Folds.{list_any-append}
+use Rattle.lease_desk.specs.declared.leases.Lease.{Lease as DeskLease}
+use Rattle.rulebook.specs.declared.ask.Command.{Command}
+use Rattle.rulebook.specs.declared.ask.Command.TheVariants as command
+use Rattle.rulebook.specs.declared.entry.Entry.{Entry}
+use Rattle.rulebook.specs.declared.reply.Refusal.{Refusal}
+use Rattle.rulebook.specs.declared.reply.Reply.{Reply}
+use Rattle.rulebook.specs.Words.{Text, contains_text}
+use Rattle.rulebook.specs.Campaign.{History}
+use Rattle.rulebook.specs.Entries.{AreKept, IsQuiet}
+use Rattle.rulebook.specs.Grades.{effective, given_labels, label_of, labels_on, ruling, ruling_in, trail}
+use Rattle.rulebook.specs.Leases.{Lease, ends, is_ended, lease_in, leases}
+use Rattle.rulebook.specs.Refusals.{Ruling, given, unless}
+use Rattle.campaign_core.specs.Kept.{IsFew, IsUnjudged}
+use Rattle.campaign_core.specs.Labelling.{IsLabelled, graded_in}
+use Rattle.campaign_core.specs.Leasing.{IsLeased, KnownLease, is_known, known, seen, topic_in}
+use Rattle.campaign_core.specs.Numbers.{are_named, doc_in, names_of}
+use Rattle.campaign_core.specs.Topics.{LabelledTopic, topic_ids}
+use Rattle.campaign_core.proofs.ListFacts.{each_cons}
+
+-- an accepted ruling is what follows the tests
+pub unless-ok : (tests : List (Option Refusal)) (ruling : Ruling) (answer : Reply) → unless tests ruling ≡ Ok answer → ruling ≡ Ok answer
+unless-ok [] ruling answer is = is
+unless-ok (None ∷ tests) ruling answer is = unless-ok tests ruling answer is
+unless-ok (Some r ∷ tests) ruling answer is = cc is
+
+pub given-ok : {X : Type 0} (o : Option X) (r : Refusal) (follows : X → Ruling) (answer : Reply) → given o r follows ≡ Ok answer → (x : X) × (o ≡ Some x) × (follows x ≡ Ok answer)
+given-ok None r follows answer is = cc is
+given-ok (Some x) r follows answer is = (x, refl, is)
+
+-- The leases
+
+pub leases-push : (H : History) (e : Entry) (o : Option Lease) → lease_in e.core.caller.name e.reply ≡ o → leases (H ++ e ∷ []) ≡ leases H ++ filter_map (λ (l : Option Lease). l) (o ∷ [])
+leases-push H e None is =
+    let one : leases (e ∷ []) ≡ [] = rw is refl in
+    filter_map-append (λ (e : Entry). lease_in e.core.caller.name e.reply) H (e ∷ []) ∙ ap (λ ls. leases H ++ ls) one
+leases-push H e (Some l) is =
+    let one : leases (e ∷ []) ≡ l ∷ [] = rw is refl in
+    filter_map-append (λ (e : Entry). lease_in e.core.caller.name e.reply) H (e ∷ []) ∙ ap (λ ls. leases H ++ ls) one
+
+pub no-lease : (H : History) (e : Entry) → lease_in e.core.caller.name e.reply ≡ None → leases (H ++ e ∷ []) ≡ leases H
+no-lease H e none = leases-push H e None none ∙ append-nil (leases H)
+
+pub ended-push : (H : History) (e : Entry) (number : ℕ) → is_ended (H ++ e ∷ []) number ≡ (is_ended H number || (ends number e.core.command || false))
+ended-push H e number = list_any-append (λ (e : Entry). ends number e.core.command) H (e ∷ [])
+
+or_none : (t : Bool) → (t || (false || false)) ≡ t
+or_none true = refl
+or_none false = refl
+
+pub none-ended : (H : History) (e : Entry) → ((number : ℕ) → ends number e.core.command ≡ false) → (number : ℕ) → is_ended (H ++ e ∷ []) number ≡ is_ended H number
+none-ended H e none number = ended-push H e number ∙ ap (λ t. is_ended H number || (t || false)) (none number) ∙ or_none (is_ended H number)
+
+-- the leases where they, their ends and all names stay
+known-stays : (H J : History) → ((number : ℕ) → is_ended J number ≡ is_ended H number) → topic_ids J ≡ topic_ids H → names_of J ≡ names_of H → (l : Lease) → known J (names_of J) l ≡ known H (names_of H) l
+known-stays H J ends_are ids_are names_are l =
+    ap (λ t. let k : KnownLease = record { number = l.number; assessor = l.assessor; topic = topic_in (topic_ids J) l.topic; doc = doc_in (names_of J) l.doc; until = l.until; ended = t } in k) (ends_are l.number)
+    ∙ ap (λ ids. let k : KnownLease = record { number = l.number; assessor = l.assessor; topic = topic_in ids l.topic; doc = doc_in (names_of J) l.doc; until = l.until; ended = is_ended H l.number } in k) ids_are
+    ∙ ap (λ names. let k : KnownLease = record { number = l.number; assessor = l.assessor; topic = topic_in (topic_ids H) l.topic; doc = doc_in names l.doc; until = l.until; ended = is_ended H l.number } in k) names_are
+
+pub map-same : {X Y : Type 0} (f g : X → Y) (xs : List X) → ((x : X) → f x ≡ g x) → map f xs ≡ map g xs
+map-same f g [] same = refl
+map-same f g (x ∷ xs) same = ap (λ y. y ∷ map f xs) (same x) ∙ ap (λ ys. g x ∷ ys) (map-same f g xs same)
+
+pub listed-stays : (H J : History) (ls : List Lease) → topic_ids J ≡ topic_ids H → names_of J ≡ names_of H → list_all (is_known H (names_of H)) ls ≡ true → list_all (is_known J (names_of J)) ls ≡ true
+listed-stays H J ls ids_are names_are all =
+    ap (λ names. list_all (λ (l : Lease). contains_text names l.doc && contains_text (topic_ids J) l.topic) ls) names_are
+    ∙ ap (λ ids. list_all (λ (l : Lease). contains_text (names_of H) l.doc && contains_text ids l.topic) ls) ids_are ∙ all
+
+pub leased-stays : (H J : History) (desk : List DeskLease) → leases J ≡ leases H → ((number : ℕ) → is_ended J number ≡ is_ended H number) → topic_ids J ≡ topic_ids H → names_of J ≡ names_of H
+    → IsLeased H (names_of H) desk → IsLeased J (names_of J) desk
+leased-stays H J desk leases_are ends_are ids_are names_are leased = record {
+  leases_are = leased.leases_are
+      ∙ sym (map-same (known J (names_of J)) (known H (names_of H)) (leases H) (known-stays H J ends_are ids_are names_are))
+      ∙ ap (map (known J (names_of J))) (sym leases_are);
+  are_known = ap (list_all (is_known J (names_of J))) leases_are ∙ listed-stays H J (leases H) ids_are names_are leased.are_known;
+  ends_granted = λ number beyond. ends_are number ∙ leased.ends_granted number (subst (λ ls. length ls < number) leases_are beyond);
+}
+
+-- the leases where there are none
+pub leased-none : (H J : History) (desk : List DeskLease) → leases H ≡ [] → leases J ≡ leases H → ((number : ℕ) → is_ended J number ≡ is_ended H number) → IsLeased H (names_of H) desk → IsLeased J (names_of J) desk
+leased-none H J desk none leases_are ends_are leased =
+    let empty : leases J ≡ [] = leases_are ∙ none in
+    record {
+      leases_are = leased.leases_are ∙ ap (map (known H (names_of H))) none ∙ sym (ap (map (known J (names_of J))) empty);
+      are_known = ap (list_all (is_known J (names_of J))) empty;
+      ends_granted = λ number beyond. ends_are number ∙ leased.ends_granted number (subst (λ ls. length ls < number) leases_are beyond);
+    }
+
+-- The labels of a topic
+
+pub labelled-stays : (H J : History) (t : LabelledTopic) → AreKept H J → names_of J ≡ names_of H → IsLabelled H (names_of H) t → IsLabelled J (names_of J) t
+labelled-stays H J t keeps names_are labelled = subst (λ names. IsLabelled J names t) (sym names_are) (record {
+  given_are = λ doc named. labelled.given_are doc named ∙ sym (keeps.labels_are t.id doc);
+  rulings_are = λ doc named. labelled.rulings_are doc named ∙ sym (keeps.rulings_are t.id doc);
+  given_named = labelled.given_named;
+  labels_named = λ doc absent. keeps.labels_are t.id doc ∙ labelled.labels_named doc absent;
+  graded_are = labelled.graded_are
+      ∙ sym (map-same (graded_in J (names_of H) t.id) (graded_in H (names_of H) t.id) (trail H t.id) (λ doc. ap (λ (o : Option ℕ). let g = graded_in H (names_of H) t.id doc in record g { grade = o }) (keeps.effective_is t.id doc)))
+      ∙ ap (map (graded_in J (names_of H) t.id)) (sym (keeps.trail_is t.id));
+  trail_named = ap (are_named (names_of H)) (keeps.trail_is t.id) ∙ labelled.trail_named;
+})
+
+pub labelled-none : (J : History) (t : LabelledTopic) → given_labels J ≡ [] → ((topic doc : Text) → ruling J topic doc ≡ None) → ((topic : Text) → trail J topic ≡ []) → t.marked ≡ [] → t.graded ≡ [] → IsLabelled J (names_of J) t
+labelled-none J t no_label no_ruling no_trail no_mark no_grade = record {
+  given_are = λ doc named. rw (no_mark, no_label) refl;
+  rulings_are = λ doc named. rw no_mark (sym (no_ruling t.id doc));
+  given_named = λ doc past. rw no_mark refl;
+  labels_named = λ doc absent. rw no_label refl;
+  graded_are = no_grade ∙ sym (ap (map (graded_in J (names_of J) t.id)) (no_trail t.id));
+  trail_named = ap (are_named (names_of J)) (no_trail t.id);
+}
+
+pub all-labelled : {P Q : LabelledTopic → Type 0} (ts : List LabelledTopic) → ((t : LabelledTopic) → P t → Q t) → All P ts → All Q ts
+all-labelled ts each all k d within = each (get_or ts k d) (all k d within)
+
+-- nothing is leased or labelled by an entry that keeps all and leases nothing
+pub unjudged-stays : (H J : History) (ts : List LabelledTopic) → AreKept H J → given_labels J ≡ given_labels H → leases J ≡ leases H → IsUnjudged H ts → IsUnjudged J ts
+unjudged-stays H J ts keeps labels_are leases_are none = record {
+  no_lease = leases_are ∙ none.no_lease;
+  no_label = labels_are ∙ none.no_label;
+  no_ruling = λ topic doc. keeps.rulings_are topic doc ∙ none.no_ruling topic doc;
+  no_trail = λ topic. keeps.trail_is topic ∙ none.no_trail topic;
+  no_mark = none.no_mark;
+}

@@ -1,0 +1,25 @@
+use Rattle.std.proofs.Common.{◌≡◌, ◌++◌, ◌∙◌, map, ap, sym, take, take_all, length, ◌≤◌, rules}
+use Rattle.std.specs.List.{flat_map}
+use Rattle.std.proofs.lemmas.List.Folds.{flat_map-map}
+use Rattle.decimal_rank.specs.Names.{docno_of}
+use Rattle.rulebook.specs.Pages.{disagreement_line, disagreement_lines}
+use Rattle.rulebook.specs.Words.{Text, in_order}
+use Rattle.campaign_core.specs.Texts.{shown}
+use Rattle.campaign_core.proofs.Disagreeing.{disagreeing-texts}
+use Rattle.campaign_core.proofs.pages.write_disagreements.Goals as goal
+
+pub returns : goal.returns
+returns c = λ H is.
+    let id = c.args.topic.now.id in
+    let names = c.args.docnos.now in
+    let docs = c.in_ok-docs.docs.items in
+    let line : Text → Text = disagreement_line id in
+    let texts : shown c.in_order.result.items ≡ in_order (map (λ doc. docno_of names doc.0) docs) = c.in_order.ensures ∙ ap in_order (c.in_ok-docnos_of.ensures ∙ ap (map (λ doc. docno_of names doc.0)) c.deref.ensures.value) in
+    let lines : flat_map (λ docno. line docno.now) c.in_order.result.items ≡ disagreement_lines H id =
+    sym (flat_map-map line (λ docno. docno.now) c.in_order.result.items)
+    ∙ ap (flat_map line) (texts ∙ disagreeing-texts H names c.args.topic.now is docs c.in_ok-docs.ensures.each c.labelled_are_listed.ensures) in
+    let items_are : c.deref-docno-items.result.now ≡ c.in_order.result.items = c.deref-docno-items.ensures.value in
+    let past : length c.deref-docno-items.result.now ≤ c.loop-docno.docno-index = search rules in
+    let whole : take c.loop-docno.docno-index c.deref-docno-items.result.now ≡ c.in_order.result.items = take_all c.loop-docno.docno-index c.deref-docno-items.result.now past ∙ items_are in
+    let done : c.loop-docno.out.items ≡ c.args.out.now.items ++ flat_map (λ docno. line docno.now) c.in_order.result.items = c.loop-docno.invariant ∙ ap (λ docnos. c.args.out.now.items ++ flat_map (λ docno. line docno.now) docnos) whole in
+    done ∙ ap (λ ts. c.args.out.now.items ++ ts) lines

@@ -1,0 +1,8 @@
+use Rattle.std.proofs.Common.{◌≡◌, drop, find}
+use Rattle.campaign_core.specs.Leasing.{is_open_in}
+use Rattle.campaign_core.proofs.selection.open_among.Given as goal
+
+abbrev pub invariant-loop-doc : goal.invariant-loop-doc
+invariant-loop-doc l =
+    let is_open = is_open_in l.topic.need l.topic.marks.marked l.desk.leases l.number l.now l.assessor in
+    find is_open (drop l.doc-index l.docs) ≡ find is_open l.docs

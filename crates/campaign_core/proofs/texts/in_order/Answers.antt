@@ -1,0 +1,10 @@
+use Rattle.std.proofs.Common.{◌∙◌, ap}
+use Rattle.std.proofs.lemmas.List.Filters.{dedup_is}
+use Rattle.campaign_core.specs.Texts.{shown}
+use Rattle.campaign_core.proofs.Dedup.{same_now, sorted_once}
+use Rattle.campaign_core.proofs.texts.in_order.Goals as goal
+
+pub returns : goal.returns
+returns c =
+    ap shown (dedup_is same_now c.sort_unstable.new.self.items c.dedup.new.self.items c.dedup.ensures.filtered)
+    ∙ sorted_once c.args.texts.items c.sort_unstable.new.self.items c.sort_unstable.ensures.permutation c.sort_unstable.ensures.sorted

@@ -1,0 +1,88 @@
+-- The leases of the history and those of the desk, and the document that is leased next, by numbers.
+use Rattle.std.specs.Prelude.{◌≡◌, ◌<◌, ℕ, ◌+◌, Bool, false, not, ◌&&◌, List, [], ◌∷◌, Option, None, map, length, nat_le, nat_lt, is_some, find, IsTrue}
+use Rattle.std.specs.List.{list_all, position_or_len}
+use Rattle.std.specs.Option.{option_or}
+use Rattle.std.specs.Str.{bytes_eq}
+use Rattle.decimal_rank.specs.declared.naming.DocId.{DocId}
+use Rattle.depth_pool.specs.Holdings.{Held, docs_of}
+use Rattle.depth_pool.specs.declared.runs.RunId.{RunId}
+use Rattle.labels.specs.Labelled.{has_label}
+use Rattle.labels.specs.Marked.{Marked, effective_at, given_at}
+use Rattle.lease_desk.specs.Leases.{has_live, live_on}
+use Rattle.lease_desk.specs.declared.leases.Lease.{Lease as DeskLease}
+use Rattle.rulebook.specs.declared.reply.Refusal.{Refusal}
+use Rattle.rulebook.specs.declared.reply.Refusal.TheVariants as refusal
+use Rattle.rulebook.specs.Refusals.{◌when◌}
+use Rattle.rulebook.specs.Words.{Text, contains_text}
+use Rattle.rulebook.specs.Campaign.{History}
+use Rattle.rulebook.specs.Leases.{Lease, is_ended, leases}
+use Rattle.campaign_core.specs.Numbers.{doc_in}
+use Rattle.campaign_core.specs.Topics.{topic_ids}
+
+-- a lease by the numbers of its topic and its document
+pub record KnownLease : Type 0 where
+  pub number : ℕ
+  pub assessor : Text
+  pub topic : ℕ
+  pub doc : DocId
+  pub until : ℕ
+  pub ended : Bool
+
+-- the number of a topic among the ids
+abbrev pub topic_in : List Text → Text → ℕ
+topic_in ids topic = position_or_len (bytes_eq topic) ids
+
+abbrev pub known : History → List Text → Lease → KnownLease
+known H names lease = record {
+  number = lease.number;
+  assessor = lease.assessor;
+  topic = topic_in (topic_ids H) lease.topic;
+  doc = doc_in names lease.doc;
+  until = lease.until;
+  ended = is_ended H lease.number;
+}
+
+abbrev pub seen : DeskLease → KnownLease
+seen lease = record {
+  number = lease.number;
+  assessor = lease.assessor;
+  topic = lease.topic;
+  doc = lease.doc;
+  until = lease.until;
+  ended = is_some lease.end;
+}
+
+-- a lease on a document of the names, of a topic of the campaign
+abbrev pub is_known : History → List Text → Lease → Bool
+is_known H names lease = contains_text names lease.doc && contains_text (topic_ids H) lease.topic
+
+-- The desk has the leases of the history, and no lease that isn't granted has an end.
+pub record IsLeased (H : History) (names : List Text) (desk : List DeskLease) : Type 0 where
+  pub leases_are : map seen desk ≡ map (known H names) (leases H)
+  pub are_known : IsTrue (list_all (is_known H names) (leases H))
+  pub ends_granted : (number : ℕ) → length (leases H) < number → is_ended H number ≡ false
+
+-- the first refusal that holds
+abbrev pub first_refusal : List (Option Refusal) → Option Refusal
+first_refusal [] = None
+first_refusal (test ∷ tests) = option_or test (first_refusal tests)
+
+-- the refusals of a request about a lease of the desk
+abbrev pub refusals_of : DeskLease → Text → ℕ → List (Option Refusal)
+refusals_of lease caller now =
+    (refusal.NotYours when not (bytes_eq lease.assessor caller))
+    ∷ (refusal.Ended when is_some lease.end)
+    ∷ (refusal.Expired lease.until when nat_le lease.until now) ∷ []
+
+-- whether a document may be leased to an assessor, by numbers
+abbrev pub is_open_in : ℕ → List Marked → List DeskLease → ℕ → ℕ → Text → DocId → Bool
+is_open_in need marked desk topic now assessor doc =
+    not (is_some (effective_at need marked doc))
+    && not (has_label assessor (given_at marked doc))
+    && not (has_live desk assessor topic doc now)
+    && nat_lt (length (given_at marked doc) + live_on desk topic doc now) need
+
+-- of the runs in their order, the first document that is open in the first run that holds one
+abbrev pub first_open : (DocId → Bool) → List Held → List RunId → Option DocId
+first_open is_open runs [] = None
+first_open is_open runs (run ∷ order) = option_or (find is_open (docs_of runs run)) (first_open is_open runs order)

@@ -1,0 +1,171 @@
+//! Pages that are printed topic by topic.
+ghost use Rattle.std.specs.Prelude.{◌≡◌, ◌++◌, ℕ, List, IfOk, IsTrue, OnOk, codes, decimal, map};
+ghost use Rattle.rulebook.specs.Campaign.{History};
+ghost use Rattle.rulebook.specs.declared.reply.Reply.TheVariants as reply;
+ghost use Rattle.rulebook.specs.Words.{contains_text};
+ghost use Rattle.rulebook.specs.Pages.{counts_line, disagreement_line, disagreement_lines, live_count, progress_line};
+ghost use Rattle.campaign_core.specs.Kept.{KnowsAll};
+ghost use Rattle.campaign_core.specs.Numbers.{names_of};
+ghost use Rattle.campaign_core.specs.Printed.{IsTopicOf, page_text, part_of};
+
+use crate::texts::{docnos_of, ids_of, in_order};
+use crate::topics::{TopicState, topic_number};
+use decimal_rank::{Memory, Names, Text};
+use itoa::Buffer;
+use lease_desk::Desk;
+use rulebook::{Reply, graded_are_on_trail, labelled_are_listed};
+use std::alloc::Global;
+
+/// What a page shows of each topic.
+#[derive(Clone, Copy)]
+pub(crate) enum Page {
+    /// The effective grades.
+    Qrels,
+    /// The documents whose labels differ.
+    Disagreements,
+    /// How far the judging is.
+    Progress,
+}
+
+/// A page at a moment: the topics stand by id.
+pub(crate) fn page_reply(
+    alloc: Global,
+    page: Page,
+    topics: &[TopicState],
+    docnos: &Names,
+    desk: &Desk,
+    now: u64,
+) -> Result<Reply, Memory>
+    requires knows { (H : History) × KnowsAll H topics.now desk.now.leases × (docnos.now ≡ names_of H) }
+    ensures { (H : History) → KnowsAll H topics.now desk.now.leases → docnos.now ≡ names_of H
+        → IfOk result (λ told. told ≡ reply.Page (page_text page H now)) }
+{
+    let mut out = Vec::new(alloc);
+    for id in &in_order(ids_of(alloc, topics)?) {
+        write_topic(alloc, page, topics, docnos, desk, now, id, &mut out)?;
+    }
+    Ok(Reply::Page {
+        text: Text::new(out),
+    })
+}
+
+/// Appends what a page shows of the topic of this id.
+fn write_topic(
+    alloc: Global,
+    page: Page,
+    topics: &[TopicState],
+    docnos: &Names,
+    desk: &Desk,
+    now: u64,
+    id: &[u8],
+    out: &mut Vec<u8>,
+) -> Result<(), Memory>
+    requires knows { (H : History) × KnowsAll H topics.now desk.now.leases × (docnos.now ≡ names_of H) }
+    requires listed { IsTrue (contains_text (map (λ topic. topic.id) topics.now) id.now) }
+    ensures { (H : History) → KnowsAll H topics.now desk.now.leases → docnos.now ≡ names_of H
+        → OnOk result (out.new.items ≡ out.old.items ++ part_of page H now id.now) }
+{
+    let number = topic_number(topics, id).unwrap();
+    let live = desk.live_on_topic(number as u16, now);
+    write_part(alloc, page, &topics[number], docnos, live, out)
+}
+
+/// Appends what a page shows of a topic, on which so many leases are live.
+fn write_part(
+    alloc: Global,
+    page: Page,
+    topic: &TopicState,
+    docnos: &Names,
+    live: u32,
+    out: &mut Vec<u8>,
+) -> Result<(), Memory>
+    requires knows { (H : History) × IsTopicOf H docnos.now topic.now }
+    ensures { (H : History) (now : ℕ) → IsTopicOf H docnos.now topic.now → live ≡ live_count H now topic.now.id
+        → OnOk result (out.new.items ≡ out.old.items ++ part_of page H now topic.now.id) }
+{
+    // the documents with a grade are those of the trail that have one
+    graded_are_on_trail();
+    match page {
+        Page::Qrels => topic.view.write(alloc, topic.id.bytes(), docnos, out),
+        Page::Disagreements => write_disagreements(alloc, topic, docnos, out),
+        Page::Progress => write_progress(topic, live, out),
+    }
+}
+
+/// Appends the lines of a topic's documents whose labels differ.
+fn write_disagreements(
+    alloc: Global,
+    topic: &TopicState,
+    docnos: &Names,
+    out: &mut Vec<u8>,
+) -> Result<(), Memory>
+    ensures { (H : History) → IsTopicOf H docnos.now topic.now
+        → OnOk result (out.new.items ≡ out.old.items ++ disagreement_lines H topic.now.id) }
+{
+    let docs = topic.marks.disagreements(alloc, topic.need)?;
+    // the documents whose labels differ are among those with a label
+    labelled_are_listed();
+    for docno in &in_order(docnos_of(alloc, docnos, &docs)?) {
+        write_disagreement(topic.id.bytes(), docno, out)?;
+    }
+    Ok(())
+}
+
+fn write_disagreement(topic: &[u8], docno: &[u8], out: &mut Vec<u8>) -> Result<(), Memory>
+    ensures { OnOk result (out.new.items ≡ out.old.items ++ disagreement_line topic.now docno.now) }
+{
+    out.extend_from_slice(topic)?;
+    out.extend_from_slice(b" ")?;
+    out.extend_from_slice(docno)?;
+    out.extend_from_slice(b"\n")?;
+    Ok(())
+}
+
+/// Appends the line of a topic, on which so many leases are live.
+fn write_progress(topic: &TopicState, live: u32, out: &mut Vec<u8>) -> Result<(), Memory>
+    ensures { (H : History) (names : List (List ℕ)) (now : ℕ) → IsTopicOf H names topic.now → live ≡ live_count H now topic.now.id
+        → OnOk result (out.new.items ≡ out.old.items ++ progress_line H now topic.now.id) }
+{
+    // the documents with a grade are those of the trail that have one
+    graded_are_on_trail();
+    let documents = topic.pool.len() as u64;
+    let relevant = topic.view.relevant();
+    let non_relevant = topic.view.non_relevant();
+    write_counts(
+        topic.id.bytes(),
+        documents,
+        relevant,
+        non_relevant,
+        live,
+        out,
+    )
+}
+
+fn write_counts(
+    topic: &[u8],
+    documents: u64,
+    relevant: u32,
+    non_relevant: u32,
+    live: u32,
+    out: &mut Vec<u8>,
+) -> Result<(), Memory>
+    ensures { OnOk result (out.new.items ≡ out.old.items ++ counts_line topic.now documents relevant non_relevant live) }
+{
+    out.extend_from_slice(topic)?;
+    write_count(documents, out)?;
+    write_count(u64::from(relevant), out)?;
+    write_count(u64::from(non_relevant), out)?;
+    write_count(u64::from(live), out)?;
+    out.extend_from_slice(b"\n")?;
+    Ok(())
+}
+
+/// Appends a space and a number.
+fn write_count(count: u64, out: &mut Vec<u8>) -> Result<(), Memory>
+    ensures { OnOk result (out.new.items ≡ out.old.items ++ codes " " ++ decimal count) }
+{
+    let mut digits = Buffer::new();
+    out.extend_from_slice(b" ")?;
+    out.extend_from_slice(digits.format(count).as_bytes())?;
+    Ok(())
+}

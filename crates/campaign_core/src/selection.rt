@@ -1,0 +1,77 @@
+ghost use Rattle.std.specs.Prelude.{◌≡◌, ◌+◌, find, length, nat_lt};
+ghost use Rattle.labels.specs.Marked.{given_at};
+ghost use Rattle.lease_desk.specs.Leases.{live_on};
+ghost use Rattle.campaign_core.specs.Leasing.{first_open, is_open_in};
+
+use crate::topics::TopicState;
+use decimal_rank::DocId;
+use lease_desk::Desk;
+
+/// The document that an assessor is told to grade at a moment: in the first run of the judging
+/// order that holds one that is open to the assessor, the one of least rank. `number` is the
+/// topic's, from 0.
+pub(crate) fn named(
+    topic: &TopicState,
+    number: u16,
+    desk: &Desk,
+    assessor: &[u8],
+    now: u64,
+) -> Option<DocId>
+    ensures { let is_open = is_open_in topic.now.need topic.now.marks.marked desk.now.leases number now assessor.now in
+        result ≡ first_open is_open topic.now.pool.runs topic.now.queue.order }
+{
+    for run in topic.queue.order() {
+        let docs = topic.pool.held(*run);
+        let open = open_among(topic, number, desk, assessor, now, docs);
+        if open.is_some() {
+            return open;
+        }
+    }
+    None
+}
+
+/// The first of these documents that is open to an assessor.
+fn open_among(
+    topic: &TopicState,
+    number: u16,
+    desk: &Desk,
+    assessor: &[u8],
+    now: u64,
+    docs: &[DocId],
+) -> Option<DocId>
+    ensures { let is_open = is_open_in topic.now.need topic.now.marks.marked desk.now.leases number now assessor.now in
+        result ≡ find is_open docs.now }
+{
+    for doc in docs {
+        if is_open(topic, number, desk, assessor, now, *doc) {
+            return Some(*doc);
+        }
+    }
+    None
+}
+
+/// Whether a document may be leased to an assessor.
+fn is_open(
+    topic: &TopicState,
+    number: u16,
+    desk: &Desk,
+    assessor: &[u8],
+    now: u64,
+    doc: DocId,
+) -> bool
+    ensures { result ≡ is_open_in topic.now.need topic.now.marks.marked desk.now.leases number now assessor.now doc }
+{
+    topic.marks.effective(topic.need, doc).is_none()
+        && !topic.marks.has_label(assessor, doc)
+        && !desk.has(assessor, number, doc, now)
+        && is_wanted(topic, number, desk, now, doc)
+}
+
+/// Whether the labels and live leases on a document are fewer than the topic needs.
+fn is_wanted(topic: &TopicState, number: u16, desk: &Desk, now: u64, doc: DocId) -> bool
+    ensures { result ≡ nat_lt (length (given_at topic.now.marks.marked doc) + live_on desk.now.leases number doc now) topic.now.need }
+{
+    let labels = u64::from(topic.marks.count(doc));
+    let leases = u64::from(desk.live_on(number, doc, now));
+    labels + leases < u64::from(topic.need)
+}

@@ -1,0 +1,5 @@
+use Rattle.rulebook.proofs.Listing.{graded-listed}
+use Rattle.rulebook.proofs.laws.graded_are_on_trail.Goals as goal
+
+pub returns : goal.returns
+returns c = graded-listed

@@ -1,0 +1,5 @@
+use Rattle.rulebook.proofs.Listing.{listed-labelled}
+use Rattle.rulebook.proofs.laws.labelled_are_listed.Goals as goal
+
+pub returns : goal.returns
+returns c = listed-labelled

@@ -1,0 +1,5 @@
+use Rattle.rulebook.proofs.Entering.{label-joined}
+use Rattle.rulebook.proofs.laws.labels_join.Goals as goal
+
+pub returns : goal.returns
+returns c = label-joined

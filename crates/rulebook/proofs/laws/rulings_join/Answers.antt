@@ -1,0 +1,5 @@
+use Rattle.rulebook.proofs.Entering.{ruling-joined}
+use Rattle.rulebook.proofs.laws.rulings_join.Goals as goal
+
+pub returns : goal.returns
+returns c = ruling-joined

@@ -1,0 +1,28 @@
+ghost use Rattle.rulebook.specs.Entries.{GradedAreOnTrail, LabelledAreListed, LabelsJoin, QuietEntriesKeepGrades, RulingsJoin};
+
+/// An entry that gives no label and no ruling leaves each label, ruling, effective grade and trail.
+pub fn quiet_entries_keep_grades()
+    ensures { QuietEntriesKeepGrades }
+{}
+
+/// An entry that gives a label changes the labels of its document alone, which goes last in the
+/// trail where it has its first effective grade then.
+pub fn labels_join()
+    ensures { LabelsJoin }
+{}
+
+/// An entry that rules on a document that has a label gives it its effective grade, and changes no
+/// other document's. It goes last in the trail where it wasn't there.
+pub fn rulings_join()
+    ensures { RulingsJoin }
+{}
+
+/// The documents of a topic with an effective grade are those of the trail that have one.
+pub fn graded_are_on_trail()
+    ensures { GradedAreOnTrail }
+{}
+
+/// The documents of a topic that are listed as labelled are those with a label.
+pub fn labelled_are_listed()
+    ensures { LabelledAreListed }
+{}
