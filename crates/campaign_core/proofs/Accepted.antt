@@ -1,6 +1,7 @@
 -- What a Submit comes to that no refusal meets.
-use Rattle.std.proofs.Common.{◌≡◌, ◌+◌, ◌<◌, ◌≤◌, subst, true, false, List, [], ◌∷◌, ◌++◌, suc, arith, length-append, None, Ok, length, refl}
-use Rattle.std.proofs.lemmas.Bool.{le-ltb, lt-leb}
+use Rattle.std.proofs.Common.{◌≡◌, ◌+◌, ◌<◌, ◌≤◌, subst, true, false, List, [], ◌∷◌, ◌++◌, suc, arith, length-append, None, Err, Ok, length, refl}
+use Rattle.std.proofs.lemmas.Bool.{le-leb, le-ltb, lt-leb, lt-ltb}
+use Rattle.std.specs.Prelude.{nat_lt}
 use Rattle.std.specs.List.{fold, flat_map}
 use Rattle.std.specs.Int.{to_le_bytes, w32}
 use Rattle.rulebook.specs.declared.ask.Command.TheVariants.{Submit}
@@ -9,6 +10,8 @@ use Rattle.std.proofs.lemmas.List.Sums.{fold-append, sum_by-cons}
 use Rattle.trec_formats.specs.declared.TopicList.{TopicList}
 use Rattle.rulebook.specs.declared.limits.TheConstants.{MAX_RUNS, MAX_LINES, MAX_DOCNOS, MAX_ENTRY_BYTES}
 use Rattle.rulebook.specs.declared.ask.Command.{Command}
+use Rattle.rulebook.specs.declared.reply.Quantity.TheVariants as quantity
+use Rattle.rulebook.specs.declared.reply.Refusal.TheVariants as refusal
 use Rattle.rulebook.specs.declared.reply.Reply.TheVariants as reply
 use Rattle.rulebook.specs.Words.{Text, each_once}
 use Rattle.decimal_rank.specs.Names.{with_name}
@@ -38,6 +41,21 @@ pub submit-accepted : (H : History) (run : Text) (lists : List TopicList)
     → submit_ruling H run lists ≡ Ok (reply.Submitted run (length lists) (line_count lists))
 submit-accepted H run lists collecting new known runs_fit lines_fit docnos_fit =
     rw (collecting, new, known, lt-leb MAX_RUNS (length (runs H)) runs_fit, le-ltb MAX_LINES (submitted_lines H + line_count lists) lines_fit, le-ltb MAX_DOCNOS (length (each_once (submitted_docnos H ++ docnos lists))) docnos_fit) refl
+
+-- The limits: of the runs, then of the lines, then of the docnos.
+
+pub submit-too-many-runs : (H : History) (run : Text) (lists : List TopicList) → phase H ≡ Collecting → is_taken H run ≡ false → unknown_line H lists ≡ None → MAX_RUNS ≤ length (runs H)
+    → submit_ruling H run lists ≡ Err (refusal.Limit quantity.Runs)
+submit-too-many-runs H run lists collecting new known full = rw (collecting, new, known, le-leb MAX_RUNS (length (runs H)) full) refl
+
+pub submit-too-many-lines : (H : History) (run : Text) (lists : List TopicList) → phase H ≡ Collecting → is_taken H run ≡ false → unknown_line H lists ≡ None → length (runs H) < MAX_RUNS
+    → nat_lt MAX_LINES (submitted_lines H + line_count lists) ≡ true → submit_ruling H run lists ≡ Err (refusal.Limit quantity.Lines)
+submit-too-many-lines H run lists collecting new known runs_fit full = rw (collecting, new, known, lt-leb MAX_RUNS (length (runs H)) runs_fit, full) refl
+
+pub submit-too-many-docnos : (H : History) (run : Text) (lists : List TopicList) → phase H ≡ Collecting → is_taken H run ≡ false → unknown_line H lists ≡ None → length (runs H) < MAX_RUNS
+    → submitted_lines H + line_count lists ≤ MAX_LINES → MAX_DOCNOS < length (each_once (submitted_docnos H ++ docnos lists)) → submit_ruling H run lists ≡ Err (refusal.Limit quantity.Docnos)
+submit-too-many-docnos H run lists collecting new known runs_fit lines_fit full =
+    rw (collecting, new, known, lt-leb MAX_RUNS (length (runs H)) runs_fit, le-ltb MAX_LINES (submitted_lines H + line_count lists) lines_fit, lt-ltb MAX_DOCNOS (length (each_once (submitted_docnos H ++ docnos lists))) full) refl
 
 -- A run's lists and lines are no more than the bytes of their spelling.
 docs-bytes : (docs : List Text) → length docs ≤ length (flat_map short docs)

@@ -41,6 +41,8 @@ use Rattle.campaign_core.specs.Labelling.{IsLabelled, graded_in}
 use Rattle.campaign_core.specs.Leasing.{IsLeased, is_known, topic_in}
 use Rattle.campaign_core.specs.Numbers.{doc_in, names_of}
 use Rattle.campaign_core.specs.Plans.{AreLabelsAfter, CarriesOut, IsLabelPlan, IsLeasePlan, MayLabel, RoomFor, leases_after, phase_after, topics_after}
+use Rattle.campaign_core.specs.Scoring.{IsScored, graded_of}
+use Rattle.campaign_core.specs.Submissions.{AreSubmissions}
 use Rattle.campaign_core.specs.Topics.{AwaitsLabel, AwaitsRun, HasRoom, IsQueued, KeptTopic, LabelledTopic, after_label, after_ruling, kept, kept_of, labelled_of, pool_of, topic_ids, unlabelled}
 use Rattle.campaign_core.specs.declared.plans.Plan.{Plan}
 use Rattle.campaign_core.specs.declared.plans.Plan.TheVariants as plan
@@ -52,7 +54,7 @@ use Rattle.campaign_core.proofs.HistoryGrowth.{submitted_docnos-push}
 use Rattle.campaign_core.proofs.LabelSteps.{GivenFollow, GivenStay, RulingsFollow, RulingsStay, few-here, few-more, few-ruled, labelled-elsewhere, labelled-here, marked-there, ruled-elsewhere, ruled-here}
 use Rattle.campaign_core.proofs.LeaseSteps.{desk-long, leased-ended, leased-granted}
 use Rattle.campaign_core.proofs.Legality.{IsLegal-push, moment_after-push}
-use Rattle.campaign_core.proofs.ListFacts.{both_true, each_cons}
+use Rattle.campaign_core.proofs.ListFacts.{both_true, each_cons, get-map}
 use Rattle.campaign_core.proofs.Naming.{docno-back, number-within}
 use Rattle.campaign_core.proofs.PoolSteps.{not-in, numbers-below, runs-added, topics-made, topics-stay}
 use Rattle.campaign_core.proofs.Quiet.{labelled-none, labelled-stays, leased-none, leased-stays, no-lease, none-ended, unjudged-stays, unless-ok}
@@ -96,10 +98,10 @@ pub record IsCarriedOut (s : Inside) (e : Entry) (p : Plan) : Type 0 where
   pub unjudged : (after : List LabelledTopic) → AreLabelsAfter p s.topics.items after → phase (s.history.items ++ e ∷ []) ≡ Collecting → IsUnjudged (s.history.items ++ e ∷ []) after
   pub few : (after : List LabelledTopic) → AreLabelsAfter p s.topics.items after → All (IsFew (length s.history.items + 1)) after
 
-ids-stay : (H : History) (e : Entry) → topics_in e.core.command ≡ None → topic_ids (H ++ e ∷ []) ≡ topic_ids H
+pub ids-stay : (H : History) (e : Entry) → topics_in e.core.command ≡ None → topic_ids (H ++ e ∷ []) ≡ topic_ids H
 ids-stay H e none = ap (map (λ (t : Topic). t.id)) (same-topics H e none)
 
-names-stay : (H : History) (e : Entry) → docnos (lists_in e.core.command) ≡ [] → names_of (H ++ e ∷ []) ≡ names_of H
+pub names-stay : (H : History) (e : Entry) → docnos (lists_in e.core.command) ≡ [] → names_of (H ++ e ∷ []) ≡ names_of H
 names-stay H e none = ap each_once (submitted_docnos-push H e ∙ ap (λ ds. submitted_docnos H ++ ds) none ∙ append-nil (submitted_docnos H))
 
 all-few : (n : ℕ) (ts : List LabelledTopic) → All (IsFew n) ts → All (IsFew (n + 1)) ts
@@ -133,13 +135,13 @@ id-at (t ∷ ts) [] k d same within = cc same
 id-at (t ∷ ts) (id ∷ ids) zero d same within = let head : t.id ≡ id = cc same in head
 id-at (t ∷ ts) (id ∷ ids) (suc k) d same within = id-at ts ids k d (let rest : map (λ (t : LabelledTopic). t.id) ts ≡ ids = cc same in rest) (omega (arith, within))
 
-topic-at : (H : History) (ts : List TopicState) (ids : List Text) (k : ℕ) (d : TopicState) → map kept ts ≡ map (kept_of H) ids → k < length ts → kept (get_or ts k d) ≡ kept_of H (get_or ids k [])
+pub topic-at : (H : History) (ts : List TopicState) (ids : List Text) (k : ℕ) (d : TopicState) → map kept ts ≡ map (kept_of H) ids → k < length ts → kept (get_or ts k d) ≡ kept_of H (get_or ids k [])
 topic-at H [] ids k d same within = absurd (omega (arith, within))
 topic-at H (t ∷ ts) [] k d same within = cc same
 topic-at H (t ∷ ts) (id ∷ ids) zero d same within = let head : kept t ≡ kept_of H id = cc same in head
 topic-at H (t ∷ ts) (id ∷ ids) (suc k) d same within = topic-at H ts ids k d (let rest : map kept ts ≡ map (kept_of H) ids = cc same in rest) (omega (arith, within))
 
-as-many : (H : History) (ts : List TopicState) (ids : List Text) → map kept ts ≡ map (kept_of H) ids → length ts ≡ length ids
+pub as-many : (H : History) (ts : List TopicState) (ids : List Text) → map kept ts ≡ map (kept_of H) ids → length ts ≡ length ids
 as-many H ts ids same = sym (length-map ts kept) ∙ ap length same ∙ length-map ids (kept_of H)
 
 not_true : (t : Bool) → not t ≡ true → t ≡ false
@@ -177,17 +179,12 @@ all-set-at P (x ∷ xs) (suc i) y here others =
     each_cons P x (set xs i y) (others 0 x (omega arith) (λ e. absurd (omega (arith, e))))
     (all-set-at P xs i y here (λ k d within differs. others (suc k) d (omega (arith, within)) (λ e. differs (omega (arith, e)))))
 
-get-map : {X Y : Type 0} (f : X → Y) (xs : List X) (i : ℕ) (d : X) → get_or (map f xs) i (f d) ≡ f (get_or xs i d)
-get-map f [] i d = refl
-get-map f (x ∷ xs) zero d = refl
-get-map f (x ∷ xs) (suc i) d = get-map f xs i d
-
 within-topics : (s : Inside) (number : ℕ) (id : Text) → IsKept s → number ≡ topic_in (topic_ids s.history.items) id → contains_text (topic_ids s.history.items) id ≡ true → number < length s.topics.items
 within-topics s number id kept_s number_is listed =
     let inside : topic_in (topic_ids s.history.items) id < length (topic_ids s.history.items) = number-within (topic_ids s.history.items) id listed in
     omega (arith, number_is, inside, as-many s.history.items s.topics.items (topic_ids s.history.items) kept_s.topics_are)
 
-some-topic : {X : Type 0} (xs : List X) (i : ℕ) → i < length xs → X
+pub some-topic : {X : Type 0} (xs : List X) (i : ℕ) → i < length xs → X
 some-topic [] i within = absurd (omega (arith, within))
 some-topic (x ∷ xs) i within = x
 
@@ -313,7 +310,7 @@ module _ (laws : Laws) where
   new-few n (t ∷ given) = each_cons (IsFew n) (unlabelled t.id) (map (λ (topic : Topic). unlabelled topic.id) given) (record { few_labels = λ doc. omega arith; few_grades = omega arith }) (new-few n given)
 
   pub carried-out : (s : Inside) (e : Entry) (p : Plan) → IsKept s → IsReady s e p → CarriesOut s.history.items s.docnos s.topics.items s.desk e p → IsCarriedOut s e p
-  carried-out s e (plan.Topics made) kept_s ready (given, is, made_is, labelled_is, queued) =
+  carried-out s e (plan.Topics made board) kept_s ready (given, is, made_is, labelled_is, queued, is_new) =
       let H = s.history.items in
       let J : History = H ++ e ∷ [] in
       let ruled = rw is at (ruled_ok H e ready.joins.accepted) in
@@ -566,7 +563,7 @@ may-label s number id at kept_s number_is listed room d =
     record { room = room d; few_labels = omega (arith, few-entries, kept_s.entries_fit, few.few_labels at); few_grades = omega (arith, few-entries, kept_s.entries_fit, few.few_grades) }
 
 pub room-for : (s : Inside) (e : Entry) (p : Plan) → IsKept s → IsReady s e p → CarriesOut s.history.items s.docnos s.topics.items s.desk e p → RoomFor p s.topics.items s.desk
-room-for s e (plan.Topics made) kept_s ready (given, is, made_is, labelled_is, queued) = queued
+room-for s e (plan.Topics made board) kept_s ready (given, is, made_is, labelled_is, queued, is_new) = queued
 room-for s e (plan.Run run) kept_s ready (name, lists, is, number, awaits) =
     ((λ k d within. awaits-room s.docnos lists (get_or s.topics.items k d) (awaits k d within)), runs-below s.history.items s.topics.items (topic_ids s.history.items) run kept_s.topics_are number)
 room-for s e plan.Open kept_s ready fits = tt
@@ -604,9 +601,11 @@ pub kept-after : (s after : Inside) (e : Entry) (p : Plan) → IsKept s → IsRe
     → AreLabelsAfter p s.topics.items (map labelled_of after.topics.items)
     → All IsQueued after.topics.items
     → after.desk.leases ≡ leases_after p s.desk.leases
+    → AreSubmissions (s.history.items ++ e ∷ []) after.runs.places.items
+    → IsScored (s.history.items ++ e ∷ []) (names_of (s.history.items ++ e ∷ [])) (map graded_of after.topics.items) after.runs.board
     → after.prepared ≡ None
     → IsKept after
-kept-after s after e p kept_s ready done grown phase_is docnos_is docnos_kept_is topics_are labels_are queued leases_are forgotten =
+kept-after s after e p kept_s ready done grown phase_is docnos_is docnos_kept_is topics_are labels_are queued leases_are places_are scored forgotten =
     let J : History = s.history.items ++ e ∷ [] in
     let ts = map labelled_of after.topics.items in
     let more : length s.history.items + 1 ≡ length after.history.items = omega (arith, ap length grown, length-append s.history.items (e ∷ [])) in
@@ -627,6 +626,8 @@ kept-after s after e p kept_s ready done grown phase_is docnos_is docnos_kept_is
       labels_are = subst (λ (J : History). All (IsLabelled J (names_of J)) ts) (sym grown) (done.labels_are ts labels_are);
       queued = queued;
       leased = subst (λ (J : History). IsLeased J (names_of J) after.desk.leases) (sym grown) (subst (IsLeased J (names_of J)) (sym leases_are) done.leased);
+      places_are = subst (λ (J : History). AreSubmissions J after.runs.places.items) (sym grown) places_are;
+      scored = subst (λ (J : History). IsScored J (names_of J) (map graded_of after.topics.items) after.runs.board) (sym grown) scored;
       unjudged = subst (λ (J : History). phase J ≡ Collecting → IsUnjudged J ts) (sym grown) (done.unjudged ts labels_are);
       few = subst (λ n. All (IsFew n) ts) more (done.few ts labels_are);
       ready = rw forgotten tt;

@@ -213,7 +213,7 @@ past-other names doc other there past = step (other.0 == (doc_in names doc).0) r
     step true same = absurd (omega (arith, past, number-within names doc there, eqb-true other.0 (doc_in names doc).0 same))
     step false same = refl
 
-and-false : (s t : Bool) → t ≡ false → (s && t) ≡ false
+pub and-false : (s t : Bool) → t ≡ false → (s && t) ≡ false
 and-false true t e = e
 and-false false t e = refl
 

@@ -183,7 +183,7 @@ within-any p (x ∷ xs) within = step (p x) within (within-any p xs)
     step true within rest = refl
     step false within rest = rest (omega (arith, within))
 
-topic-back : (ids : List Text) (topic e : Text) → contains_text ids topic ≡ true → get_or ids (topic_in ids topic) e ≡ topic
+pub topic-back : (ids : List Text) (topic e : Text) → contains_text ids topic ≡ true → get_or ids (topic_in ids topic) e ≡ topic
 topic-back ids topic e listed = sym ((bytes_eq-Decides topic _).0 (passes_at_first (bytes_eq topic) ids e (number-within ids topic listed)))
 
 -- the topic of a number: the rules' topic of this id

@@ -30,3 +30,12 @@ mod Disagreeing
 mod QrelsLines
 mod Progressing
 mod Paging
+mod Lists
+mod Regrading
+mod CellFacts
+mod RunFacts
+mod FirstPlaces
+mod Submitted
+mod Boards
+mod ScoresTold
+mod Scored

@@ -1,6 +1,6 @@
 -- Facts of lists.
-use Rattle.std.proofs.Common.{◌≡◌, ◌&&◌, ◌||◌, ◌<◌, ℕ, suc, zero, Bool, true, false, List, [], ◌∷◌, ◌++◌, length, map, take, set, get_or, refl, sym, ap, ◌∙◌, arith}
-use Rattle.std.specs.Prelude.{All, AllPairs}
+use Rattle.std.proofs.Common.{◌≡◌, ◌&&◌, ◌||◌, ◌<◌, ℕ, suc, zero, ◌≢◌, ◌≤◌, Bool, true, false, List, [], ◌∷◌, ◌++◌, Option, None, Some, length, map, take, set, get_or, refl, sym, ap, ◌∙◌, arith}
+use Rattle.std.specs.Prelude.{All, AllPairs, slice_get}
 use Rattle.std.specs.List.{list_all, list_any, flat_map}
 use Rattle.std.proofs.lemmas.List.Folds.{list_all-append, list_any-append}
 
@@ -84,3 +84,47 @@ pub map-set : {X Y : Type 0} (f : X → Y) (xs : List X) (i : ℕ) (y : X) → m
 map-set f [] i y = refl
 map-set f (x ∷ xs) zero y = refl
 map-set f (x ∷ xs) (suc i) y = ap (λ ys. f x ∷ ys) (map-set f xs i y)
+
+-- Elements by their places.
+
+pub get-map : {X Y : Type 0} (f : X → Y) (xs : List X) (i : ℕ) (d : X) → get_or (map f xs) i (f d) ≡ f (get_or xs i d)
+get-map f [] i d = refl
+get-map f (x ∷ xs) zero d = refl
+get-map f (x ∷ xs) (suc i) d = get-map f xs i d
+
+pub get-there : {X : Type 0} (xs : List X) (i : ℕ) (d : X) → i < length xs → slice_get xs i ≡ Some (get_or xs i d)
+get-there [] i d within = absurd (omega (arith, within))
+get-there (x ∷ xs) zero d within = refl
+get-there (x ∷ xs) (suc i) d within = get-there xs i d (omega (arith, within))
+
+pub slice-there : {X : Type 0} (xs : List X) (i : ℕ) (d x : X) → slice_get xs i ≡ Some x → (i < length xs) × (get_or xs i d ≡ x)
+slice-there [] i d x is = cc is
+slice-there (y ∷ xs) zero d x is = (omega arith, (let same : y ≡ x = cc is in same))
+slice-there (y ∷ xs) (suc i) d x is = let rest = slice-there xs i d x is in (omega (arith, rest.0), rest.1)
+
+pub slice-past : {X : Type 0} (xs : List X) (i : ℕ) → length xs ≤ i → slice_get xs i ≡ None
+slice-past [] i past = refl
+slice-past (x ∷ xs) zero past = absurd (omega (arith, past))
+slice-past (x ∷ xs) (suc i) past = slice-past xs i (omega (arith, past))
+
+pub get-past : {X : Type 0} (xs : List X) (i : ℕ) (d : X) → length xs ≤ i → get_or xs i d ≡ d
+get-past [] i d past = refl
+get-past (x ∷ xs) zero d past = absurd (omega (arith, past))
+get-past (x ∷ xs) (suc i) d past = get-past xs i d (omega (arith, past))
+
+-- One more element behind a list.
+
+pub slice-front : {X : Type 0} (xs ys : List X) (i : ℕ) (x : X) → slice_get xs i ≡ Some x → slice_get (xs ++ ys) i ≡ Some x
+slice-front [] ys i x is = cc is
+slice-front (y ∷ xs) ys zero x is = is
+slice-front (y ∷ xs) ys (suc i) x is = slice-front xs ys i x is
+
+pub slice-last : {X : Type 0} (xs : List X) (x : X) → slice_get (xs ++ x ∷ []) (length xs) ≡ Some x
+slice-last [] x = refl
+slice-last (y ∷ xs) x = slice-last xs x
+
+pub slice-other : {X : Type 0} (xs : List X) (x : X) (i : ℕ) → i ≢ length xs → slice_get (xs ++ x ∷ []) i ≡ slice_get xs i
+slice-other [] x zero other = absurd (other refl)
+slice-other [] x (suc i) other = refl
+slice-other (y ∷ xs) x zero other = refl
+slice-other (y ∷ xs) x (suc i) other = slice-other xs x i (λ same. other (omega (arith, same)))

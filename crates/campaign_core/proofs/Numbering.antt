@@ -34,7 +34,7 @@ not-back : (t : Bool) → not t ≡ true → t ≡ false
 not-back true e = cc e
 not-back false e = refl
 
-first-place : (names : List Text) (n : ℕ) → differ names ≡ true → n < length names → position_or_len (bytes_eq (docno_of names n)) names ≡ n
+pub first-place : (names : List Text) (n : ℕ) → differ names ≡ true → n < length names → position_or_len (bytes_eq (docno_of names n)) names ≡ n
 first-place [] n differs within = absurd (omega (arith, within))
 first-place (x ∷ names) zero differs within = rw ((bytes_eq-Decides x x).1 refl) refl
 first-place (x ∷ names) (suc n) differs within =

@@ -1,9 +1,9 @@
 -- What a state keeps true of its fields.
-use Rattle.std.specs.Prelude.{◌≡◌, ◌<◌, ◌≤◌, ℕ, false, List, [], All, MatchOption, None, IsTrue, length, map, vec_len, vec_capacity}
+use Rattle.std.specs.Prelude.{◌≡◌, ◌<◌, ◌≤◌, ℕ, false, List, [], All, MatchOption, None, Some, IsTrue, length, map, vec_len, vec_capacity}
 use Rattle.rulebook.specs.declared.limits.TheConstants.{MAX_RUNS, MAX_ENTRIES, MAX_LINES, MAX_DOCNOS, MAX_MOMENT, MAX_TOPICS}
 use Rattle.rulebook.specs.declared.entry.Entry.{Entry}
 use Rattle.rulebook.specs.Words.{Text, each_once}
-use Rattle.rulebook.specs.Campaign.{History, has_topics, phase, runs, submitted_lines, submitted_docnos}
+use Rattle.rulebook.specs.Campaign.{History, Run, has_topics, phase, runs, submitted_lines, submitted_docnos}
 use Rattle.rulebook.specs.Answers.{moment_after}
 use Rattle.rulebook.specs.Legal.{IsLegal}
 use Rattle.rulebook.specs.Grades.{given_labels, ruling, trail}
@@ -11,14 +11,18 @@ use Rattle.rulebook.specs.Leases.{leases}
 use Rattle.rulebook.specs.Spelling.{differ}
 use Rattle.rulebook.specs.declared.rules.Phase.TheVariants.{Collecting}
 use Rattle.decimal_rank.specs.declared.naming.DocId.{DocId}
+use Rattle.depth_pool.specs.declared.runs.RunId.{RunId}
 use Rattle.labels.specs.Marked.{given_at}
 use Rattle.lease_desk.specs.declared.leases.Lease.{Lease}
+use Rattle.score_index.specs.Scores.{Scores}
 use Rattle.campaign_core.specs.Joining.{MayJoin}
 use Rattle.campaign_core.specs.Labelling.{IsLabelled}
 use Rattle.campaign_core.specs.Leasing.{IsLeased}
 use Rattle.campaign_core.specs.Growth.{BeginsWith}
 use Rattle.campaign_core.specs.Numbers.{names_of}
-use Rattle.campaign_core.specs.Plans.{CarriesOut}
+use Rattle.campaign_core.specs.Plans.{CarriesOut, HasLists}
+use Rattle.campaign_core.specs.Scoring.{IsScored, graded_of, run_at}
+use Rattle.campaign_core.specs.Submissions.{AreSubmissions}
 use Rattle.campaign_core.specs.Topics.{IsQueued, LabelledTopic, kept, kept_of, labelled_of, topic_ids}
 use Rattle.campaign_core.specs.declared.plans.Plan.{Plan}
 use Rattle.campaign_core.specs.declared.state.State.TheInside.{Inside}
@@ -38,6 +42,14 @@ pub record KnowsAll (H : History) (topics : List TopicState) (desk : List Lease)
   pub topics_differ : IsTrue (differ (topic_ids H))
   pub topics_fit : length (topic_ids H) ≤ MAX_TOPICS
 
+-- The board has the scores of a run of the history, whose topics are kept so.
+pub record KnowsRun (H : History) (topics : List TopicState) (board : Scores) (number : RunId) (run : Run) : Type 0 where
+  pub legal : IsLegal H
+  pub desk : List Lease
+  pub knows : KnowsAll H topics desk
+  pub scored : IsScored H (names_of H) (map graded_of topics) board
+  pub run_is : run_at H number ≡ Some run
+
 -- Nothing is leased or labelled.
 pub record IsUnjudged (H : History) (topics : List LabelledTopic) : Type 0 where
   pub no_lease : leases H ≡ []
@@ -51,13 +63,15 @@ pub record IsFew (entries : ℕ) (topic : LabelledTopic) : Type 0 where
   pub few_labels : (doc : DocId) → length (given_at topic.marked doc) ≤ entries
   pub few_grades : length topic.graded ≤ entries
 
--- The prepared entry may join the history, which has room for it, and the plan carries it out.
+-- The prepared entry may join the history, which has room for it, and the plan carries it out. There is room for a run's place and for its lists.
 pub record IsReady (s : Inside) (e : Entry) (plan : Plan) : Type 0 where
   pub joins : MayJoin s.history.items s.docnos e
   pub moment_fits : e.core.moment ≤ MAX_MOMENT
   pub entries_fit : length s.history.items < MAX_ENTRIES
   pub room : vec_len s.history < vec_capacity s.history
+  pub place_room : vec_len s.runs.places < vec_capacity s.runs.places
   pub carries_out : CarriesOut s.history.items s.docnos s.topics.items s.desk e plan
+  pub lists_room : HasLists plan s.topics.items s.runs.board
 
 -- The history is legal and within the limits, and the first docnos are those of the history. Others may follow, from requests that weren't committed.
 pub record IsKept (s : Inside) : Type 0 where
@@ -78,6 +92,8 @@ pub record IsKept (s : Inside) : Type 0 where
   pub labels_are : All (IsLabelled s.history.items (names_of s.history.items)) (map labelled_of s.topics.items)
   pub queued : All IsQueued s.topics.items
   pub leased : IsLeased s.history.items (names_of s.history.items) s.desk.leases
+  pub places_are : AreSubmissions s.history.items s.runs.places.items
+  pub scored : IsScored s.history.items (names_of s.history.items) (map graded_of s.topics.items) s.runs.board
   -- documents are judged once the campaign is opened
   pub unjudged : phase s.history.items ≡ Collecting → IsUnjudged s.history.items (map labelled_of s.topics.items)
   pub few : All (IsFew (length s.history.items)) (map labelled_of s.topics.items)

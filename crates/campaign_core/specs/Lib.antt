@@ -10,3 +10,5 @@ pub mod Labelling
 pub mod Leasing
 pub mod Texts
 pub mod Printed
+pub mod Scoring
+pub mod Submissions

@@ -1,9 +1,10 @@
 -- What an entry that is accepted changes beside the history.
-use Rattle.std.specs.Prelude.{◌≡◌, ◌<◌, ◌≤◌, ◌+◌, ◌^◌, ◌-◌, ℕ, false, List, [], ◌∷◌, ◌++◌, All, None, Some, Option, IsTrue, length, map}
+use Rattle.std.specs.Prelude.{◌≡◌, ◌==◌, ◌&&◌, ◌<◌, ◌≤◌, ◌^◌, ◌-◌, ℕ, false, List, [], ◌∷◌, ◌++◌, All, None, Some, Option, IsTrue, if◌then◌else◌, length, map, nat_lt}
 use Rattle.std.proofs.Common.{get_or, set}
 use Rattle.std.specs.Option.{IsSomeAnd}
 use Rattle.decimal_rank.specs.declared.naming.DocId.{DocId}
 use Rattle.depth_pool.specs.Holdings.{has_run}
+use Rattle.depth_pool.specs.declared.runs.RunId.{RunId}
 use Rattle.labels.specs.Marked.{given_at, is_marked}
 use Rattle.lease_desk.specs.DeskView.{DeskView}
 use Rattle.lease_desk.specs.Leases.{granted, lease_numbered as desk_lease, with_end}
@@ -22,11 +23,14 @@ use Rattle.rulebook.specs.declared.reply.Reply.TheVariants as reply
 use Rattle.rulebook.specs.Words.{Text, contains_text}
 use Rattle.rulebook.specs.Campaign.{History, rules_of, runs}
 use Rattle.rulebook.specs.Leases.{Lease, is_ended, lease_in, lease_numbered}
+use Rattle.score_index.specs.Scores.{Scores, docs_at}
+use Rattle.score_index.specs.Standing.{StandsFor}
 use Rattle.campaign_core.specs.declared.plans.Plan.{Plan}
 use Rattle.campaign_core.specs.declared.plans.Plan.TheVariants as plan
 use Rattle.campaign_core.specs.declared.topics.TopicState.{TopicState}
 use Rattle.campaign_core.specs.Leasing.{topic_in}
 use Rattle.campaign_core.specs.Numbers.{doc_in}
+use Rattle.campaign_core.specs.Scoring.{AwaitsLists, IsNewBoard, graded_of, ranked}
 use Rattle.campaign_core.specs.Topics.{AwaitsLabel, AwaitsRun, HasRoom, IsQueued, KeptTopic, LabelledTopic, after_label, after_ruling, after_run, empty_topic, kept, labelled_of, topic_ids, unlabelled}
 
 -- the lease that the reply tells, by the numbers of its topic and its document, for which the desk has room
@@ -94,9 +98,9 @@ pub record IsAwaited (ids : List Text) (names : List Text) (topics : List TopicS
 
 -- The plan carries out the entry: the topics before any run; the next run, for which each topic has room; the opening; a lease; its grade; an amendment; a ruling; a release.
 abbrev pub CarriesOut : History → List Text → List TopicState → DeskView → Entry → Plan → Type 0
-CarriesOut H names topics desk e (plan.Topics made) =
+CarriesOut H names topics desk e (plan.Topics made board) =
     (given : List Topic) × (e.core.command ≡ command.Topics given) × (map kept made.items ≡ map (λ topic. empty_topic (rules_of H) topic.id) given)
-    × (map labelled_of made.items ≡ map (λ topic. unlabelled topic.id) given) × All IsQueued made.items
+    × (map labelled_of made.items ≡ map (λ topic. unlabelled topic.id) given) × All IsQueued made.items × IsNewBoard (rules_of H).level made.items board
 CarriesOut H names topics desk e (plan.Run run) =
     (name : Text) × (lists : List TopicList) × (e.core.command ≡ command.Submit name lists) × (run.0 ≡ length (runs H)) × All (AwaitsRun names lists) topics
 CarriesOut H names topics desk e plan.Open = e.core.command ≡ command.Open
@@ -109,16 +113,31 @@ CarriesOut H names topics desk e (plan.Rule number at grade) =
 CarriesOut H names topics desk e (plan.Release number) =
     (e.core.command ≡ command.Release number) × IsSomeAnd (desk_lease desk.leases number) (λ lease. lease.end ≡ None)
 
+-- Where the plan adds a run there is room on the board for its lists.
+abbrev pub HasLists : Plan → List TopicState → Scores → Type 0
+HasLists (plan.Run run) topics board = AwaitsLists topics board
+HasLists _ topics board = Unit {0}
+
+-- Where the plan adds a run the board doesn't have it.
+abbrev pub IsNewRun : Plan → Scores → Type 0
+IsNewRun (plan.Run run) board = (topic : ℕ) → docs_at board run topic ≡ None
+IsNewRun _ board = Unit {0}
+
+-- Where the plan makes topics their board has their grades.
+abbrev pub HasNewBoard : Plan → Type 0
+HasNewBoard (plan.Topics made board) = StandsFor board (map graded_of made.items)
+HasNewBoard _ = Unit {0}
+
 -- the topic has room for a label, and few labels and grades
 pub record MayLabel (doc : DocId) (topic : TopicState) : Type 0 where
   pub room : AwaitsLabel doc topic
   pub few_labels : length (given_at topic.marks.marked doc) < 2 ^ 32 - 1
-  pub few_grades : length topic.view.graded + 1 < 2 ^ 32
+  pub few_grades : length topic.view.graded < 268435456
 
 -- The plan may be carried out.
 abbrev pub RoomFor : Plan → List TopicState → DeskView → Type 0
 RoomFor (plan.Run run) topics desk = All HasRoom topics × All (λ topic. has_run run topic.pool.runs ≡ false) topics
-RoomFor (plan.Topics made) topics desk = All IsQueued made.items
+RoomFor (plan.Topics made board) topics desk = All IsQueued made.items
 RoomFor plan.Open topics desk = Unit {0}
 RoomFor (plan.Lease topic doc until assessor) topics desk = (1 ≤ desk.spare) × (length desk.leases < 2 ^ 32 - 1)
 RoomFor (plan.Label number topic doc assessor grade) topics desk =
@@ -128,15 +147,23 @@ RoomFor (plan.Rule number at grade) topics desk =
     (number < length topics) × ((d : TopicState) → MayLabel at (get_or topics number d)) × ((d : TopicState) → IsTrue (is_marked (get_or topics number d).marks.marked at))
 RoomFor (plan.Release number) topics desk = IsSomeAnd (desk_lease desk.leases number) (λ lease. lease.end ≡ None)
 
+-- The board may follow the plan: it has the topics' grades, and room for the lists of a run that it doesn't have.
+pub record MayScore (p : Plan) (topics : List TopicState) (board : Scores) : Type 0 where
+  pub stands : StandsFor board (map graded_of topics)
+  pub fits : length topics < 2 ^ 16
+  pub room : HasLists p topics board
+  pub is_new : IsNewRun p board
+  pub new_board : HasNewBoard p
+
 -- the pools once the plan is carried out
 abbrev pub topics_after : Plan → List TopicState → List KeptTopic
-topics_after (plan.Topics made) topics = map kept made.items
+topics_after (plan.Topics made board) topics = map kept made.items
 topics_after (plan.Run run) topics = map (after_run run) topics
 topics_after _ topics = map kept topics
 
 -- the labels once the plan is carried out
 abbrev pub AreLabelsAfter : Plan → List TopicState → List LabelledTopic → Type 0
-AreLabelsAfter (plan.Topics made) topics after = after ≡ map labelled_of made.items
+AreLabelsAfter (plan.Topics made board) topics after = after ≡ map labelled_of made.items
 AreLabelsAfter (plan.Label number topic doc assessor grade) topics after =
     (d : TopicState) → after ≡ set (map labelled_of topics) topic (after_label doc assessor grade (get_or topics topic d))
 AreLabelsAfter (plan.Amend number at assessor grade) topics after =
@@ -151,6 +178,22 @@ leases_after (plan.Lease topic doc until assessor) leases = granted leases asses
 leases_after (plan.Label number topic doc assessor grade) leases = with_end leases number Graded
 leases_after (plan.Release number) leases = with_end leases number Released
 leases_after _ leases = leases
+
+-- the places of the entries that submit runs, once the plan of the entry at a place is carried out
+abbrev pub places_after : Plan → ℕ → List ℕ → List ℕ
+places_after (plan.Run run) place places = places ++ place ∷ []
+places_after _ place places = places
+
+-- the level of the board once the plan is carried out
+abbrev pub level_after : Plan → ℕ → ℕ
+level_after (plan.Topics made board) level = board.level
+level_after _ level = level
+
+-- the ranked list of a run on a topic of the board, once the plan is carried out
+abbrev pub docs_after : Plan → List TopicState → Scores → RunId → ℕ → TopicState → Option (List DocId)
+docs_after (plan.Topics made empty) topics board run on d = docs_at empty run on
+docs_after (plan.Run new) topics board run on d = if (new.0 == run.0) && nat_lt on (length topics) then ranked (get_or topics on d) else docs_at board run on
+docs_after _ topics board run on d = docs_at board run on
 
 abbrev pub phase_after : Plan → Phase → Phase
 phase_after plan.Open phase = Judging

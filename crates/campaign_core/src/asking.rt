@@ -42,13 +42,20 @@ pub(crate) enum Request {
     CancelledLease,
     /// A page, of an organiser.
     Page(Page),
+    /// The scores of the run of this one letter, of an organiser.
+    Scores(u8),
+    /// The same, of a group.
+    GroupScores(u8),
+    /// The scores of all runs, of an organiser.
+    Table,
 }
 
-/// How long a page is, and its first 64 bytes with zeros behind.
+/// How long a page is, its first 64 bytes with zeros behind, and a checksum of all of it.
 #[derive(Clone, Copy, Debug, PartialEq, Eq)]
 pub(crate) struct PageText {
     length: usize,
     first: [u8; 64],
+    checksum: u64,
 }
 
 /// What a reply says about the topic 1: documents have one letter.
@@ -129,7 +136,16 @@ pub(crate) fn printed(text: &[u8]) -> Told {
     Told::Page(PageText {
         length: text.len(),
         first,
+        checksum: checksum(text),
     })
+}
+
+fn checksum(text: &[u8]) -> u64 {
+    let mut sum: u64 = 14695981039346656037;
+    for byte in text {
+        sum = (sum ^ u64::from(*byte)).wrapping_mul(1099511628211);
+    }
+    sum
 }
 
 /// A new campaign.
@@ -191,7 +207,7 @@ fn played_from(
     Ok((surprise, state.entries()))
 }
 
-fn started(alloc: Global, state: &mut State, start: Start) -> Result<(), Memory> {
+pub(crate) fn started(alloc: Global, state: &mut State, start: Start) -> Result<(), Memory> {
     if matches!(start, Start::Founding) {
         return Ok(());
     }
@@ -211,7 +227,11 @@ fn started(alloc: Global, state: &mut State, start: Start) -> Result<(), Memory>
     Ok(())
 }
 
-fn first_surprise(alloc: Global, state: &mut State, steps: &[Step]) -> Result<Surprise, Memory> {
+pub(crate) fn first_surprise(
+    alloc: Global,
+    state: &mut State,
+    steps: &[Step],
+) -> Result<Surprise, Memory> {
     for (place, step) in steps.iter().enumerate() {
         let (name, moment, request, wanted) = *step;
         let told = asked(alloc, state, name, request, moment)?;
@@ -271,6 +291,15 @@ fn ask_of(alloc: Global, request: Request) -> Result<(Role, Ask), Memory>
             ))
         }
         Request::Page(page) => Ok((Role::Organiser, Ask::See(query_of(page)))),
+        Request::Scores(run) => {
+            let run = text(alloc, &[letter_or_a(run)])?;
+            Ok((Role::Organiser, Ask::See(Query::Scores { run })))
+        }
+        Request::GroupScores(run) => {
+            let run = text(alloc, &[letter_or_a(run)])?;
+            Ok((Role::Group, Ask::See(Query::Scores { run })))
+        }
+        Request::Table => Ok((Role::Organiser, Ask::See(Query::Table))),
     }
 }
 
@@ -301,13 +330,14 @@ pub(crate) fn letter_or_a(byte: u8) -> u8
 {
     match byte {
         b'a'..=b'z' => byte,
+        b'A'..=b'Z' => byte,
         b'0'..=b'9' => byte,
         _ => b'a',
     }
 }
 
-// What a request is told at a moment. The entry is committed, or else cancelled.
-fn told_at(
+/// What a request is told at a moment. The entry is committed, or else cancelled.
+pub(crate) fn told_at(
     state: &mut State,
     who: &Caller,
     ask: Ask,

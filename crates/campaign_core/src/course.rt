@@ -83,7 +83,7 @@ fn thrown(dice: &mut Dice, plain: &Plain) -> (u8, Request) {
     let number = granted(plain).saturating_sub(dice.below(4));
     let holder = plain.holder(number).unwrap_or(assessor);
     let grade = thrown_grade(dice);
-    match dice.below(23) {
+    match dice.below(26) {
         0..=6 => (assessor, Request::Lease(b'1')),
         7..=11 => (holder, Request::Grade(number, grade)),
         12 => (assessor, Request::Grade(dice.below(9), grade)),
@@ -94,6 +94,8 @@ fn thrown(dice: &mut Dice, plain: &Plain) -> (u8, Request) {
         19 => (O, Request::Rule(thrown_doc(dice, plain), grade)),
         20 => (O, Request::Page(Page::Qrels)),
         21 => (O, Request::Page(Page::Disagreements)),
+        22 | 23 => (O, Request::Scores(letter_or_a(b'a' + dice.below(5) as u8))),
+        24 => (O, Request::Table),
         _ => (O, Request::Page(Page::Progress)),
     }
 }

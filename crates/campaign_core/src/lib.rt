@@ -22,8 +22,14 @@ mod plans;
 mod pools;
 mod queries;
 mod rulings;
+mod runs;
+mod score_pages;
+#[cfg(test)]
+mod score_tests;
+mod scoring;
 mod selection;
 mod state;
+mod submissions;
 #[cfg(test)]
 mod tests;
 mod texts;

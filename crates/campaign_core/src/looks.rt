@@ -1,7 +1,7 @@
-ghost use Rattle.std.specs.Prelude.{◌≡◌, ℕ, ◌<◌, ◌^◌, length, is_some};
+ghost use Rattle.std.specs.Prelude.{◌≡◌, is_some};
 ghost use Rattle.std.specs.List.{list_any};
 ghost use Rattle.std.specs.Str.{bytes_eq};
-ghost use Rattle.rulebook.specs.Campaign.{rules_of, has_topics, title, topics as topics_of, topics_in, runs, is_taken, line_count as lines_of, submitted_lines as submitted_lines_of};
+ghost use Rattle.rulebook.specs.Campaign.{rules_of, has_topics, title, topics as topics_of, topics_in};
 ghost use Rattle.rulebook.specs.Answers.{unknown_line};
 ghost use Rattle.rulebook.specs.Legal.{IsLegal};
 
@@ -73,56 +73,4 @@ pub(crate) fn unknown_line(history: &[Entry], lists: &[TopicList]) -> Option<u32
         .filter(|list| !has_topic(topics, list.topic.bytes()))
         .map(|list| list.line)
         .min()
-}
-
-/// Whether a run of this name was ever submitted.
-pub(crate) fn is_taken(history: &[Entry], name: &[u8]) -> bool
-    ensures { result ≡ is_taken history.now name.now }
-{
-    for entry in history {
-        if let Command::Submit { run, .. } = &entry.core.command {
-            if run.bytes() == name {
-                return true;
-            }
-        }
-    }
-    false
-}
-
-/// How many runs were ever submitted.
-pub(crate) fn submitted_runs(history: &[Entry]) -> usize
-    ensures { result ≡ length (runs history.now) }
-{
-    let mut count = 0;
-    for entry in history {
-        if let Command::Submit { .. } = &entry.core.command {
-            count += 1;
-        }
-    }
-    count
-}
-
-/// How many lines a run has.
-pub(crate) fn line_count(lists: &[TopicList]) -> u64
-    requires { lines_of lists.now < 2 ^ 64 }
-    ensures { result ≡ lines_of lists.now }
-{
-    lists
-        .iter()
-        .map(|list| list.docs.items().len() as u64)
-        .sum()
-}
-
-/// How many lines all runs that were ever submitted have.
-pub(crate) fn submitted_lines(history: &[Entry]) -> u64
-    requires { submitted_lines_of history.now < 2 ^ 64 }
-    ensures { result ≡ submitted_lines_of history.now }
-{
-    let mut count = 0;
-    for entry in history {
-        if let Command::Submit { lists, .. } = &entry.core.command {
-            count += line_count(lists.items());
-        }
-    }
-    count
 }

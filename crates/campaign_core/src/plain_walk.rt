@@ -1,5 +1,7 @@
 //! The plain walk over what happened in a campaign, which its replies are compared with.
-ghost use Rattle.std.specs.Prelude.{◌≡◌, ℕ, ◌∷◌, [], map, None, IsTrue, codes};
+ghost use Rattle.std.specs.Prelude.{◌≡◌, ℕ, ◌∷◌, [], map, None, IfOk, IfSome, IsTrue, codes, count_by};
+ghost use Rattle.measures.specs.Cells.{IsSound};
+ghost use Rattle.measures.specs.Grades.{is_non_relevant, is_relevant};
 ghost use Rattle.rulebook.specs.declared.ask.Ask.TheVariants.{Act};
 ghost use Rattle.rulebook.specs.declared.ask.Command.TheVariants.{Submit};
 ghost use Rattle.rulebook.specs.declared.rules.Role.TheVariants.{Group};
@@ -11,6 +13,7 @@ ghost use Rattle.trec_formats.specs.Names.{is_name};
 use crate::asking::{Request, Setting, Told, printed};
 use crate::pages::Page;
 use decimal_rank::Memory;
+use measures::{Cell, mean, scratch, write_cell, write_summary};
 use rulebook::Refusal;
 use std::alloc::Global;
 
@@ -484,6 +487,102 @@ fn digit(number: usize) -> u8 {
     b'0' + (number % 10) as u8
 }
 
+// The cell of a ranking: none where the documents a to h don't say enough.
+fn cell_of(plain: &Plain, ranked: u32) -> Result<Option<Cell>, Memory>
+    ensures { IfOk result (λ cell. IfSome cell IsSound) }
+{
+    let mut grades = Vec::new(*plain.runs.allocator());
+    for doc in ranking(ranked) {
+        grades.push(effective_grade(plain, *doc))?;
+    }
+    let (_, relevant, lower) = counted(plain);
+    Ok(cell_by(&grades, relevant, lower))
+}
+
+// The cell of these grades by rank, where the topic has as many relevant documents and others.
+fn cell_by(grades: &[Option<u8>], relevant: usize, lower: usize) -> Option<Cell>
+    ensures { IfSome result IsSound }
+{
+    let fits = grades.len() <= 1000 && relevant <= 1000 && lower <= 1000;
+    if fits && relevant_in(grades) <= relevant && lower_in(grades) <= lower {
+        return Some(scratch(grades, relevant as u32, lower as u32, 1));
+    }
+    None
+}
+
+fn relevant_in(grades: &[Option<u8>]) -> usize
+    ensures { result ≡ count_by (is_relevant 1) grades.now }
+{
+    grades.iter().filter(|grade| is_relevant(**grade)).count()
+}
+
+fn is_relevant(grade: Option<u8>) -> bool
+    ensures { result ≡ is_relevant 1 grade }
+{
+    grade.is_some_and(|grade| 1 <= grade)
+}
+
+fn lower_in(grades: &[Option<u8>]) -> usize
+    ensures { result ≡ count_by (is_non_relevant 1) grades.now }
+{
+    grades.iter().filter(|grade| is_lower(**grade)).count()
+}
+
+fn is_lower(grade: Option<u8>) -> bool
+    ensures { result ≡ is_non_relevant 1 grade }
+{
+    grade.is_some_and(|grade| grade < 1)
+}
+
+// The cell of the run at a place, where the topic counts.
+fn print_cell(plain: &Plain, run: usize, ranked: u32, out: &mut Vec<u8>) -> Result<(), Memory> {
+    if let Some(cell) = cell_of(plain, ranked)?
+        && is_counted(plain)
+    {
+        write_cell(&[run_letter(run)], b"1", &cell, out)?;
+    }
+    Ok(())
+}
+
+fn print_summary(plain: &Plain, run: usize, ranked: u32, out: &mut Vec<u8>) -> Result<(), Memory> {
+    let cell = cell_of(plain, ranked)?;
+    let summary = match cell {
+        Some(cell) if is_counted(plain) => mean(&[cell]),
+        _ => mean(&[]),
+    };
+    write_summary(&[run_letter(run)], &summary, out)
+}
+
+fn is_counted(plain: &Plain) -> bool {
+    let (_, relevant, lower) = counted(plain);
+    relevant > 0 || lower > 0
+}
+
+// The name of the run at a place.
+fn run_letter(run: usize) -> u8 {
+    b'a' + (run % 26) as u8
+}
+
+fn plainly_scored(plain: &Plain, letter: u8) -> Result<Told, Memory> {
+    for (run, ranked) in plain.runs.iter().enumerate() {
+        if run_letter(run) == letter {
+            let mut out = Vec::new(*plain.runs.allocator());
+            print_cell(plain, run, *ranked, &mut out)?;
+            print_summary(plain, run, *ranked, &mut out)?;
+            return Ok(printed(&out));
+        }
+    }
+    Ok(Told::Refused(Refusal::UnknownRun))
+}
+
+fn plainly_tabled(plain: &Plain) -> Result<Told, Memory> {
+    let mut out = Vec::new(*plain.runs.allocator());
+    for (run, ranked) in plain.runs.iter().enumerate() {
+        print_summary(plain, run, *ranked, &mut out)?;
+    }
+    Ok(printed(&out))
+}
+
 fn plainly_printed(plain: &Plain, page: Page, now: u64) -> Result<Told, Memory> {
     let mut out = Vec::new(*plain.runs.allocator());
     match page {
@@ -511,5 +610,8 @@ pub(crate) fn plainly_told(
         Request::Amend(doc, grade) => plainly_amended(plain, name, doc, grade, now),
         Request::Rule(doc, grade) => plainly_ruled(plain, doc, grade, now),
         Request::Page(page) => plainly_printed(plain, page, now),
+        Request::Scores(run) => plainly_scored(plain, run),
+        Request::GroupScores(_) => Ok(Told::Refused(Refusal::NotYours)),
+        Request::Table => plainly_tabled(plain),
     }
 }

@@ -1,6 +1,9 @@
 ghost use Rattle.std.specs.Prelude.{◌≡◌, ◌<◌, ◌≤◌, ℕ, List, All, IfOk, IsTrue, Ok, length, map};
 ghost use Rattle.rulebook.specs.Answers.{ruled as ruled_of};
 ghost use Rattle.rulebook.specs.Campaign.{History, docnos_with, docs_on, runs};
+ghost use Rattle.lease_desk.specs.DeskView.{DeskView};
+ghost use Rattle.rulebook.specs.declared.entry.Entry.{Entry};
+ghost use Rattle.rulebook.specs.declared.limits.TheConstants.{MAX_TOPICS};
 ghost use Rattle.rulebook.specs.declared.reply.Reply.{Reply};
 ghost use Rattle.rulebook.specs.Legal.{IsLegal, is_built};
 ghost use Rattle.rulebook.specs.Spelling.{differ};
@@ -8,22 +11,25 @@ ghost use Rattle.rulebook.specs.declared.ask.Ask.TheVariants.{Act};
 ghost use Rattle.campaign_core.specs.Growth.{lists_in};
 ghost use Rattle.campaign_core.specs.Kept.{KnowsAll};
 ghost use Rattle.campaign_core.specs.Numbers.{are_named};
+ghost use Rattle.campaign_core.specs.Submissions.{AreSubmissions};
 ghost use Rattle.campaign_core.specs.Plans.{CarriesOut, IsAwaited, IsPlace, ToldGrade, ToldLease};
 ghost use Rattle.campaign_core.specs.Topics.{IsQueued, kept, labelled_of};
 
-use crate::looks::{rules, submitted_runs};
+use crate::looks::rules;
 use crate::topics::{TopicState, new_topics, reserve_label_of, reserve_runs, topic_number};
 use decimal_rank::{DocId, Memory, Names, Text};
 use depth_pool::RunId;
 use lease_desk::Desk;
 use rulebook::{Command, Entry, EntryCore, Reply};
+use score_index::Board;
 use std::alloc::Global;
+use trec_formats::Topic;
 
 /// What an entry that is accepted changes beside the history. Topics are numbered from 0.
 #[derive(Drop)]
 pub(crate) enum Plan {
-    /// The campaign has these topics.
-    Topics(Vec<TopicState>),
+    /// The campaign has these topics, and a board for their runs.
+    Topics(Vec<TopicState>, Board),
     /// This run is added to each topic, which has room for it.
     Run(RunId),
     /// The campaign is judged.
@@ -47,6 +53,7 @@ pub(crate) fn plan_of(
     topics: &mut [TopicState],
     docnos: &Names,
     desk: &mut Desk,
+    places: &[u32],
     core: &EntryCore,
     reply: &Reply,
 ) -> Result<Plan, Memory>
@@ -54,6 +61,7 @@ pub(crate) fn plan_of(
     requires legal { IsLegal history.now }
     requires accepted { ruled_of history.now core.now.caller core.now.moment core.now.command ≡ Ok reply.now }
     requires stands { KnowsAll history.now topics.old desk.old.leases }
+    requires places { AreSubmissions history.now places.now }
     requires docnos_are { docnos.now ≡ docnos_with history.now (lists_in core.now.command) }
     requires few { (topic : List ℕ) → length (docs_on (lists_in core.now.command) topic) ≤ 1000 }
     requires distinct { (topic : List ℕ) → IsTrue (differ (docs_on (lists_in core.now.command) topic)) }
@@ -66,12 +74,10 @@ pub(crate) fn plan_of(
     ensures plan { IfOk result (CarriesOut history.now docnos.now topics.new desk.new (record { core = core.now; reply = reply.now })) }
 {
     match &core.command {
-        Command::Topics { topics } => {
-            Ok(Plan::Topics(new_topics(alloc, topics.items(), rules(history))?))
-        }
+        Command::Topics { topics } => topics_plan(alloc, history, topics.items()),
         Command::Submit { lists, .. } => {
             reserve_runs(alloc, topics, lists.items(), docnos)?;
-            Ok(Plan::Run(RunId(submitted_runs(history) as u16)))
+            Ok(Plan::Run(RunId(places.len() as u16)))
         }
         Command::Open => Ok(Plan::Open),
         Command::Lease { topic } => lease_plan(topics, docnos, desk, core, topic, reply),
@@ -88,6 +94,19 @@ pub(crate) fn plan_of(
         }
         _ => unreachable!(),
     }
+}
+
+/// The plan of the campaign's topics.
+fn topics_plan(alloc: Global, history: &[Entry], topics: &[Topic]) -> Result<Plan, Memory>
+    requires legal { IsLegal history.now }
+    requires few { length topics.now ≤ MAX_TOPICS }
+    ensures { (names : List (List ℕ)) (states : List TopicState) (desk : DeskView) (e : Entry) → e.core.command ≡ Command.Topics topics.now
+        → IfOk result (CarriesOut history.now names states desk e) }
+{
+    let rules = rules(history);
+    let states = new_topics(alloc, topics, rules)?;
+    let board = Board::new(alloc, topics.len() as u16, rules.level)?;
+    Ok(Plan::Topics(states, board))
 }
 
 /// The plan of a lease that the reply tells, for which the desk then has room.

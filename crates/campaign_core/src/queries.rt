@@ -1,36 +1,48 @@
-ghost use Rattle.std.specs.Prelude.{◌≡◌, IfOk, IsTrue};
+ghost use Rattle.std.specs.Prelude.{◌≡◌, ◌<◌, IfOk, IsTrue, length, map};
 ghost use Rattle.rulebook.specs.declared.ask.Ask.TheVariants.{See};
-ghost use Rattle.rulebook.specs.declared.rules.Caller.{Caller};
 ghost use Rattle.rulebook.specs.Answers.{reply_of, told as told_of};
-ghost use Rattle.rulebook.specs.Campaign.{History};
-ghost use Rattle.rulebook.specs.Legal.{is_built};
+ghost use Rattle.rulebook.specs.Campaign.{runs as runs_of};
+ghost use Rattle.rulebook.specs.Legal.{IsLegal, is_built};
 ghost use Rattle.campaign_core.specs.Kept.{KnowsAll};
 ghost use Rattle.campaign_core.specs.Numbers.{names_of};
+ghost use Rattle.campaign_core.specs.Scoring.{IsScored, graded_of};
+ghost use Rattle.campaign_core.specs.Submissions.{AreSubmissions};
 
 use crate::pages::{Page, page_reply};
 use crate::pools::pool_reply;
+use crate::runs::Runs;
+use crate::score_pages::{scores_reply, table_reply};
 use crate::topics::TopicState;
 use decimal_rank::{Memory, Names};
 use lease_desk::Desk;
-use rulebook::{Query, Reply};
+use rulebook::{Caller, Entry, Query, Reply};
 use std::alloc::Global;
 
-/// What a query is told at a moment.
+/// What a caller's query is told at a moment.
 pub(crate) fn told(
     alloc: Global,
+    history: &[Entry],
     topics: &[TopicState],
     docnos: &Names,
     desk: &Desk,
+    runs: &Runs,
+    who: &Caller,
     now: u64,
     query: Query,
 ) -> Result<Reply, Memory>
     requires built { IsTrue (is_built (See query)) }
-    requires knows { (H : History) × KnowsAll H topics.now desk.now.leases × (docnos.now ≡ names_of H) }
-    ensures { (H : History) (who : Caller) → KnowsAll H topics.now desk.now.leases → docnos.now ≡ names_of H
-        → IfOk result (λ reply. reply ≡ reply_of (told_of H who now query)) }
+    requires legal { IsLegal history.now }
+    requires knows { KnowsAll history.now topics.now desk.now.leases }
+    requires names { docnos.now ≡ names_of history.now }
+    requires places { AreSubmissions history.now runs.now.places.items }
+    requires scored { IsScored history.now docnos.now (map graded_of topics.now) runs.now.board }
+    requires few_runs { length (runs_of history.now) < 65536 }
+    ensures { IfOk result (λ reply. reply ≡ reply_of (told_of history.now who.now now query)) }
 {
     match query {
         Query::Pool { topic } => pool_reply(alloc, topics, docnos, topic),
+        Query::Scores { run } => scores_reply(alloc, history, topics, runs, who, &run),
+        Query::Table => table_reply(alloc, history, topics, runs),
         Query::Qrels => page_reply(alloc, Page::Qrels, topics, docnos, desk, now),
         Query::Disagreements => page_reply(alloc, Page::Disagreements, topics, docnos, desk, now),
         Query::Progress => page_reply(alloc, Page::Progress, topics, docnos, desk, now),

@@ -10,13 +10,13 @@ ghost use Rattle.rulebook.specs.Spelling.{command_bytes};
 ghost use Rattle.rulebook.specs.Legal.{IsLegal, is_built};
 ghost use Rattle.campaign_core.specs.Kept.{KnowsAll};
 ghost use Rattle.campaign_core.specs.Growth.{BeginsWith, lists_in};
+ghost use Rattle.campaign_core.specs.Submissions.{AreSubmissions};
 
 use crate::amending::{amend_ruling, rule_ruling};
 use crate::docnos::add_docnos;
 use crate::leasing::{grade_ruling, lease_ruling, release_ruling};
-use crate::looks::{
-    has_topics, is_taken, line_count, submitted_lines, submitted_runs, unknown_line,
-};
+use crate::looks::{has_topics, unknown_line};
+use crate::submissions::{is_taken, line_count, submitted_lines};
 use crate::topics::TopicState;
 use decimal_rank::{Memory, Names, Text};
 use lease_desk::Desk;
@@ -45,6 +45,7 @@ pub(crate) fn ruled(
     topics: &[TopicState],
     docnos: &mut Names,
     desk: &Desk,
+    places: &[u32],
     core: &EntryCore,
 ) -> Result<Result<Reply, Refusal>, Memory>
     requires built { IsTrue (is_built (Act core.now.command)) }
@@ -52,6 +53,7 @@ pub(crate) fn ruled(
     requires phase { phase ≡ phase_of history.now }
     requires legal { IsLegal history.now }
     requires stands { KnowsAll history.now topics.now desk.now.leases }
+    requires places { AreSubmissions history.now places.now }
     requires docnos_are { docnos.old ≡ each_once (submitted_docnos history.now) }
     requires docnos_fit { length docnos.old ≤ MAX_DOCNOS }
     requires lines_fit { submitted_lines_of history.now ≤ MAX_LINES }
@@ -69,7 +71,7 @@ pub(crate) fn ruled(
     match &core.command {
         Command::Topics { topics } => Ok(topics_ruling(history, phase, topics.items())),
         Command::Submit { run, lists } => {
-            submit_ruling(history, phase, docnos, run, lists.items())
+            submit_ruling(history, phase, docnos, places, run, lists.items())
         }
         Command::Open => Ok(open_ruling(phase)),
         Command::Lease { topic } => {
@@ -117,9 +119,11 @@ fn submit_ruling(
     history: &[Entry],
     phase: Phase,
     docnos: &mut Names,
+    places: &[u32],
     run: &Text,
     lists: &[TopicList],
 ) -> Result<Result<Reply, Refusal>, Memory>
+    requires places { AreSubmissions history.now places.now }
     requires docnos_are { docnos.old ≡ each_once (submitted_docnos history.now) }
     requires docnos_fit { length docnos.old ≤ MAX_DOCNOS }
     requires lines_fit { submitted_lines_of history.now ≤ MAX_LINES }
@@ -134,17 +138,17 @@ fn submit_ruling(
     if !is_collecting(phase) {
         return Ok(Err(Refusal::WrongPhase { phase }));
     }
-    if is_taken(history, run.bytes()) {
+    if is_taken(history, places, run.bytes()) {
         return Ok(Err(Refusal::TagTaken));
     }
     if let Some(line) = unknown_line(history, lists) {
         return Ok(Err(Refusal::LineTopic { line }));
     }
-    if submitted_runs(history) >= MAX_RUNS as usize {
+    if places.len() >= MAX_RUNS as usize {
         return Ok(Err(limit(Quantity::Runs)));
     }
     let lines = line_count(lists);
-    if exceeds(MAX_LINES, submitted_lines(history), lines) {
+    if exceeds(MAX_LINES, submitted_lines(history, places), lines) {
         return Ok(Err(limit(Quantity::Lines)));
     }
     add_docnos(docnos, lists)?;

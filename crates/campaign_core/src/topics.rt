@@ -157,13 +157,14 @@ fn add_run(topic: &mut TopicState, run: RunId)
     requires is_new { has_run run topic.old.pool.runs ≡ false }
     requires queued { IsQueued topic.old }
     ensures kept { kept topic.new ≡ after_run run topic.old }
+    ensures ranking { topic.new.ranking ≡ topic.old.ranking }
     ensures labelled { labelled_of topic.new ≡ labelled_of topic.old }
     ensures queued { IsQueued topic.new }
 {
     // the runs that were there keep their order
     order_outlasts_other_runs();
-    if let Some(ranking) = topic.ranking.take() {
-        topic.pool.add_run(run, &ranking);
+    if let Some(ranking) = &topic.ranking {
+        topic.pool.add_run(run, ranking);
         topic.queue.enter(run, &topic.pool);
     }
 }
@@ -174,6 +175,7 @@ pub(crate) fn add_runs(topics: &mut [TopicState], run: RunId)
     requires is_new { All (λ topic. has_run run topic.pool.runs ≡ false) topics.old }
     requires queued { All IsQueued topics.old }
     ensures kept { map kept topics.new ≡ map (after_run run) topics.old }
+    ensures rankings { map (λ topic. topic.ranking) topics.new ≡ map (λ topic. topic.ranking) topics.old }
     ensures labelled { map labelled_of topics.new ≡ map labelled_of topics.old }
     ensures queued { All IsQueued topics.new }
 {

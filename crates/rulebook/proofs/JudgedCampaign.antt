@@ -1,5 +1,5 @@
 -- Answers of a small campaign while it is judged: one topic, two runs of three documents, two assessors.
-use Rattle.std.specs.Prelude.{◌≡◌, ◌+◌, ℕ, [], ◌∷◌, ◌++◌, List, Option, None, Some, refl, codes}
+use Rattle.std.specs.Prelude.{◌≡◌, ◌+◌, ℕ, [], ◌∷◌, ◌++◌, List, Option, None, Some, refl, codes, unwrap_or}
 use Rattle.std.specs.Fmt.{digits}
 use Rattle.std.specs.Option.{option_map}
 use Rattle.rulebook.specs.declared.rules.Role.TheVariants.{Assessor}
@@ -16,10 +16,14 @@ use Rattle.rulebook.specs.declared.reply.Reply.{Reply}
 use Rattle.rulebook.specs.declared.reply.Reply.TheVariants as reply
 use Rattle.rulebook.specs.declared.rules.Phase.TheVariants.{Collecting}
 use Rattle.rulebook.specs.Words.{Text}
-use Rattle.rulebook.specs.Campaign.{History, numbered}
+use Rattle.measures.specs.Cells.{cell_of}
+use Rattle.measures.specs.Means.{summary_of}
+use Rattle.measures.specs.declared.means.Summary.{Summary}
+use Rattle.rulebook.specs.Campaign.{History, Run, numbered}
 use Rattle.rulebook.specs.Answers.{answer, moment_after}
 use Rattle.rulebook.specs.Grades.{effective, trail}
 use Rattle.rulebook.specs.JudgingOrder.{first_of}
+use Rattle.rulebook.specs.Scores.{run_named, summary_on}
 use Rattle.rulebook.proofs.SmallCampaign.{after as after_at_1000, campaign, group, opened, organiser, pooling, rules, submitted}
 
 abbrev assessor : Text → Caller
@@ -263,3 +267,53 @@ trail-of-amended = refl
 
 rule-without-a-label : replied double organiser (command.Rule (codes "1") (codes "a") 2) 1000 ≡ refused refusal.NotLabelled
 rule-without-a-label = refl
+
+-- The scores by the grades that stand: a ruling counts, and so does an amendment.
+abbrev run_of : History → Text → Run
+run_of H name = unwrap_or (run_named H name) (record { name = []; lists = [] })
+
+abbrev summary_by_name : History → Text → Summary
+summary_by_name H name = summary_on H (run_of H name)
+
+map-of-a-ruling : (summary_by_name a_ruled (codes "X")).map ≡ 833333333333333
+unfolding cell_of summary_of
+map-of-a-ruling = refl
+
+bpref-of-a-ruling : (summary_by_name a_ruled (codes "X")).bpref ≡ 500000000000000
+unfolding cell_of summary_of
+bpref-of-a-ruling = refl
+
+map-of-an-amendment : (summary_by_name b_amended (codes "X")).map ≡ 333333333333333
+unfolding cell_of summary_of
+map-of-an-amendment = refl
+
+bpref-of-an-amendment : (summary_by_name b_amended (codes "X")).bpref ≡ 0
+unfolding cell_of summary_of
+bpref-of-an-amendment = refl
+
+-- The six documents of two runs: three are relevant.
+map-of-X : (summary_by_name all_graded (codes "X")).map ≡ 166666666666666
+unfolding cell_of summary_of
+map-of-X = refl
+
+bpref-of-X : (summary_by_name all_graded (codes "X")).bpref ≡ 222222222222222
+unfolding cell_of summary_of
+bpref-of-X = refl
+
+map-of-Y : (summary_by_name all_graded (codes "Y")).map ≡ 555555555555555
+unfolding cell_of summary_of
+map-of-Y = refl
+
+bpref-of-Y : (summary_by_name all_graded (codes "Y")).bpref ≡ 555555555555555
+unfolding cell_of summary_of
+bpref-of-Y = refl
+
+nothing-counts : (summary_by_name opened (codes "X")).topics ≡ 0
+unfolding cell_of summary_of
+nothing-counts = refl
+
+unknown-run : told_at all_graded (query.Scores (codes "Z")) 1000 ≡ refused refusal.UnknownRun
+unknown-run = refl
+
+scores-of-another-group : (answer all_graded (record group { name = codes "g2" }) None (See (query.Scores (codes "X"))) 1000).reply ≡ refused refusal.NotYours
+scores-of-another-group = refl

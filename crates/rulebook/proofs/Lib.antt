@@ -2,3 +2,4 @@ pub mod SmallCampaign
 pub mod JudgedCampaign
 pub mod Entering
 pub mod Listing
+pub mod RuledDocuments

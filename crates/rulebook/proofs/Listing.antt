@@ -127,7 +127,7 @@ listed-labelled H topic doc =
 
 -- Documents of the trail
 
-labelled-grow : (part rest : History) (topic doc : Text) → contains_text (labelled part topic) doc ≡ true → contains_text (labelled (part ++ rest) topic) doc ≡ true
+pub labelled-grow : (part rest : History) (topic doc : Text) → contains_text (labelled part topic) doc ≡ true → contains_text (labelled (part ++ rest) topic) doc ≡ true
 labelled-grow part rest topic doc there =
     let on : Label → Bool = λ label. bytes_eq label.topic topic in
     let docs : List Label → List Text = map (λ label. label.doc) in

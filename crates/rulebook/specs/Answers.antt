@@ -1,5 +1,5 @@
 -- The answer to an addressed request.
-use Rattle.std.specs.Prelude.{ℕ, not, ◌==◌, ◌+◌, ◌-◌, List, [], ◌∷◌, ◌++◌, Option, Ok, Err, if◌then◌else◌, map, length, nat_lt, nat_le, min, max, slice_get}
+use Rattle.std.specs.Prelude.{ℕ, not, ◌&&◌, ◌==◌, ◌+◌, ◌-◌, List, [], ◌∷◌, ◌++◌, Option, Ok, Err, if◌then◌else◌, map, length, nat_lt, nat_le, min, max, slice_get}
 use Rattle.std.specs.List.{filter, reduce}
 use Rattle.std.specs.Option.{option_map, option_map_or}
 use Rattle.std.specs.Str.{bytes_eq}
@@ -25,6 +25,8 @@ use Rattle.rulebook.specs.Campaign.{History, has_topics, is_topic, runs, is_take
 use Rattle.rulebook.specs.Grades.{is_labelled, is_labelled_by}
 use Rattle.rulebook.specs.JudgingOrder.{named}
 use Rattle.rulebook.specs.Pages.{disagreements_page, progress_page, qrels_page}
+use Rattle.rulebook.specs.Roles.{is_group}
+use Rattle.rulebook.specs.Scores.{is_submitter, run_named, scores_page, table_page}
 use Rattle.rulebook.specs.Leases.{Lease, is_ended, lease_numbered, leases, live_leases_of}
 use Rattle.rulebook.specs.Refusals.{Ruling, ◌when◌, given, unless, wrong_phase_unless}
 
@@ -121,10 +123,19 @@ pool_ruling H topic = unless ((refusal.UnknownTopic when not (is_topic H topic))
 abbrev pub paged : Text → Ruling
 paged text = Ok (reply.Page text)
 
+-- A group is told the scores of its own runs alone.
+abbrev pub scores_ruling : History → Caller → Text → Ruling
+scores_ruling H who name =
+    given (run_named H name) refusal.UnknownRun (λ run.
+    unless ((refusal.NotYours when (is_group who.role && not (is_submitter H who.name name))) ∷ [])
+    (paged (scores_page H run)))
+
 -- What a caller's query comes to at a moment. No request asks another query yet.
 abbrev pub told : History → Caller → ℕ → Query → Ruling
 told H who now (query.Pool topic) = pool_ruling H topic
 told H who now query.Qrels = paged (qrels_page H)
+told H who now (query.Scores run) = scores_ruling H who run
+told H who now query.Table = paged (table_page H)
 told H who now query.Disagreements = paged (disagreements_page H)
 told H who now query.Progress = paged (progress_page H now)
 told H who now _ = Ok (reply.Page [])

@@ -1,5 +1,5 @@
 -- What one more entry changes of the grades. H is a list of accepted entries, e the entry after it.
-use Rattle.std.specs.Prelude.{◌≡◌, ℕ, ◌&&◌, false, [], ◌∷◌, ◌++◌, None, Some, IsTrue, if◌then◌else◌, is_some}
+use Rattle.std.specs.Prelude.{◌≡◌, ℕ, ◌&&◌, true, false, [], ◌∷◌, ◌++◌, None, Some, IsTrue, if◌then◌else◌, is_some}
 use Rattle.std.specs.Str.{bytes_eq}
 use Rattle.decimal_rank.specs.Names.{with_name}
 use Rattle.labels.specs.Labelled.{with_label}
@@ -7,6 +7,7 @@ use Rattle.rulebook.specs.declared.ask.Command.TheVariants as command
 use Rattle.rulebook.specs.declared.entry.Entry.{Entry}
 use Rattle.rulebook.specs.Words.{Text, contains_text}
 use Rattle.rulebook.specs.Campaign.{History, rules_of}
+use Rattle.rulebook.specs.Legal.{IsLegal}
 use Rattle.rulebook.specs.Grades.{Label, effective, graded, is_labelled, is_on, label_of, labelled, labels_on, ruling, ruling_in, trail}
 
 -- an entry that changes no label and no ruling
@@ -67,3 +68,7 @@ GradedAreOnTrail = (H : History) (topic doc : Text) → contains_text (graded H 
 -- the documents of a topic with a label are those that are listed so
 abbrev pub LabelledAreListed : Type 0
 LabelledAreListed = (H : History) (topic doc : Text) → contains_text (labelled H topic) doc ≡ is_labelled H topic doc
+
+-- in a list of entries that can come about each document with an effective grade is on the trail
+abbrev pub GradedAreThere : Type 0
+GradedAreThere = (H : History) → IsLegal H → (topic doc : Text) → is_some (effective H topic doc) ≡ true → IsTrue (contains_text (trail H topic) doc)

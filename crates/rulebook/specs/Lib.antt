@@ -10,3 +10,4 @@ pub mod Spelling
 pub mod Roles
 pub mod Legal
 pub mod Entries
+pub mod Scores

@@ -1,4 +1,4 @@
-ghost use Rattle.rulebook.specs.Entries.{GradedAreOnTrail, LabelledAreListed, LabelsJoin, QuietEntriesKeepGrades, RulingsJoin};
+ghost use Rattle.rulebook.specs.Entries.{GradedAreOnTrail, GradedAreThere, LabelledAreListed, LabelsJoin, QuietEntriesKeepGrades, RulingsJoin};
 
 /// An entry that gives no label and no ruling leaves each label, ruling, effective grade and trail.
 pub fn quiet_entries_keep_grades()
@@ -25,4 +25,9 @@ pub fn graded_are_on_trail()
 /// The documents of a topic that are listed as labelled are those with a label.
 pub fn labelled_are_listed()
     ensures { LabelledAreListed }
+{}
+
+/// In a list of entries that can come about each document with an effective grade is on the trail.
+pub fn graded_are_there()
+    ensures { GradedAreThere }
 {}

@@ -14,7 +14,8 @@ mod tests;
 pub use ask::{Ask, Command, Query};
 pub use entry::{Entry, EntryCore};
 pub use laws::{
-    graded_are_on_trail, labelled_are_listed, labels_join, quiet_entries_keep_grades, rulings_join,
+    graded_are_on_trail, graded_are_there, labelled_are_listed, labels_join,
+    quiet_entries_keep_grades, rulings_join,
 };
 pub use limits::{
     MAX_DOCNOS, MAX_ENTRIES, MAX_ENTRY_BYTES, MAX_LINES, MAX_MOMENT, MAX_RUNS, MAX_TOPICS,

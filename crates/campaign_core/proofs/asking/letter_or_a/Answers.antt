@@ -12,6 +12,16 @@ third_true true t u v w = refl
 third_true false true u v w = refl
 third_true false false u v w = refl
 
+second_true : (s t u v w : Bool) → (((((s || true) || t) || u) || v) || w) ≡ true
+second_true true t u v w = refl
+second_true false t u v w = refl
+
+capital : (b : ℕ) → 65 ≤ b → b ≤ 90 → is_name_byte b ≡ true
+capital b low high =
+    let up : nat_le 65 b ≡ true = le-leb 65 b low in
+    let down : nat_le b 90 ≡ true = le-leb b 90 high in
+    rw (up, down) (second_true (is_digit b) (is_between 97 122 b) (b == 46) (b == 95) (b == 45))
+
 letter : (b : ℕ) → 97 ≤ b → b ≤ 122 → is_name_byte b ≡ true
 letter b low high =
     let up : nat_le 97 b ≡ true = le-leb 97 b low in
@@ -68,3 +78,18 @@ returns-in_default-3-clause-name c = refl
 pub returns-in_default-3-clause-docno : goal.returns-in_default-3-clause-docno
 unfolding is_docno
 returns-in_default-3-clause-docno c = refl
+
+pub returns-in-65-to-90-clause-name : goal.returns-in-65-to-90-clause-name
+unfolding is_name
+returns-in-65-to-90-clause-name c = rw (capital c.args.byte (omega (arith, c)) (omega (arith, c))) refl
+
+pub returns-in-65-to-90-clause-docno : goal.returns-in-65-to-90-clause-docno
+returns-in-65-to-90-clause-docno c = visible c.args.byte (omega (arith, c)) (omega (arith, c))
+
+pub returns-in_default-4-clause-name : goal.returns-in_default-4-clause-name
+unfolding is_name
+returns-in_default-4-clause-name c = refl
+
+pub returns-in_default-4-clause-docno : goal.returns-in_default-4-clause-docno
+unfolding is_docno
+returns-in_default-4-clause-docno c = refl

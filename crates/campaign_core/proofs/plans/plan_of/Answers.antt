@@ -1,9 +1,31 @@
-use Rattle.std.proofs.Common.{◌≡◌, rules}
+use Rattle.std.proofs.Common.{◌≡◌, arith, rules}
 use Rattle.rulebook.specs.declared.ask.Command.TheVariants as command
+use Rattle.rulebook.specs.declared.entry.Entry.{Entry}
 use Rattle.campaign_core.specs.Topics.{topic_ids}
 use Rattle.campaign_core.proofs.NamedDocs.{doc-named}
+use Rattle.campaign_core.proofs.Accepting.{topics-few}
+use Rattle.campaign_core.proofs.Submitted.{as-many}
 use Rattle.campaign_core.proofs.Planning.{told-amendment, told-grade, told-lease, told-release, told-ruling}
 use Rattle.campaign_core.proofs.plans.plan_of.Goals as goal
+
+pub topics_plan-requires-clause-few : goal.topics_plan-requires-clause-few
+topics_plan-requires-clause-few c =
+    let is : c.args.core.now.command ≡ command.Topics c.items.result.now = search rules in
+    topics-few c.args.history.now c.items.result.now c.args.reply.now (rw is at c.requires.accepted)
+
+pub overflow_cast-result : goal.overflow_cast-result
+overflow_cast-result c = omega (arith, as-many c.args.history.now c.args.places.now c.requires.places, c.requires.runs)
+
+pub returns-in-Topics-clause-plan : goal.returns-in-Topics-clause-plan
+returns-in-Topics-clause-plan c =
+    let e : Entry = record { core = c.args.core.now; reply = c.args.reply.now } in
+    let is : c.args.core.now.command ≡ command.Topics c.items.result.now = search rules in
+    c.topics_plan.ensures c.args.docnos.now c.args.topics.now c.args.desk.now e is
+
+pub returns-in_ok-reserve_runs-in-Submit-clause-plan : goal.returns-in_ok-reserve_runs-in-Submit-clause-plan
+returns-in_ok-reserve_runs-in-Submit-clause-plan c =
+    let is : c.args.core.now.command ≡ command.Submit c.in-Submit.run' c.items-in-Submit.result.now = search rules in
+    (c.in-Submit.run', c.items-in-Submit.result.now, is, as-many c.args.history.now c.args.places.now c.requires.places, c.in_ok-reserve_runs-in-Submit.ensures.rooms)
 
 pub lease_plan-requires : goal.lease_plan-requires
 lease_plan-requires c =

@@ -18,6 +18,11 @@ returns-in_err-copy-clause-queued c = λ all.
     let long : length c.plan_of.new.topics ≡ c.args.topics.now.len = omega (arith, c.plan_of.auto.topics, ap length c.deref_mut.ensures.value, c.args.topics.now.ok.0) in
     subst (All IsQueued) (sym (with_items_is c.args.topics.now c.plan_of.new.topics long)) (c.plan_of.ensures.queued (rw c.deref_mut.ensures.value all))
 
+pub returns-in_err-reserve_lists_of-clause-queued : goal.returns-in_err-reserve_lists_of-clause-queued
+returns-in_err-reserve_lists_of-clause-queued c = λ all.
+    let long : length c.plan_of.new.topics ≡ c.args.topics.now.len = omega (arith, c.plan_of.auto.topics, ap length c.deref_mut.ensures.value, c.args.topics.now.ok.0) in
+    subst (All IsQueued) (sym (with_items_is c.args.topics.now c.plan_of.new.topics long)) (c.plan_of.ensures.queued (rw c.deref_mut.ensures.value all))
+
 pub returns-clause-queued : goal.returns-clause-queued
 returns-clause-queued c = λ all.
     let long : length c.plan_of.new.topics ≡ c.args.topics.now.len = omega (arith, c.plan_of.auto.topics, ap length c.deref_mut.ensures.value, c.args.topics.now.ok.0) in

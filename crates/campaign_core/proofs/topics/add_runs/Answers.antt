@@ -1,6 +1,7 @@
 use Rattle.std.proofs.Common.{◌≡◌, ◌≢◌, ◌<◌, ◌∙◌, ℕ, ap, arith, length, get_or, set, get_or-set_other, get_or-set_same, below_more}
 use Rattle.campaign_core.specs.Topics.{IsQueued, after_run, kept, labelled_of}
 use Rattle.campaign_core.specs.declared.topics.TopicState.{TopicState}
+use Rattle.campaign_core.proofs.Boards.{ranking_of}
 use Rattle.campaign_core.proofs.ListFacts.{get_or_default, map-set_same, map_alike}
 use Rattle.campaign_core.proofs.topics.add_runs.Goals as goal
 
@@ -29,6 +30,7 @@ loop-topic-preserved c =
           (λ k h d e. let other : k ≢ i = omega (arith, h) in rw get_or-set_other (c.loop-topic.invariant.done k d e h))
           (λ d e. rw get_or-set_same (here e))
           k below d e;
+      rankings = map-set_same ranking_of topics i new c.topic-item.result within c.add_run.ensures.ranking ∙ c.loop-topic.invariant.rankings;
       labelled = map-set_same labelled_of topics i new c.topic-item.result within c.add_run.ensures.labelled ∙ c.loop-topic.invariant.labelled;
       queued = λ k d below.
           below_more Queued i

@@ -1,7 +1,11 @@
-use Rattle.std.proofs.Common.{◌≡◌, ◌++◌, ◌∷◌, [], Some, ap, sym, ◌∙◌, refl}
+use Rattle.std.proofs.Common.{◌≡◌, ◌++◌, ◌∷◌, [], Some, ap, arith, length, map, sym, subst, ◌∙◌, refl}
 use Rattle.std.specs.Option.{option_map}
 use Rattle.campaign_core.specs.declared.state.Ready.{Ready}
 use Rattle.campaign_core.proofs.Commits.{Laws, carried-out, is-ready, kept-after, room-for, same-entry}
+use Rattle.campaign_core.specs.Plans.{places_after}
+use Rattle.campaign_core.specs.Scoring.{graded_of}
+use Rattle.campaign_core.specs.Submissions.{AreSubmissions}
+use Rattle.campaign_core.proofs.Scored.{may-score, places-follow, scored-after}
 use Rattle.campaign_core.proofs.state.State.commit.Goals as goal
 
 pub carry_out-requires : goal.carry_out-requires
@@ -9,7 +13,12 @@ carry_out-requires g c =
     let s = c.self.inside in
     let p = c.in-Some.ready in
     let ready = is-ready s p (sym c.take.ensures.value ∙ c.in-Some.is) c.self.invariant in
-    record { rooms = room-for s p.entry.value p.plan c.self.invariant ready ready.carries_out; queued = c.self.invariant.queued }
+    record {
+      rooms = room-for s p.entry.value p.plan c.self.invariant ready ready.carries_out;
+      place_room = ready.place_room;
+      queued = c.self.invariant.queued;
+      scored = may-score s p.entry.value p.plan c.self.invariant ready;
+    }
 
 pub invariant_of-self : goal.invariant_of-self
 invariant_of-self g c =
@@ -31,8 +40,13 @@ invariant_of-self g c =
       rulings_follow = c.marks_follow_rulings.ensures.ruling;
       given_stay = c.marks_follow_rulings.ensures.given;
     } in
+    let place : c.len-place.result ≡ length s.history.items = omega (arith, c.len-place.ensures, s.history.ok.0) in
+    let places : AreSubmissions (s.history.items ++ e ∷ []) c.carry_out.new.runs.places.items =
+    subst (AreSubmissions (s.history.items ++ e ∷ [])) (ap (λ n. places_after p.plan n s.runs.places.items) (sym place) ∙ sym c.carry_out.ensures.places) (places-follow s.history.items s.docnos s.topics.items s.desk e p.plan s.runs.places.items ready.carries_out c.self.invariant.places_are) in
     kept-after s _ e p.plan c.self.invariant ready (carried-out laws s e p.plan c.self.invariant ready ready.carries_out) grown c.carry_out.ensures.phase refl c.len-self-inside.ensures.len c.carry_out.ensures.topics
-    c.carry_out.ensures.labelled c.carry_out.ensures.queued c.carry_out.ensures.leases c.take.ensures.after
+    c.carry_out.ensures.labelled c.carry_out.ensures.queued c.carry_out.ensures.leases places
+    (scored-after s e p.plan c.carry_out.new.runs.board (map graded_of c.carry_out.new.topics.items) c.self.invariant ready ready.carries_out c.carry_out.ensures.level c.carry_out.ensures.stands c.carry_out.ensures.lists)
+    c.take.ensures.after
 
 pub returns-in-Some-clause-legal : goal.returns-in-Some-clause-legal
 returns-in-Some-clause-legal g c = let kept = invariant_of-self g c in kept.legal

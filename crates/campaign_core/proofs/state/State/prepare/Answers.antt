@@ -14,13 +14,11 @@ returns-in-Act-clause-verdict c = rw c.in-Act.is (rw c.forget.ensures.history at
 pub returns-in_ok-reply-in-See-clause-verdict : goal.returns-in_ok-reply-in-See-clause-verdict
 returns-in_ok-reply-in-See-clause-verdict c =
     let s = c.self.inside in
-    let H : History = s.history.items in
-    let same : H ≡ c.args.self.now.history = ap (λ (seen : Seen). seen.history) c.self.view_is ∙ c.forget.ensures.history in
-    let names : c.cut.new.self ≡ names_of H = search rules in
-    let now : c.moment_after-now.result ≡ moment_after H c.args.moment = c.moment_after-now.ensures ∙ ap (λ H. moment_after H c.args.moment) c.deref.ensures.value in
-    let knows : KnowsAll H c.deref-in-See.result.now s.desk.leases = subst (λ topics. KnowsAll H topics s.desk.leases) (sym c.deref-in-See.ensures.value) (knows-all s c.self.invariant) in
+    let same : s.history.items ≡ c.args.self.now.history = ap (λ (seen : Seen). seen.history) c.self.view_is ∙ c.forget.ensures.history in
+    let H : c.deref-in-See.result.now ≡ c.args.self.now.history = c.deref-in-See.ensures.value ∙ same in
+    let now : c.moment_after-now.result ≡ moment_after c.args.self.now.history c.args.moment = c.moment_after-now.ensures ∙ ap (λ H. moment_after H c.args.moment) (c.deref.ensures.value ∙ same) in
     let reply : c.in_ok-reply-in-See.reply ≡ reply_of (told c.args.self.now.history c.args.who.now (moment_after c.args.self.now.history c.args.moment) c.in-See.query) =
-    c.in_ok-reply-in-See.ensures H c.args.who.now knows names
-    ∙ ap (λ now. reply_of (told H c.args.who.now now c.in-See.query)) now
-    ∙ ap (λ H. reply_of (told H c.args.who.now (moment_after H c.args.moment) c.in-See.query)) same in
+    c.in_ok-reply-in-See.ensures
+    ∙ ap (λ now. reply_of (told c.deref-in-See.result.now c.args.who.now now c.in-See.query)) now
+    ∙ ap (λ (H : History). reply_of (told H c.args.who.now (moment_after c.args.self.now.history c.args.moment) c.in-See.query)) H in
     rw c.in-See.is (refl, reply, ap (λ (seen : Seen). seen.prepared) c.self.view_is ∙ c.forget.ensures.prepared)

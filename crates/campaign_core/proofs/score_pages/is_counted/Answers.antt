@@ -1,0 +1,13 @@
+use Rattle.std.proofs.Common.{◌∙◌, ◌+◌, ap}
+use Rattle.std.specs.Prelude.{nat_lt}
+use Rattle.rulebook.specs.Grades.{relevant_count}
+use Rattle.campaign_core.proofs.CellFacts.{judged-count}
+use Rattle.campaign_core.proofs.Progressing.{non_relevant-count, relevant-count}
+use Rattle.campaign_core.proofs.score_pages.is_counted.Goals as goal
+
+pub returns : goal.returns
+returns c = λ H names is.
+    let topic = c.args.topic.now in
+    ap (λ n. nat_lt 0 (n + c.from.result)) (c.from-relevant.ensures ∙ c.relevant.ensures ∙ relevant-count H names topic is c.graded_are_on_trail.ensures)
+    ∙ ap (λ n. nat_lt 0 (relevant_count H topic.id + n)) (c.from.ensures ∙ c.non_relevant.ensures ∙ non_relevant-count H names topic is c.graded_are_on_trail.ensures)
+    ∙ ap (nat_lt 0) (judged-count H topic.id)

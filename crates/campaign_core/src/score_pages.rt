@@ -1,0 +1,161 @@
+//! The pages of the scores of runs.
+ghost use Rattle.std.specs.Prelude.{◌≡◌, ◌++◌, ◌&&◌, ◌<◌, ℕ, List, IfOk, IsTrue, OnOk, length, map, not};
+ghost use Rattle.lease_desk.specs.declared.leases.Lease.{Lease};
+ghost use Rattle.rulebook.specs.declared.reply.Reply.TheVariants as reply;
+ghost use Rattle.rulebook.specs.Answers.{reply_of, scores_ruling};
+ghost use Rattle.rulebook.specs.Campaign.{History, Run, runs as runs_of};
+ghost use Rattle.rulebook.specs.Legal.{IsLegal};
+ghost use Rattle.rulebook.specs.Roles.{is_group};
+ghost use Rattle.rulebook.specs.Scores.{cell_lines, is_counted as counts, is_submitter, scores_page, summary_lines, table_page};
+ghost use Rattle.rulebook.specs.Words.{contains_text};
+ghost use Rattle.campaign_core.specs.Kept.{KnowsAll, KnowsRun};
+ghost use Rattle.campaign_core.specs.Numbers.{names_of};
+ghost use Rattle.campaign_core.specs.Printed.{IsTopicOf};
+ghost use Rattle.campaign_core.specs.Scoring.{IsScored, graded_of};
+ghost use Rattle.campaign_core.specs.Submissions.{AreSubmissions};
+
+use crate::runs::Runs;
+use crate::submissions::{is_submitter, name_of, run_number};
+use crate::texts::{ids_of, in_order};
+use crate::topics::{TopicState, topic_number};
+use decimal_rank::{Memory, Text};
+use depth_pool::RunId;
+use measures::{write_cell, write_summary};
+use rulebook::{Caller, Entry, Refusal, Reply, Role, graded_are_on_trail, graded_are_there};
+use score_index::Board;
+use std::alloc::Global;
+
+/// The scores of the run of this name, as a caller is told them.
+pub(crate) fn scores_reply(
+    alloc: Global,
+    history: &[Entry],
+    topics: &[TopicState],
+    runs: &Runs,
+    who: &Caller,
+    name: &Text,
+) -> Result<Reply, Memory>
+    requires legal { IsLegal history.now }
+    requires knows { (desk : List Lease) × KnowsAll history.now topics.now desk }
+    requires places { AreSubmissions history.now runs.now.places.items }
+    requires scored { IsScored history.now (names_of history.now) (map graded_of topics.now) runs.now.board }
+    requires few_runs { length (runs_of history.now) < 65536 }
+    ensures { IfOk result (λ reply. reply ≡ reply_of (scores_ruling history.now who.now name.now)) }
+{
+    let Some(number) = run_number(history, &runs.places, name.bytes()) else {
+        return Ok(Reply::Refused(Refusal::UnknownRun));
+    };
+    if is_another_group(history, &runs.places, who, name.bytes()) {
+        return Ok(Reply::Refused(Refusal::NotYours));
+    }
+    let run = RunId(number as u16);
+    let mut out = Vec::new(alloc);
+    write_scores(alloc, topics, &runs.board, run, name.bytes(), &mut out)?;
+    Ok(Reply::Page {
+        text: Text::new(out),
+    })
+}
+
+/// Whether a caller is a group, and not the one that submitted the run of this name.
+fn is_another_group(history: &[Entry], places: &[u32], who: &Caller, name: &[u8]) -> bool
+    requires { AreSubmissions history.now places.now }
+    ensures { result ≡ (is_group who.now.role && not (is_submitter history.now who.now.name name.now)) }
+{
+    matches!(who.role, Role::Group) && !is_submitter(history, places, who.name.bytes(), name)
+}
+
+/// The summaries of all runs, by submission.
+pub(crate) fn table_reply(
+    alloc: Global,
+    history: &[Entry],
+    topics: &[TopicState],
+    runs: &Runs,
+) -> Result<Reply, Memory>
+    requires legal { IsLegal history.now }
+    requires knows { (desk : List Lease) × KnowsAll history.now topics.now desk }
+    requires places { AreSubmissions history.now runs.now.places.items }
+    requires scored { IsScored history.now (names_of history.now) (map graded_of topics.now) runs.now.board }
+    requires few_runs { length (runs_of history.now) < 65536 }
+    ensures { IfOk result (λ told. told ≡ reply.Page (table_page history.now)) }
+{
+    let mut out = Vec::new(alloc);
+    for (number, place) in runs.places.iter().enumerate() {
+        let name = name_of(&history[*place as usize]);
+        let run = RunId(number as u16);
+        write_run_summary(topics, &runs.board, run, name, &mut out)?;
+    }
+    Ok(Reply::Page {
+        text: Text::new(out),
+    })
+}
+
+/// Appends the cells of a run by topic id, and its summary.
+fn write_scores(
+    alloc: Global,
+    topics: &[TopicState],
+    board: &Board,
+    run: RunId,
+    name: &[u8],
+    out: &mut Vec<u8>,
+) -> Result<(), Memory>
+    requires knows { (H : History) × (r : Run) × KnowsRun H topics.now board.now run r }
+    ensures { (H : History) (r : Run) → KnowsRun H topics.now board.now run r → name.now ≡ r.name
+        → OnOk result (out.new.items ≡ out.old.items ++ scores_page H r) }
+{
+    for id in &in_order(ids_of(alloc, topics)?) {
+        write_topic_cell(topics, board, run, name, id, out)?;
+    }
+    write_run_summary(topics, board, run, name, out)
+}
+
+/// Appends the cell of a run on the topic of this id, where the topic counts.
+fn write_topic_cell(
+    topics: &[TopicState],
+    board: &Board,
+    run: RunId,
+    name: &[u8],
+    id: &[u8],
+    out: &mut Vec<u8>,
+) -> Result<(), Memory>
+    requires knows { (H : History) × (r : Run) × KnowsRun H topics.now board.now run r }
+    requires listed { IsTrue (contains_text (map (λ topic. topic.id) topics.now) id.now) }
+    ensures { (H : History) (r : Run) → KnowsRun H topics.now board.now run r → name.now ≡ r.name
+        → OnOk result (out.new.items ≡ out.old.items ++ cell_lines H r id.now) }
+{
+    // a document with a grade is on the trail
+    graded_are_on_trail();
+    graded_are_there();
+    let number = topic_number(topics, id).unwrap();
+    if !is_counted(&topics[number]) {
+        return Ok(());
+    }
+    write_cell(name, id, &board.cell(run, number as u16), out)?;
+    Ok(())
+}
+
+/// Whether some document of a topic has an effective grade.
+fn is_counted(topic: &TopicState) -> bool
+    ensures { (H : History) (names : List (List ℕ)) → IsTopicOf H names topic.now → result ≡ counts H topic.now.id }
+{
+    // the documents with a grade are those of the trail that have one
+    graded_are_on_trail();
+    let relevant = u64::from(topic.view.relevant());
+    relevant + u64::from(topic.view.non_relevant()) > 0
+}
+
+/// Appends the summary of a run.
+fn write_run_summary(
+    topics: &[TopicState],
+    board: &Board,
+    run: RunId,
+    name: &[u8],
+    out: &mut Vec<u8>,
+) -> Result<(), Memory>
+    ensures { (H : History) (r : Run) → KnowsRun H topics.now board.now run r → name.now ≡ r.name
+        → OnOk result (out.new.items ≡ out.old.items ++ summary_lines H r) }
+{
+    // a document with a grade is on the trail
+    graded_are_on_trail();
+    graded_are_there();
+    write_summary(name, &board.summary(run), out)?;
+    Ok(())
+}

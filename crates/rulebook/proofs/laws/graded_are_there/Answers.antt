@@ -1,0 +1,5 @@
+use Rattle.rulebook.proofs.RuledDocuments.{graded-there}
+use Rattle.rulebook.proofs.laws.graded_are_there.Goals as goal
+
+pub returns : goal.returns
+returns c = graded-there
