@@ -1,0 +1,5 @@
+pub mod FrontLaws
+pub mod Growing
+pub mod HeadLengths
+pub mod Looks
+pub mod Sizes
