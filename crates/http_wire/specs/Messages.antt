@@ -89,3 +89,8 @@ pub record GoesOn (old new more : List ℕ) : Type 0 where
   pub last : (request : HttpRequest) → Steps old (steps.Request request) new → request.close ≡ true → Messages (old ++ more) (request ∷ []) Closed
   pub refused : (fault : WireFault) → Steps old (steps.Refused fault) new → Messages (old ++ more) [] (Refused fault)
   pub ends : (clean : Bool) → Steps old (steps.Need clean) new → Messages old [] (if clean then Clean else Cut)
+
+-- where a step refuses, each further step is the same refusal, whatever more is fed
+abbrev pub RefusesAgain : List ℕ → List ℕ → List ℕ → Type 0
+RefusesAgain old new more =
+    (fault : WireFault) (step : Step) (after : List ℕ) → Steps old (steps.Refused fault) new → Steps (new ++ more) step after → step ≡ steps.Refused fault

@@ -29,9 +29,9 @@ impl Model for Wire {
 }
 
 // The bytes that are not done with.
-fn left_of(bytes: &Vec<u8>, done: usize) -> &[u8]
-    requires { done ≤ length bytes.now.items }
-    ensures { result.now ≡ drop done bytes.now.items }
+fn left_of(bytes: &[u8], done: usize) -> &[u8]
+    requires { done ≤ length bytes.now }
+    ensures { result.now ≡ drop done bytes.now }
 {
     &bytes[done..]
 }
@@ -78,7 +78,7 @@ impl Wire {
         ensures err { OnErr result (self.new ≡ self.old) }
     {
         let alloc = *self.bytes.allocator();
-        let left = left_of(&self.bytes, self.done);
+        let left = left_of(self.bytes.as_slice(), self.done);
         if left.len() < self.needed {
             return Ok(Step::Need { clean: false });
         }
