@@ -15,3 +15,6 @@ pub use fields::find_named;
 pub use laws::{fronts_stay, one_front, one_reading, refusals_stay, steps_are_messages};
 pub use messages::{HttpField, HttpRequest, Step, WireFault};
 pub use wires::Wire;
+
+#[cfg(test)]
+mod tests;
