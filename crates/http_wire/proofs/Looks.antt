@@ -21,7 +21,7 @@ use Rattle.http_wire.specs.declared.messages.WireFault.TheVariants as fault
 use Rattle.http_wire.specs.declared.messages.Step.TheVariants as steps
 use Rattle.http_wire.specs.Heads.{passed, head_length, IsHead, field_of, fields_of, values_named, is_filled, length_of_value, stated_length, body_length, is_last}
 use Rattle.http_wire.specs.Fronts.{field_at, Says, request_with, found_with, found_behind, StaysUnfinished, IsFound, IsAwaiting}
-use Rattle.http_wire.specs.Messages.{Front, Whole, Faulty, Unfinished, request_of, behind_head, AtHead, AtLength, AtMessage, IsFront, Steps, Shortens}
+use Rattle.http_wire.specs.Messages.{Front, Whole, Faulty, Unfinished, request_of, behind_head, AtHead, AtLength, AtMessage, IsFront, Steps}
 use Rattle.http_wire.proofs.HeadLengths.{message-append}
 use Rattle.http_wire.proofs.FrontLaws.{at_head_more, inside_of}
 

@@ -71,9 +71,15 @@ Steps old (steps.Request request) new = IsFront old (Whole request new)
 Steps old (steps.Need clean) new = IsFront old Unfinished × (clean ≡ not (is_filled (passed old))) × (new ≡ passed old)
 Steps old (steps.Refused fault) new = IsFront old (Faulty fault) × (new ≡ passed old)
 
--- no more bytes are left than were there, fewer behind a request, and its body has at most 16,777,216 bytes
+-- the body of a request has at most 16,777,216 bytes
+abbrev pub BodyFits : Step → Type 0
+BodyFits (steps.Request request) = length request.body ≤ 16777216
+BodyFits (steps.Need clean) = Unit {0}
+BodyFits (steps.Refused fault) = Unit {0}
+
+-- no more bytes are left than were there, and fewer behind a request
 abbrev pub Shortens : List ℕ → Step → List ℕ → Type 0
-Shortens old (steps.Request request) new = (length request.body ≤ 16777216) × (length new < length old)
+Shortens old (steps.Request request) new = length new < length old
 Shortens old (steps.Need clean) new = length new ≤ length old
 Shortens old (steps.Refused fault) new = length new ≤ length old
 

@@ -1,4 +1,4 @@
-ghost use Rattle.std.specs.Prelude.{◌≡◌, ◌+◌, ◌++◌, ◌≤◌, IsTrue, IsOk, OnOk, length, map, vec_len, vec_capacity};
+ghost use Rattle.std.specs.Prelude.{◌≡◌, ◌+◌, ◌++◌, ◌≤◌, IsTrue, IsOk, OnOk, OnErr, length, map, vec_len, vec_capacity};
 ghost use Rattle.std.specs.List.{concat};
 ghost use Rattle.http_wire.specs.Answers.{Adds, answer_text, closing, head_text, is_status, reason_of, type_of};
 
@@ -50,16 +50,20 @@ fn append(out: &mut Vec<u8>, part: &[u8]) -> Result<(), Memory>
     Ok(())
 }
 
-// Appends the parts, one after another.
+// Appends the parts, one after another, or leaves the bytes as they were.
 #[tactic(auto, using(crate::proofs::Growing::part_fits, crate::proofs::Growing::part_added))]
 fn append_all(out: &mut Vec<u8>, parts: &[&[u8]]) -> Result<(), Memory>
     ensures { Adds out.old out.new (concat (map (λ part. part.now) parts.now)) result }
 {
+    let before = out.len();
     let mut rest = parts;
     while let [part, others @ ..] = rest {
         match append(out, part) {
             Ok(()) => rest = others,
-            Err(memory) => return Err(memory),
+            Err(memory) => {
+                out.truncate(before);
+                return Err(memory);
+            }
         }
     }
     Ok(())
@@ -75,6 +79,7 @@ pub fn write_head(
 ) -> Result<(), Memory>
     requires { IsTrue (is_status status) }
     ensures ok { OnOk result (out.new.items ≡ out.old.items ++ head_text status json close size) }
+    ensures err { OnErr result (out.new.items ≡ out.old.items) }
     ensures room { vec_len out.old + length (head_text status json close size) ≤ vec_capacity out.old → IsOk result }
     ensures capacity { vec_capacity out.old ≤ vec_capacity out.new }
 {
@@ -99,7 +104,7 @@ pub fn write_head(
 }
 
 /// Appends the answer of this status, the body being JSON or else plain text. It takes no memory where
-/// `out` has room for it. After an error `out` may have a part of it.
+/// `out` has room for it.
 pub fn write_answer(
     status: u16,
     json: bool,
@@ -109,9 +114,17 @@ pub fn write_answer(
 ) -> Result<(), Memory>
     requires { IsTrue (is_status status) }
     ensures ok { OnOk result (out.new.items ≡ out.old.items ++ answer_text status json close body.now) }
+    ensures err { OnErr result (out.new.items ≡ out.old.items) }
     ensures room { vec_len out.old + length (answer_text status json close body.now) ≤ vec_capacity out.old → IsOk result }
     ensures capacity { vec_capacity out.old ≤ vec_capacity out.new }
 {
+    let before = out.len();
     write_head(status, json, close, body.len(), out)?;
-    append(out, body)
+    match append(out, body) {
+        Ok(()) => Ok(()),
+        Err(memory) => {
+            out.truncate(before);
+            Err(memory)
+        }
+    }
 }

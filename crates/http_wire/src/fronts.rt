@@ -1,7 +1,7 @@
 ghost use Rattle.std.specs.Prelude.{◌≡◌, ◌+◌, ◌<◌, ◌≤◌, ◌^◌, Some, IfOk, length, drop, take};
 ghost use Rattle.http_wire.specs.Fronts.{IsAwaiting, IsFound, found_behind};
 ghost use Rattle.http_wire.specs.Heads.{head_length, passed};
-ghost use Rattle.http_wire.specs.Messages.{Shortens, Steps};
+ghost use Rattle.http_wire.specs.Messages.{BodyFits, Shortens, Steps};
 
 use crate::fields::body_length;
 use crate::heads::{
@@ -109,6 +109,7 @@ fn find_front(alloc: Global, message: &[u8]) -> Result<Found, Memory>
 /// The step that comes next at the front of the bytes.
 pub(crate) fn look_at(alloc: Global, bytes: &[u8]) -> Result<Look, Memory>
     ensures step { IfOk result (λ look. Steps bytes.now look.step (drop look.taken bytes.now)) }
+    ensures body { IfOk result (λ look. BodyFits look.step) }
     ensures shorter { IfOk result (λ look. Shortens bytes.now look.step (drop look.taken bytes.now)) }
     ensures inside { IfOk result (λ look. look.taken ≤ length bytes.now) }
     ensures awaits { IfOk result (λ look. IsAwaiting (drop look.taken bytes.now) look.needed) }

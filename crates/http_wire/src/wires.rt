@@ -1,5 +1,5 @@
 ghost use Rattle.std.specs.Prelude.{◌≡◌, ◌≤◌, ◌++◌, [], IfOk, OnOk, OnErr, drop, length};
-ghost use Rattle.http_wire.specs.Messages.{Shortens, Steps};
+ghost use Rattle.http_wire.specs.Messages.{BodyFits, Shortens, Steps};
 
 use crate::fronts::{Look, look_at};
 use crate::messages::Step;
@@ -74,6 +74,7 @@ impl Wire {
     /// The next request of the bytes that were fed. After a refusal each further call gives the same.
     pub fn next(&mut self) -> Result<Step, Memory>
         ensures ok { IfOk result (λ step. Steps self.old step self.new) }
+        ensures body { IfOk result BodyFits }
         ensures shorter { IfOk result (λ step. Shortens self.old step self.new) }
         ensures err { OnErr result (self.new ≡ self.old) }
     {

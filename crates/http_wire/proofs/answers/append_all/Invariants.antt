@@ -6,6 +6,8 @@ use Rattle.http_wire.proofs.answers.append_all.Given as goal
 abbrev pub invariant-loop-rest : goal.invariant-loop-rest
 invariant-loop-rest l = record {
   bytes : l.initial.out.items ++ concat (map (λ part. part.now) l.parts) ≡ l.out.items ++ concat (map (λ part. part.now) l.rest);
+  before : l.before ≡ length l.initial.out.items;
+  grown : length l.initial.out.items ≤ length l.out.items;
   capacity : vec_capacity l.initial.out ≤ vec_capacity l.out;
 }
 
