@@ -1,16 +1,15 @@
 -- One thing stands at the front of bytes, it stays there where more come, and steps go from one to the next.
-use Rattle.std.proofs.Common.{◌≡◌, ℕ, ◌+◌, ◌-◌, ◌<◌, ◌≤◌, ◌⊎◌, List, [], ◌∷◌, ◌++◌, Option, Some, None, Bool, true, false, length, take, drop, refl, sym, ap, ◌∙◌, subst, arith, inl, inr, length-append}
+use Rattle.std.proofs.Common.{◌≡◌, ℕ, ◌<◌, ◌≤◌, List, [], ◌∷◌, ◌++◌, Option, Some, None, Bool, true, false, length, take, drop, refl, sym, ap, ◌∙◌, subst, arith, inl, inr, length-append}
 use Rattle.std.specs.Prelude.{nat_lt, not, Result, Ok, Err, MatchBool, if◌then◌else◌}
-use Rattle.std.proofs.lemmas.Bool.{cond_both, ltb-true, ltb-false, le-ltb, lt-ltb}
+use Rattle.std.proofs.lemmas.Bool.{cond_both, ltb-false, le-ltb}
 use Rattle.std.proofs.lemmas.List.{take-append-le, drop-append-le, length-take}
 use Rattle.httparse.specs.Grammar.{RequestHead}
 use Rattle.httparse.proofs.GrammarLemmas.{request_unique}
 use Rattle.http_wire.specs.declared.messages.HttpRequest.{HttpRequest}
 use Rattle.http_wire.specs.declared.messages.WireFault.{WireFault}
 use Rattle.http_wire.specs.declared.messages.WireFault.TheVariants as fault
-use Rattle.http_wire.specs.declared.messages.Step.TheVariants as steps
 use Rattle.http_wire.specs.Heads.{passed, head_length, IsHead, fields_of, is_filled, body_length}
-use Rattle.http_wire.specs.Messages.{Front, Whole, Faulty, Unfinished, request_of, behind_head, AtHead, AtLength, AtMessage, IsFront, End, Closed, Refused, Clean, Cut, Messages, Steps, Stays, GoesOn}
+use Rattle.http_wire.specs.Messages.{Front, Whole, Faulty, Unfinished, request_of, behind_head, AtHead, AtLength, AtMessage, IsFront, Closed, Clean, Cut, Messages, Stays, GoesOn}
 use Rattle.http_wire.proofs.HeadLengths.{passed-append, head_stays, head_inside}
 
 one_head : (text : List ℕ) (a b : RequestHead) → IsHead text a → IsHead text b → a ≡ b

@@ -1,10 +1,10 @@
 -- What is found at the front of a message is what stands there, and stays while too few bytes come.
-use Rattle.std.proofs.Common.{◌≡◌, ℕ, ◌+◌, ◌-◌, ◌<◌, ◌≤◌, List, [], ◌∷◌, ◌++◌, Option, Some, None, Bool, true, false, length, take, drop, refl, sym, ap, ◌∙◌, subst, arith, inl, inr, length-append, length-drop, leb-true, append_assoc}
+use Rattle.std.proofs.Common.{◌≡◌, ℕ, ◌+◌, ◌<◌, ◌≤◌, List, [], ◌∷◌, ◌++◌, Some, None, Bool, true, false, length, take, drop, refl, sym, ap, ◌∙◌, subst, arith, inl, inr, length-append, length-drop, leb-true, append_assoc}
 use Rattle.std.specs.Prelude.{nat_lt, nat_le, ◌==◌, not, Result, Ok, Err, IfOk, codes, map, if◌then◌else◌}
 use Rattle.std.specs.Str.{bytes_eq}
 use Rattle.std.specs.Str.Parse.{digits_value}
 use Rattle.std.proofs.lemmas.Bool.{cond_both, ltb-true, ltb-false, le-ltb, lt-ltb, eqb-true}
-use Rattle.std.proofs.lemmas.List.{take-append-le, drop-append-le, length-take, append-nil, drop-drop}
+use Rattle.std.proofs.lemmas.List.{length-take, append-nil, drop-drop}
 use Rattle.httparse.specs.Grammar.{Field, RequestHead}
 use Rattle.httparse.specs.Spans.{span_bytes, header_bytes, name_and_value, IsRequestAt}
 use Rattle.httparse.specs.declared.spans.HeaderSpan.{HeaderSpan}
@@ -21,7 +21,7 @@ use Rattle.http_wire.specs.declared.messages.WireFault.TheVariants as fault
 use Rattle.http_wire.specs.declared.messages.Step.TheVariants as steps
 use Rattle.http_wire.specs.Heads.{passed, head_length, IsHead, field_of, fields_of, values_named, is_filled, length_of_value, stated_length, body_length, is_last}
 use Rattle.http_wire.specs.Fronts.{field_at, Says, request_with, found_with, found_behind, StaysUnfinished, IsFound, IsAwaiting}
-use Rattle.http_wire.specs.Messages.{Front, Whole, Faulty, Unfinished, request_of, behind_head, AtHead, AtLength, AtMessage, IsFront, Steps}
+use Rattle.http_wire.specs.Messages.{Front, Whole, Faulty, Unfinished, request_of, behind_head, AtHead, AtLength, AtMessage, Steps}
 use Rattle.http_wire.proofs.HeadLengths.{message-append}
 use Rattle.http_wire.proofs.FrontLaws.{at_head_more, inside_of}
 

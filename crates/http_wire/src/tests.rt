@@ -11,6 +11,7 @@ GET /a HTTP/1.1|Content-Length: +5| => 400
 GET /a HTTP/1.1|Content-Length:| => 400
 GET /a HTTP/1.2| => 400
 GET /a b HTTP/1.1| => 400
+GET /é HTTP/1.1| => GET /é
 POST /open HTTP/1.1| => 411
 POST /open HTTP/1.1|Transfer-Encoding: chunked| => 501
 POST /open HTTP/1.1|Content-Length: 999999999999999999999999999999| => 413

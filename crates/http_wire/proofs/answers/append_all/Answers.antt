@@ -1,4 +1,4 @@
-use Rattle.std.proofs.Common.{◌++◌, map, drop, take, [], ap, sym, ◌∙◌, arith}
+use Rattle.std.proofs.Common.{◌++◌, map, drop, take, [], ap, ◌∙◌, arith}
 use Rattle.std.specs.List.{concat}
 use Rattle.http_wire.proofs.Growing.{part_fits, first_of_parts, first_kept}
 use Rattle.http_wire.proofs.answers.append_all.Goals as goal
