@@ -1,0 +1,32 @@
+use Rattle.std.proofs.Common.{true, false, subst}
+use Rattle.http_wire.specs.declared.messages.Step.TheVariants as steps
+use Rattle.http_wire.specs.Fronts.{IsAwaiting}
+use Rattle.http_wire.specs.Messages.{Steps}
+use Rattle.http_wire.proofs.Looks.{look_clean, look_whole, look_more, look_awaits, none_left, some_left}
+use Rattle.http_wire.proofs.fronts.look_at.Goals as goal
+
+pub returns-then-is_empty-clause-step : goal.returns-then-is_empty-clause-step
+returns-then-is_empty-clause-step c =
+    let message = c.pass_line_ends-taken.result.1.now in
+    let none = none_left message c.is_empty.result c.is_empty.ensures c.if-is_empty.true in
+    subst (Steps c.args.bytes.now (steps.Need true)) c.pass_line_ends-taken.ensures.behind (look_clean c.args.bytes.now message c.pass_line_ends-taken.ensures.message none)
+
+pub returns-in-Whole-clause-step : goal.returns-in-Whole-clause-step
+returns-in-Whole-clause-step c =
+    let found = rw c.in-Whole.is at c.in_ok-found.ensures in
+    look_whole c.args.bytes.now c.pass_line_ends-taken.result.1.now c.pass_line_ends-taken.result.0 c.in-Whole.count c.in-Whole.request c.pass_line_ends-taken.ensures.message c.pass_line_ends-taken.ensures.behind found.0
+
+pub returns-in-Unfinished-clause-step : goal.returns-in-Unfinished-clause-step
+returns-in-Unfinished-clause-step c =
+    let message = c.pass_line_ends-taken.result.1.now in
+    let some = some_left message c.is_empty.result c.is_empty.ensures c.if-is_empty.false in
+    let found = rw c.in-Unfinished.is at c.in_ok-found.ensures in
+    subst (Steps c.args.bytes.now (steps.Need false)) c.pass_line_ends-taken.ensures.behind (look_more c.args.bytes.now message c.pass_line_ends-taken.ensures.message some found.0)
+
+pub returns-in-Unfinished-clause-awaits : goal.returns-in-Unfinished-clause-awaits
+returns-in-Unfinished-clause-awaits c =
+    let message = c.pass_line_ends-taken.result.1.now in
+    let some = some_left message c.is_empty.result c.is_empty.ensures c.if-is_empty.false in
+    let found = rw c.in-Unfinished.is at c.in_ok-found.ensures in
+    subst (λ bytes. IsAwaiting bytes c.in-Unfinished.needed) c.pass_line_ends-taken.ensures.behind
+    (look_awaits c.args.bytes.now message c.in-Unfinished.needed c.pass_line_ends-taken.ensures.message some found.1)

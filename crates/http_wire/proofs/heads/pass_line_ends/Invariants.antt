@@ -1,0 +1,13 @@
+use Rattle.std.proofs.Common.{◌≡◌, ◌+◌, length, drop}
+use Rattle.http_wire.specs.Heads.{passed}
+use Rattle.http_wire.proofs.heads.pass_line_ends.Given as goal
+
+abbrev pub invariant-loop-left : goal.invariant-loop-left
+invariant-loop-left l = record {
+  behind : passed l.bytes ≡ passed l.left;
+  place : l.left ≡ drop l.count l.bytes;
+  counted : l.count + length l.left ≡ length l.bytes;
+}
+
+abbrev pub decreases-loop-left : goal.decreases-loop-left
+decreases-loop-left l = length l.left

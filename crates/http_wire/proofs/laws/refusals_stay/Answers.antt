@@ -1,0 +1,5 @@
+use Rattle.http_wire.proofs.ReadingLaws.{refuses_again}
+use Rattle.http_wire.proofs.laws.refusals_stay.Goals as goal
+
+pub returns : goal.returns
+returns c = refuses_again

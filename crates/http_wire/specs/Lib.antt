@@ -1,0 +1,4 @@
+pub mod Answers
+pub mod Fronts
+pub mod Heads
+pub mod Messages

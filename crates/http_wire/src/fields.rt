@@ -1,0 +1,113 @@
+ghost use Rattle.std.specs.Prelude.{◌≡◌, [], ◌∷◌, min, codes, IsTrue, MatchOption};
+ghost use Rattle.std.specs.List.{list_all, list_any};
+ghost use Rattle.std.specs.Str.{str_eq_ignore_ascii_case};
+ghost use Rattle.std.specs.Str.Parse.{digits_value};
+ghost use Rattle.decimal_rank.specs.DecimalText.{are_digits, is_digit};
+ghost use Rattle.http_wire.specs.Heads.{body_length, length_of_value, says_close, stated_length, values_named};
+
+use crate::messages::{HttpField, WireFault};
+
+/// The most bytes of a body.
+const MOST_BODY: u32 = 16_777_216;
+
+fn is_same_word(text: &[u8], word: &str) -> bool
+    ensures { result ≡ str_eq_ignore_ascii_case text.now word.now }
+{
+    text.eq_ignore_ascii_case(word.as_bytes())
+}
+
+/// The value of the first field of a name, and the fields behind it. Names are compared without
+/// regard to ASCII case.
+pub fn find_named<'a>(fields: &'a [HttpField], name: &str) -> Option<(&'a [u8], &'a [HttpField])>
+    ensures { MatchOption result (values_named name.now fields.now ≡ [])
+        (λ found. values_named name.now fields.now ≡ found.0.now ∷ values_named name.now found.1.now) }
+{
+    let mut left = fields;
+    while let [first, rest @ ..] = left {
+        if is_same_word(first.name.bytes(), name) {
+            return Some((first.value.bytes(), rest));
+        }
+        left = rest;
+    }
+    None
+}
+
+fn are_all_digits(text: &[u8]) -> bool
+    ensures { result ≡ list_all is_digit text.now }
+{
+    text.iter().all(|byte| 48 <= *byte && *byte <= 57)
+}
+
+// Whether one or more digits stand there, and nothing else.
+fn is_number(text: &[u8]) -> bool
+    ensures { result ≡ are_digits text.now }
+{
+    0 < text.len() && are_all_digits(text)
+}
+
+// The number that the digits write, or one more than the most bytes of a body where it's greater.
+#[tactic(auto, using(crate::proofs::Sizes::capped_more))]
+fn capped(digits: &[u8]) -> u32
+    requires { IsTrue (list_all is_digit digits.now) }
+    ensures { result ≡ min (digits_value 10 digits.now) 16777217 }
+{
+    let mut value: u32 = 0;
+    for digit in digits {
+        value = (value * 10 + u32::from(digit.saturating_sub(48))).min(MOST_BODY + 1);
+    }
+    value
+}
+
+// The length of a body that the value of `Content-Length` states.
+fn length_of_value(value: &[u8]) -> Result<u32, WireFault>
+    ensures { result ≡ length_of_value value.now }
+{
+    if !is_number(value) {
+        return Err(WireFault::Head);
+    }
+    let length = capped(value);
+    if length <= MOST_BODY {
+        Ok(length)
+    } else {
+        Err(WireFault::Body)
+    }
+}
+
+fn stated_length(method: &[u8], fields: &[HttpField]) -> Result<u32, WireFault>
+    ensures { result ≡ stated_length method.now (values_named (codes "content-length") fields.now) }
+{
+    match find_named(fields, "content-length") {
+        None if method == b"POST".as_slice() => Err(WireFault::Length),
+        None => Ok(0),
+        Some((value, rest)) => match find_named(rest, "content-length") {
+            None => length_of_value(value),
+            Some(_) => Err(WireFault::Head),
+        },
+    }
+}
+
+/// How many bytes the body has, by the fields of the head.
+pub(crate) fn body_length(method: &[u8], fields: &[HttpField]) -> Result<u32, WireFault>
+    ensures { result ≡ body_length method.now fields.now }
+{
+    match find_named(fields, "transfer-encoding") {
+        Some(_) => Err(WireFault::Coding),
+        None => stated_length(method, fields),
+    }
+}
+
+/// Whether a field `Connection` has the value `close`.
+pub(crate) fn says_close(fields: &[HttpField]) -> bool
+    ensures { result ≡ says_close fields.now }
+{
+    let mut left = fields;
+    while let [first, rest @ ..] = left {
+        if is_same_word(first.name.bytes(), "connection")
+            && is_same_word(first.value.bytes(), "close")
+        {
+            return true;
+        }
+        left = rest;
+    }
+    false
+}

@@ -1,0 +1,29 @@
+ghost use Rattle.std.specs.Prelude.{◌≡◌, ℕ, List};
+ghost use Rattle.http_wire.specs.declared.messages.HttpRequest.{HttpRequest};
+ghost use Rattle.http_wire.specs.Messages.{End, Front, GoesOn, IsFront, Messages, RefusesAgain, Stays};
+
+/// At most one thing stands at the front of bytes. `Wire::next` tells that one does.
+pub fn one_front()
+    ensures { (bytes : List ℕ) (a b : Front) → IsFront bytes a → IsFront bytes b → a ≡ b }
+{}
+
+/// What stands at the front stays there where more bytes come.
+pub fn fronts_stay()
+    ensures { (bytes more : List ℕ) → Stays bytes more }
+{}
+
+/// The steps of a wire are the requests of its bytes, one after another, and then their end.
+pub fn steps_are_messages()
+    ensures { (old new more : List ℕ) → GoesOn old new more }
+{}
+
+/// Bytes are requests and an end in one way at most.
+pub fn one_reading()
+    ensures { (bytes : List ℕ) (requests others : List HttpRequest) (end other : End) → Messages bytes requests end
+        → Messages bytes others other → (requests ≡ others) × (end ≡ other) }
+{}
+
+/// After a refusal each step is the same refusal, whatever is fed.
+pub fn refusals_stay()
+    ensures { (old new more : List ℕ) → RefusesAgain old new more }
+{}

@@ -1,0 +1,20 @@
+//! The bytes of a connection as HTTP/1.x messages (RFC 9112): the requests that they are, however
+//! they were cut on the way, and the texts of the answers.
+#![tactic(auto)]
+
+mod answers;
+mod fields;
+mod fronts;
+mod heads;
+mod laws;
+mod messages;
+mod wires;
+
+pub use answers::{write_answer, write_head};
+pub use fields::find_named;
+pub use laws::{fronts_stay, one_front, one_reading, refusals_stay, steps_are_messages};
+pub use messages::{HttpField, HttpRequest, Step, WireFault};
+pub use wires::Wire;
+
+#[cfg(test)]
+mod tests;

@@ -1,0 +1,210 @@
+use super::*;
+use decimal_rank::Memory;
+use std::alloc::Global;
+use std::test::Fail;
+
+// A head, its lines cut by `|`, and what is told of its bytes.
+const MESSAGES: &str = "\
+GET /a HTTP/1.1|Host: h| => GET /a
+GET /a HTTP/1.1|Content-Length: 0|content-length: 0| => 400
+GET /a HTTP/1.1|Content-Length: +5| => 400
+GET /a HTTP/1.1|Content-Length:| => 400
+GET /a HTTP/1.2| => 400
+GET /a b HTTP/1.1| => 400
+GET /é HTTP/1.1| => GET /é
+POST /open HTTP/1.1| => 411
+POST /open HTTP/1.1|Transfer-Encoding: chunked| => 501
+POST /open HTTP/1.1|Content-Length: 999999999999999999999999999999| => 413
+POST /open HTTP/1.1|Content-Length: 16777217| => 413
+POST /open HTTP/1.1|Content-Length: 16777216| => more
+POST /open HTTP/1.1|Content-Length: 000000000000000000000000000000| => POST /open
+GET /table HTTP/1.0| => GET /table close
+GET /table HTTP/1.1|connection: CLOSE| => GET /table close
+GET /table HTTP/1.1|Connection: close, x| => GET /table";
+
+fn status_of(fault: WireFault) -> &'static str {
+    match fault {
+        WireFault::Head => "400",
+        WireFault::Length => "411",
+        WireFault::Body => "413",
+        WireFault::HeadSize => "431",
+        WireFault::Coding => "501",
+    }
+}
+
+fn tell_request(request: &HttpRequest, told: &mut Vec<u8>) -> Result<(), Fail> {
+    told.extend_from_slice(request.method.bytes())?;
+    told.extend_from_slice(b" ")?;
+    told.extend_from_slice(request.path.bytes())?;
+    if request.close {
+        told.extend_from_slice(b" close")?;
+    }
+    told.extend_from_slice(request.body.bytes())?;
+    Ok(())
+}
+
+fn tell(step: &Step, told: &mut Vec<u8>) -> Result<(), Fail> {
+    match step {
+        Step::Request(request) => tell_request(request, told)?,
+        Step::Need { clean: true } => {}
+        Step::Need { clean: false } => told.extend_from_slice(b"more")?,
+        Step::Refused(fault) => told.extend_from_slice(status_of(*fault).as_bytes())?,
+    }
+    Ok(())
+}
+
+fn feed_head(wire: &mut Wire, lines: &str) -> Result<(), Memory> {
+    for line in lines.split('|') {
+        wire.feed(line.as_bytes())?;
+        wire.feed(b"\r\n")?;
+    }
+    Ok(())
+}
+
+#[test]
+fn each_message_is_a_request_or_its_fault(rt: HostRuntime) -> Result<(), Fail> {
+    for row in MESSAGES.lines() {
+        let (lines, want) = row.split_once(" => ").ok_or("no row")?;
+        let mut wire = Wire::new(rt.alloc());
+        let mut told = Vec::new(rt.alloc());
+        feed_head(&mut wire, lines)?;
+        tell(&wire.next()?, &mut told)?;
+        assert_eq!(rt; told.as_slice(), want.as_bytes(), "at {row}");
+    }
+    Ok(())
+}
+
+// Two requests, one behind the other.
+const TWO_REQUESTS: &str = "\
+POST /runs/X HTTP/1.1\r
+Host: h\r
+X-Campaign-Key: GROUPGROUPGROUP1\r
+X-Request-Number: 1\r
+Content-Length: 39\r
+\r
+1 Q0 a 1 3 X
+1 Q0 b 2 2 X
+1 Q0 e 3 1 X
+GET /table HTTP/1.1
+Host: h
+
+";
+
+// Tells the requests that are there.
+fn tell_requests(wire: &mut Wire, told: &mut Vec<u8>) -> Result<(), Fail> {
+    for _ in 0..3 {
+        match wire.next()? {
+            Step::Request(request) => tell_request(&request, told)?,
+            _ => return Ok(()),
+        }
+    }
+    Ok(())
+}
+
+fn tell_in_two_pieces(
+    alloc: Global,
+    first: &[u8],
+    second: &[u8],
+    told: &mut Vec<u8>,
+) -> Result<(), Fail> {
+    let mut wire = Wire::new(alloc);
+    wire.feed(first)?;
+    tell_requests(&mut wire, told)?;
+    wire.feed(second)?;
+    tell_requests(&mut wire, told)
+}
+
+#[test]
+fn requests_are_the_same_however_they_are_cut(rt: HostRuntime) -> Result<(), Fail> {
+    let bytes = TWO_REQUESTS.as_bytes();
+    let want = b"POST /runs/X1 Q0 a 1 3 X\n1 Q0 b 2 2 X\n1 Q0 e 3 1 X\nGET /table";
+    for cut in 0..=bytes.len() {
+        let mut told = Vec::new(rt.alloc());
+        tell_in_two_pieces(rt.alloc(), &bytes[..cut], &bytes[cut..], &mut told)?;
+        assert_eq!(rt; told.as_slice(), want.as_slice(), "cut at {cut}");
+    }
+    Ok(())
+}
+
+fn feed_long_head(wire: &mut Wire, count: usize) -> Result<(), Memory> {
+    for _ in 0..count {
+        wire.feed(b"A")?;
+    }
+    Ok(())
+}
+
+fn feed_fields(wire: &mut Wire, count: usize) -> Result<(), Memory> {
+    wire.feed(b"GET /a HTTP/1.1\r\n")?;
+    for _ in 0..count {
+        wire.feed(b"Accept: x\r\n")?;
+    }
+    wire.feed(b"\r\n")
+}
+
+#[test]
+fn a_head_has_8192_bytes_and_32_fields_at_most(rt: HostRuntime) -> Result<(), Fail> {
+    let mut told = Vec::new(rt.alloc());
+    let mut long = Wire::new(rt.alloc());
+    feed_long_head(&mut long, 8191)?;
+    tell(&long.next()?, &mut told)?;
+    feed_long_head(&mut long, 1)?;
+    tell(&long.next()?, &mut told)?;
+    let mut many = Wire::new(rt.alloc());
+    feed_fields(&mut many, 32)?;
+    feed_fields(&mut many, 33)?;
+    tell(&many.next()?, &mut told)?;
+    tell(&many.next()?, &mut told)?;
+    assert_eq!(rt; told.as_slice(), b"more431GET /a400".as_slice());
+    Ok(())
+}
+
+const SUBMITTED: &str = "\
+HTTP/1.1 201 Created\r
+Content-Type: application/json\r
+Content-Length: 33\r
+\r
+{\"lines\":3,\"run\":\"X\",\"topics\":1}
+";
+
+const REFUSED: &str = "\
+HTTP/1.1 431 Request Header Fields Too Large\r
+Content-Type: text/plain\r
+Content-Length: 4\r
+Connection: close\r
+\r
+page";
+
+#[test]
+fn answers_have_a_head_and_the_body(rt: HostRuntime) -> Result<(), Fail> {
+    let mut out = Vec::new(rt.alloc());
+    write_answer(
+        201,
+        true,
+        false,
+        b"{\"lines\":3,\"run\":\"X\",\"topics\":1}\n",
+        &mut out,
+    )?;
+    assert_eq!(rt; out.as_slice(), SUBMITTED.as_bytes());
+    out.clear();
+    write_answer(431, false, true, b"page", &mut out)?;
+    assert_eq!(rt; out.as_slice(), REFUSED.as_bytes());
+    Ok(())
+}
+
+#[test]
+fn a_field_is_found_by_its_name(rt: HostRuntime) -> Result<(), Fail> {
+    let mut wire = Wire::new(rt.alloc());
+    feed_head(
+        &mut wire,
+        "GET /a HTTP/1.1|Host: h|X-Campaign-Key: \tGROUPGROUPGROUP1 |",
+    )?;
+    let Step::Request(request) = wire.next()? else {
+        return Err(Fail::from("no request"));
+    };
+    let found = find_named(request.fields.items(), "x-campaign-key");
+    assert!(rt;
+        found.is_some_and(|found| found.0 == b"GROUPGROUPGROUP1".as_slice() && found.1.is_empty())
+    );
+    assert!(rt; find_named(request.fields.items(), "x-request-number").is_none());
+    Ok(())
+}
