@@ -1,5 +1,5 @@
 -- What is so where the rules accept a command on leases.
-use Rattle.std.proofs.Common.{◌≡◌, ◌||◌, ◌<◌, ◌≤◌, ◌+◌, ◌-◌, ℕ, suc, zero, Bool, true, false, not, List, [], ◌∷◌, ◌++◌, Option, None, Some, Ok, length, map, refl, sym, ap, ◌∙◌, arith, cond, subst}
+use Rattle.std.proofs.Common.{◌≡◌, ◌||◌, ◌<◌, ◌≤◌, ◌+◌, ◌-◌, ℕ, suc, zero, Bool, true, false, not, List, [], ◌∷◌, ◌++◌, Option, None, Some, Ok, length, map, refl, sym, ap, ◌∙◌, arith}
 use Rattle.std.specs.Prelude.{◌&&◌, if◌then◌else◌, nat_le, nat_lt, slice_get}
 use Rattle.std.specs.List.{list_all, list_any}
 use Rattle.std.proofs.lemmas.Bool.{ltb-false, ltb-true}
@@ -23,11 +23,10 @@ use Rattle.rulebook.specs.declared.reply.Quantity.TheVariants as quantity
 use Rattle.trec_formats.specs.declared.TopicList.{TopicList}
 use Rattle.campaign_core.proofs.Accepted.{collecting-from}
 use Rattle.campaign_core.proofs.ListFacts.{both_true}
-use Rattle.rulebook.specs.Campaign.{History, docnos_with, has_topics, is_taken, is_topic, line_count, lines_with, phase, rules_of, runs, title, topics}
+use Rattle.rulebook.specs.Campaign.{History, docnos_with, has_topics, is_taken, is_topic, line_count, lines_with, phase, rules_of, runs, title}
 use Rattle.rulebook.specs.Grades.{is_labelled, is_labelled_by}
 use Rattle.rulebook.specs.JudgingOrder.{named}
 use Rattle.rulebook.specs.Leases.{Lease, is_ended, lease_numbered, leases, live_leases_of}
-use Rattle.campaign_core.specs.Topics.{topic_ids}
 use Rattle.campaign_core.proofs.LabelSteps.{bytes-swap}
 use Rattle.campaign_core.proofs.Quiet.{given-ok, unless-ok}
 

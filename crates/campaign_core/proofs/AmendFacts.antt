@@ -1,13 +1,11 @@
 -- The labels of a document that a request names by its docno.
-use Rattle.std.proofs.Common.{◌≡◌, ◌||◌, ◌+◌, ◌<◌, ◌≤◌, ℕ, suc, Bool, true, false, not, cond, List, [], ◌∷◌, Option, Some, None, Ok, Err, length, refl, sym, ap, ◌∙◌, arith, ltb, get_or, subst}
+use Rattle.std.proofs.Common.{◌≡◌, ◌||◌, ◌+◌, ◌<◌, ◌≤◌, ℕ, suc, Bool, true, false, not, cond, List, [], ◌∷◌, Option, Some, None, Ok, Err, length, refl, sym, ap, ◌∙◌, arith, get_or, subst}
 use Rattle.std.specs.List.{position, position_or_len}
-use Rattle.std.specs.Option.{option_map}
 use Rattle.std.specs.Str.{bytes_eq}
 use Rattle.std.proofs.lemmas.Bool.{le-ltb, lt-ltb}
 use Rattle.decimal_rank.specs.Names.{number_of}
 use Rattle.decimal_rank.specs.declared.naming.DocId.{DocId}
-use Rattle.labels.specs.declared.given.Given.{Given}
-use Rattle.labels.specs.Marked.{Marked, given_at}
+use Rattle.labels.specs.Marked.{given_at}
 use Rattle.rulebook.specs.declared.rules.Phase.{Phase}
 use Rattle.rulebook.specs.declared.rules.Phase.TheVariants.{Judging}
 use Rattle.rulebook.specs.declared.reply.Refusal.TheVariants as refusal

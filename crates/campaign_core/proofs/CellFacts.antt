@@ -1,33 +1,30 @@
 -- The cell of a run on a topic by the board is the one of the rules.
-use Rattle.std.proofs.Common.{◌≡◌, ◌||◌, ◌+◌, ◌<◌, ℕ, zero, suc, Bool, true, false, cond, List, [], ◌∷◌, ◌++◌, Option, None, Some, filter, is_some, length, map, refl, sym, ap, ◌∙◌, arith, subst}
-use Rattle.std.specs.Prelude.{◌==◌, count_by, if◌then◌else◌, nat_le, nat_lt, slice_get}
-use Rattle.std.specs.List.{flat_map, list_all}
+use Rattle.std.proofs.Common.{◌≡◌, ◌||◌, ◌+◌, ℕ, zero, suc, Bool, true, false, cond, List, [], ◌∷◌, Option, None, Some, filter, is_some, length, map, refl, sym, ap, ◌∙◌, arith}
+use Rattle.std.specs.Prelude.{count_by, if◌then◌else◌, nat_le, nat_lt, slice_get}
+use Rattle.std.specs.List.{flat_map}
 use Rattle.std.specs.Str.{bytes_eq}
 use Rattle.std.proofs.lemmas.Bool.{le-ltb, leb-false, leb-true, lt-ltb}
 use Rattle.std.proofs.lemmas.Slice.Eq.{bytes_eq-Decides}
-use Rattle.decimal_rank.specs.declared.naming.DocId.{DocId}
 use Rattle.measures.specs.Cells.{cell_of}
 use Rattle.measures.specs.Grades.{is_non_relevant, is_relevant}
 use Rattle.measures.specs.declared.cells.Cell.{Cell}
 use Rattle.qrels_view.specs.Grades.{effective_in, is_non_relevant as lower_there, is_relevant as relevant_there}
 use Rattle.qrels_view.specs.declared.grades.Graded.{Graded}
 use Rattle.rulebook.specs.Words.{Text, contains_text}
-use Rattle.rulebook.specs.Campaign.{History, Run, docnos, docs_on, rules_of, runs, submitted_docnos}
+use Rattle.rulebook.specs.Campaign.{History, Run, docnos, docs_on, rules_of}
 use Rattle.rulebook.specs.Entries.{GradedAreOnTrail, GradedAreThere}
 use Rattle.rulebook.specs.Grades.{effective, graded, labelled, non_relevant_count, relevant_count, trail}
 use Rattle.rulebook.specs.Legal.{IsLegal}
-use Rattle.rulebook.specs.Scores.{cell_on, grades_by_rank, is_counted}
+use Rattle.rulebook.specs.Scores.{cell_on, grades_by_rank}
 use Rattle.score_index.specs.Standing.{cell_from, grades_by_rank as ranked_there}
 use Rattle.campaign_core.specs.Labelling.{graded_in}
-use Rattle.campaign_core.specs.Numbers.{are_named, doc_in, docs_in, names_of}
+use Rattle.campaign_core.specs.Numbers.{are_named, doc_in, docs_in}
 use Rattle.campaign_core.specs.Printed.{IsTopicOf}
 use Rattle.campaign_core.specs.Scoring.{list_on}
 use Rattle.campaign_core.specs.Topics.{KeptTopic}
 use Rattle.campaign_core.specs.declared.topics.TopicState.{TopicState}
 use Rattle.campaign_core.proofs.Desks.{count_by-cons, same-number}
 use Rattle.campaign_core.proofs.ListFacts.{all_back, all_front, all_head, all_tail}
-use Rattle.campaign_core.proofs.Naming.{each_named}
-use Rattle.campaign_core.proofs.PoolFacts.{lists-named}
 use Rattle.campaign_core.proofs.Progressing.{non_relevant-count, relevant-count}
 
 module _ (H : History) (names : List Text) (topic : Text) where

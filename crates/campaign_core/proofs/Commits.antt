@@ -1,6 +1,6 @@
 -- What a state keeps true when its prepared entry joins the history.
-use Rattle.std.proofs.Common.{◌≡◌, ◌≢◌, ◌||◌, ◌&&◌, ◌<◌, ◌≤◌, ◌+◌, ◌^◌, ◌-◌, ℕ, suc, zero, Bool, true, false, List, ◌++◌, ◌∷◌, [], Option, None, Some, Ok, length, map, take, get_or, set, length-append, subst, arith, refl, sym, ap, ◌∙◌, lit≤, cond, not}
-use Rattle.std.specs.Prelude.{◌==◌, All, MatchOption, slice_get}
+use Rattle.std.proofs.Common.{◌≡◌, ◌≢◌, ◌||◌, ◌<◌, ◌≤◌, ◌+◌, ◌^◌, ℕ, suc, zero, Bool, true, false, List, ◌++◌, ◌∷◌, [], Option, None, Some, Ok, length, map, take, get_or, set, length-append, subst, arith, refl, sym, ap, ◌∙◌, lit≤, cond, not}
+use Rattle.std.specs.Prelude.{All, MatchOption}
 use Rattle.std.specs.List.{filter_map}
 use Rattle.std.specs.Option.{option_map}
 use Rattle.std.proofs.Math.Seq.{take-length}
@@ -13,7 +13,6 @@ use Rattle.decimal_rank.specs.declared.naming.DocId.{DocId}
 use Rattle.depth_pool.specs.declared.runs.RunId.{RunId}
 use Rattle.depth_pool.specs.Holdings.{Held, has_run, with_run}
 use Rattle.labels.specs.Marked.{Marked, effective_at, is_marked, with_label_at, with_ruling_at}
-use Rattle.lease_desk.specs.declared.leases.Lease.{Lease as DeskLease}
 use Rattle.lease_desk.specs.declared.leases.LeaseEnd.TheVariants.{Graded, Released}
 use Rattle.qrels_view.specs.Grades.{with_grade}
 use Rattle.trec_formats.specs.declared.Topic.{Topic}
@@ -32,15 +31,14 @@ use Rattle.rulebook.specs.Campaign.{History, Run, docnos, has_topics, line_count
 use Rattle.rulebook.specs.Entries.{AreKept, AreWithLabel, AreWithRuling, GivesLabel, GivesRuling, IsQuiet, LabelsJoin, QuietEntriesKeepGrades, RulingsJoin}
 use Rattle.rulebook.specs.Grades.{Label, given_labels, is_labelled, label_in, label_of, ruling_in}
 use Rattle.rulebook.specs.Refusals.{Ruling}
-use Rattle.rulebook.specs.Leases.{Lease, ends, is_ended, lease_in, leases}
-use Rattle.rulebook.specs.Legal.{IsLegal}
+use Rattle.rulebook.specs.Leases.{Lease, ends, lease_in, leases}
 use Rattle.rulebook.specs.Spelling.{differ}
 use Rattle.campaign_core.specs.Growth.{BeginsWith, lists_in}
 use Rattle.campaign_core.specs.Kept.{IsFew, IsKept, IsReady, IsUnjudged}
 use Rattle.campaign_core.specs.Labelling.{IsLabelled, graded_in}
 use Rattle.campaign_core.specs.Leasing.{IsLeased, is_known, topic_in}
 use Rattle.campaign_core.specs.Numbers.{doc_in, names_of}
-use Rattle.campaign_core.specs.Plans.{AreLabelsAfter, CarriesOut, IsLabelPlan, IsLeasePlan, MayLabel, RoomFor, leases_after, phase_after, topics_after}
+use Rattle.campaign_core.specs.Plans.{AreLabelsAfter, CarriesOut, MayLabel, RoomFor, leases_after, phase_after, topics_after}
 use Rattle.campaign_core.specs.Scoring.{IsScored, graded_of}
 use Rattle.campaign_core.specs.Submissions.{AreSubmissions}
 use Rattle.campaign_core.specs.Topics.{AwaitsLabel, AwaitsRun, HasRoom, IsQueued, KeptTopic, LabelledTopic, after_label, after_ruling, kept, kept_of, labelled_of, pool_of, topic_ids, unlabelled}
@@ -57,7 +55,7 @@ use Rattle.campaign_core.proofs.Legality.{IsLegal-push, moment_after-push}
 use Rattle.campaign_core.proofs.ListFacts.{both_true, each_cons, get-map}
 use Rattle.campaign_core.proofs.Naming.{docno-back, number-within}
 use Rattle.campaign_core.proofs.PoolSteps.{not-in, numbers-below, runs-added, topics-made, topics-stay}
-use Rattle.campaign_core.proofs.Quiet.{labelled-none, labelled-stays, leased-none, leased-stays, no-lease, none-ended, unjudged-stays, unless-ok}
+use Rattle.campaign_core.proofs.Quiet.{labelled-none, labelled-stays, leased-none, leased-stays, no-lease, none-ended, unjudged-stays}
 use Rattle.campaign_core.proofs.Steps.{first-topics, had-none, no-run, one-run, phase-opens, phase-stays, rules-stay, same-topics}
 use Rattle.campaign_core.proofs.Told.{open-told, plain-of, ruled_ok, some_lists, submit-told, topics-told, topics_known}
 

@@ -1,15 +1,15 @@
 -- Borrowed texts that are sorted, each once.
-use Rattle.std.proofs.Common.{◌≡◌, ◌||◌, ℕ, zero, suc, ◌<◌, ◌+◌, Bool, true, false, not, cond, List, [], ◌∷◌, length, map, le_of_lt, refl, sym, ap, ◌∙◌, arith, subst, Ordering, Less, Equal, Greater, Bor}
+use Rattle.std.proofs.Common.{◌≡◌, ◌||◌, suc, Bool, true, false, not, cond, List, [], ◌∷◌, le_of_lt, refl, sym, ap, ◌∙◌, arith, Ordering, Less, Equal, Greater, Bor}
 use Rattle.std.specs.Cmp.{IsStrictWeakOrder}
 use Rattle.std.specs.List.{All, AllPairs, dedup, dedup_from, list_all, list_any}
 use Rattle.std.specs.List.Sorted.{IsPermutation, IsSortedBy}
-use Rattle.std.specs.Ordering.{is_lt, ordering_reverse}
+use Rattle.std.specs.Ordering.{is_lt}
 use Rattle.std.specs.Str.{bytes_eq}
 use Rattle.std.proofs.lemmas.Bool.{false≢true}
 use Rattle.std.proofs.lemmas.Cmp.{nat_list_cmp_total}
 use Rattle.std.proofs.lemmas.List.Sorted.{IsPermutation-map, list_any-IsPermutation, ranks_by, sorted_far}
 use Rattle.std.proofs.lemmas.Slice.Eq.{bytes_eq-Decides}
-use Rattle.rulebook.specs.Words.{Text, contains_text, in_order}
+use Rattle.rulebook.specs.Words.{Text, in_order}
 use Rattle.campaign_core.specs.Texts.{shown}
 use Rattle.campaign_core.proofs.ListFacts.{all_cons, all_head, all_tail}
 use Rattle.campaign_core.proofs.Ordered.{Rises, below, greater_flips, in_order-is, less_from, same_text, text_cmp}

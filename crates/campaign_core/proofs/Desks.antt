@@ -6,14 +6,13 @@ use Rattle.std.specs.Str.{bytes_eq}
 use Rattle.std.proofs.lemmas.Bool.{eqb-true}
 use Rattle.std.proofs.lemmas.List.Sums.{sum_by-cons}
 use Rattle.std.proofs.lemmas.Slice.Eq.{bytes_eq-Decides}
-use Rattle.decimal_rank.specs.declared.naming.DocId.{DocId}
 use Rattle.lease_desk.specs.Leases.{has_live, is_live as is_live_there, is_of, is_on, is_on_topic, live_of, live_on, live_on_topic}
 use Rattle.lease_desk.specs.declared.leases.Lease.{Lease as DeskLease}
 use Rattle.lease_desk.specs.declared.leases.LeaseEnd.{LeaseEnd}
 use Rattle.rulebook.specs.Words.{Text, contains_text}
 use Rattle.rulebook.specs.Campaign.{History}
 use Rattle.rulebook.specs.Pages.{live_count}
-use Rattle.rulebook.specs.Leases.{Lease, has_lease, is_ended, is_live, leases, live_leases_of, live_leases_on}
+use Rattle.rulebook.specs.Leases.{Lease, has_lease, is_live, leases, live_leases_of, live_leases_on}
 use Rattle.campaign_core.specs.Leasing.{IsLeased, KnownLease, is_known, known, seen, topic_in}
 use Rattle.campaign_core.specs.Numbers.{doc_in}
 use Rattle.campaign_core.specs.Topics.{topic_ids}

@@ -1,9 +1,9 @@
 -- The documents of a topic whose labels differ, by number and by docno.
-use Rattle.std.proofs.Common.{◌≡◌, ◌&&◌, ◌<◌, ◌≤◌, ℕ, suc, Bool, true, false, List, [], ◌∷◌, Option, filter, length, map, refl, sym, ap, ◌∙◌, arith, subst, lt-ltb}
+use Rattle.std.proofs.Common.{◌≡◌, ◌&&◌, ℕ, suc, Bool, true, false, List, [], ◌∷◌, Option, filter, length, refl, sym, ap, ◌∙◌, arith, subst, lt-ltb}
 use Rattle.std.specs.Prelude.{◌==◌, is_none, nat_lt}
 use Rattle.std.specs.List.{list_all}
 use Rattle.std.specs.Str.{bytes_eq}
-use Rattle.std.proofs.lemmas.Bool.{ltb-false, ltb-true}
+use Rattle.std.proofs.lemmas.Bool.{ltb-false}
 use Rattle.decimal_rank.specs.declared.naming.DocId.{DocId}
 use Rattle.labels.specs.declared.given.Given.{Given}
 use Rattle.labels.specs.Grades.{shows_disagreement}
@@ -14,10 +14,9 @@ use Rattle.rulebook.specs.Words.{Text, contains_text, in_order}
 use Rattle.rulebook.specs.Campaign.{History, need}
 use Rattle.rulebook.specs.Entries.{LabelledAreListed}
 use Rattle.rulebook.specs.Grades.{disagrees, is_labelled, labelled, labels_on, ruling}
-use Rattle.campaign_core.specs.Labelling.{IsLabelled}
-use Rattle.campaign_core.specs.Numbers.{doc_in, names_of}
+use Rattle.campaign_core.specs.Numbers.{doc_in}
 use Rattle.campaign_core.specs.Printed.{IsTopicOf}
-use Rattle.campaign_core.specs.Topics.{KeptTopic, labelled_of}
+use Rattle.campaign_core.specs.Topics.{KeptTopic}
 use Rattle.campaign_core.specs.declared.topics.TopicState.{TopicState}
 use Rattle.campaign_core.proofs.Numbering.{all-listed, docnos, named-listed, names-differ, passing, unnamed-listed, within}
 use Rattle.campaign_core.proofs.Ordered.{in_order-any, in_order-is, in_order-rises}

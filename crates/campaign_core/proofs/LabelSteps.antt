@@ -1,10 +1,9 @@
 -- The labels and grades of the topics of a history with one more label.
-use Rattle.std.proofs.Common.{◌≡◌, ◌||◌, ◌&&◌, ◌<◌, ◌≤◌, ◌+◌, ℕ, suc, Bool, true, false, not, List, ◌++◌, ◌∷◌, [], Option, None, Some, is_some, length, map, subst, arith, refl, sym, ap, ◌∙◌, eq-eqb}
+use Rattle.std.proofs.Common.{◌≡◌, ◌||◌, ◌&&◌, ◌≤◌, ◌+◌, ℕ, suc, Bool, true, false, not, List, ◌++◌, ◌∷◌, [], Option, None, Some, is_some, length, map, subst, arith, refl, sym, ap, ◌∙◌}
 use Rattle.std.specs.Prelude.{◌==◌, if◌then◌else◌, nat_lt}
-use Rattle.std.specs.List.{flat_map, fold, list_all, list_any}
+use Rattle.std.specs.List.{flat_map, fold, list_any}
 use Rattle.std.specs.Str.{bytes_eq}
 use Rattle.std.proofs.lemmas.Bool.{eqb-true}
-use Rattle.std.proofs.lemmas.Cmp.{nat_list_eq_equiv}
 use Rattle.std.proofs.lemmas.List.Folds.{list_all-append, list_any-append}
 use Rattle.std.proofs.lemmas.Slice.Eq.{bytes_eq-Decides}
 use Rattle.decimal_rank.specs.Names.{with_name}
@@ -15,7 +14,7 @@ use Rattle.labels.specs.Labelled.{grades_of, with_label}
 use Rattle.labels.specs.Marked.{Marked, effective_at, given_at, is_marked, ruling_at, with_label_at, with_ruling_at}
 use Rattle.qrels_view.specs.Grades.{first_grade, with_grade}
 use Rattle.qrels_view.specs.declared.grades.Graded.{Graded}
-use Rattle.rulebook.specs.Words.{Text, contains_text, each_once, prefixes}
+use Rattle.rulebook.specs.Words.{Text, contains_text, prefixes}
 use Rattle.rulebook.specs.Campaign.{History, need}
 use Rattle.rulebook.specs.Entries.{AreWithLabel, AreWithRuling}
 use Rattle.rulebook.specs.Grades.{Label, effective, graded, is_labelled, is_on, labels_on, ruling, trail}

@@ -1,5 +1,5 @@
 -- The leases of a history with one more entry, and those of the desk.
-use Rattle.std.proofs.Common.{◌≡◌, ◌||◌, ◌&&◌, ◌<◌, ◌≤◌, ◌+◌, ℕ, suc, Bool, true, false, List, ◌++◌, ◌∷◌, [], None, Some, length, map, length-append, subst, arith, refl, sym, ap, ◌∙◌, eq-eqb}
+use Rattle.std.proofs.Common.{◌≡◌, ◌||◌, ◌<◌, ◌≤◌, ◌+◌, ℕ, Bool, true, false, List, ◌++◌, ◌∷◌, [], Some, length, map, length-append, subst, arith, refl, sym, ap, ◌∙◌, eq-eqb}
 use Rattle.std.specs.Prelude.{◌==◌, if◌then◌else◌}
 use Rattle.std.specs.List.{list_all}
 use Rattle.std.proofs.lemmas.Bool.{eqb-true, ne_eqb}
@@ -18,7 +18,7 @@ use Rattle.campaign_core.specs.Numbers.{doc_in, names_of}
 use Rattle.campaign_core.specs.Topics.{topic_ids}
 use Rattle.campaign_core.proofs.Desks.{decided}
 use Rattle.campaign_core.proofs.ListFacts.{and_true}
-use Rattle.campaign_core.proofs.Quiet.{ended-push, leased-stays, leases-push, listed-stays, none-ended}
+use Rattle.campaign_core.proofs.Quiet.{ended-push, leases-push, listed-stays, none-ended}
 
 one-more : (H : History) (e : Entry) (l : Lease) → lease_in e.core.caller.name e.reply ≡ Some l → leases (H ++ e ∷ []) ≡ leases H ++ l ∷ []
 one-more H e l told = leases-push H e (Some l) told

@@ -1,7 +1,7 @@
 -- Documents by number and by docno: no name stands twice.
-use Rattle.std.proofs.Common.{◌≡◌, ◌||◌, ◌&&◌, ◌<◌, ◌≤◌, ◌+◌, ℕ, zero, suc, Bool, true, false, not, cond, List, [], ◌∷◌, ◌++◌, filter, length, map, refl, sym, ap, ◌∙◌, arith, get_or, eq-eqb, ltb, lt-ltb}
+use Rattle.std.proofs.Common.{◌≡◌, ◌||◌, ◌&&◌, ◌<◌, ◌+◌, ℕ, zero, suc, Bool, true, false, not, cond, List, [], ◌∷◌, filter, length, map, refl, sym, ap, ◌∙◌, arith, eq-eqb}
 use Rattle.std.specs.Prelude.{◌==◌, nat_lt}
-use Rattle.std.specs.List.{list_all, list_any, position_or_len}
+use Rattle.std.specs.List.{list_all, position_or_len}
 use Rattle.std.specs.Str.{bytes_eq}
 use Rattle.std.proofs.lemmas.Bool.{eqb-true, ltb-true}
 use Rattle.std.proofs.lemmas.Slice.Eq.{bytes_eq-Decides}
@@ -14,7 +14,7 @@ use Rattle.rulebook.specs.Campaign.{History, submitted_docnos}
 use Rattle.campaign_core.specs.Numbers.{doc_in, names_of}
 use Rattle.campaign_core.proofs.Desks.{decided}
 use Rattle.campaign_core.proofs.LabelSteps.{differ-all}
-use Rattle.campaign_core.proofs.ListFacts.{all_cons, all_head, all_tail, any_map, both_true}
+use Rattle.campaign_core.proofs.ListFacts.{all_cons, all_head, all_tail, both_true}
 use Rattle.campaign_core.proofs.Naming.{docno-back}
 
 pub names-differ : (H : History) → differ (names_of H) ≡ true

@@ -1,6 +1,6 @@
 -- The topics that a page shows.
-use Rattle.std.proofs.Common.{◌≡◌, ◌||◌, ◌<◌, ℕ, zero, suc, Bool, true, false, List, [], ◌∷◌, Option, Some, length, map, get_or, refl, sym, ap, ◌∙◌, arith, subst, Bor}
-use Rattle.std.specs.List.{list_any, position}
+use Rattle.std.proofs.Common.{◌≡◌, ◌||◌, ◌<◌, ℕ, zero, suc, Bool, true, false, List, [], ◌∷◌, Some, length, map, get_or, refl, sym, ap, ◌∙◌, arith, Bor}
+use Rattle.std.specs.List.{position}
 use Rattle.std.specs.Str.{bytes_eq}
 use Rattle.std.proofs.lemmas.Slice.Eq.{bytes_eq-Decides}
 use Rattle.lease_desk.specs.Leases.{live_on_topic}
@@ -12,7 +12,7 @@ use Rattle.campaign_core.specs.Kept.{KnowsAll}
 use Rattle.campaign_core.specs.Numbers.{names_of}
 use Rattle.campaign_core.specs.Printed.{IsTopicOf}
 use Rattle.campaign_core.specs.Texts.{shown}
-use Rattle.campaign_core.specs.Topics.{KeptTopic, kept, kept_of, topic_ids}
+use Rattle.campaign_core.specs.Topics.{KeptTopic, kept, kept_of}
 use Rattle.campaign_core.specs.declared.topics.TopicState.{TopicState}
 use Rattle.campaign_core.proofs.AmendFacts.{topic-there}
 use Rattle.campaign_core.proofs.Desks.{live-on-topic-same}

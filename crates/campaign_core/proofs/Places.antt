@@ -1,5 +1,5 @@
 -- The topics of a campaign by the places of their ids.
-use Rattle.std.proofs.Common.{◌≡◌, ◌+◌, ◌<◌, ℕ, Bool, true, not, cond, List, [], ◌∷◌, Option, Some, None, length, map, refl, sym, subst, ap, ◌∙◌, lt-ltb, ltb}
+use Rattle.std.proofs.Common.{◌≡◌, ◌+◌, ℕ, true, not, cond, List, [], ◌∷◌, Option, Some, None, length, map, refl, sym, subst, ap, ◌∙◌, lt-ltb, ltb}
 use Rattle.std.specs.List.{position, position_or_len}
 use Rattle.std.specs.Option.{IsSome, option_map}
 use Rattle.std.specs.Str.{bytes_eq}

@@ -1,5 +1,5 @@
 -- What the plans of leases, grades and releases rest on.
-use Rattle.std.proofs.Common.{◌≡◌, ◌<◌, ◌+◌, ◌-◌, ◌++◌, ◌∷◌, [], ℕ, suc, zero, Bool, true, false, List, Option, Some, None, Ok, length, map, get_or, refl, sym, subst, ap, ◌∙◌, arith, is_some}
+use Rattle.std.proofs.Common.{◌≡◌, ◌<◌, ◌+◌, ◌-◌, ◌∷◌, [], ℕ, suc, zero, Bool, true, false, List, Option, Some, None, Ok, length, map, get_or, refl, sym, subst, ap, ◌∙◌, arith, is_some}
 use Rattle.std.specs.Prelude.{if◌then◌else◌, nat_lt, slice_get}
 use Rattle.std.specs.Option.{IsSomeAnd}
 use Rattle.std.proofs.lemmas.Bool.{lt-ltb}
@@ -18,7 +18,7 @@ use Rattle.labels.specs.declared.given.Given.{Given}
 use Rattle.labels.specs.Labelled.{has_label}
 use Rattle.rulebook.specs.Grades.{labels_on}
 use Rattle.rulebook.specs.JudgingOrder.{named}
-use Rattle.rulebook.specs.Leases.{Lease, is_ended, lease_numbered, leases}
+use Rattle.rulebook.specs.Leases.{Lease, lease_numbered, leases}
 use Rattle.rulebook.specs.Words.{each_once}
 use Rattle.campaign_core.specs.Growth.{lists_in}
 use Rattle.campaign_core.specs.Kept.{KnowsAll}
@@ -27,7 +27,7 @@ use Rattle.campaign_core.specs.Numbers.{doc_in, names_of}
 use Rattle.campaign_core.specs.Plans.{IsPlace, ToldGrade, ToldLease}
 use Rattle.campaign_core.specs.Topics.{KeptTopic, kept, kept_of, topic_ids}
 use Rattle.campaign_core.specs.declared.topics.TopicState.{TopicState}
-use Rattle.campaign_core.proofs.Accepting.{OnLease, amend-told, grade-told, lease-told, listed-id, numbered-all, numbered-at, release-told, rule-told}
+use Rattle.campaign_core.proofs.Accepting.{amend-told, grade-told, lease-told, listed-id, numbered-all, numbered-at, release-told, rule-told}
 use Rattle.campaign_core.proofs.LeaseFacts.{Standing, stands-at, within-states}
 use Rattle.campaign_core.proofs.ListFacts.{both_true, get_or_default}
 use Rattle.campaign_core.proofs.Naming.{number-within}

@@ -7,7 +7,6 @@ use Rattle.qrels_view.specs.declared.grades.Graded.{Graded}
 use Rattle.score_index.specs.Scores.{Scores, TopicScores, docs_in, new_topic}
 use Rattle.score_index.specs.Standing.{StandsFor, TopicStandsFor}
 use Rattle.rulebook.specs.Words.{Text}
-use Rattle.lease_desk.specs.declared.leases.Lease.{Lease}
 use Rattle.rulebook.specs.declared.rules.Phase.TheVariants.{Collecting}
 use Rattle.rulebook.specs.Words.{each_once}
 use Rattle.rulebook.specs.declared.rules.Rules.{Rules}
@@ -21,7 +20,7 @@ use Rattle.campaign_core.specs.Numbers.{names_of}
 use Rattle.campaign_core.specs.Scoring.{IsScored, graded_of}
 use Rattle.campaign_core.specs.Submissions.{AreSubmissions}
 use Rattle.campaign_core.proofs.Boards.{grades-stay}
-use Rattle.campaign_core.specs.Topics.{IsQueued, LabelledTopic, kept, kept_of, labelled_of, topic_ids}
+use Rattle.campaign_core.specs.Topics.{IsQueued, kept, kept_of, labelled_of, topic_ids}
 use Rattle.campaign_core.specs.declared.state.Ready.{Ready}
 use Rattle.campaign_core.specs.declared.state.State.TheInside.{Inside}
 

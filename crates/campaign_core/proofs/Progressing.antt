@@ -1,11 +1,10 @@
 -- What the page of the progress counts of a topic.
-use Rattle.std.proofs.Common.{◌≡◌, ◌&&◌, ◌+◌, ◌<◌, ℕ, Bool, true, false, not, cond, List, [], ◌∷◌, Option, None, Some, filter, is_some, length, map, refl, sym, ap, ◌∙◌, arith, subst}
+use Rattle.std.proofs.Common.{◌≡◌, ◌&&◌, ◌+◌, ℕ, Bool, true, false, not, cond, List, [], ◌∷◌, Option, None, Some, filter, is_some, length, map, refl, sym, ap, ◌∙◌, arith}
 use Rattle.std.specs.Prelude.{count_by}
-use Rattle.std.specs.List.{flat_map, list_any}
+use Rattle.std.specs.List.{flat_map}
 use Rattle.std.specs.Str.{bytes_eq}
 use Rattle.std.proofs.lemmas.List.{length-map}
-use Rattle.depth_pool.specs.Holdings.{Held, IsCount, some_run_holds}
-use Rattle.decimal_rank.specs.declared.naming.DocId.{DocId}
+use Rattle.depth_pool.specs.Holdings.{IsCount, some_run_holds}
 use Rattle.measures.specs.Grades.{is_non_relevant, is_relevant}
 use Rattle.qrels_view.specs.Grades.{is_non_relevant as non_relevant_there, is_relevant as relevant_there}
 use Rattle.qrels_view.specs.declared.grades.Graded.{Graded}
@@ -20,7 +19,7 @@ use Rattle.campaign_core.specs.Printed.{IsTopicOf}
 use Rattle.campaign_core.specs.Topics.{KeptTopic, pool_of}
 use Rattle.campaign_core.specs.declared.topics.TopicState.{TopicState}
 use Rattle.campaign_core.proofs.Desks.{count_by-cons}
-use Rattle.campaign_core.proofs.LabelSteps.{differ-all, trail-differs}
+use Rattle.campaign_core.proofs.LabelSteps.{differ-all}
 use Rattle.campaign_core.proofs.ListFacts.{and_true, both_true}
 use Rattle.campaign_core.proofs.Naming.{numbers-differ}
 use Rattle.campaign_core.proofs.Numbering.{passing}

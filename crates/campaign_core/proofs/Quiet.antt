@@ -1,28 +1,25 @@
 -- What an entry leaves of labels and leases that gives none.
-use Rattle.std.proofs.Common.{◌≡◌, ◌||◌, ◌&&◌, ◌<◌, ◌≤◌, ℕ, suc, Bool, true, false, List, ◌++◌, ◌∷◌, [], Option, None, Some, Ok, Err, length, map, get_or, length-append, subst, arith, refl, sym, ap, ◌∙◌}
+use Rattle.std.proofs.Common.{◌≡◌, ◌||◌, ◌&&◌, ◌<◌, ℕ, Bool, true, false, List, ◌++◌, ◌∷◌, [], Option, None, Some, Ok, length, map, get_or, subst, refl, sym, ap, ◌∙◌}
 use Rattle.std.specs.Prelude.{All}
-use Rattle.std.specs.List.{filter_map, list_all, list_any}
+use Rattle.std.specs.List.{filter_map, list_all}
 use Rattle.std.proofs.lemmas.List.{append-nil}
 use Rattle.std.proofs.lemmas.List.Elements.{filter_map-append}
 use Rattle.std.proofs.lemmas.List.Folds.{list_any-append}
 use Rattle.lease_desk.specs.declared.leases.Lease.{Lease as DeskLease}
-use Rattle.rulebook.specs.declared.ask.Command.{Command}
-use Rattle.rulebook.specs.declared.ask.Command.TheVariants as command
 use Rattle.rulebook.specs.declared.entry.Entry.{Entry}
 use Rattle.rulebook.specs.declared.reply.Refusal.{Refusal}
 use Rattle.rulebook.specs.declared.reply.Reply.{Reply}
 use Rattle.rulebook.specs.Words.{Text, contains_text}
 use Rattle.rulebook.specs.Campaign.{History}
-use Rattle.rulebook.specs.Entries.{AreKept, IsQuiet}
-use Rattle.rulebook.specs.Grades.{effective, given_labels, label_of, labels_on, ruling, ruling_in, trail}
+use Rattle.rulebook.specs.Entries.{AreKept}
+use Rattle.rulebook.specs.Grades.{given_labels, ruling, trail}
 use Rattle.rulebook.specs.Leases.{Lease, ends, is_ended, lease_in, leases}
 use Rattle.rulebook.specs.Refusals.{Ruling, given, unless}
-use Rattle.campaign_core.specs.Kept.{IsFew, IsUnjudged}
+use Rattle.campaign_core.specs.Kept.{IsUnjudged}
 use Rattle.campaign_core.specs.Labelling.{IsLabelled, graded_in}
-use Rattle.campaign_core.specs.Leasing.{IsLeased, KnownLease, is_known, known, seen, topic_in}
+use Rattle.campaign_core.specs.Leasing.{IsLeased, KnownLease, is_known, known, topic_in}
 use Rattle.campaign_core.specs.Numbers.{are_named, doc_in, names_of}
 use Rattle.campaign_core.specs.Topics.{LabelledTopic, topic_ids}
-use Rattle.campaign_core.proofs.ListFacts.{each_cons}
 
 -- an accepted ruling is what follows the tests
 pub unless-ok : (tests : List (Option Refusal)) (ruling : Ruling) (answer : Reply) → unless tests ruling ≡ Ok answer → ruling ≡ Ok answer

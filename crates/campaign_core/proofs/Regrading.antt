@@ -1,10 +1,9 @@
 -- A document's grade after it changes.
-use Rattle.std.proofs.Common.{◌≡◌, ◌+◌, ◌-◌, ◌≤◌, ◌<◌, ℕ, suc, Bool, true, false, cond, List, [], ◌∷◌, Option, Some, None, length, refl, sym, ap, ◌∙◌, arith, eq-eqb}
-use Rattle.std.specs.Prelude.{◌==◌, count_by, if◌then◌else◌}
+use Rattle.std.proofs.Common.{◌≡◌, ℕ, Bool, true, false, List, [], ◌∷◌, Option, Some, None, refl, ap, ◌∙◌, eq-eqb}
+use Rattle.std.specs.Prelude.{◌==◌, if◌then◌else◌}
 use Rattle.decimal_rank.specs.declared.naming.DocId.{DocId}
-use Rattle.qrels_view.specs.Grades.{as_number, effective_in, is_non_relevant, is_relevant, with_grade}
+use Rattle.qrels_view.specs.Grades.{effective_in, with_grade}
 use Rattle.qrels_view.specs.declared.grades.Graded.{Graded}
-use Rattle.campaign_core.proofs.Desks.{count_by-cons}
 
 -- the grade that was given is the one that is there
 pub given-there : (doc : DocId) (grade : Option ℕ) (graded : List Graded) → effective_in (with_grade doc grade graded) doc ≡ grade

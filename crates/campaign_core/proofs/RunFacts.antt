@@ -12,7 +12,7 @@ use Rattle.measures.specs.declared.cells.Cell.{Cell}
 use Rattle.qrels_view.specs.Grades.{is_non_relevant as lower_there}
 use Rattle.qrels_view.specs.declared.grades.Graded.{Graded}
 use Rattle.rulebook.specs.Words.{Text, contains_text}
-use Rattle.rulebook.specs.Campaign.{History, Run, docs_on, rules_of, runs, submitted_docnos}
+use Rattle.rulebook.specs.Campaign.{History, Run, docs_on, runs, submitted_docnos}
 use Rattle.rulebook.specs.Entries.{GradedAreOnTrail, GradedAreThere}
 use Rattle.rulebook.specs.Grades.{relevant_count}
 use Rattle.rulebook.specs.Scores.{cell_on, counted, is_counted}

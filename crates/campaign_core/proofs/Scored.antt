@@ -1,6 +1,6 @@
 -- The board of the runs' scores and the places of their entries, when an entry joins the history.
-use Rattle.std.proofs.Common.{◌≡◌, ◌≢◌, ◌<◌, ◌≤◌, ◌+◌, ◌^◌, ℕ, zero, suc, Bool, true, false, List, [], ◌∷◌, ◌++◌, Option, None, Some, length, map, get_or, refl, sym, ap, ◌∙◌, arith, lt-ltb, eq-eqb, lit≤}
-use Rattle.std.specs.Prelude.{◌==◌, ◌&&◌, All, if◌then◌else◌, nat_lt, slice_get}
+use Rattle.std.proofs.Common.{◌≡◌, ◌≢◌, ◌<◌, ◌≤◌, ◌+◌, ◌^◌, ℕ, Bool, true, false, List, [], ◌∷◌, ◌++◌, Option, None, Some, length, map, get_or, refl, sym, ap, ◌∙◌, arith, lt-ltb, eq-eqb, lit≤}
+use Rattle.std.specs.Prelude.{◌==◌, ◌&&◌, if◌then◌else◌, nat_lt, slice_get}
 use Rattle.std.specs.Option.{option_map_or}
 use Rattle.std.proofs.lemmas.Bool.{eqb-true, ltb-false, ltb-true}
 use Rattle.std.proofs.lemmas.List.{length-map}
@@ -9,14 +9,13 @@ use Rattle.depth_pool.specs.declared.runs.RunId.{RunId}
 use Rattle.lease_desk.specs.DeskView.{DeskView}
 use Rattle.qrels_view.specs.declared.grades.Graded.{Graded}
 use Rattle.trec_formats.specs.declared.Topic.{Topic}
-use Rattle.trec_formats.specs.declared.TopicList.{TopicList}
 use Rattle.rulebook.specs.declared.ask.Command.{Command}
 use Rattle.rulebook.specs.declared.entry.Entry.{Entry}
 use Rattle.rulebook.specs.declared.limits.TheConstants.{MAX_TOPICS}
 use Rattle.rulebook.specs.declared.rules.Rules.{Rules}
 use Rattle.rulebook.specs.Campaign.{History, Run, docnos, docs_on, has_topics, rules_of, run_in, runs, submitted_docnos, topics_in}
 use Rattle.rulebook.specs.Words.{Text}
-use Rattle.score_index.specs.Scores.{Scores, docs_at, docs_in as docs_there, new_topic, topic_at}
+use Rattle.score_index.specs.Scores.{Scores, docs_at, docs_in as docs_there, new_topic}
 use Rattle.score_index.specs.Standing.{StandsFor}
 use Rattle.campaign_core.specs.Growth.{BeginsWith, lists_in}
 use Rattle.campaign_core.specs.Kept.{IsKept, IsReady}
@@ -24,7 +23,7 @@ use Rattle.campaign_core.specs.Numbers.{are_named, docs_in, names_of}
 use Rattle.campaign_core.specs.Plans.{CarriesOut, HasNewBoard, IsNewRun, MayScore, docs_after, level_after, places_after}
 use Rattle.campaign_core.specs.Scoring.{IsNewBoard, IsScored, ranked, ranked_on, unless_empty}
 use Rattle.campaign_core.specs.Submissions.{AreSubmissions}
-use Rattle.campaign_core.specs.Topics.{AwaitsRun, KeptTopic, empty_topic, kept, kept_of, topic_ids}
+use Rattle.campaign_core.specs.Topics.{KeptTopic, empty_topic, kept, topic_ids}
 use Rattle.campaign_core.specs.declared.plans.Plan.{Plan}
 use Rattle.campaign_core.specs.declared.plans.Plan.TheVariants as plan
 use Rattle.campaign_core.specs.declared.state.State.TheInside.{Inside}

@@ -22,7 +22,7 @@ use Rattle.rulebook.specs.declared.reply.Reply.{Reply}
 use Rattle.rulebook.specs.declared.reply.Reply.TheVariants as reply
 use Rattle.rulebook.specs.Words.{Text, contains_text}
 use Rattle.rulebook.specs.Campaign.{History, rules_of, runs}
-use Rattle.rulebook.specs.Leases.{Lease, is_ended, lease_in, lease_numbered}
+use Rattle.rulebook.specs.Leases.{Lease, lease_in, lease_numbered}
 use Rattle.score_index.specs.Scores.{Scores, docs_at}
 use Rattle.score_index.specs.Standing.{StandsFor}
 use Rattle.campaign_core.specs.declared.plans.Plan.{Plan}

@@ -1,5 +1,5 @@
 -- What is kept of the topics, as the history has it.
-use Rattle.std.specs.Prelude.{◌≡◌, ◌≤◌, ℕ, nat_le, List, [], map, take, Option, Some, IsPermutation, MatchOption, unwrap_or}
+use Rattle.std.specs.Prelude.{◌≡◌, ◌≤◌, ℕ, nat_le, List, [], map, take, Some, IsPermutation, MatchOption, unwrap_or}
 use Rattle.std.specs.Option.{option_map}
 use Rattle.decimal_rank.specs.declared.naming.DocId.{DocId}
 use Rattle.depth_pool.specs.declared.runs.RunId.{RunId}

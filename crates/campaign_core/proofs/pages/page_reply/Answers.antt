@@ -4,7 +4,7 @@ use Rattle.std.proofs.lemmas.List.{flat_map_more, take_more}
 use Rattle.std.proofs.lemmas.List.Folds.{flat_map-map}
 use Rattle.rulebook.specs.declared.reply.Reply.TheVariants as reply
 use Rattle.rulebook.specs.Words.{Text, in_order}
-use Rattle.campaign_core.specs.Printed.{page_text, part_of}
+use Rattle.campaign_core.specs.Printed.{part_of}
 use Rattle.campaign_core.specs.Texts.{shown}
 use Rattle.campaign_core.specs.declared.topics.TopicState.{TopicState}
 use Rattle.campaign_core.proofs.Paging.{ids-kept, listed-there}

@@ -1,6 +1,5 @@
-use Rattle.std.proofs.Common.{◌≡◌, ◌++◌, ◌∙◌, ℕ, ap, length, subst}
+use Rattle.std.proofs.Common.{◌≡◌, ◌++◌, ◌∙◌, ap, length, subst}
 use Rattle.std.specs.Prelude.{OnOk}
-use Rattle.rulebook.specs.Words.{Text}
 use Rattle.rulebook.specs.Campaign.{pool}
 use Rattle.rulebook.specs.Grades.{non_relevant_count, relevant_count}
 use Rattle.rulebook.specs.Pages.{counts_line, progress_line}

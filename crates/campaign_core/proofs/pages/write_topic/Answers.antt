@@ -1,4 +1,4 @@
-use Rattle.std.proofs.Common.{◌≡◌, ◌++◌, ◌∙◌, ap, sym, refl, Some, map, subst}
+use Rattle.std.proofs.Common.{◌≡◌, ◌++◌, ◌∙◌, ap, sym, refl, map, subst}
 use Rattle.std.specs.Prelude.{OnOk}
 use Rattle.rulebook.specs.Pages.{live_count}
 use Rattle.campaign_core.specs.Leasing.{topic_in}

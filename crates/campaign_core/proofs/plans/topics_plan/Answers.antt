@@ -1,6 +1,4 @@
-use Rattle.std.proofs.Common.{◌≡◌, ◌∙◌, [], List, ap, length, map, refl, rules, subst, sym}
-use Rattle.std.specs.Prelude.{replicate}
-use Rattle.qrels_view.specs.declared.grades.Graded.{Graded}
+use Rattle.std.proofs.Common.{◌∙◌, ap, map, subst, sym}
 use Rattle.trec_formats.specs.declared.Topic.{Topic}
 use Rattle.rulebook.specs.declared.rules.Rules.{Rules}
 use Rattle.score_index.specs.Standing.{StandsFor}

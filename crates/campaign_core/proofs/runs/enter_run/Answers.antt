@@ -1,12 +1,10 @@
-use Rattle.std.proofs.Common.{◌≡◌, ◌∙◌, ◌<◌, ◌≤◌, ℕ, List, Option, ap, arith, get_or, length, map, subst, sym}
-use Rattle.std.specs.Prelude.{◌==◌, ◌&&◌, count_by, if◌then◌else◌, nat_lt}
+use Rattle.std.proofs.Common.{◌∙◌, ◌<◌, ◌≤◌, List, Option, ap, arith, get_or, length, subst, sym}
+use Rattle.std.specs.Prelude.{◌==◌, ◌&&◌, if◌then◌else◌, nat_lt}
 use Rattle.std.specs.Option.{IsSome}
 use Rattle.decimal_rank.specs.declared.naming.DocId.{DocId}
-use Rattle.qrels_view.specs.declared.grades.Graded.{Graded}
 use Rattle.score_index.specs.Scores.{docs_at, rooms_for}
 use Rattle.score_index.specs.Standing.{StandsFor}
-use Rattle.campaign_core.specs.Scoring.{graded_of, has_length, ranked}
-use Rattle.campaign_core.specs.declared.topics.TopicState.{TopicState}
+use Rattle.campaign_core.specs.Scoring.{ranked}
 use Rattle.campaign_core.proofs.Boards.{as-long, grades-stay, has-ranking, lengths-stay, ranked-at, ranking-at, rankings-long}
 use Rattle.campaign_core.proofs.runs.enter_run.Goals as goal
 

@@ -2,8 +2,7 @@ use Rattle.std.proofs.Common.{◌≡◌, ◌∙◌, ◌<◌, ℕ, List, Option, 
 use Rattle.labels.specs.Marked.{Marked, effective_at, with_ruling_at}
 use Rattle.qrels_view.specs.Grades.{effective_in, with_grade}
 use Rattle.qrels_view.specs.declared.grades.Graded.{Graded}
-use Rattle.score_index.specs.Standing.{StandsFor, TopicStandsFor, grades_at}
-use Rattle.score_index.specs.Scores.{topic_at}
+use Rattle.score_index.specs.Standing.{StandsFor, grades_at}
 use Rattle.campaign_core.specs.Scoring.{graded_of}
 use Rattle.campaign_core.specs.Topics.{labelled_of, after_ruling}
 use Rattle.campaign_core.specs.declared.topics.TopicState.{TopicState}

@@ -1,11 +1,11 @@
-use Rattle.std.proofs.Common.{◌≡◌, ◌++◌, ◌∙◌, ◌<◌, ◌≤◌, ◌+◌, ◌∷◌, [], List, Option, Some, ap, arith, get_or, length, subst, sym, take, take_all, rules}
+use Rattle.std.proofs.Common.{◌≡◌, ◌++◌, ◌∙◌, ◌<◌, ◌≤◌, [], Option, Some, ap, arith, get_or, length, subst, sym, take, take_all}
 use Rattle.std.specs.List.{flat_map}
 use Rattle.std.specs.Option.{option_map_or}
 use Rattle.std.proofs.lemmas.List.{flat_map_more, take_more}
 use Rattle.rulebook.specs.declared.entry.Entry.{Entry}
 use Rattle.rulebook.specs.declared.reply.Reply.TheVariants as reply
 use Rattle.rulebook.specs.Campaign.{Run, run_in, runs}
-use Rattle.rulebook.specs.Scores.{summary_lines, table_page}
+use Rattle.rulebook.specs.Scores.{summary_lines}
 use Rattle.rulebook.specs.Words.{Text}
 use Rattle.campaign_core.specs.Kept.{KnowsRun}
 use Rattle.campaign_core.specs.Submissions.{AreSubmissions}

@@ -1,21 +1,16 @@
-use Rattle.std.proofs.Common.{◌≡◌, ◌++◌, ◌+◌, ◌<◌, ◌∙◌, ℕ, Bool, true, false, [], ap, sym, refl, arith, Some, length, map, lt-ltb}
-use Rattle.std.specs.Prelude.{if◌then◌else◌, nat_lt}
-use Rattle.std.proofs.lemmas.Bool.{le-ltb}
+use Rattle.std.proofs.Common.{◌≡◌, ◌++◌, ◌∙◌, true, false, [], ap, sym, refl, arith, map}
+use Rattle.std.specs.Prelude.{if◌then◌else◌}
 use Rattle.std.proofs.lemmas.List.{append-nil}
 use Rattle.measures.specs.ScoreLines.{cell_text}
 use Rattle.measures.specs.declared.cells.Cell.{Cell}
-use Rattle.qrels_view.specs.declared.grades.Graded.{Graded}
-use Rattle.rulebook.specs.Grades.{graded, non_relevant_count, relevant_count}
 use Rattle.rulebook.specs.Scores.{cell_on, is_counted}
 use Rattle.rulebook.specs.Words.{Text}
 use Rattle.campaign_core.specs.Leasing.{topic_in}
 use Rattle.campaign_core.specs.Numbers.{names_of}
 use Rattle.campaign_core.specs.declared.topics.TopicState.{TopicState}
-use Rattle.campaign_core.proofs.CellFacts.{judged-count}
 use Rattle.campaign_core.proofs.LeaseFacts.{known-topic}
 use Rattle.campaign_core.proofs.Paging.{page-topic}
 use Rattle.campaign_core.proofs.Places.{some-there, topic-found}
-use Rattle.campaign_core.proofs.Progressing.{non_relevant-count, relevant-count}
 use Rattle.campaign_core.proofs.RunFacts.{as-many, cell-at}
 use Rattle.campaign_core.proofs.score_pages.write_topic_cell.Goals as goal
 

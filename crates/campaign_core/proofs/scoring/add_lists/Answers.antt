@@ -1,11 +1,10 @@
-use Rattle.std.proofs.Common.{◌≡◌, ◌≢◌, ◌<◌, ◌≤◌, ◌∙◌, ◌+◌, ◌-◌, ℕ, Bool, List, [], Option, None, ap, arith, get_or, get_or-set_other, length, map, set, subst, sym, rules}
+use Rattle.std.proofs.Common.{◌≡◌, ◌≢◌, ◌<◌, ◌∙◌, ◌-◌, List, [], Option, ap, arith, get_or, get_or-set_other, length, map, subst, sym, rules}
 use Rattle.std.specs.Prelude.{◌==◌, ◌&&◌, if◌then◌else◌, nat_lt}
 use Rattle.std.proofs.lemmas.Bool.{le-ltb}
-use Rattle.std.proofs.lemmas.List.{set-get_or}
 use Rattle.decimal_rank.specs.declared.naming.DocId.{DocId}
 use Rattle.qrels_view.specs.declared.grades.Graded.{Graded}
 use Rattle.score_index.specs.Scores.{docs_at, rooms_for, topic_at}
-use Rattle.score_index.specs.Standing.{StandsFor, TopicStandsFor}
+use Rattle.score_index.specs.Standing.{TopicStandsFor}
 use Rattle.campaign_core.specs.Scoring.{graded_of, has_length, ranked}
 use Rattle.campaign_core.specs.Topics.{IsQueued, kept, labelled_of}
 use Rattle.campaign_core.specs.declared.topics.TopicState.{TopicState}

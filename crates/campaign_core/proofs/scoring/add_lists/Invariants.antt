@@ -1,4 +1,4 @@
-use Rattle.std.proofs.Common.{◌≡◌, ◌<◌, ◌≤◌, ℕ, drop, get_or, length, map}
+use Rattle.std.proofs.Common.{◌≡◌, ◌≤◌, ℕ, drop, get_or, length, map}
 use Rattle.std.specs.Prelude.{◌==◌, ◌&&◌, All, count_by, if◌then◌else◌, nat_lt}
 use Rattle.depth_pool.specs.declared.runs.RunId.{RunId}
 use Rattle.score_index.specs.Scores.{docs_at, rooms_for}

@@ -1,4 +1,4 @@
-use Rattle.std.proofs.Common.{◌≡◌, ◌≤◌, ◌∙◌, ◌+◌, ℕ, List, ap, subst, sym, take, take_all, length, rules}
+use Rattle.std.proofs.Common.{◌≤◌, ◌∙◌, ◌+◌, ℕ, List, ap, subst, sym, take, take_all, length, rules}
 use Rattle.std.specs.Prelude.{◌==◌, count_by, if◌then◌else◌}
 use Rattle.score_index.specs.Scores.{rooms_for}
 use Rattle.campaign_core.specs.Scoring.{has_length}

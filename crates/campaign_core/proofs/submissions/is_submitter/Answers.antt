@@ -1,4 +1,4 @@
-use Rattle.std.proofs.Common.{◌≡◌, ◌||◌, ◌∙◌, ◌+◌, ◌≤◌, List, ℕ, Bool, true, false, ap, drop, length, sym, rules}
+use Rattle.std.proofs.Common.{◌≡◌, ◌||◌, ◌∙◌, ◌+◌, ◌≤◌, Bool, true, false, ap, drop, length, sym, rules}
 use Rattle.std.proofs.lemmas.List.{drop_all}
 use Rattle.rulebook.specs.declared.entry.Entry.{Entry}
 use Rattle.campaign_core.specs.Submissions.{any_at, is_submitted_by}

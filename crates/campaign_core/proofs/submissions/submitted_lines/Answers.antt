@@ -1,7 +1,5 @@
-use Rattle.std.proofs.Common.{◌≡◌, ◌∙◌, ◌+◌, ◌≤◌, List, ℕ, ap, arith, drop, length, sym, rules}
-use Rattle.rulebook.specs.declared.entry.Entry.{Entry}
-use Rattle.rulebook.specs.Campaign.{line_count, submitted_lines}
-use Rattle.campaign_core.specs.Submissions.{lines_at}
+use Rattle.std.proofs.Common.{◌≡◌, ◌∙◌, ap, arith}
+use Rattle.rulebook.specs.Campaign.{line_count}
 use Rattle.campaign_core.proofs.Submitted.{lines-are, lines-from, lines_of, place-within}
 use Rattle.campaign_core.proofs.submissions.submitted_lines.Goals as goal
 

@@ -1,11 +1,7 @@
-use Rattle.std.proofs.Common.{◌≡◌, ◌∙◌, List, None, ap, refl, rules, subst, sym}
-use Rattle.rulebook.specs.declared.entry.Entry.{Entry}
+use Rattle.std.proofs.Common.{◌≡◌, ◌∙◌, ap, refl}
 use Rattle.rulebook.specs.Answers.{moment_after, reply_of, told}
 use Rattle.rulebook.specs.Campaign.{History}
-use Rattle.campaign_core.specs.Kept.{KnowsAll}
-use Rattle.campaign_core.specs.Numbers.{names_of}
 use Rattle.campaign_core.specs.Seen.{Seen}
-use Rattle.campaign_core.proofs.Preparing.{knows-all}
 use Rattle.campaign_core.proofs.state.State.prepare.Goals as goal
 
 pub returns-in-Act-clause-verdict : goal.returns-in-Act-clause-verdict
