@@ -1,4 +1,6 @@
 ghost use Rattle.std.specs.Prelude.{◌≡◌, ◌<◌, [], ◌∷◌, ◌++◌, Some, IfOk};
+ghost use Rattle.rulebook.specs.Answers.{Answer};
+ghost use Rattle.campaign_core.specs.State.{IsVerdict};
 ghost use Rattle.campaign_cli.specs.Settings.{callers as first_callers, first_rules as first, first_entries, organiser as first_organiser, first_topics as topics_of_first};
 
 use campaign_core::{Prepared, State, Verdict};
@@ -81,10 +83,20 @@ pub(crate) fn opening(alloc: Global) -> Result<State, Memory>
     let who = organiser(alloc)?;
     let topics = first_topics(alloc)?;
     let ask = Ask::Act(Command::Topics { topics });
-    if let Verdict::Ready(prepared) = state.prepare(&who, None, ask, 0)? {
-        commit::<Brand>(&mut state, prepared, Blank::new(1));
-    }
+    let verdict = state.prepare(&who, None, ask, 0)?;
+    settle(&mut state, verdict);
     Ok(state)
+}
+
+/// Commits the entry that was prepared, where one was.
+fn settle(state: &mut State, verdict: Verdict)
+    requires { (answer : Answer) × IsVerdict answer verdict state.old.prepared }
+    ensures { (answer : Answer) → IsVerdict answer verdict state.old.prepared → state.new.history ≡ state.old.history ++ answer.added }
+{
+    match verdict {
+        Verdict::Ready(prepared) => commit::<Brand>(state, prepared, Blank::new(1)),
+        Verdict::Told(_) => {}
+    }
 }
 
 fn commit<L: Ledger>(state: &mut State, prepared: Prepared, blank: Blank)
