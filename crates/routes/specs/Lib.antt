@@ -1,0 +1,5 @@
+pub mod Faults
+pub mod Keys
+pub mod Openings
+pub mod OpeningParts
+pub mod Places

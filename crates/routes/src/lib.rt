@@ -1,0 +1,12 @@
+//! What a request to a campaign asks and who asks it, by the table of the paths and the callers' keys,
+//! and the texts of the answers.
+#![tactic(auto)]
+
+mod faults;
+mod keys;
+mod openings;
+mod paths;
+mod places;
+
+pub use faults::RouteFault;
+pub use keys::{KeyRow, Keys};
