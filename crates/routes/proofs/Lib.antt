@@ -1,3 +1,4 @@
 pub mod KnownRows
 pub mod Matching
+pub mod Members
 pub mod Sizes

@@ -18,18 +18,23 @@ or_fault cause (Some x) = Ok x
 abbrev pub demand : {A : Type 0} → RouteFault → Bool → A → Result A RouteFault
 demand cause test x = if test then Ok x else Err cause
 
--- The fault is what was read. Nothing is said of want of memory.
-abbrev pub Fails : {A : Type 0} → RouteFault → Result A RouteFault → Type 0
-Fails faults.Memory read = Unit {0}
-Fails faults.Route read = read ≡ Err faults.Route
-Fails faults.Method read = read ≡ Err faults.Method
-Fails faults.Key read = read ≡ Err faults.Key
-Fails faults.Role read = read ≡ Err faults.Role
-Fails faults.Number read = read ≡ Err faults.Number
-Fails faults.Body read = read ≡ Err faults.Body
-Fails (faults.Format at) read = read ≡ Err (faults.Format at)
+-- P holds of the fault. Nothing is said of want of memory.
+abbrev pub OfFault : RouteFault → (RouteFault → Type 0) → Type 0
+OfFault faults.Memory P = Unit {0}
+OfFault faults.Route P = P faults.Route
+OfFault faults.Method P = P faults.Method
+OfFault faults.Key P = P faults.Key
+OfFault faults.Role P = P faults.Role
+OfFault faults.Number P = P faults.Number
+OfFault faults.Body P = P faults.Body
+OfFault (faults.Format at) P = P (faults.Format at)
+
+-- what a call gave is so, unless there was no memory
+abbrev pub IsRead : {A : Type 0} → (Result A RouteFault → Type 0) → Result A RouteFault → Type 0
+IsRead P (Ok x) = P (Ok x)
+IsRead P (Err cause) = OfFault cause (λ told. P (Err told))
 
 -- what a call gave, seen by the view, is what was read, unless there was no memory
 abbrev pub Gives : {X A : Type 0} → (X → A) → Result X RouteFault → Result A RouteFault → Type 0
 Gives view (Ok x) read = read ≡ Ok (view x)
-Gives view (Err cause) read = Fails cause read
+Gives view (Err cause) read = OfFault cause (λ told. read ≡ Err told)

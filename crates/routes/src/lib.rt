@@ -2,11 +2,14 @@
 //! and the texts of the answers.
 #![tactic(auto)]
 
+mod asks;
+mod bodies;
 mod faults;
 mod keys;
 mod openings;
 mod paths;
 mod places;
 
+pub use asks::read_ask;
 pub use faults::RouteFault;
 pub use keys::{KeyRow, Keys};
