@@ -1,3 +1,4 @@
+pub mod Growing
 pub mod KnownRows
 pub mod Matching
 pub mod Members

@@ -2,14 +2,17 @@
 //! and the texts of the answers.
 #![tactic(auto)]
 
+mod answers;
 mod asks;
 mod bodies;
 mod faults;
+mod growth;
 mod keys;
 mod openings;
 mod paths;
 mod places;
 
+pub use answers::{Answered, render};
 pub use asks::read_ask;
 pub use faults::RouteFault;
 pub use keys::{KeyRow, Keys};
