@@ -1,5 +1,10 @@
+pub mod Addressed
 pub mod Growing
 pub mod KnownRows
 pub mod Matching
 pub mod Members
+pub mod Permuted
+pub mod RunLines
+pub mod RunRequests
 pub mod Sizes
+pub mod TopicSizes

@@ -9,6 +9,7 @@ use Rattle.trec_formats.specs.declared.faults.FormatEnd.{FormatEnd}
 use Rattle.trec_formats.specs.declared.faults.FormatEnd.TheVariants as ends
 use Rattle.trec_formats.specs.declared.lists.TopicList.{TopicList}
 use Rattle.trec_formats.specs.declared.topics.Topic.{Topic}
+use Rattle.trec_formats.specs.SoundTopics.{AreSoundTopics}
 use Rattle.trec_formats.specs.Topics.{IsTopics, IsTopicsFault}
 use Rattle.rulebook.specs.declared.ask.Ask.{Ask}
 use Rattle.rulebook.specs.declared.ask.Ask.TheVariants.{Act, See}
@@ -86,3 +87,8 @@ ReadsBehind (Ok opening) request (Err cause) = Asks opening.place (parameter req
 -- what a request is read as: who asks, with which number, and what; or its first fault
 abbrev pub Reads : HttpRequest → List KeyRow → Result Asked RouteFault → Type 0
 Reads request keys result = ReadsBehind (opening_of request keys) request result
+
+-- topics that are asked for are within the limits of their format, and no two have one id
+abbrev pub HasSoundTopics : Ask → Type 0
+HasSoundTopics (Act (command.Topics topics)) = AreSoundTopics topics
+HasSoundTopics _ = Unit {0}

@@ -1,7 +1,9 @@
 ghost use Rattle.std.specs.Prelude.{◌≡◌, ◌≤◌, ℕ, List, IsTrue, IfOk, length};
 ghost use Rattle.routes.specs.declared.places.Place.TheVariants as places;
-ghost use Rattle.routes.specs.Asks.{Asks, Reads, fault_of, with_nothing};
+ghost use Rattle.routes.specs.Asks.{Asks, HasSoundTopics, Reads, fault_of, with_nothing};
 ghost use Rattle.rulebook.specs.declared.ask.Ask.TheVariants.{Act};
+ghost use Rattle.rulebook.specs.declared.limits.TheConstants.{MAX_MOMENT};
+ghost use Rattle.rulebook.specs.Legal.{is_well_addressed};
 ghost use Rattle.routes.specs.Faults.{IsRead};
 ghost use Rattle.routes.specs.Places.{fits, is_lease};
 
@@ -35,7 +37,8 @@ fn fault_of(end: FormatEnd) -> RouteFault
 
 fn ask_topics(alloc: Global, body: &[u8]) -> Result<Ask, RouteFault>
     requires { length body.now ≤ 16777216 }
-    ensures { (text : List ℕ) → IsRead (Asks places.Topics text body.now) result }
+    ensures ask { (text : List ℕ) → IsRead (Asks places.Topics text body.now) result }
+    ensures sound { IfOk result HasSoundTopics }
 {
     match read_topics(alloc, body) {
         Ok(topics) => Ok(Ask::Act(Command::Topics {
@@ -139,7 +142,8 @@ fn ask_scores(alloc: Global, run: &[u8]) -> Result<Ask, RouteFault>
 fn ask_at(alloc: Global, place: Place, text: &[u8], body: &[u8]) -> Result<Ask, RouteFault>
     requires fitting { IsTrue (fits place text.now) }
     requires few { length body.now ≤ 16777216 }
-    ensures { IsRead (Asks place text.now body.now) result }
+    ensures ask { IsRead (Asks place text.now body.now) result }
+    ensures sound { place ≡ places.Topics → IfOk result HasSoundTopics }
 {
     match place {
         Place::Topics => ask_topics(alloc, body),
@@ -166,7 +170,9 @@ pub fn read_ask(
     keys: &Keys,
 ) -> Result<(Caller, Option<u64>, Ask), RouteFault>
     requires { length request.now.body ≤ 16777216 }
-    ensures { IsRead (Reads request.now keys.now) result }
+    ensures reading { IsRead (Reads request.now keys.now) result }
+    ensures addressed { IfOk result (λ asked. (moment : ℕ) → moment ≤ MAX_MOMENT
+        → IsTrue (is_well_addressed asked.0 asked.1 asked.2 moment)) }
 {
     let opening = read_opening(alloc, request, keys)?;
     let text = parameter(request.path.bytes());

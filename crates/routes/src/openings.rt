@@ -4,6 +4,7 @@ ghost use Rattle.routes.specs.Faults.{Gives};
 ghost use Rattle.routes.specs.Openings.{number_at, number_in, opening_of, place_of, row_at, with_method, with_parameter, with_role};
 ghost use Rattle.routes.specs.OpeningParts.{opening_shown};
 ghost use Rattle.routes.specs.Places.{fits, may_ask, method_of, parameter};
+ghost use Rattle.rulebook.specs.Spelling.{is_number};
 ghost use Rattle.trec_formats.specs.Names.{is_name};
 
 use crate::faults::RouteFault;
@@ -101,7 +102,8 @@ fn with_role(place: Place, row: &KeyRow) -> Result<&KeyRow, RouteFault>
 }
 
 fn find_number(fields: &[HttpField]) -> Result<Option<u64>, RouteFault>
-    ensures { result ≡ number_in fields.now }
+    ensures number { result ≡ number_in fields.now }
+    ensures small { IfOk result (λ number. IsTrue (is_number number)) }
 {
     match find_named(fields, "x-request-number") {
         Some(_) => Err(RouteFault::Number),
@@ -110,7 +112,8 @@ fn find_number(fields: &[HttpField]) -> Result<Option<u64>, RouteFault>
 }
 
 fn number_at(place: Place, fields: &[HttpField]) -> Result<Option<u64>, RouteFault>
-    ensures { result ≡ number_at place fields.now }
+    ensures number { result ≡ number_at place fields.now }
+    ensures small { IfOk result (λ number. IsTrue (is_number number)) }
 {
     if is_post(place) {
         find_number(fields)
@@ -130,6 +133,7 @@ pub(crate) fn read_opening<'a>(
     ensures named { IfOk result (λ opening. IsTrue (is_name opening.row.now.name)) }
     ensures role { IfOk result (λ opening. IsTrue (may_ask opening.row.now.role opening.place)) }
     ensures fitting { IfOk result (λ opening. IsTrue (fits opening.place (parameter request.now.path))) }
+    ensures number { IfOk result (λ opening. IsTrue (is_number opening.number)) }
 {
     let found = find_place(alloc, request.path.bytes())?;
     let place = with_method(found, request.method.bytes())?;
