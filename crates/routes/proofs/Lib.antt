@@ -1,4 +1,5 @@
 pub mod Addressed
+pub mod AnswerSizes
 pub mod Growing
 pub mod KnownRows
 pub mod Matching

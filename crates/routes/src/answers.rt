@@ -1,6 +1,8 @@
-ghost use Rattle.std.specs.Prelude.{◌≡◌, ◌+◌, ◌≤◌, ◌++◌, IsTrue, IsOk, IfOk, OnOk, OnErr, length, vec_len, vec_capacity};
+ghost use Rattle.std.specs.Prelude.{◌≡◌, ◌+◌, ◌^◌, ◌<◌, ◌≤◌, ◌++◌, IsTrue, IsOk, IfOk, OnOk, OnErr, length, vec_len, vec_capacity};
 ghost use Rattle.http_wire.specs.Answers.{is_status};
-ghost use Rattle.routes.specs.Answers.{body_of, detail, field_before, field_behind, format_body, graded_body, is_json, is_plain, is_short, leased_body, phase_name, pool_body, quantity_name, refusal_body, refusal_name, refusal_status, reply_body, reply_status, route_body, route_status, status_of, submitted_body, text_of, topics_body, wire_body, wire_status};
+ghost use Rattle.routes.specs.Answers.{body_of, detail, field_before, field_behind, format_body, graded_body, is_json, is_plain, is_plain_reply, is_short, is_short_reply, leased_body, phase_name, pool_body, quantity_name, refusal_body, refusal_name, refusal_status, reply_body, reply_status, route_body, route_status, status_of, submitted_body, text_of, topics_body, wire_body, wire_status};
+ghost use Rattle.rulebook.specs.Spelling.{is_printable};
+ghost use Rattle.trec_formats.specs.Names.{is_docno, is_name};
 ghost use Rattle.routes.specs.Growth.{Adds};
 ghost use Rattle.routes.specs.Parts.{field_shown};
 
@@ -81,6 +83,7 @@ fn wire_status(fault: WireFault) -> u16
 
 fn status_of(answer: &Answered) -> u16
     ensures status { result ≡ status_of answer.now }
+    ensures small { status_of answer.now < 2 ^ 16 }
     ensures known { IsTrue (is_status result) }
 {
     match answer {
@@ -148,8 +151,10 @@ struct Field {
 }
 
 // The field of a refusal whose key is before `"refusal"`.
+#[tactic(auto, using(crate::proofs::AnswerSizes::decimal_short))]
 fn field_before(refusal: Refusal) -> Field
-    ensures { field_shown result ≡ field_before refusal }
+    ensures field { field_shown result ≡ field_before refusal }
+    ensures short { length (field_before refusal).value ≤ 20 }
 {
     match refusal {
         Refusal::Reused { entry } => Field {
@@ -181,8 +186,10 @@ fn field_before(refusal: Refusal) -> Field
 }
 
 // And one whose key is behind it.
+#[tactic(auto, using(crate::proofs::AnswerSizes::decimal_short))]
 fn field_behind(refusal: Refusal) -> Field
-    ensures { field_shown result ≡ field_behind refusal }
+    ensures field { field_shown result ≡ field_behind refusal }
+    ensures short { length (field_behind refusal).value ≤ 20 }
 {
     match refusal {
         Refusal::Expired { until } => Field {
@@ -203,8 +210,10 @@ fn field_behind(refusal: Refusal) -> Field
     }
 }
 
+#[tactic(auto, using(crate::proofs::AnswerSizes::refusal_few))]
 fn write_refusal(out: &mut Vec<u8>, refusal: Refusal) -> Result<(), Memory>
-    ensures { Adds out.old out.new (refusal_body refusal) result }
+    ensures adds { Adds out.old out.new (refusal_body refusal) result }
+    ensures few { length (refusal_body refusal) ≤ 3000 }
 {
     let before = field_before(refusal);
     let behind = field_behind(refusal);
@@ -226,8 +235,10 @@ fn write_refusal(out: &mut Vec<u8>, refusal: Refusal) -> Result<(), Memory>
     )
 }
 
+#[tactic(auto, using(crate::proofs::AnswerSizes::topics_few))]
 fn write_topics(out: &mut Vec<u8>, topics: u32) -> Result<(), Memory>
-    ensures { Adds out.old out.new (topics_body topics) result }
+    ensures adds { Adds out.old out.new (topics_body topics) result }
+    ensures few { length (topics_body topics) ≤ 3000 }
 {
     append_parts(
         out,
@@ -240,7 +251,8 @@ fn write_topics(out: &mut Vec<u8>, topics: u32) -> Result<(), Memory>
 }
 
 fn write_submitted(out: &mut Vec<u8>, run: &[u8], topics: u32, lines: u32) -> Result<(), Memory>
-    ensures { Adds out.old out.new (submitted_body run.now topics lines) result }
+    ensures adds { Adds out.old out.new (submitted_body run.now topics lines) result }
+    ensures few { IsTrue (is_name run.now) → length (submitted_body run.now topics lines) ≤ 3000 }
 {
     append_parts(
         out,
@@ -265,7 +277,9 @@ fn write_leased<'x>(
     doc: &'x [u8],
     title: &'x [u8],
 ) -> Result<(), Memory>
-    ensures { Adds out.old out.new (leased_body lease topic.now doc.now until title.now) result }
+    ensures adds { Adds out.old out.new (leased_body lease topic.now doc.now until title.now) result }
+    ensures few { IsTrue (is_name topic.now) → IsTrue (is_docno doc.now) → IsTrue (is_printable 1000 title.now)
+        → length (leased_body lease topic.now doc.now until title.now) ≤ 3000 }
 {
     append_parts(
         out,
@@ -285,13 +299,15 @@ fn write_leased<'x>(
     )
 }
 
+#[tactic(auto, using(crate::proofs::AnswerSizes::graded_few))]
 fn write_graded<'x>(
     out: &mut Vec<u8>,
     topic: &'x [u8],
     doc: &'x [u8],
     grade: u8,
 ) -> Result<(), Memory>
-    ensures { Adds out.old out.new (graded_body topic.now doc.now grade) result }
+    ensures adds { Adds out.old out.new (graded_body topic.now doc.now grade) result }
+    ensures few { IsTrue (is_name topic.now) → IsTrue (is_docno doc.now) → length (graded_body topic.now doc.now grade) ≤ 3000 }
 {
     append_parts(
         out,
@@ -329,7 +345,8 @@ fn write_plain(out: &mut Vec<u8>, text: &[u8]) -> Result<(), Memory>
 }
 
 fn write_reply(out: &mut Vec<u8>, reply: &Reply) -> Result<(), Memory>
-    ensures { Adds out.old out.new (reply_body reply.now) result }
+    ensures adds { Adds out.old out.new (reply_body reply.now) result }
+    ensures few { IsTrue (is_plain_reply reply.now) → IsTrue (is_short_reply reply.now) → length (reply_body reply.now) ≤ 3000 }
 {
     match reply {
         Reply::Done => write_plain(out, b"{\"done\":true}\n"),
@@ -361,8 +378,10 @@ fn write_reply(out: &mut Vec<u8>, reply: &Reply) -> Result<(), Memory>
 }
 
 // The field of a format fault whose key is before `"kind"`.
+#[tactic(auto, using(crate::proofs::AnswerSizes::decimal_short))]
 fn detail(kind: Kind) -> Field
-    ensures { field_shown result ≡ detail kind }
+    ensures field { field_shown result ≡ detail kind }
+    ensures short { length (detail kind).value ≤ 20 }
 {
     match kind {
         Kind::Score(cause) => Field {
@@ -383,8 +402,10 @@ fn detail(kind: Kind) -> Field
     }
 }
 
+#[tactic(auto, using(crate::proofs::AnswerSizes::format_few))]
 fn write_format(out: &mut Vec<u8>, fault: FormatFault) -> Result<(), Memory>
-    ensures { Adds out.old out.new (format_body fault) result }
+    ensures adds { Adds out.old out.new (format_body fault) result }
+    ensures few { length (format_body fault) ≤ 3000 }
 {
     let detail = detail(fault.kind);
     append_parts(
@@ -404,7 +425,8 @@ fn write_format(out: &mut Vec<u8>, fault: FormatFault) -> Result<(), Memory>
 }
 
 fn write_route(out: &mut Vec<u8>, fault: RouteFault) -> Result<(), Memory>
-    ensures { Adds out.old out.new (route_body fault) result }
+    ensures adds { Adds out.old out.new (route_body fault) result }
+    ensures few { length (route_body fault) ≤ 3000 }
 {
     match fault {
         RouteFault::Route => write_plain(out, b"{\"fault\":\"route\"}\n"),
@@ -419,7 +441,8 @@ fn write_route(out: &mut Vec<u8>, fault: RouteFault) -> Result<(), Memory>
 }
 
 fn write_wire(out: &mut Vec<u8>, fault: WireFault) -> Result<(), Memory>
-    ensures { Adds out.old out.new (wire_body fault) result }
+    ensures adds { Adds out.old out.new (wire_body fault) result }
+    ensures few { length (wire_body fault) ≤ 3000 }
 {
     match fault {
         WireFault::Head => write_plain(out, b"{\"fault\":\"head\"}\n"),
@@ -431,7 +454,8 @@ fn write_wire(out: &mut Vec<u8>, fault: WireFault) -> Result<(), Memory>
 }
 
 fn write_body(out: &mut Vec<u8>, answer: &Answered) -> Result<(), Memory>
-    ensures { Adds out.old out.new (body_of answer.now) result }
+    ensures adds { Adds out.old out.new (body_of answer.now) result }
+    ensures few { IsTrue (is_plain answer.now) → IsTrue (is_short answer.now) → length (body_of answer.now) ≤ 3000 }
 {
     match answer {
         Answered::Reply { reply, .. } => write_reply(out, reply),
@@ -459,6 +483,7 @@ fn size_of_body(out: &mut Vec<u8>, answer: &Answered) -> Result<usize, Memory>
     ensures size { IfOk result (λ size. size ≡ length (body_of answer.now)) }
     ensures same { out.new.items ≡ out.old.items }
     ensures room { vec_len out.old + length (body_of answer.now) ≤ vec_capacity out.old → IsOk result }
+    ensures few { IsTrue (is_plain answer.now) → IsTrue (is_short answer.now) → length (body_of answer.now) ≤ 3000 }
     ensures capacity { vec_capacity out.old ≤ vec_capacity out.new }
 {
     let before = out.len();
@@ -475,11 +500,13 @@ pub fn render(answer: &Answered, close: bool, out: &mut Vec<u8>) -> Result<(), M
     ensures ok { OnOk result (out.new.items ≡ out.old.items ++ text_of answer.now close) }
     ensures err { OnErr result (out.new.items ≡ out.old.items) }
     ensures room { vec_len out.old + length (text_of answer.now close) ≤ vec_capacity out.old → IsOk result }
+    ensures few { IsTrue (is_plain answer.now) → IsTrue (is_short answer.now) → length (text_of answer.now close) ≤ 4096 }
     ensures capacity { vec_capacity out.old ≤ vec_capacity out.new }
 {
+    let status = status_of(answer);
     let size = size_of_body(out, answer)?;
     let before = out.len();
-    write_head(status_of(answer), is_json(answer), close, size, out)?;
+    write_head(status, is_json(answer), close, size, out)?;
     match write_body(out, answer) {
         Ok(()) => Ok(()),
         Err(memory) => {
