@@ -16,3 +16,6 @@ pub use answers::{Answered, render};
 pub use asks::read_ask;
 pub use faults::RouteFault;
 pub use keys::{KeyRow, Keys};
+
+#[cfg(test)]
+mod tests;
