@@ -478,7 +478,7 @@ fn is_json(answer: &Answered) -> bool
     )
 }
 
-// How long the body is: it is written behind the bytes, and taken away again.
+// How long the body is: it is written behind the bytes, and taken away again. A page has its length.
 fn size_of_body(out: &mut Vec<u8>, answer: &Answered) -> Result<usize, Memory>
     ensures size { IfOk result (λ size. size ≡ length (body_of answer.now)) }
     ensures same { out.new.items ≡ out.old.items }
@@ -486,6 +486,13 @@ fn size_of_body(out: &mut Vec<u8>, answer: &Answered) -> Result<usize, Memory>
     ensures few { IsTrue (is_plain answer.now) → IsTrue (is_short answer.now) → length (body_of answer.now) ≤ 3000 }
     ensures capacity { vec_capacity out.old ≤ vec_capacity out.new }
 {
+    if let Answered::Reply {
+        reply: Reply::Page { text },
+        ..
+    } = answer
+    {
+        return Ok(text.bytes().len());
+    }
     let before = out.len();
     write_body(out, answer)?;
     let size = out.len() - before;
