@@ -4,6 +4,7 @@ pub mod Growing
 pub mod KnownRows
 pub mod Matching
 pub mod Members
+pub mod OneReading
 pub mod Permuted
 pub mod RunLines
 pub mod RunRequests

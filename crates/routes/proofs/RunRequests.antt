@@ -37,7 +37,7 @@ pub record ArePlain (text : List ℕ) (lists : List TopicList) : Type 0 where
 
 -- The documents of a list
 
-all_map : {X Y : Type 0} (f : X → Y) (P : Y → Type 0) (xs : List X) → All (λ x. P (f x)) xs → All P (map f xs)
+pub all_map : {X Y : Type 0} (f : X → Y) (P : Y → Type 0) (xs : List X) → All (λ x. P (f x)) xs → All P (map f xs)
 all_map f P [] all k d within = absurd (omega arith)
 all_map f P (x ∷ xs) all zero d within = all zero x (omega arith)
 all_map f P (x ∷ xs) all (suc k) d within = all_map f P xs (all_tail (λ x. P (f x)) x xs all) k d (omega arith)
@@ -47,7 +47,7 @@ pairs_map f R [] pairs = λ i j d below within. absurd (omega arith)
 pairs_map f R (x ∷ xs) pairs = pairs_cons R (f x) (map f xs) (all_map f (R (f x)) xs (pairs_head (λ a b. R (f a) (f b)) x xs pairs)) (pairs_map f R xs (pairs_tail (λ a b. R (f a) (f b)) x xs pairs))
 
 -- a list has the documents of its lines
-docs_permuted : (lines : List RunLine) (docs : List (List ℕ)) → AllPairs (λ a b. a.doc ≢ b.doc) lines → AreRanked lines docs → IsPermutation (map (λ line. line.doc) lines) docs
+pub docs_permuted : (lines : List RunLine) (docs : List (List ℕ)) → AllPairs (λ a b. a.doc ≢ b.doc) lines → AreRanked lines docs → IsPermutation (map (λ line. line.doc) lines) docs
 docs_permuted lines docs apart ranked =
     permuted (map (λ line. line.doc) lines) docs (pairs_map (λ line. line.doc) (λ a b. a ≢ b) lines apart)
     (all_map (λ line. line.doc) (Contains docs) lines (λ k line within.

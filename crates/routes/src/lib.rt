@@ -8,6 +8,7 @@ mod bodies;
 mod faults;
 mod growth;
 mod keys;
+mod laws;
 mod openings;
 mod paths;
 mod places;
@@ -16,6 +17,7 @@ pub use answers::{Answered, render};
 pub use asks::read_ask;
 pub use faults::RouteFault;
 pub use keys::{KeyRow, Keys};
+pub use laws::one_request_reading;
 
 #[cfg(test)]
 mod tests;
