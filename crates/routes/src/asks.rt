@@ -1,4 +1,4 @@
-ghost use Rattle.std.specs.Prelude.{◌≡◌, ◌≤◌, ℕ, List, IsTrue, IfOk, length};
+ghost use Rattle.std.specs.Prelude.{◌≡◌, ◌≤◌, ℕ, List, IsTrue, IfOk, None, length};
 ghost use Rattle.routes.specs.declared.places.Place.TheVariants as places;
 ghost use Rattle.routes.specs.Asks.{Asks, HasSoundTopics, Reads, fault_of, with_nothing};
 ghost use Rattle.rulebook.specs.declared.ask.Ask.TheVariants.{Act};
@@ -173,6 +173,7 @@ pub fn read_ask(
     ensures reading { IsRead (Reads request.now keys.now) result }
     ensures addressed { IfOk result (λ asked. (moment : ℕ) → moment ≤ MAX_MOMENT
         → IsTrue (is_well_addressed asked.0 asked.1 asked.2 moment)) }
+    ensures unnumbered { IfOk result (λ asked. asked.1 ≡ None) }
 {
     let opening = read_opening(alloc, request, keys)?;
     let text = parameter(request.path.bytes());

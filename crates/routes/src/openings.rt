@@ -1,4 +1,4 @@
-ghost use Rattle.std.specs.Prelude.{◌≡◌, ◌∷◌, [], IsTrue, IfOk, codes};
+ghost use Rattle.std.specs.Prelude.{◌≡◌, ◌∷◌, [], IsTrue, IfOk, None, codes};
 ghost use Rattle.http_wire.specs.Heads.{values_named};
 ghost use Rattle.routes.specs.Faults.{Gives};
 ghost use Rattle.routes.specs.Openings.{number_at, number_in, opening_of, place_of, row_at, with_method, with_parameter, with_role};
@@ -104,6 +104,7 @@ fn with_role(place: Place, row: &KeyRow) -> Result<&KeyRow, RouteFault>
 fn find_number(fields: &[HttpField]) -> Result<Option<u64>, RouteFault>
     ensures number { result ≡ number_in fields.now }
     ensures small { IfOk result (λ number. IsTrue (is_number number)) }
+    ensures unnumbered { IfOk result (λ number. number ≡ None) }
 {
     match find_named(fields, "x-request-number") {
         Some(_) => Err(RouteFault::Number),
@@ -114,6 +115,7 @@ fn find_number(fields: &[HttpField]) -> Result<Option<u64>, RouteFault>
 fn number_at(place: Place, fields: &[HttpField]) -> Result<Option<u64>, RouteFault>
     ensures number { result ≡ number_at place fields.now }
     ensures small { IfOk result (λ number. IsTrue (is_number number)) }
+    ensures unnumbered { IfOk result (λ number. number ≡ None) }
 {
     if is_post(place) {
         find_number(fields)
@@ -134,6 +136,7 @@ pub(crate) fn read_opening<'a>(
     ensures role { IfOk result (λ opening. IsTrue (may_ask opening.row.now.role opening.place)) }
     ensures fitting { IfOk result (λ opening. IsTrue (fits opening.place (parameter request.now.path))) }
     ensures number { IfOk result (λ opening. IsTrue (is_number opening.number)) }
+    ensures unnumbered { IfOk result (λ opening. opening.number ≡ None) }
 {
     let found = find_place(alloc, request.path.bytes())?;
     let place = with_method(found, request.method.bytes())?;
