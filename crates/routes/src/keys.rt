@@ -1,6 +1,10 @@
-ghost use Rattle.std.specs.Prelude.{◌≡◌, IsTrue, IfOk, option_copied};
-ghost use Rattle.routes.specs.Keys.{caller, row_of};
+ghost use Rattle.std.specs.Prelude.{◌≡◌, IsTrue, IfOk, bytes_eq, map, option_copied};
+ghost use Rattle.std.specs.List.{list_all, list_any};
+ghost use Rattle.rulebook.specs.Spelling.{differ};
+ghost use Rattle.trec_formats.specs.Names.{is_name};
+ghost use Rattle.routes.specs.Keys.{are_rows, caller, row_of};
 
+use crate::paths::is_name;
 use decimal_rank::{Memory, Text};
 use rulebook::{Caller, Role};
 use std::marker::Model;
@@ -24,6 +28,58 @@ impl KeyRow {
     }
 }
 
+fn has_name(rows: &[KeyRow], name: &[u8]) -> bool
+    ensures { result ≡ list_any (λ row. bytes_eq name.now row.name) rows.now }
+{
+    rows.iter().any(|row| name == row.name.bytes())
+}
+
+fn has_key(rows: &[KeyRow], key: &[u8]) -> bool
+    ensures { result ≡ list_any (λ row. bytes_eq key.now row.key) rows.now }
+{
+    rows.iter().any(|row| key == row.key.bytes())
+}
+
+fn names_differ(rows: &[KeyRow]) -> bool
+    ensures { result ≡ differ (map (λ row. row.name) rows.now) }
+{
+    let mut left = rows;
+    while let [first, rest @ ..] = left {
+        if has_name(rest, first.name.bytes()) {
+            return false;
+        }
+        left = rest;
+    }
+    true
+}
+
+fn keys_differ(rows: &[KeyRow]) -> bool
+    ensures { result ≡ differ (map (λ row. row.key) rows.now) }
+{
+    let mut left = rows;
+    while let [first, rest @ ..] = left {
+        if has_key(rest, first.key.bytes()) {
+            return false;
+        }
+        left = rest;
+    }
+    true
+}
+
+fn are_named(rows: &[KeyRow]) -> bool
+    ensures { result ≡ list_all (λ row. is_name row.name) rows.now }
+{
+    rows.iter().all(|row| is_name(row.name.bytes()))
+}
+
+/// Whether rows may be the callers of a campaign: each name is a name, and no two rows have one name
+/// or one key.
+pub fn are_rows(rows: &[KeyRow]) -> bool
+    ensures { result ≡ are_rows rows.now }
+{
+    are_named(rows) && names_differ(rows) && keys_differ(rows)
+}
+
 /// The callers of a campaign. Contracts see the list of the rows.
 #[derive(Debug, Drop)]
 pub struct Keys {
@@ -43,8 +99,6 @@ impl Model for Keys {
 }
 
 impl Keys {
-    ghost use Rattle.routes.specs.Keys.{are_rows};
-
     /// Each row's name is a name, and no two rows have one name or one key.
     pub fn new(rows: Vec<KeyRow>) -> Keys
         requires { IsTrue (are_rows rows.items) }

@@ -16,7 +16,7 @@ mod places;
 pub use answers::{Answered, render};
 pub use asks::read_ask;
 pub use faults::RouteFault;
-pub use keys::{KeyRow, Keys};
+pub use keys::{KeyRow, Keys, are_rows};
 pub use laws::one_request_reading;
 
 #[cfg(test)]

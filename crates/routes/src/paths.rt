@@ -56,9 +56,9 @@ fn are_name_bytes(text: &[u8]) -> bool
     text.iter().all(|byte| is_name_byte(*byte))
 }
 
-/// Whether a text may be the id of a topic, or the name of a run.
+/// Whether a text may be the id of a topic, or the name of a run or a caller.
 #[tactic(auto, unfolding(trec_formats::specs::Names::is_name))]
-fn is_name(text: &[u8]) -> bool
+pub(crate) fn is_name(text: &[u8]) -> bool
     ensures { result ≡ is_name text.now }
 {
     1 <= text.len() && text.len() <= 32 && are_name_bytes(text)

@@ -35,6 +35,17 @@ fn keys(alloc: Global) -> Result<Keys, Memory> {
     Ok(Keys::new(rows))
 }
 
+#[test]
+fn callers_have_keys_of_their_own(rt: HostRuntime) -> Result<(), Fail> {
+    let mut rows = Vec::new(rt.alloc());
+    rows.push(row(rt.alloc(), b"org", Role::Organiser, b"o")?)?;
+    rows.push(row(rt.alloc(), b"grp", Role::Group, b"g")?)?;
+    assert!(rt; are_rows(&rows));
+    rows.push(row(rt.alloc(), b"ann", Role::Assessor, b"o")?)?;
+    assert!(rt; !are_rows(&rows));
+    Ok(())
+}
+
 fn field(alloc: Global, name: &[u8], value: &[u8]) -> Result<HttpField, Memory> {
     Ok(HttpField {
         name: text(alloc, name)?,
