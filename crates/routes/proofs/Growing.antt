@@ -1,0 +1,42 @@
+-- Bytes that grow by one part after another.
+use Rattle.std.proofs.Common.{◌≡◌, ℕ, ◌+◌, ◌<◌, ◌≤◌, List, [], ◌∷◌, ◌++◌, length, drop, Some, get_or, ◌-◌, ap, sym, ◌∙◌, append_assoc, refl, take, map, arith, length-append, append-nil}
+use Rattle.std.specs.Prelude.{slice_get}
+use Rattle.std.specs.List.{flat_map, join_with_byte}
+use Rattle.std.proofs.Math.Seq.{take-append_seam}
+use Rattle.std.proofs.lemmas.List.{take-append-le, take_all}
+use Rattle.routes.specs.Answers.{quoted}
+
+pub part_added : (first all before part rest after : List ℕ) → first ++ all ≡ before ++ (part ++ rest) → after ≡ before ++ part → first ++ all ≡ after ++ rest
+part_added first all before part rest after bytes is = bytes ∙ sym (append_assoc before part rest) ∙ ap (λ text. text ++ rest) (sym is)
+
+pub part_fits : (first all before part rest : List ℕ) (room : ℕ) → first ++ all ≡ before ++ (part ++ rest) → length first + length all ≤ room → length before + length part ≤ room
+part_fits first all before part rest room bytes fits =
+    omega (arith, ap length bytes, length-append first all, length-append before (part ++ rest), length-append part rest)
+
+-- what was there at first stands in front
+pub first_kept : (first all before rest : List ℕ) → first ++ all ≡ before ++ rest → length first ≤ length before → take (length first) before ≡ first
+first_kept first all before rest bytes grown =
+    sym (take-append-le (length first) before rest grown) ∙ ap (take (length first)) (sym bytes) ∙ take-append_seam first all
+
+-- what the first of some items comes to
+pub first_of : {X : Type 0} (f : X → List ℕ) (items : List X) (first : X) → slice_get items 0 ≡ Some first → flat_map f items ≡ f first ++ flat_map f (drop 1 items)
+first_of f [] first is = cc
+first_of f (item ∷ items) first is = let same : item ≡ first = cc in ap (λ x. f x ++ flat_map f items) same
+
+-- docnos joined by commas are the first, and then each other behind a comma
+joined_first : (first : List ℕ) (others : List (List ℕ)) → join_with_byte 44 (map quoted (first ∷ others)) ≡ quoted first ++ flat_map (λ doc. 44 ∷ quoted doc) others
+joined_first first [] = sym (append-nil (quoted first))
+joined_first first (next ∷ others) = ap (λ text. quoted first ++ (44 ∷ text)) (joined_first next others)
+
+pub joined_split : (docs : List (List ℕ)) (first : List ℕ) → slice_get docs 0 ≡ Some first
+    → quoted first ++ flat_map (λ doc. 44 ∷ quoted doc) (take (length docs - 1) (drop 1 docs)) ≡ join_with_byte 44 (map quoted docs)
+joined_split [] first is = cc
+joined_split (doc ∷ docs) first is =
+    let whole : take (length (doc ∷ docs) - 1) docs ≡ docs = take_all (length (doc ∷ docs) - 1) docs (omega arith) in
+    let same : doc ≡ first = cc in
+    rw (whole, ← same) (sym (joined_first doc docs))
+
+-- the byte that stands first
+pub first_byte : (bytes : List ℕ) → 0 < length bytes → slice_get bytes 0 ≡ Some (get_or bytes 0 0)
+first_byte [] some = absurd (omega arith)
+first_byte (byte ∷ bytes) some = refl

@@ -1,0 +1,12 @@
+pub mod Addressed
+pub mod AnswerSizes
+pub mod Growing
+pub mod KnownRows
+pub mod Matching
+pub mod Members
+pub mod OneReading
+pub mod Permuted
+pub mod RunLines
+pub mod RunRequests
+pub mod Sizes
+pub mod TopicSizes

@@ -1,0 +1,10 @@
+use Rattle.std.proofs.Common.{rules, ◌≡◌, Some, subst}
+use Rattle.std.specs.Prelude.{slice_get}
+use Rattle.routes.specs.Growth.{Adds}
+use Rattle.routes.proofs.Growing.{joined_split}
+use Rattle.routes.proofs.growth.append_listed.Goals as goal
+
+pub returns-in-len1-up : goal.returns-in-len1-up
+returns-in-len1-up c =
+    let here : slice_get c.args.docs.now 0 ≡ Some c.bytes.result.now = rw c.bytes.ensures (search (rules, c.first-item.is)) in
+    subst (λ text. Adds c.args.out.now c.append_some.new.out text c.append_some.result) (joined_split c.args.docs.now c.bytes.result.now here) c.append_some.ensures

@@ -1,0 +1,40 @@
+-- The first fault of a request, or what is read of it.
+use Rattle.std.specs.Prelude.{◌≡◌, Bool, Option, Some, None, Result, Ok, Err, if◌then◌else◌}
+use Rattle.routes.specs.declared.faults.RouteFault.{RouteFault}
+use Rattle.routes.specs.declared.faults.RouteFault.TheVariants as faults
+
+infixl 10 ◌>>=◌
+-- what follows from a value, or the fault that came before
+abbrev pub ◌>>=◌ : {A B : Type 0} → Result A RouteFault → (A → Result B RouteFault) → Result B RouteFault
+(Ok x) >>= f = f x
+(Err cause) >>= f = Err cause
+
+-- the value, or this fault where there is none
+abbrev pub or_fault : {A : Type 0} → RouteFault → Option A → Result A RouteFault
+or_fault cause None = Err cause
+or_fault cause (Some x) = Ok x
+
+-- the value where the test holds, and else this fault
+abbrev pub demand : {A : Type 0} → RouteFault → Bool → A → Result A RouteFault
+demand cause test x = if test then Ok x else Err cause
+
+-- P holds of the fault. Nothing is said of want of memory.
+abbrev pub OfFault : RouteFault → (RouteFault → Type 0) → Type 0
+OfFault faults.Memory P = Unit {0}
+OfFault faults.Route P = P faults.Route
+OfFault faults.Method P = P faults.Method
+OfFault faults.Key P = P faults.Key
+OfFault faults.Role P = P faults.Role
+OfFault faults.Number P = P faults.Number
+OfFault faults.Body P = P faults.Body
+OfFault (faults.Format at) P = P (faults.Format at)
+
+-- what a call gave is so, unless there was no memory
+abbrev pub IsRead : {A : Type 0} → (Result A RouteFault → Type 0) → Result A RouteFault → Type 0
+IsRead P (Ok x) = P (Ok x)
+IsRead P (Err cause) = OfFault cause (λ told. P (Err told))
+
+-- what a call gave, seen by the view, is what was read, unless there was no memory
+abbrev pub Gives : {X A : Type 0} → (X → A) → Result X RouteFault → Result A RouteFault → Type 0
+Gives view (Ok x) read = read ≡ Ok (view x)
+Gives view (Err cause) read = OfFault cause (λ told. read ≡ Err told)

@@ -1,0 +1,17 @@
+-- The parts of a body, as they are found.
+use Rattle.std.specs.Prelude.{ℕ, List, decimal, map}
+use Rattle.std.specs.List.{join_with_byte}
+use Rattle.routes.specs.declared.growth.Part.{Part}
+use Rattle.routes.specs.declared.growth.Part.TheVariants.{Plain, Number, Escaped, Listed}
+use Rattle.routes.specs.declared.answers.Field.{Field as FoundField}
+use Rattle.routes.specs.Answers.{Field, escaped, quoted}
+
+-- the bytes of a part
+abbrev pub part_bytes : Part → List ℕ
+part_bytes (Plain text) = text.now
+part_bytes (Number number) = decimal number
+part_bytes (Escaped text) = escaped text.now
+part_bytes (Listed docs) = join_with_byte 44 (map quoted docs.now)
+
+abbrev pub field_shown : FoundField → Field
+field_shown field = record { key = field.key.now; value = part_bytes field.value; end = field.end.now }

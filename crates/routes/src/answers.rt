@@ -1,0 +1,524 @@
+ghost use Rattle.std.specs.Prelude.{◌≡◌, ◌+◌, ◌^◌, ◌<◌, ◌≤◌, ◌++◌, IsTrue, IsOk, IfOk, OnOk, OnErr, length, vec_len, vec_capacity};
+ghost use Rattle.http_wire.specs.Answers.{is_status};
+ghost use Rattle.routes.specs.Answers.{body_of, detail, field_before, field_behind, format_body, graded_body, is_json, is_plain, is_plain_reply, is_short, is_short_reply, leased_body, phase_name, pool_body, quantity_name, refusal_body, refusal_name, refusal_status, reply_body, reply_status, route_body, route_status, status_of, submitted_body, text_of, topics_body, wire_body, wire_status};
+ghost use Rattle.rulebook.specs.Spelling.{is_printable};
+ghost use Rattle.trec_formats.specs.Names.{is_docno, is_name};
+ghost use Rattle.routes.specs.Growth.{Adds};
+ghost use Rattle.routes.specs.Parts.{field_shown};
+
+use crate::faults::RouteFault;
+use crate::growth::{Part, append_parts};
+use decimal_rank::{Memory, Text};
+use http_wire::{WireFault, write_head};
+use rulebook::{Phase, Quantity, Refusal, Reply};
+use trec_formats::{FormatFault, Kind, cause_name};
+
+/// What a request is answered.
+#[derive(Debug, Drop)]
+pub enum Answered {
+    /// The reply of the rules; `asked` says that the request was a query.
+    Reply { reply: Reply, asked: bool },
+    /// The request asks nothing, by its first fault.
+    Route(RouteFault),
+    /// The bytes are no request.
+    Wire(WireFault),
+    /// The disk failed.
+    DiskFault,
+    /// There was no memory for another answer.
+    Memory,
+}
+
+fn refusal_status(refusal: Refusal) -> u16
+    ensures status { result ≡ refusal_status refusal }
+    ensures known { IsTrue (is_status result) }
+{
+    match refusal {
+        Refusal::UnknownTopic
+        | Refusal::UnknownRun
+        | Refusal::UnknownLease
+        | Refusal::UnknownRelease => 404,
+        Refusal::NotYours => 403,
+        Refusal::TooMany { .. } => 429,
+        Refusal::GradeRange | Refusal::LineTopic { .. } => 400,
+        _ => 409,
+    }
+}
+
+fn reply_status(reply: &Reply, asked: bool) -> u16
+    ensures status { result ≡ reply_status reply.now asked }
+    ensures known { IsTrue (is_status result) }
+{
+    match reply {
+        Reply::Refused(refusal) => refusal_status(*refusal),
+        _ => { if asked { 200 } else { 201 } }
+    }
+}
+
+fn route_status(fault: RouteFault) -> u16
+    ensures status { result ≡ route_status fault }
+    ensures known { IsTrue (is_status result) }
+{
+    match fault {
+        RouteFault::Route => 404,
+        RouteFault::Method => 405,
+        RouteFault::Key => 401,
+        RouteFault::Role => 403,
+        RouteFault::Number | RouteFault::Body | RouteFault::Format(_) => 400,
+        RouteFault::Memory => 507,
+    }
+}
+
+fn wire_status(fault: WireFault) -> u16
+    ensures status { result ≡ wire_status fault }
+    ensures known { IsTrue (is_status result) }
+{
+    match fault {
+        WireFault::Head => 400,
+        WireFault::Length => 411,
+        WireFault::Body => 413,
+        WireFault::HeadSize => 431,
+        WireFault::Coding => 501,
+    }
+}
+
+fn status_of(answer: &Answered) -> u16
+    ensures status { result ≡ status_of answer.now }
+    ensures small { status_of answer.now < 2 ^ 16 }
+    ensures known { IsTrue (is_status result) }
+{
+    match answer {
+        Answered::Reply { reply, asked } => reply_status(reply, *asked),
+        Answered::Route(fault) => route_status(*fault),
+        Answered::Wire(fault) => wire_status(*fault),
+        Answered::DiskFault => 503,
+        Answered::Memory => 507,
+    }
+}
+
+fn phase_name(phase: Phase) -> &'static [u8]
+    ensures { result.now ≡ phase_name phase }
+{
+    match phase {
+        Phase::Collecting => b"collecting",
+        Phase::Judging => b"judging",
+        Phase::Published => b"published",
+    }
+}
+
+fn quantity_name(quantity: Quantity) -> &'static [u8]
+    ensures { result.now ≡ quantity_name quantity }
+{
+    match quantity {
+        Quantity::Topics => b"topics",
+        Quantity::Runs => b"runs",
+        Quantity::Lines => b"lines",
+        Quantity::Docnos => b"docnos",
+        Quantity::Entries => b"entries",
+    }
+}
+
+fn refusal_name(refusal: Refusal) -> &'static [u8]
+    ensures { result.now ≡ refusal_name refusal }
+{
+    match refusal {
+        Refusal::UnknownTopic => b"unknown-topic",
+        Refusal::UnknownRun => b"unknown-run",
+        Refusal::UnknownLease => b"unknown-lease",
+        Refusal::NotYours => b"not-yours",
+        Refusal::WrongPhase { .. } => b"wrong-phase",
+        Refusal::TagTaken => b"tag-taken",
+        Refusal::TopicsFixed => b"topics-fixed",
+        Refusal::NothingLeft => b"nothing-left",
+        Refusal::TooMany { .. } => b"too-many",
+        Refusal::Expired { .. } => b"expired",
+        Refusal::Ended => b"ended",
+        Refusal::GradeRange => b"grade-range",
+        Refusal::NotLabelled => b"not-labelled",
+        Refusal::Withdrawn => b"withdrawn",
+        Refusal::Reused { .. } => b"reused",
+        Refusal::Limit { .. } => b"limit",
+        Refusal::UnknownRelease => b"unknown-release",
+        Refusal::LineTopic { .. } => b"line-topic",
+    }
+}
+
+// A field of an object, with what stands between it and the next.
+#[derive(Clone, Copy)]
+struct Field {
+    key: &'static [u8],
+    value: Part<'static>,
+    end: &'static [u8],
+}
+
+// The field of a refusal whose key is before `"refusal"`.
+#[tactic(auto, using(crate::proofs::AnswerSizes::decimal_short))]
+fn field_before(refusal: Refusal) -> Field
+    ensures field { field_shown result ≡ field_before refusal }
+    ensures short { length (field_before refusal).value ≤ 20 }
+{
+    match refusal {
+        Refusal::Reused { entry } => Field {
+            key: b"\"entry\":",
+            value: Part::Number(u64::from(entry)),
+            end: b",",
+        },
+        Refusal::TooMany { live } => Field {
+            key: b"\"live\":",
+            value: Part::Number(u64::from(live)),
+            end: b",",
+        },
+        Refusal::WrongPhase { phase } => Field {
+            key: b"\"phase\":\"",
+            value: Part::Plain(phase_name(phase)),
+            end: b"\",",
+        },
+        Refusal::LineTopic { line } => Field {
+            key: b"\"line\":",
+            value: Part::Number(u64::from(line)),
+            end: b",",
+        },
+        _ => Field {
+            key: b"",
+            value: Part::Plain(b""),
+            end: b"",
+        },
+    }
+}
+
+// And one whose key is behind it.
+#[tactic(auto, using(crate::proofs::AnswerSizes::decimal_short))]
+fn field_behind(refusal: Refusal) -> Field
+    ensures field { field_shown result ≡ field_behind refusal }
+    ensures short { length (field_behind refusal).value ≤ 20 }
+{
+    match refusal {
+        Refusal::Expired { until } => Field {
+            key: b",\"until\":",
+            value: Part::Number(until),
+            end: b"",
+        },
+        Refusal::Limit { which } => Field {
+            key: b",\"which\":\"",
+            value: Part::Plain(quantity_name(which)),
+            end: b"\"",
+        },
+        _ => Field {
+            key: b"",
+            value: Part::Plain(b""),
+            end: b"",
+        },
+    }
+}
+
+#[tactic(auto, using(crate::proofs::AnswerSizes::refusal_few))]
+fn write_refusal(out: &mut Vec<u8>, refusal: Refusal) -> Result<(), Memory>
+    ensures adds { Adds out.old out.new (refusal_body refusal) result }
+    ensures few { length (refusal_body refusal) ≤ 3000 }
+{
+    let before = field_before(refusal);
+    let behind = field_behind(refusal);
+    append_parts(
+        out,
+        &[
+            Part::Plain(b"{"),
+            Part::Plain(before.key),
+            before.value,
+            Part::Plain(before.end),
+            Part::Plain(b"\"refusal\":\""),
+            Part::Plain(refusal_name(refusal)),
+            Part::Plain(b"\""),
+            Part::Plain(behind.key),
+            behind.value,
+            Part::Plain(behind.end),
+            Part::Plain(b"}\n"),
+        ],
+    )
+}
+
+#[tactic(auto, using(crate::proofs::AnswerSizes::topics_few))]
+fn write_topics(out: &mut Vec<u8>, topics: u32) -> Result<(), Memory>
+    ensures adds { Adds out.old out.new (topics_body topics) result }
+    ensures few { length (topics_body topics) ≤ 3000 }
+{
+    append_parts(
+        out,
+        &[
+            Part::Plain(b"{\"topics\":"),
+            Part::Number(u64::from(topics)),
+            Part::Plain(b"}\n"),
+        ],
+    )
+}
+
+fn write_submitted(out: &mut Vec<u8>, run: &[u8], topics: u32, lines: u32) -> Result<(), Memory>
+    ensures adds { Adds out.old out.new (submitted_body run.now topics lines) result }
+    ensures few { IsTrue (is_name run.now) → length (submitted_body run.now topics lines) ≤ 3000 }
+{
+    append_parts(
+        out,
+        &[
+            Part::Plain(b"{\"lines\":"),
+            Part::Number(u64::from(lines)),
+            Part::Plain(b",\"run\":\""),
+            Part::Plain(run),
+            Part::Plain(b"\",\"topics\":"),
+            Part::Number(u64::from(topics)),
+            Part::Plain(b"}\n"),
+        ],
+    )
+}
+
+// The body of a lease, by its number, its end and its texts.
+fn write_leased<'x>(
+    out: &mut Vec<u8>,
+    lease: u32,
+    until: u64,
+    topic: &'x [u8],
+    doc: &'x [u8],
+    title: &'x [u8],
+) -> Result<(), Memory>
+    ensures adds { Adds out.old out.new (leased_body lease topic.now doc.now until title.now) result }
+    ensures few { IsTrue (is_name topic.now) → IsTrue (is_docno doc.now) → IsTrue (is_printable 1000 title.now)
+        → length (leased_body lease topic.now doc.now until title.now) ≤ 3000 }
+{
+    append_parts(
+        out,
+        &[
+            Part::Plain(b"{\"doc\":\""),
+            Part::Escaped(doc),
+            Part::Plain(b"\",\"lease\":"),
+            Part::Number(u64::from(lease)),
+            Part::Plain(b",\"title\":\""),
+            Part::Escaped(title),
+            Part::Plain(b"\",\"topic\":\""),
+            Part::Plain(topic),
+            Part::Plain(b"\",\"until\":"),
+            Part::Number(until),
+            Part::Plain(b"}\n"),
+        ],
+    )
+}
+
+#[tactic(auto, using(crate::proofs::AnswerSizes::graded_few))]
+fn write_graded<'x>(
+    out: &mut Vec<u8>,
+    topic: &'x [u8],
+    doc: &'x [u8],
+    grade: u8,
+) -> Result<(), Memory>
+    ensures adds { Adds out.old out.new (graded_body topic.now doc.now grade) result }
+    ensures few { IsTrue (is_name topic.now) → IsTrue (is_docno doc.now) → length (graded_body topic.now doc.now grade) ≤ 3000 }
+{
+    append_parts(
+        out,
+        &[
+            Part::Plain(b"{\"doc\":\""),
+            Part::Escaped(doc),
+            Part::Plain(b"\",\"grade\":"),
+            Part::Number(u64::from(grade)),
+            Part::Plain(b",\"topic\":\""),
+            Part::Plain(topic),
+            Part::Plain(b"\"}\n"),
+        ],
+    )
+}
+
+fn write_pool<'x>(out: &mut Vec<u8>, topic: &'x [u8], docs: &'x [Text]) -> Result<(), Memory>
+    ensures { Adds out.old out.new (pool_body topic.now docs.now) result }
+{
+    append_parts(
+        out,
+        &[
+            Part::Plain(b"{\"docs\":["),
+            Part::Listed(docs),
+            Part::Plain(b"],\"topic\":\""),
+            Part::Plain(topic),
+            Part::Plain(b"\"}\n"),
+        ],
+    )
+}
+
+fn write_plain(out: &mut Vec<u8>, text: &[u8]) -> Result<(), Memory>
+    ensures { Adds out.old out.new text.now result }
+{
+    append_parts(out, &[Part::Plain(text)])
+}
+
+fn write_reply(out: &mut Vec<u8>, reply: &Reply) -> Result<(), Memory>
+    ensures adds { Adds out.old out.new (reply_body reply.now) result }
+    ensures few { IsTrue (is_plain_reply reply.now) → IsTrue (is_short_reply reply.now) → length (reply_body reply.now) ≤ 3000 }
+{
+    match reply {
+        Reply::Done => write_plain(out, b"{\"done\":true}\n"),
+        Reply::Topics { topics } => write_topics(out, *topics),
+        Reply::Submitted { run, topics, lines } => {
+            write_submitted(out, run.bytes(), *topics, *lines)
+        }
+        Reply::Leased {
+            lease,
+            topic,
+            doc,
+            until,
+            title,
+        } => write_leased(
+            out,
+            *lease,
+            *until,
+            topic.bytes(),
+            doc.bytes(),
+            title.bytes(),
+        ),
+        Reply::Graded { topic, doc, grade } => {
+            write_graded(out, topic.bytes(), doc.bytes(), *grade)
+        }
+        Reply::Pool { topic, docs } => write_pool(out, topic.bytes(), docs.items()),
+        Reply::Page { text } => write_plain(out, text.bytes()),
+        Reply::Refused(refusal) => write_refusal(out, *refusal),
+    }
+}
+
+// The field of a format fault whose key is before `"kind"`.
+#[tactic(auto, using(crate::proofs::AnswerSizes::decimal_short))]
+fn detail(kind: Kind) -> Field
+    ensures field { field_shown result ≡ detail kind }
+    ensures short { length (detail kind).value ≤ 20 }
+{
+    match kind {
+        Kind::Score(cause) => Field {
+            key: b"\"cause\":\"",
+            value: Part::Plain(cause_name(cause)),
+            end: b"\",",
+        },
+        Kind::Twice { first } => Field {
+            key: b"\"first\":",
+            value: Part::Number(u64::from(first)),
+            end: b",",
+        },
+        _ => Field {
+            key: b"",
+            value: Part::Plain(b""),
+            end: b"",
+        },
+    }
+}
+
+#[tactic(auto, using(crate::proofs::AnswerSizes::format_few))]
+fn write_format(out: &mut Vec<u8>, fault: FormatFault) -> Result<(), Memory>
+    ensures adds { Adds out.old out.new (format_body fault) result }
+    ensures few { length (format_body fault) ≤ 3000 }
+{
+    let detail = detail(fault.kind);
+    append_parts(
+        out,
+        &[
+            Part::Plain(b"{"),
+            Part::Plain(detail.key),
+            detail.value,
+            Part::Plain(detail.end),
+            Part::Plain(b"\"kind\":\""),
+            Part::Plain(fault.kind.name()),
+            Part::Plain(b"\",\"line\":"),
+            Part::Number(u64::from(fault.line)),
+            Part::Plain(b",\"refusal\":\"format\"}\n"),
+        ],
+    )
+}
+
+fn write_route(out: &mut Vec<u8>, fault: RouteFault) -> Result<(), Memory>
+    ensures adds { Adds out.old out.new (route_body fault) result }
+    ensures few { length (route_body fault) ≤ 3000 }
+{
+    match fault {
+        RouteFault::Route => write_plain(out, b"{\"fault\":\"route\"}\n"),
+        RouteFault::Method => write_plain(out, b"{\"fault\":\"method\"}\n"),
+        RouteFault::Key => write_plain(out, b"{\"fault\":\"key\"}\n"),
+        RouteFault::Role => write_plain(out, b"{\"fault\":\"role\"}\n"),
+        RouteFault::Number => write_plain(out, b"{\"fault\":\"number\"}\n"),
+        RouteFault::Body => write_plain(out, b"{\"fault\":\"body\"}\n"),
+        RouteFault::Format(fault) => write_format(out, fault),
+        RouteFault::Memory => write_plain(out, b"{\"fault\":\"memory\"}\n"),
+    }
+}
+
+fn write_wire(out: &mut Vec<u8>, fault: WireFault) -> Result<(), Memory>
+    ensures adds { Adds out.old out.new (wire_body fault) result }
+    ensures few { length (wire_body fault) ≤ 3000 }
+{
+    match fault {
+        WireFault::Head => write_plain(out, b"{\"fault\":\"head\"}\n"),
+        WireFault::Length => write_plain(out, b"{\"fault\":\"length\"}\n"),
+        WireFault::Body => write_plain(out, b"{\"fault\":\"body\"}\n"),
+        WireFault::HeadSize => write_plain(out, b"{\"fault\":\"head-size\"}\n"),
+        WireFault::Coding => write_plain(out, b"{\"fault\":\"coding\"}\n"),
+    }
+}
+
+fn write_body(out: &mut Vec<u8>, answer: &Answered) -> Result<(), Memory>
+    ensures adds { Adds out.old out.new (body_of answer.now) result }
+    ensures few { IsTrue (is_plain answer.now) → IsTrue (is_short answer.now) → length (body_of answer.now) ≤ 3000 }
+{
+    match answer {
+        Answered::Reply { reply, .. } => write_reply(out, reply),
+        Answered::Route(fault) => write_route(out, *fault),
+        Answered::Wire(fault) => write_wire(out, *fault),
+        Answered::DiskFault => write_plain(out, b"{\"fault\":\"disk\"}\n"),
+        Answered::Memory => write_plain(out, b"{\"fault\":\"memory\"}\n"),
+    }
+}
+
+fn is_json(answer: &Answered) -> bool
+    ensures { result ≡ is_json answer.now }
+{
+    !matches!(
+        answer,
+        Answered::Reply {
+            reply: Reply::Page { .. },
+            ..
+        }
+    )
+}
+
+// How long the body is: it is written behind the bytes, and taken away again. A page has its length.
+fn size_of_body(out: &mut Vec<u8>, answer: &Answered) -> Result<usize, Memory>
+    ensures size { IfOk result (λ size. size ≡ length (body_of answer.now)) }
+    ensures same { out.new.items ≡ out.old.items }
+    ensures room { vec_len out.old + length (body_of answer.now) ≤ vec_capacity out.old → IsOk result }
+    ensures few { IsTrue (is_plain answer.now) → IsTrue (is_short answer.now) → length (body_of answer.now) ≤ 3000 }
+    ensures capacity { vec_capacity out.old ≤ vec_capacity out.new }
+{
+    if let Answered::Reply {
+        reply: Reply::Page { text },
+        ..
+    } = answer
+    {
+        return Ok(text.bytes().len());
+    }
+    let before = out.len();
+    write_body(out, answer)?;
+    let size = out.len() - before;
+    out.truncate(before);
+    Ok(size)
+}
+
+/// Appends the text of an answer; `close` says that the connection ends behind it. It takes no memory
+/// where `out` has room for the text, which is at most 4,096 bytes but for a pool and a page.
+#[tactic(auto, unfolding(crate::specs::Answers::text_of))]
+pub fn render(answer: &Answered, close: bool, out: &mut Vec<u8>) -> Result<(), Memory>
+    ensures ok { OnOk result (out.new.items ≡ out.old.items ++ text_of answer.now close) }
+    ensures err { OnErr result (out.new.items ≡ out.old.items) }
+    ensures room { vec_len out.old + length (text_of answer.now close) ≤ vec_capacity out.old → IsOk result }
+    ensures few { IsTrue (is_plain answer.now) → IsTrue (is_short answer.now) → length (text_of answer.now close) ≤ 4096 }
+    ensures capacity { vec_capacity out.old ≤ vec_capacity out.new }
+{
+    let status = status_of(answer);
+    let size = size_of_body(out, answer)?;
+    let before = out.len();
+    write_head(status, is_json(answer), close, size, out)?;
+    match write_body(out, answer) {
+        Ok(()) => Ok(()),
+        Err(memory) => {
+            out.truncate(before);
+            Err(memory)
+        }
+    }
+}

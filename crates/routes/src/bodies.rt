@@ -1,0 +1,133 @@
+ghost use Rattle.std.specs.Prelude.{◌≡◌, ◌≤◌, IfOk, length, option_and_then, option_map};
+ghost use Rattle.std.specs.List.{list_all};
+ghost use Rattle.serde_json.specs.View.{view};
+ghost use Rattle.trec_formats.specs.Faults.{IfFault};
+ghost use Rattle.trec_formats.specs.Names.{is_between, is_docno};
+ghost use Rattle.routes.specs.Bodies.{doc_at, grade_at, grade_in, has_members, json_of, judgement_in, IsRankedRun, IsRankedRunFault};
+ghost use Rattle.routes.specs.BodyParts.{judgement_shown};
+
+use decimal_rank::{Memory, Text};
+use serde_json::Value;
+use std::alloc::Global;
+use trec_formats::{FormatEnd, TopicList, rank_run, read_run};
+
+/// A document and its grade.
+#[derive(Drop)]
+pub(crate) struct Judgement {
+    pub(crate) doc: Text,
+    pub(crate) grade: u8,
+}
+
+// The value of a JSON text.
+#[tactic(auto, using(crate::proofs::Matching::value_read, crate::proofs::Matching::no_value))]
+fn read_json(alloc: Global, body: &[u8]) -> Result<Option<Value>, Memory>
+    ensures { IfOk result (λ found. option_map view found ≡ json_of body.now) }
+{
+    match Value::from_slice(alloc, body) {
+        Ok(value) => Ok(Some(value)),
+        Err(error) if error.is_memory() => Err(Memory),
+        Err(_) => Ok(None),
+    }
+}
+
+#[tactic(auto, using(crate::proofs::Members::counted, crate::proofs::Members::uncounted))]
+fn has_members(value: &Value, count: usize) -> bool
+    ensures { result ≡ has_members count (view value.now) }
+{
+    match value.as_object() {
+        Some(members) => members.len() == count,
+        None => false,
+    }
+}
+
+fn grade_at(value: &Value) -> Option<u8>
+    ensures { result ≡ grade_at (view value.now) }
+{
+    let grade = value.get("grade").and_then(Value::as_u64)?;
+    if grade <= 255 {
+        Some(grade as u8)
+    } else {
+        None
+    }
+}
+
+fn are_docno_bytes(text: &[u8]) -> bool
+    ensures { result ≡ list_all (is_between 33 126) text.now }
+{
+    text.iter().all(|byte| 33 <= *byte && *byte <= 126)
+}
+
+#[tactic(auto, unfolding(trec_formats::specs::Names::is_docno))]
+fn is_docno(text: &[u8]) -> bool
+    ensures { result ≡ is_docno text.now }
+{
+    1 <= text.len() && text.len() <= 64 && are_docno_bytes(text)
+}
+
+fn doc_at(value: &Value) -> Option<&[u8]>
+    ensures { option_map (λ doc. doc.now) result ≡ doc_at (view value.now) }
+{
+    let doc = value.get("doc").and_then(Value::as_str)?.as_bytes();
+    if is_docno(doc) { Some(doc) } else { None }
+}
+
+fn grade_in(value: &Value) -> Option<u8>
+    ensures { result ≡ grade_in (view value.now) }
+{
+    if has_members(value, 1) {
+        grade_at(value)
+    } else {
+        None
+    }
+}
+
+/// The grade that a body gives, alone.
+pub(crate) fn read_grade(alloc: Global, body: &[u8]) -> Result<Option<u8>, Memory>
+    ensures { IfOk result (λ grade. grade ≡ option_and_then grade_in (json_of body.now)) }
+{
+    match read_json(alloc, body)? {
+        Some(value) => Ok(grade_in(&value)),
+        None => Ok(None),
+    }
+}
+
+fn copy_judgement(alloc: Global, doc: &[u8], grade: u8) -> Result<Judgement, Memory>
+    ensures { IfOk result (λ judgement. judgement_shown judgement ≡ record { doc = doc.now; grade = grade }) }
+{
+    Ok(Judgement {
+        doc: Text::new(Vec::from_slice(alloc, doc)?),
+        grade,
+    })
+}
+
+fn judgement_at(alloc: Global, value: &Value) -> Result<Option<Judgement>, Memory>
+    ensures { IfOk result (λ found. option_map judgement_shown found ≡ judgement_in (view value.now)) }
+{
+    if !has_members(value, 2) {
+        return Ok(None);
+    }
+    match (doc_at(value), grade_at(value)) {
+        (Some(doc), Some(grade)) => Ok(Some(copy_judgement(alloc, doc, grade)?)),
+        _ => Ok(None),
+    }
+}
+
+/// The document and the grade that a body gives, alone.
+pub(crate) fn read_judgement(alloc: Global, body: &[u8]) -> Result<Option<Judgement>, Memory>
+    ensures { IfOk result (λ found. option_map judgement_shown found ≡ option_and_then judgement_in (json_of body.now)) }
+{
+    match read_json(alloc, body)? {
+        Some(value) => judgement_at(alloc, &value),
+        None => Ok(None),
+    }
+}
+
+/// The ranked lists of a run's text.
+pub(crate) fn read_ranked_run(alloc: Global, body: &[u8]) -> Result<Vec<TopicList>, FormatEnd>
+    requires { length body.now ≤ 16777216 }
+    ensures lists { IfOk result (λ lists. IsRankedRun body.now lists.items) }
+    ensures fault { IfFault result (IsRankedRunFault body.now) }
+{
+    let lines = read_run(alloc, body)?;
+    rank_run(alloc, &lines)
+}

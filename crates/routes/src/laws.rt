@@ -1,0 +1,16 @@
+ghost use Rattle.std.specs.Prelude.{◌≡◌, List, Result};
+ghost use Rattle.http_wire.specs.declared.messages.HttpRequest.{HttpRequest};
+ghost use Rattle.routes.specs.declared.faults.RouteFault.{RouteFault};
+ghost use Rattle.routes.specs.declared.keys.KeyRow.{KeyRow};
+ghost use Rattle.routes.specs.Asks.{Asked, Reads};
+
+use trec_formats::{one_run_reading, one_topics_reading};
+
+/// A request is read in one way at most: as what it asks, or as its first fault.
+pub fn one_request_reading()
+    ensures { (request : HttpRequest) (keys : List KeyRow) (a b : Result Asked RouteFault)
+        → Reads request keys a → Reads request keys b → a ≡ b }
+{
+    one_run_reading();
+    one_topics_reading();
+}

@@ -1,0 +1,147 @@
+ghost use Rattle.std.specs.Prelude.{◌≡◌, ◌∷◌, [], IsTrue, IfOk, None, codes};
+ghost use Rattle.http_wire.specs.Heads.{values_named};
+ghost use Rattle.routes.specs.Faults.{Gives};
+ghost use Rattle.routes.specs.Openings.{number_at, number_in, opening_of, place_of, row_at, with_method, with_parameter, with_role};
+ghost use Rattle.routes.specs.OpeningParts.{opening_shown};
+ghost use Rattle.routes.specs.Places.{fits, may_ask, method_of, parameter};
+ghost use Rattle.rulebook.specs.Spelling.{is_number};
+ghost use Rattle.trec_formats.specs.Names.{is_name};
+
+use crate::faults::RouteFault;
+use crate::keys::{KeyRow, Keys};
+use crate::paths::{fits, parameter};
+use crate::places::{Place, is_post, make_table, may_ask};
+use http_wire::{HttpField, HttpRequest, find_named};
+use std::alloc::Global;
+
+/// Who asks at which row, and with which number.
+#[derive(Clone, Copy)]
+pub(crate) struct Opening<'a> {
+    pub(crate) place: Place,
+    pub(crate) row: &'a KeyRow,
+    pub(crate) number: Option<u64>,
+}
+
+// The row of a path whose parameter fits.
+#[tactic(auto, using(crate::proofs::Matching::is_text, crate::proofs::Matching::is_no_text))]
+fn find_place(alloc: Global, path: &[u8]) -> Result<Place, RouteFault>
+    ensures place { Gives (λ place. place) result (place_of path.now) }
+    ensures fitting { IfOk result (λ place. IsTrue (fits place (parameter path.now))) }
+{
+    let Ok(text) = str::from_utf8(path) else {
+        return Err(RouteFault::Route);
+    };
+    let table = make_table(alloc)?;
+    match table.at(text) {
+        Ok(found) => with_parameter(*found.value, parameter(path)),
+        Err(_) => Err(RouteFault::Route),
+    }
+}
+
+fn with_parameter(place: Place, text: &[u8]) -> Result<Place, RouteFault>
+    ensures place { result ≡ with_parameter text.now place }
+    ensures fitting { IfOk result (λ place. IsTrue (fits place text.now)) }
+{
+    if fits(place, text) {
+        Ok(place)
+    } else {
+        Err(RouteFault::Route)
+    }
+}
+
+fn method_of(place: Place) -> &'static [u8]
+    ensures { result.now ≡ method_of place }
+{
+    if is_post(place) { b"POST" } else { b"GET" }
+}
+
+fn with_method(place: Place, method: &[u8]) -> Result<Place, RouteFault>
+    ensures place { result ≡ with_method method.now place }
+    ensures same { IfOk result (λ found. found ≡ place) }
+{
+    if method == method_of(place) {
+        Ok(place)
+    } else {
+        Err(RouteFault::Method)
+    }
+}
+
+fn row_of_key<'a>(keys: &'a Keys, key: &[u8]) -> Result<&'a KeyRow, RouteFault>
+    ensures row { Gives (λ row. row.now) result (row_at keys.now (key.now ∷ [])) }
+    ensures named { IfOk result (λ row. IsTrue (is_name row.now.name)) }
+{
+    match keys.row_of(key) {
+        Some(row) => Ok(row),
+        None => Err(RouteFault::Key),
+    }
+}
+
+// The row of the one key of the fields.
+fn find_row<'a>(keys: &'a Keys, fields: &[HttpField]) -> Result<&'a KeyRow, RouteFault>
+    ensures row { Gives (λ row. row.now) result (row_at keys.now (values_named (codes "x-campaign-key") fields.now)) }
+    ensures named { IfOk result (λ row. IsTrue (is_name row.now.name)) }
+{
+    let Some((key, rest)) = find_named(fields, "x-campaign-key") else {
+        return Err(RouteFault::Key);
+    };
+    match find_named(rest, "x-campaign-key") {
+        None => row_of_key(keys, key),
+        Some(_) => Err(RouteFault::Key),
+    }
+}
+
+fn with_role(place: Place, row: &KeyRow) -> Result<&KeyRow, RouteFault>
+    ensures row { Gives (λ row. row.now) result (with_role place row.now) }
+    ensures role { IfOk result (λ found. (found.now ≡ row.now) × IsTrue (may_ask found.now.role place)) }
+{
+    if may_ask(row.role, place) {
+        Ok(row)
+    } else {
+        Err(RouteFault::Role)
+    }
+}
+
+fn find_number(fields: &[HttpField]) -> Result<Option<u64>, RouteFault>
+    ensures number { result ≡ number_in fields.now }
+    ensures small { IfOk result (λ number. IsTrue (is_number number)) }
+    ensures unnumbered { IfOk result (λ number. number ≡ None) }
+{
+    match find_named(fields, "x-request-number") {
+        Some(_) => Err(RouteFault::Number),
+        None => Ok(None),
+    }
+}
+
+fn number_at(place: Place, fields: &[HttpField]) -> Result<Option<u64>, RouteFault>
+    ensures number { result ≡ number_at place fields.now }
+    ensures small { IfOk result (λ number. IsTrue (is_number number)) }
+    ensures unnumbered { IfOk result (λ number. number ≡ None) }
+{
+    if is_post(place) {
+        find_number(fields)
+    } else {
+        Ok(None)
+    }
+}
+
+/// Who asks, and where, or the first fault before the body.
+#[tactic(auto, unfolding(crate::specs::Openings::opening_of))]
+pub(crate) fn read_opening<'a>(
+    alloc: Global,
+    request: &HttpRequest,
+    keys: &'a Keys,
+) -> Result<Opening<'a>, RouteFault>
+    ensures opening { Gives opening_shown result (opening_of request.now keys.now) }
+    ensures named { IfOk result (λ opening. IsTrue (is_name opening.row.now.name)) }
+    ensures role { IfOk result (λ opening. IsTrue (may_ask opening.row.now.role opening.place)) }
+    ensures fitting { IfOk result (λ opening. IsTrue (fits opening.place (parameter request.now.path))) }
+    ensures number { IfOk result (λ opening. IsTrue (is_number opening.number)) }
+    ensures unnumbered { IfOk result (λ opening. opening.number ≡ None) }
+{
+    let found = find_place(alloc, request.path.bytes())?;
+    let place = with_method(found, request.method.bytes())?;
+    let known = find_row(keys, request.fields.items())?;
+    let row = with_role(place, known)?;
+    let number = number_at(place, request.fields.items())?;
+    Ok(Opening { place, row, number })
+}
