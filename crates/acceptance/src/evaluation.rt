@@ -18,7 +18,7 @@ const VALUES: &str =
     "1 3 3 2 0.5556 0.6667 0.3333 1.0000 0.4000 0.2000 0.1333 0.1000 0.0667 0.0200 0.0100 0.0040 0.0020";
 
 fn text(alloc: Global, bytes: &[u8]) -> Result<Text, Fail> {
-    Ok(Text::new(Vec::from_slice(alloc, bytes)?))
+    Ok(Text::from_slice(alloc, bytes)?)
 }
 
 fn words_of(alloc: Global, row: &[&str]) -> Result<Vec<String>, Fail> {

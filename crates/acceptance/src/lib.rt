@@ -2,8 +2,12 @@
 #![tactic(auto)]
 
 #[cfg(test)]
+mod adapters;
+#[cfg(test)]
 mod evaluation;
 #[cfg(test)]
 mod links;
+#[cfg(test)]
+mod requests;
 #[cfg(test)]
 mod session;

@@ -1,6 +1,6 @@
-use crate::links::link_of;
+use crate::links::{AnsweredFirst, link_of};
 use campaign_cli::{MemoryShelf, MemorySink, campaign};
-use campaign_server::MemoryLink;
+use campaign_server::{Link, MemoryLink};
 use std::alloc::Global;
 use std::test::Fail;
 
@@ -36,6 +36,23 @@ const NO_HEAD: &[u8] = b"GET /topics/1/pool\r\n\r\n";
 const NO_HEAD_TOLD: &[u8] =
     b"HTTP/1.1 400 Bad Request\r\nContent-Type: application/json\r\nContent-Length: 17\r\nConnection: close\r\n\r\n{\"fault\":\"head\"}\n";
 
+const RUN: &[u8] = b"1 Q0 a 1 3 X\n1 Q0 b 2 2 X\n1 Q0 e 3 1 X\n";
+
+const LONGEST: &[u8] =
+    b"POST /runs/X HTTP/1.1\r\nX-Campaign-Key: GROUPGROUPGROUP1\r\nContent-Length: 16777216\r\n\r\n";
+
+const TOO_LONG: &[u8] =
+    b"POST /runs/X HTTP/1.1\r\nX-Campaign-Key: GROUPGROUPGROUP1\r\nContent-Length: 16777217\r\n\r\n";
+
+const TOO_LONG_TOLD: &[u8] =
+    b"HTTP/1.1 413 Content Too Large\r\nContent-Type: application/json\r\nContent-Length: 17\r\nConnection: close\r\n\r\n{\"fault\":\"body\"}\n";
+
+const LAST_POOL: &[u8] =
+    b"GET /topics/1/pool HTTP/1.1\r\nX-Campaign-Key: ORGANISERORGAN01\r\nConnection: close\r\n\r\n";
+
+const NO_POOL: &[u8] =
+    b"HTTP/1.1 200 OK\r\nContent-Type: application/json\r\nContent-Length: 24\r\nConnection: close\r\n\r\n{\"docs\":[],\"topic\":\"1\"}\n";
+
 fn places(alloc: Global, place: u64) -> Result<Vec<u64>, Fail> {
     let mut places = Vec::new(alloc);
     if place > 0 {
@@ -69,6 +86,16 @@ fn held(
     Ok((status.0, out, link))
 }
 
+// The status of a session over another link.
+fn end_of<I: Link>(rt: &HostRuntime, link: &mut I) -> Result<u8, Fail> {
+    let alloc = rt.alloc();
+    let mut words = Vec::new(alloc);
+    words.push(String::from_str(alloc, "session")?)?;
+    let mut shelf = MemoryShelf::new(Vec::new(alloc), Vec::new(alloc));
+    let mut out = MemorySink::new(Vec::new(alloc));
+    Ok(campaign(rt, alloc, &words, &mut shelf, &mut out, link).0)
+}
+
 fn both(alloc: Global, first: &[u8], second: &[u8]) -> Result<Vec<u8>, Fail> {
     let mut text = Vec::from_slice(alloc, first)?;
     text.extend_from_slice(second)?;
@@ -99,11 +126,16 @@ fn messages_are_answered_in_order(rt: HostRuntime) -> Result<(), Fail> {
 
 #[test]
 fn a_failing_read_ends_the_session(rt: HostRuntime) -> Result<(), Fail> {
-    // the third read finds the end
-    for place in 1u64..4 {
+    // what was read before it is answered; the third read finds the end
+    let cases: [(u64, &[u8], &[u8]); 3] = [
+        (1, b"", b""),
+        (2, SUBMITTED, b""),
+        (3, SUBMITTED, POOL_SHOWN),
+    ];
+    for (place, one, other) in cases {
         let (ended, _, link) = held(&rt, SUBMIT, POOL, place, 0)?;
         assert_eq!(rt; ended, 10);
-        assert!(rt; link.written().is_empty());
+        assert_eq!(rt; link.written(), both(rt.alloc(), one, other)?.as_slice());
     }
     Ok(())
 }
@@ -116,5 +148,61 @@ fn a_failing_write_ends_the_session(rt: HostRuntime) -> Result<(), Fail> {
     let (ended, _, link) = held(&rt, SUBMIT, POOL, 0, 2)?;
     assert_eq!(rt; ended, 8);
     assert_eq!(rt; link.written(), SUBMITTED);
+    Ok(())
+}
+
+#[test]
+fn nothing_is_read_behind_a_closing_request(rt: HostRuntime) -> Result<(), Fail> {
+    // the second read would fail
+    for (first, status, told) in [(LAST_POOL, 0u8, NO_POOL), (NO_HEAD, 11, NO_HEAD_TOLD)] {
+        let (ended, _, link) = held(&rt, first, POOL, 2, 0)?;
+        assert_eq!(rt; ended, status);
+        assert_eq!(rt; link.written(), told);
+    }
+    Ok(())
+}
+
+#[test]
+fn two_requests_are_answered_however_they_are_cut(rt: HostRuntime) -> Result<(), Fail> {
+    let alloc = rt.alloc();
+    let requests = both(alloc, SUBMIT, POOL)?;
+    let answers = both(alloc, SUBMITTED, POOL_SHOWN)?;
+    for cut in 0..requests.len() + 1 {
+        let (ended, _, link) = held(&rt, &requests[..cut], &requests[cut..], 0, 0)?;
+        assert_eq!(rt; ended, 0);
+        assert_eq!(rt; link.written(), answers.as_slice());
+    }
+    Ok(())
+}
+
+#[test]
+fn input_may_end_inside_the_second_body(rt: HostRuntime) -> Result<(), Fail> {
+    let (ended, _, link) = held(&rt, SUBMIT, &SUBMIT[..SUBMIT.len() - 1], 0, 0)?;
+    assert_eq!(rt; ended, 11);
+    assert_eq!(rt; link.written(), SUBMITTED);
+    Ok(())
+}
+
+/// The most bytes of a body.
+const MOST_BODY: usize = 16_777_216;
+
+#[test]
+fn the_longest_body_is_taken(rt: HostRuntime) -> Result<(), Fail> {
+    let mut body = Vec::from_slice(rt.alloc(), RUN)?;
+    body.resize(MOST_BODY, b' ')?;
+    let (ended, _, link) = held(&rt, LONGEST, &body, 0, 0)?;
+    assert_eq!(rt; ended, 0);
+    assert_eq!(rt; link.written(), SUBMITTED);
+    let (ended, _, link) = held(&rt, TOO_LONG, b"", 0, 0)?;
+    assert_eq!(rt; ended, 11);
+    assert_eq!(rt; link.written(), TOO_LONG_TOLD);
+    Ok(())
+}
+
+#[test]
+fn an_answer_is_written_before_more_is_read(rt: HostRuntime) -> Result<(), Fail> {
+    let mut link = AnsweredFirst::new(SUBMIT, POOL);
+    let status = end_of(&rt, &mut link)?;
+    assert_eq!(rt; status, 0);
     Ok(())
 }

@@ -4,9 +4,14 @@
 
 use campaign_cli::{FileShelf, OutputSink, Status, campaign};
 use campaign_server::StreamLink;
+use decimal_rank::Secret;
 use std::alloc::{AllocError, Global};
 use std::env;
 use std::process::ExitCode;
+
+/// What is said where tables hash with a secret of the clocks, which is weaker.
+const WEAKER: &str =
+    "campaign: the system's random source doesn't answer; tables hash with a secret of the clocks";
 
 // The words after the program's name; none where the system doesn't tell them.
 fn words(rt: &HostRuntime, alloc: Global) -> Result<Vec<String>, AllocError> {
@@ -21,6 +26,9 @@ fn words(rt: &HostRuntime, alloc: Global) -> Result<Vec<String>, AllocError> {
 
 fn main(rt: HostRuntime) -> ExitCode {
     let alloc = rt.alloc();
+    if !Secret::is_source_answering() {
+        let _ = rt.eprintln(WEAKER);
+    }
     let status = match words(&rt, alloc) {
         Ok(words) => {
             let mut shelf = FileShelf::new(&rt);

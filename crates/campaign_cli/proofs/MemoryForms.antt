@@ -5,10 +5,10 @@ use Rattle.std.specs.Io.KnownBytes.{WriteAppends}
 use Rattle.std.specs.declared.alloc.Global.{Global}
 use Rattle.std.specs.declared.vec.Vec.{Vec}
 use Rattle.decimal_rank.specs.Causes.{Rose, HasCause}
-use Rattle.campaign_cli.specs.declared.faults.Failed.{Failed}
+use Rattle.decimal_rank.specs.declared.failures.Failed.{Failed}
 use Rattle.campaign_cli.specs.declared.faults.ShelfFault.{ShelfFault}
 use Rattle.campaign_cli.specs.declared.faults.ShelfFault.TheVariants as fault
-use Rattle.campaign_cli.specs.Plans.{count_more}
+use Rattle.decimal_rank.specs.FailurePlans.{count_more}
 use Rattle.campaign_cli.specs.Shelves.{Follows, MemoryShelfState, after_read, told_by as shelf_told}
 use Rattle.campaign_cli.specs.Sinks.{MemorySinkState, after_write}
 

@@ -3,21 +3,21 @@ use Rattle.std.specs.Prelude.{◌≡◌, ◌≤◌, ◌⊎◌, ℕ, List, Some}
 use Rattle.std.specs.Io.KnownBytes.{Appends}
 use Rattle.decimal_rank.specs.Causes.{Rose}
 use Rattle.decimal_rank.specs.KnownBytes.{AppendsPart}
-use Rattle.campaign_server.specs.declared.messages.WireFault.{WireFault}
-use Rattle.campaign_server.specs.declared.sessions.End.TheVariants as end
+use Rattle.http_wire.specs.declared.messages.WireFault.{WireFault}
+use Rattle.campaign_server.specs.declared.ends.End.TheVariants as end
 use Rattle.campaign_server.specs.Links.{LinkState}
 use Rattle.campaign_cli.specs.Evaluations.{IsReport, IsInputFault}
 use Rattle.campaign_cli.specs.Requests.{Request, Eval, Session, Nothing, usage_line}
 use Rattle.campaign_cli.specs.Sessions.{SessionEnds, SessionEndsWith}
 use Rattle.campaign_cli.specs.Shelves.{Files, ShelfState, Gives, Lacks, file_at}
-use Rattle.campaign_cli.specs.Sinks.{SinkState}
+use Rattle.decimal_rank.specs.Writings.{Writing}
 
 -- all of a text with this property was written
-abbrev pub Prints : SinkState → SinkState → (List ℕ → Type 0) → Type 0
+abbrev pub Prints : Writing → Writing → (List ℕ → Type 0) → Type 0
 Prints old new P = (text : List ℕ) × P text × Appends old.written new.written text
 
 -- a write failed, and a part of a text with this property was written
-abbrev pub PrintsPart : SinkState → SinkState → (List ℕ → Type 0) → Type 0
+abbrev pub PrintsPart : Writing → Writing → (List ℕ → Type 0) → Type 0
 PrintsPart old new P = Rose old.faults new.faults × ((text : List ℕ) × P text × AppendsPart old.written new.written text)
 
 -- the shelf may give both files, and their bytes have this property
@@ -31,7 +31,7 @@ IsOutput Session shelf text = ⊥
 IsOutput Nothing shelf text = ⊥
 
 -- the command's work is done
-abbrev pub Works : Request → ShelfState → SinkState → SinkState → LinkState → LinkState → Type 0
+abbrev pub Works : Request → ShelfState → Writing → Writing → LinkState → LinkState → Type 0
 Works Session shelf out later link then = (later ≡ out) × SessionEnds link then end.Ended
 Works request shelf out later link then = Prints out later (IsOutput request shelf)
 
@@ -63,7 +63,7 @@ abbrev pub IsSaid : Request → ShelfState → List ℕ → Type 0
 IsSaid request shelf text = IsRefusal request shelf text ⊎ (IsOutput request shelf text ⊎ IsUsage request text)
 
 -- output failed: of the sink, or of a session's link
-abbrev pub OutputFails : Request → ShelfState → SinkState → SinkState → LinkState → LinkState → Type 0
+abbrev pub OutputFails : Request → ShelfState → Writing → Writing → LinkState → LinkState → Type 0
 OutputFails Session shelf out later link then = (later ≡ out) × SessionEnds link then end.WriteFault
 OutputFails request shelf out later link then = PrintsPart out later (IsSaid request shelf)
 
@@ -110,6 +110,6 @@ HasToRefuse Session shelf = ⊥
 HasToRefuse Nothing shelf = ⊥
 
 -- The text was written whole and the program ends with the status, or a write failed, a part of it was written, and the program ends with 8.
-pub record IsPrinted (old new : SinkState) (text : List ℕ) (status ended : ℕ) : Type 0 where
+pub record IsPrinted (old new : Writing) (text : List ℕ) (status ended : ℕ) : Type 0 where
   pub later : old.faults ≤ new.faults
   pub either : ((ended ≡ status) × Appends old.written new.written text) ⊎ ((ended ≡ 8) × Rose old.faults new.faults × AppendsPart old.written new.written text)

@@ -1,7 +1,6 @@
 pub mod Endings
 pub mod Evaluations
 pub mod Findings
-pub mod Plans
 pub mod Requests
 pub mod Sessions
 pub mod Settings

@@ -1,15 +1,20 @@
 -- What a session of the program comes to.
 use Rattle.std.specs.Prelude.{◌≡◌, ◌⊎◌, ℕ}
 use Rattle.rulebook.specs.Campaign.{History}
-use Rattle.campaign_server.specs.declared.sessions.End.{End}
-use Rattle.campaign_server.specs.declared.sessions.End.TheVariants as end
+use Rattle.rulebook.specs.Legal.{IsLegal}
+use Rattle.rulebook.specs.Stories.{StartsWith}
+use Rattle.campaign_server.specs.declared.ends.End.{End}
+use Rattle.campaign_server.specs.declared.ends.End.TheVariants as end
 use Rattle.campaign_server.specs.Links.{LinkState}
-use Rattle.campaign_server.specs.Talks.{Ends}
+use Rattle.campaign_server.specs.Connections.{Ends}
+use Rattle.campaign_server.specs.Talks.{IsTalkAlone}
 use Rattle.campaign_cli.specs.Settings.{callers, first_entries}
 
--- the session of these callers, from the first entries on, ended so
+-- The session of these callers, from the first entries on, ended so: the entries then can come about, and begin with the first ones.
 abbrev pub SessionEnds : LinkState → LinkState → End → Type 0
-SessionEnds old new end = (after : History) × Ends callers first_entries old after new end
+SessionEnds old new end =
+    (after : History) × Ends (IsTalkAlone callers first_entries old.clock after new.clock) old new end × IsLegal after
+    × StartsWith after first_entries
 
 -- the status by an end
 abbrev pub status_of : End → ℕ

@@ -1,5 +1,5 @@
 -- The campaign of a session, until a file and a journal give it.
-use Rattle.std.specs.Prelude.{ℕ, List, [], ◌∷◌, None, codes}
+use Rattle.std.specs.Prelude.{List, [], ◌∷◌, None, codes}
 use Rattle.trec_formats.specs.declared.topics.Topic.{Topic}
 use Rattle.rulebook.specs.declared.ask.Ask.TheVariants.{Act}
 use Rattle.rulebook.specs.declared.ask.Command.TheVariants.{Topics}
@@ -9,7 +9,7 @@ use Rattle.rulebook.specs.declared.rules.Rules.{Rules}
 use Rattle.rulebook.specs.Answers.{answer}
 use Rattle.rulebook.specs.Campaign.{History}
 use Rattle.rulebook.specs.Legal.{founding}
-use Rattle.campaign_server.specs.declared.keys.KeyRow.{KeyRow}
+use Rattle.routes.specs.declared.keys.KeyRow.{KeyRow}
 
 abbrev pub first_rules : Rules
 first_rules = record { depth = 3; term = 600; hold = 2; level = 1; top_grade = 3; doubles = [] }

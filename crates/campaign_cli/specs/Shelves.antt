@@ -4,7 +4,7 @@ use Rattle.std.specs.declared.alloc.Global.{Global}
 use Rattle.std.specs.declared.vec.Vec.{Vec}
 use Rattle.campaign_cli.specs.declared.faults.ShelfFault.{ShelfFault}
 use Rattle.campaign_cli.specs.declared.faults.ShelfFault.TheVariants.{Absent, Failed, Memory}
-use Rattle.campaign_cli.specs.Plans.{PlanState, count_more, after_call}
+use Rattle.decimal_rank.specs.FailurePlans.{PlanState, count_more, after_call}
 
 -- the name and the bytes of each file
 abbrev pub Files : Type 0

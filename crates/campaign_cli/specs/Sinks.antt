@@ -1,12 +1,8 @@
 -- What sinks tell, and what a call may do to it.
-use Rattle.std.specs.Prelude.{ℕ, List, ◌++◌, Option, Some, Result, Ok, Err, if◌then◌else◌}
-use Rattle.campaign_cli.specs.declared.faults.Failed.{Failed}
-use Rattle.campaign_cli.specs.Plans.{PlanState, count_more, after_call, fails_next}
-
--- the bytes written so far, where the sink tells them, and how many writes failed
-pub record SinkState : Type 0 where
-  pub written : Option (List ℕ)
-  pub faults : ℕ
+use Rattle.std.specs.Prelude.{ℕ, List, ◌++◌, Some, Result, Ok, Err, if◌then◌else◌}
+use Rattle.decimal_rank.specs.FailurePlans.{PlanState, count_more, after_call, fails_next}
+use Rattle.decimal_rank.specs.Writings.{Writing}
+use Rattle.decimal_rank.specs.declared.failures.Failed.{Failed}
 
 -- a sink in memory: its bytes, the writes that are to fail, how many failed, and how many of these wanted memory
 pub record MemorySinkState : Type 0 where
@@ -16,7 +12,7 @@ pub record MemorySinkState : Type 0 where
   pub wants : ℕ
 
 -- it tells its bytes and how many writes failed
-abbrev pub told_by : MemorySinkState → SinkState
+abbrev pub told_by : MemorySinkState → Writing
 told_by sink = record { written = Some sink.written; faults = sink.faults }
 
 -- a sink in memory after a write of the piece with this answer

@@ -3,9 +3,8 @@ use Rattle.std.specs.Prelude.{◌≡◌, ◌≢◌, ◌≤◌, ℕ, Bool, true, 
 use Rattle.std.specs.Cmp.Lexicographic.{slice_cmp}
 use Rattle.std.specs.HashMap.{HashMap, get_by}
 use Rattle.std.specs.Ordering.{nat_cmp, is_lt}
-use Rattle.std.specs.declared.hash.FoldHasher.{FoldHasher}
-use Rattle.std.specs.declared.hash.BuildHasherDefault.{BuildHasherDefault}
 use denote.Ref.{Bor}
+use Rattle.decimal_rank.specs.declared.secrets.Secret.{Secret}
 use Rattle.trec_formats.specs.declared.lists.TopicList.{TopicList}
 use Rattle.trec_formats.specs.declared.qrels.QrelLine.{QrelLine}
 use Rattle.measures.specs.declared.cells.Cell.{Cell}
@@ -46,7 +45,7 @@ abbrev pub cell_in : List (List ℕ) → List QrelLine → Cell
 cell_in docs lines = cell_of (map (grade_in lines) docs) (tally_in lines).relevant (tally_in lines).others level
 
 abbrev pub Grades : Type 0
-Grades = HashMap (Bor (List ℕ)) ℕ (BuildHasherDefault FoldHasher)
+Grades = HashMap (Bor (List ℕ)) ℕ Secret
 
 abbrev pub grade_at : Grades → List ℕ → Option ℕ
 grade_at grades doc = get_by (λ key. bytes_eq doc key.now) grades

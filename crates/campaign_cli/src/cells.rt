@@ -4,7 +4,7 @@ ghost use Rattle.campaign_cli.specs.Evaluations.{docs_on as listed_on, cell_on, 
 ghost use Rattle.campaign_cli.specs.Tables.{shown, cell_in, grade_at, AreRankedLists};
 
 use crate::judgements::{LEVEL, by_topic, grades_of, judged_on, tally_of, topics_of};
-use decimal_rank::{DocId, Memory, Names, Text};
+use decimal_rank::{DocId, Memory, Names, Secret, Text};
 use measures::{Cell, scratch};
 use std::alloc::Global;
 use std::collections::HashMap;
@@ -74,14 +74,14 @@ fn docs_on<'a>(lists: &'a [TopicList], topic: &[u8]) -> &'a [Text]
 /// The grades of documents.
 fn graded<'a>(
     alloc: Global,
-    grades: &HashMap<&'a [u8], u8>,
+    grades: &HashMap<&'a Text, u8, Secret>,
     docs: &'a [Text],
 ) -> Result<Vec<Option<u8>>, Memory>
     ensures { IfOk result (λ graded. graded.items ≡ map (grade_at grades.now) docs.now) }
 {
     let mut graded = Vec::with_capacity(alloc, docs.len())?;
     for doc in docs {
-        graded.push(grades.get(&doc.bytes()).copied())?;
+        graded.push(grades.get(&doc).copied())?;
     }
     Ok(graded)
 }

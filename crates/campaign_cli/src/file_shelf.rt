@@ -1,8 +1,8 @@
 ghost use Rattle.std.specs.Prelude.{◌≡◌, ◌≤◌, None, IfOk, length};
 
 use crate::faults::ShelfFault;
-use crate::plan::count_more;
 use crate::shelves::{MOST_BYTES, Shelf};
+use decimal_rank::count_more;
 use std::alloc::Global;
 use std::fs;
 use std::io::{ErrorKind, Read};

@@ -4,7 +4,7 @@ ghost use Rattle.decimal_rank.specs.Names.{number_of};
 ghost use Rattle.campaign_cli.specs.Evaluations.{topics_of as qrels_topics};
 ghost use Rattle.campaign_cli.specs.Tables.{shown, lines_on, IsAscending, AreByTopic, tally_in, grade_at, grade_in};
 
-use decimal_rank::{DocId, Memory, Names};
+use decimal_rank::{DocId, Memory, Names, Secret, Text};
 use std::alloc::Global;
 use std::collections::HashMap;
 use trec_formats::QrelLine;
@@ -93,12 +93,12 @@ pub(crate) fn tally_of(lines: &[&QrelLine]) -> Tally
 pub(crate) fn grades_of<'a>(
     alloc: Global,
     lines: &[&'a QrelLine],
-) -> Result<HashMap<&'a [u8], u8>, Memory>
+) -> Result<HashMap<&'a Text, u8, Secret>, Memory>
     ensures { IfOk result (λ grades. (doc : List ℕ) → grade_at grades doc ≡ grade_in (shown lines.now) doc) }
 {
-    let mut grades = HashMap::with_capacity(alloc, lines.len())?;
+    let mut grades = HashMap::with_capacity_and_hasher(alloc, lines.len(), Secret::drawn())?;
     for line in lines {
-        let doc = line.doc.bytes();
+        let doc = &line.doc;
         // of two lines the first counts
         if let Some(first) = grades.insert(doc, line.grade)? {
             grades.insert(doc, first)?;

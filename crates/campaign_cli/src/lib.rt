@@ -12,23 +12,21 @@ mod memory_shelf;
 mod memory_sink;
 mod output_sink;
 mod own_session;
-mod plan;
 mod program;
 mod settings;
 mod shelves;
-mod sinks;
 mod statuses;
 mod words;
 
+pub use decimal_rank::{Failed, Output as Sink, write_all};
 pub use evaluation::{Finding, evaluate};
-pub use faults::{Failed, ShelfFault};
+pub use faults::ShelfFault;
 pub use file_shelf::FileShelf;
 pub use memory_shelf::MemoryShelf;
 pub use memory_sink::MemorySink;
 pub use output_sink::OutputSink;
 pub use program::campaign;
 pub use shelves::{MOST_BYTES, Shelf};
-pub use sinks::{Sink, write_all};
 pub use statuses::Status;
 pub use words::{Command, USAGE_LINE, read_words};
 

@@ -1,11 +1,10 @@
 ghost use Rattle.std.specs.Prelude.{◌≡◌, ◌≤◌, ◌↔◌, Some, None, IsTrue, IfOk, IfSome, length, option_copied};
-ghost use Rattle.campaign_cli.specs.Plans.{fails_next};
+ghost use Rattle.decimal_rank.specs.FailurePlans.{fails_next};
 ghost use Rattle.campaign_cli.specs.Shelves.{Gives, Lacks, file_at, told_by, after_read};
 
 use crate::faults::ShelfFault;
-use crate::plan::{Plan, count_more};
 use crate::shelves::{MOST_BYTES, Shelf};
-use decimal_rank::Text;
+use decimal_rank::{FailurePlan, Text, count_more};
 use std::alloc::Global;
 use std::marker::Model;
 
@@ -13,7 +12,7 @@ use std::marker::Model;
 #[derive(Debug, Drop)]
 pub struct MemoryShelf {
     files: Vec<(Text, Text)>,
-    plan: Plan,
+    plan: FailurePlan,
     faults: u64,
     misses: u64,
 }
@@ -33,7 +32,7 @@ impl MemoryShelf {
     {
         MemoryShelf {
             files,
-            plan: Plan::new(fails),
+            plan: FailurePlan::new(fails),
             faults: 0,
             misses: 0,
         }

@@ -1,17 +1,15 @@
 ghost use Rattle.std.specs.Prelude.{◌≡◌, [], Some, IsTrue, IsErr, IfOk, length};
-ghost use Rattle.campaign_cli.specs.Plans.{fails_next};
+ghost use Rattle.decimal_rank.specs.FailurePlans.{fails_next};
 ghost use Rattle.campaign_cli.specs.Sinks.{told_by, after_write};
 
-use crate::faults::Failed;
-use crate::plan::{Plan, count_more};
-use crate::sinks::Sink;
+use decimal_rank::{Failed, FailurePlan, Output, count_more};
 use std::marker::Model;
 
 /// A sink in memory, which tells its bytes. It takes each piece whole.
 #[derive(Debug, Drop)]
 pub struct MemorySink {
     written: Vec<u8>,
-    plan: Plan,
+    plan: FailurePlan,
     faults: u64,
     wants: u64,
 }
@@ -31,7 +29,7 @@ impl MemorySink {
     {
         MemorySink {
             written: Vec::new(*fails.allocator()),
-            plan: Plan::new(fails),
+            plan: FailurePlan::new(fails),
             faults: 0,
             wants: 0,
         }
@@ -52,8 +50,14 @@ impl MemorySink {
     }
 }
 
-impl Sink for MemorySink {
-    ghost seen = { told_by };
+impl Output for MemorySink {
+    ghost writing = { told_by };
+
+    ghost Keeps = { λ a b. Unit {0} };
+
+    ghost keeps_itself = { λ a. tt };
+
+    ghost keeps_on = { λ a b c p q. tt };
 
     /// A write that is to fail changes the counts alone; another one fails only for want of memory.
     fn write(&mut self, piece: &[u8]) -> Result<usize, Failed>

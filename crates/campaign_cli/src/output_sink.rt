@@ -1,8 +1,6 @@
 ghost use Rattle.std.specs.Prelude.{◌≡◌, None};
 
-use crate::faults::Failed;
-use crate::plan::count_more;
-use crate::sinks::Sink;
+use decimal_rank::{Failed, Output, count_more};
 
 /// Standard output. It tells its count of faults alone.
 #[derive(Drop)]
@@ -13,14 +11,20 @@ pub struct OutputSink<R: Print> {
 
 impl<R: Print + Drop> OutputSink<R> {
     pub fn new(output: R) -> OutputSink<R>
-        ensures { ⟦<OutputSink<R> as Sink>⟧.seen result ≡ record { written = None; faults = 0 } }
+        ensures { ⟦<OutputSink<R> as Output>⟧.writing result ≡ record { written = None; faults = 0 } }
     {
         OutputSink { output, faults: 0 }
     }
 }
 
-impl<R: Print + Drop> Sink for OutputSink<R> {
-    ghost seen = { λ sink. record { written = None; faults = sink.faults } };
+impl<R: Print + Drop> Output for OutputSink<R> {
+    ghost writing = { λ sink. record { written = None; faults = sink.faults } };
+
+    ghost Keeps = { λ a b. Unit {0} };
+
+    ghost keeps_itself = { λ a. tt };
+
+    ghost keeps_on = { λ a b c p q. tt };
 
     fn write(&mut self, piece: &[u8]) -> Result<usize, Failed> {
         match self.output.write_some(piece) {

@@ -5,11 +5,12 @@ ghost use Rattle.campaign_cli.specs.Sessions.{SessionEndsWith, status_of as stat
 use crate::settings::{callers, opening};
 use crate::statuses::Status;
 use campaign_core::State;
-use campaign_server::{End, Keys, Link, session};
+use campaign_server::{End, Link, session};
 use decimal_rank::Memory;
+use routes::Keys;
 use std::alloc::Global;
 
-/// Answers the messages of a link on the campaign that the settings open.
+/// Answers the requests of a link on the campaign that the settings open.
 pub(crate) fn hold_session<R, I: Link>(rt: &R, alloc: Global, own: &mut I) -> Status
     ensures { SessionEndsWith (I.seen own.old) (I.seen own.new) result.0 }
 {

@@ -4,8 +4,8 @@ ghost use Rattle.campaign_core.specs.State.{IsVerdict};
 ghost use Rattle.campaign_cli.specs.Settings.{callers as first_callers, first_rules as first, first_entries, organiser as first_organiser, first_topics as topics_of_first};
 
 use campaign_core::{Prepared, State, Verdict};
-use campaign_server::{KeyRow, Keys};
 use decimal_rank::{Memory, Rows, Steps, Text};
+use routes::{KeyRow, Keys};
 use rulebook::{Ask, Caller, Command, Role, Rules};
 use std::alloc::Global;
 use std::marker::Brand;
@@ -15,7 +15,7 @@ use trec_formats::Topic;
 fn text(alloc: Global, bytes: &[u8]) -> Result<Text, Memory>
     ensures { IfOk result (λ text. text ≡ bytes.now) }
 {
-    Ok(Text::new(Vec::from_slice(alloc, bytes)?))
+    Ok(Text::from_slice(alloc, bytes)?)
 }
 
 fn row(alloc: Global, name: &[u8], role: Role, key: &[u8]) -> Result<KeyRow, Memory>

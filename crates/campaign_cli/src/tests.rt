@@ -19,7 +19,13 @@ fn text(alloc: Global, bytes: &[u8]) -> Result<Text, AllocError> {
 struct ByteSink(MemorySink);
 
 impl Sink for ByteSink {
-    ghost seen = { λ sink. told_by sink.0 };
+    ghost writing = { λ sink. told_by sink.0 };
+
+    ghost Keeps = { λ a b. Unit {0} };
+
+    ghost keeps_itself = { λ a. tt };
+
+    ghost keeps_on = { λ a b c p q. tt };
 
     fn write(&mut self, piece: &[u8]) -> Result<usize, Failed> {
         self.0.write(&piece[..piece.len().min(1)])

@@ -15,7 +15,8 @@ use Rattle.rulebook.specs.Words.{Text, contains_text, in_order}
 use Rattle.rulebook.specs.Campaign.{History}
 use Rattle.rulebook.specs.Entries.{GradedAreOnTrail}
 use Rattle.rulebook.specs.Grades.{effective, graded, trail}
-use Rattle.rulebook.specs.Pages.{qrels_line, qrels_lines}
+use Rattle.decimal_rank.specs.QrelLines.{qrel_line}
+use Rattle.rulebook.specs.Pages.{qrels_lines}
 use Rattle.campaign_core.specs.Labelling.{graded_in}
 use Rattle.campaign_core.specs.Numbers.{are_named, doc_in}
 use Rattle.campaign_core.specs.Printed.{IsTopicOf}
@@ -120,7 +121,7 @@ module _ (H : History) (names : List Text) (topic : Text) where
   has doc = is_some (effective H topic doc)
 
   abbrev printed : Text → Text
-  printed doc = qrels_line topic doc (unwrap_or (effective H topic doc) 0)
+  printed doc = qrel_line topic doc (unwrap_or (effective H topic doc) 0)
 
   lines-same : (xs : List Text) → are_named names xs ≡ true → flat_map (λ doc. line_of topic names (one doc)) xs ≡ flat_map printed (filter has xs)
   lines-same [] named = refl
@@ -132,8 +133,8 @@ module _ (H : History) (names : List Text) (topic : Text) where
           → line_if_graded topic x o ++ flat_map (λ doc. line_of topic names (one doc)) xs ≡ flat_map printed (cond (has x) (x ∷ filter has xs) (filter has xs))
       step None is rest = rest ∙ sym (ap (λ (o : Option ℕ). flat_map printed (cond (is_some o) (x ∷ filter has xs) (filter has xs))) is)
       step (Some grade) is rest =
-          ap (λ ls. qrels_line topic x grade ++ ls) rest
-          ∙ sym (ap (λ (o : Option ℕ). qrels_line topic x (unwrap_or o 0) ++ flat_map printed (filter has xs)) is)
+          ap (λ ls. qrel_line topic x grade ++ ls) rest
+          ∙ sym (ap (λ (o : Option ℕ). qrel_line topic x (unwrap_or o 0) ++ flat_map printed (filter has xs)) is)
           ∙ sym (ap (λ (o : Option ℕ). flat_map printed (cond (is_some o) (x ∷ filter has xs) (filter has xs))) is)
 
   and-swap : (s t : Bool) → (s && t) ≡ (t && s)
@@ -166,4 +167,4 @@ qrels-same H names topic on_trail is =
     ∙ ap (flat_map (line_of id names)) (sorted-same H names id docs is.labelled.trail_named (trail-differs H id))
     ∙ flat_map-map (line_of id names) (graded_in H names id) (sorted docs)
     ∙ lines-same H names id (sorted docs) (sort.all (contains_text names) is.labelled.trail_named)
-    ∙ ap (flat_map (λ doc. qrels_line id doc (unwrap_or (effective H id doc) 0))) (graded-same H names id on_trail)
+    ∙ ap (flat_map (λ doc. qrel_line id doc (unwrap_or (effective H id doc) 0))) (graded-same H names id on_trail)

@@ -61,7 +61,7 @@ pub(crate) fn lease_ruling(
             topic: topic.copy()?,
             doc: docno(alloc, docnos, doc)?,
             until: core.moment + rules.term,
-            title: Text::new(Vec::from_slice(alloc, title(history, topic.bytes()))?),
+            title: Text::from_slice(alloc, title(history, topic.bytes()))?,
         })),
         None => Ok(Err(Refusal::NothingLeft)),
     }
@@ -148,7 +148,7 @@ fn lease_refusal(lease: &Lease, who: &Caller, now: u64) -> Option<Refusal>
 fn docno(alloc: Global, docnos: &Names, doc: DocId) -> Result<Text, Memory>
     ensures { IfOk result (λ text. text ≡ docno_of docnos.now doc.0) }
 {
-    Ok(Text::new(Vec::from_slice(alloc, docnos.docno(doc))?))
+    Text::from_slice(alloc, docnos.name_or_empty(doc))
 }
 
 pub(crate) fn is_judging(phase: Phase) -> bool

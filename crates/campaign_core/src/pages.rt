@@ -86,7 +86,7 @@ fn write_part(
     // the documents with a grade are those of the trail that have one
     graded_are_on_trail();
     match page {
-        Page::Qrels => topic.view.write(alloc, topic.id.bytes(), docnos, out),
+        Page::Qrels => topic.view.write(topic.id.bytes(), docnos, out),
         Page::Disagreements => write_disagreements(alloc, topic, docnos, out),
         Page::Progress => write_progress(topic, live, out),
     }

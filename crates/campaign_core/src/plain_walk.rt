@@ -12,7 +12,7 @@ ghost use Rattle.trec_formats.specs.Names.{is_name};
 
 use crate::asking::{Request, Setting, Told, printed};
 use crate::pages::Page;
-use decimal_rank::Memory;
+use decimal_rank::{Memory, is_non_relevant, is_relevant};
 use measures::{Cell, mean, scratch, write_cell, write_summary};
 use rulebook::Refusal;
 use std::alloc::Global;
@@ -513,25 +513,19 @@ fn cell_by(grades: &[Option<u8>], relevant: usize, lower: usize) -> Option<Cell>
 fn relevant_in(grades: &[Option<u8>]) -> usize
     ensures { result ≡ count_by (is_relevant 1) grades.now }
 {
-    grades.iter().filter(|grade| is_relevant(**grade)).count()
-}
-
-fn is_relevant(grade: Option<u8>) -> bool
-    ensures { result ≡ is_relevant 1 grade }
-{
-    grade.is_some_and(|grade| 1 <= grade)
+    grades
+        .iter()
+        .filter(|grade| is_relevant(1, **grade))
+        .count()
 }
 
 fn lower_in(grades: &[Option<u8>]) -> usize
     ensures { result ≡ count_by (is_non_relevant 1) grades.now }
 {
-    grades.iter().filter(|grade| is_lower(**grade)).count()
-}
-
-fn is_lower(grade: Option<u8>) -> bool
-    ensures { result ≡ is_non_relevant 1 grade }
-{
-    grade.is_some_and(|grade| grade < 1)
+    grades
+        .iter()
+        .filter(|grade| is_non_relevant(1, **grade))
+        .count()
 }
 
 // The cell of the run at a place, where the topic counts.

@@ -26,7 +26,7 @@ pub(crate) fn pool_reply(
     };
     // a list by docno is known by its documents
     one_list_by_docno();
-    let docs = kept.pool.docs(alloc, docnos)?;
+    let docs = kept.pool.docs(docnos)?;
     Ok(Reply::Pool {
         topic,
         docs: texts(alloc, docnos, &docs)?,
@@ -51,7 +51,7 @@ fn texts(alloc: Global, docnos: &Names, docs: &[DocId]) -> Result<Rows<Text>, Me
 {
     let mut texts = Vec::with_capacity(alloc, docs.len())?;
     for doc in docs {
-        texts.push(Text::new(Vec::from_slice(alloc, docnos.docno(*doc))?))?;
+        texts.push(Text::from_slice(alloc, docnos.name_or_empty(*doc))?)?;
     }
     Ok(Rows::new(texts))
 }

@@ -88,7 +88,7 @@ impl State {
         ensures history { IfOk result (λ state. state.history ≡ founding rules ∷ []) }
         ensures prepared { IfOk result (λ state. state.prepared ≡ None) }
     {
-        let name = Text::new(Vec::from_slice(alloc, b"campaign")?);
+        let name = Text::from_slice(alloc, b"campaign")?;
         let board = Board::new(alloc, 0, rules.level)?;
         let core = EntryCore {
             caller: Caller {

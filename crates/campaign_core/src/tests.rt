@@ -25,7 +25,7 @@ use trec_formats::{Topic, TopicList};
 pub(crate) fn text(alloc: Global, bytes: &[u8]) -> Result<Text, Memory>
     ensures { IfOk result (λ text. text ≡ bytes.now) }
 {
-    Ok(Text::new(Vec::from_slice(alloc, bytes)?))
+    Ok(Text::from_slice(alloc, bytes)?)
 }
 
 // Docnos of one byte each.

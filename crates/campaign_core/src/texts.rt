@@ -39,7 +39,7 @@ pub(crate) fn docnos_of<'a>(
 {
     let mut texts = Vec::with_capacity(alloc, docs.len())?;
     for doc in docs {
-        texts.push(docnos.docno(*doc))?;
+        texts.push(docnos.name_or_empty(*doc))?;
     }
     Ok(texts)
 }

@@ -1,5 +1,5 @@
 -- The entry that an answer adds has the answer's reply.
-use Rattle.std.proofs.Common.{◌≡◌, ℕ, Bool, true, false, cond, Option, [], ◌∷◌, Ok, Err, ap, sym, ◌∙◌, refl}
+use Rattle.std.proofs.Common.{◌≡◌, ℕ, Bool, true, false, cond, Option, [], ◌∷◌, Ok, Err, ap}
 use Rattle.std.specs.Prelude.{◌==◌, length}
 use Rattle.rulebook.specs.declared.limits.TheConstants.{MAX_ENTRIES}
 use Rattle.rulebook.specs.declared.rules.Caller.{Caller}
@@ -9,9 +9,8 @@ use Rattle.rulebook.specs.declared.entry.Entry.{Entry}
 use Rattle.rulebook.specs.declared.entry.EntryCore.{EntryCore}
 use Rattle.rulebook.specs.declared.reply.Quantity.TheVariants as quantity
 use Rattle.rulebook.specs.declared.reply.Refusal.TheVariants as refusal
-use Rattle.rulebook.specs.declared.reply.Reply.{Reply}
 use Rattle.rulebook.specs.declared.reply.Reply.TheVariants as reply
-use Rattle.rulebook.specs.Answers.{Answer, acting, adding_nothing, answer, moment_after, ruled}
+use Rattle.rulebook.specs.Answers.{acting, adding_nothing, answer, moment_after, ruled}
 use Rattle.rulebook.specs.Campaign.{History}
 use Rattle.rulebook.specs.Refusals.{Ruling}
 

@@ -2,7 +2,7 @@
 use Rattle.std.specs.Prelude.{◌≡◌, ℕ, ◌-◌, ◌≤◌, List, Option, Result, IfSome, length, min, slice_index}
 use Rattle.std.specs.Io.KnownBytes.{WriteAppends}
 use Rattle.rulebook.specs.declared.limits.TheConstants.{MAX_MOMENT}
-use Rattle.campaign_server.specs.Plans.{count_more}
+use Rattle.decimal_rank.specs.FailurePlans.{count_more}
 
 -- the bytes taken and the bytes left, where the link tells them, and how many reads failed
 pub record Reading : Type 0 where

@@ -2,8 +2,8 @@
 use Rattle.std.specs.Prelude.{ℕ, Bool, List, ◌++◌, Some, Result, Ok, Err, take, drop, nat_le, if◌then◌else◌}
 use Rattle.std.specs.List.{list_all}
 use Rattle.rulebook.specs.declared.limits.TheConstants.{MAX_MOMENT}
-use Rattle.campaign_server.specs.declared.faults.Failed.{Failed}
-use Rattle.campaign_server.specs.Plans.{PlanState, count_more, after_call, fails_next}
+use Rattle.decimal_rank.specs.declared.failures.Failed.{Failed}
+use Rattle.decimal_rank.specs.FailurePlans.{PlanState, count_more, after_call, fails_next}
 use Rattle.campaign_server.specs.Links.{LinkState}
 
 -- the bytes taken, left and written, the moments and how many were asked for, the reads and writes that are to fail, the two

@@ -1,131 +1,85 @@
--- How messages are answered in order, and what a session comes to.
-use Rattle.std.specs.Prelude.{◌≡◌, ◌⊎◌, ℕ, ◌<◌, ◌≤◌, ◌^◌, Bool, true, false, List, [], ◌∷◌, ◌++◌, Ok, Err, length, take}
-use Rattle.std.specs.List.{concat}
-use Rattle.std.specs.Io.KnownBytes.{Appends, Consumes, IsAtEnd}
+-- A connection's talk over the one list of entries that is seen at its end.
+use Rattle.std.specs.Prelude.{◌≡◌, ◌≢◌, ℕ, ◌≤◌, Bool, true, false, List, [], ◌∷◌, ◌++◌, length, Ok, Err}
 use Rattle.decimal_rank.specs.Causes.{Rose}
-use Rattle.rulebook.specs.declared.ask.Ask.{Ask}
-use Rattle.rulebook.specs.declared.ask.Ask.TheVariants.{Act, See}
+use Rattle.http_wire.specs.declared.messages.HttpRequest.{HttpRequest}
+use Rattle.routes.specs.declared.answers.Answered.{Answered}
+use Rattle.routes.specs.declared.answers.Answered.TheVariants as answered
+use Rattle.routes.specs.declared.keys.KeyRow.{KeyRow}
+use Rattle.routes.specs.Asks.{Asked, Reads}
 use Rattle.rulebook.specs.Campaign.{History}
-use Rattle.rulebook.specs.Answers.{Answer, answer}
-use Rattle.campaign_server.specs.declared.keys.KeyRow.{KeyRow}
-use Rattle.campaign_server.specs.declared.answers.Answered.{Answered}
-use Rattle.campaign_server.specs.declared.answers.Answered.TheVariants as answered
-use Rattle.campaign_server.specs.declared.messages.WireFault.{WireFault}
-use Rattle.campaign_server.specs.declared.sessions.End.{End}
-use Rattle.campaign_server.specs.declared.sessions.End.TheVariants as end
-use Rattle.campaign_server.specs.Answers.{answer_text}
-use Rattle.campaign_server.specs.Links.{LinkState, Clock, Ticks}
-use Rattle.campaign_server.specs.Messages.{Message, Behind, Ending, Clean, Cut, Refused, Messages, IsEnding}
-use Rattle.campaign_server.specs.Routes.{Request, Reads}
+use Rattle.rulebook.specs.declared.ask.Addressed.{Addressed}
+use Rattle.rulebook.specs.declared.answer.Answer.{Answer}
+use Rattle.campaign_server.specs.Links.{Clock, Ticks}
+use Rattle.campaign_server.specs.Chains.{Said, at_moment}
+use Rattle.rulebook.specs.Stories.{Story, AtMost, IsTold, StartsWith, added_by, reply_by}
+use Rattle.campaign_server.specs.Stories.{added_since, is_query}
 
--- One message
+-- how many entries there may be at a request, behind which so many stood before: as many where nobody else adds any
+abbrev pub Between : Bool → ℕ → ℕ → Type 0
+Between true n k = k ≡ n
+Between false n k = n ≤ k
 
-abbrev pub is_query : Ask → Bool
-is_query (See q) = true
-is_query (Act c) = false
+-- What a request is answered behind these entries, and what it adds: the rules' answer, the fault that is read, want of memory, or a disk fault where the rules add an entry.
+abbrev pub Says : List KeyRow → History → HttpRequest → ℕ → Answered → History → Type 0
+Says keys H request moment (answered.Reply reply query) more =
+    (asked : Asked) × Reads request keys (Ok asked) × (query ≡ is_query asked.2)
+    × (reply ≡ reply_by H (at_moment asked moment)) × (more ≡ added_by H (at_moment asked moment))
+Says keys H request moment (answered.Route cause) more = Reads request keys (Err cause) × (more ≡ [])
+Says keys H request moment (answered.Wire cause) more = ⊥
+Says keys H request moment answered.DiskFault more =
+    (asked : Asked) × Reads request keys (Ok asked) × (added_by H (at_moment asked moment) ≢ []) × (more ≡ [])
+Says keys H request moment answered.Memory more = more ≡ []
 
--- the rules' answer to a request at a moment
-abbrev pub ruled : History → Request → ℕ → Answer
-ruled H request moment = answer H request.who request.number request.ask moment
+-- the places, from 0, of what is added behind these entries
+abbrev pub place_of : History → History → List ℕ
+place_of H [] = []
+place_of H (_ ∷ _) = length H ∷ []
 
--- What a message is answered at a moment, and the entries after it: the rules' answer to its request,
--- the fault that it is read as, or want of memory, by which nothing is added.
-abbrev pub Tells : List KeyRow → History → Message → ℕ → Answered → History → Type 0
-Tells keys H message moment (answered.Reply reply query) after =
-    (request : Request) × Reads message keys (Ok request)
-    × (reply ≡ (ruled H request moment).reply) × (query ≡ is_query request.ask) × (after ≡ H ++ (ruled H request moment).added)
-Tells keys H message moment (answered.Route fault) after = Reads message keys (Err fault) × (after ≡ H)
-Tells keys H message moment (answered.Wire fault) after = ⊥
-Tells keys H message moment answered.Memory after = after ≡ H
+-- one answer of a talk: behind H, which begins S, where n entries stood before; it adds `more`; and c disk calls failed before, d behind it
+pub record Stands (alone : Bool) (keys : List KeyRow) (n c : ℕ) (x : Said) (S H more : History) (d : ℕ) : Type 0 where
+  pub after : Between alone n (length H)
+  pub says : Says keys H x.request x.moment x.answer more
+  pub stands : StartsWith S (H ++ more)
+  pub later : c ≤ d
+  pub fault : x.answer ≡ answered.DiskFault → Rose c d
 
--- the text answers the message at the clock's next moment
-pub record Turn (keys : List KeyRow) (H : History) (clock : Clock) (message : Message) (text : List ℕ) (after : History)
-    (later : Clock) : Type 0 where
-  pub moment : ℕ
-  pub told : Answered
-  pub ticks : Ticks clock later moment
-  pub tells : Tells keys H message moment told after
-  pub text_is : text ≡ answer_text told false
+-- The answers in order, from n entries and c failed disk calls on: each is the rules' behind the first entries of S, no fewer than before, and
+-- what it adds stands there next. At the end S is seen, and `last` disk calls have failed. The places are those of what was added.
+abbrev pub Talk : Bool → List KeyRow → ℕ → ℕ → History → ℕ → List ℕ → List Said → Type 0
+Talk alone keys n c S last places [] = Between alone n (length S) × (c ≤ last) × (places ≡ [])
+Talk alone keys n c S last places (x ∷ said) =
+    (H : History) × (more : History) × (d : ℕ) × (others : List ℕ) × Stands alone keys n c x S H more d
+    × (places ≡ place_of H more ++ others) × Talk alone keys (length (H ++ more)) d S last others said
 
--- Many messages
+-- each moment is the clock's next
+abbrev pub Ticked : Clock → Clock → List Said → Type 0
+Ticked clock later [] = later ≡ clock
+Ticked clock later (x ∷ said) = (next : Clock) × Ticks clock next x.moment × Ticked next later said
 
--- The texts answer the messages in order, each after the entries that those before it left. One moment is taken
--- for each message.
-abbrev pub Talk : List KeyRow → History → Clock → List Message → List (List ℕ) → History → Clock → Type 0
-Talk keys H clock [] [] after later = (after ≡ H) × (later ≡ clock)
-Talk keys H clock [] (text ∷ texts) after later = ⊥
-Talk keys H clock (message ∷ messages) [] after later = ⊥
-Talk keys H clock (message ∷ messages) (text ∷ texts) after later =
-    (mid : History) × (then : Clock) × Turn keys H clock message text mid then × Talk keys mid then messages texts after later
+-- a talk with its moments
+pub record Talks (alone : Bool) (keys : List KeyRow) (n c : ℕ) (clock : Clock) (S : History) (last : ℕ) (later : Clock) (places : List ℕ) (said : List Said) : Type 0 where
+  pub talk : Talk alone keys n c S last places said
+  pub moments : Ticked clock later said
 
--- the text behind the last answer: a refused message is answered with close
-abbrev pub last_text : Ending → List ℕ
-last_text Clean = []
-last_text Cut = []
-last_text (Refused fault) = answer_text (answered.Wire fault) true
+-- before a request a story may have been followed by another, where others add entries too
+abbrev pub Before : Bool → Story → Story → Type 0
+Before true seen b = b ≡ seen
+Before false seen b = AtMost seen b
 
--- A session
+-- A teller's states are seen as stories: each request is told from one that the state's may be followed by, and what is gained are the
+-- places of what it adds.
+pub record IsSeen {S : Type 0} (tells : S → Addressed → Answer → S → Type 0) (alone : Bool) (look : S → Story) (gains : S → List ℕ → S → Type 0) : Type 0 where
+  pub step : (old : S) (asked : Addressed) (answer : Answer) (new : S) → tells old asked answer new
+      → (b : Story) × Before alone (look old) b × IsTold b asked answer (look new) × gains old (place_of b.list (added_since b.list (look new).list)) new
+  pub none : (s : S) → gains s [] s
+  pub both : (a b c : S) (places others : List ℕ) → gains a places b → gains b others c → gains a (places ++ others) c
 
--- these bytes were read
-pub record Hears (old new : LinkState) (bytes : List ℕ) : Type 0 where
-  pub left : Consumes old.reading.left new.reading.left bytes
-  pub taken : Appends old.reading.taken new.reading.taken bytes
+-- a talk stays one where S is longer and more disk calls failed, and where it starts from less; one without others is one with others
+pub record TalkLaws (keys : List KeyRow) (n c : ℕ) (S : History) (last : ℕ) (places : List ℕ) (said : List Said) : Type 0 where
+  pub longer : (more : History) (later : ℕ) → last ≤ later → Talk false keys n c S last places said → Talk false keys n c (S ++ more) later places said
+  pub earlier : (m b : ℕ) → m ≤ n → b ≤ c → Talk false keys n c S last places said → Talk false keys m b S last places said
+  pub loosened : Talk true keys n c S last places said → Talk false keys n c S last places said
 
--- fewer than 2^40 bytes were read, and they are all
-pub record HearsAll (old new : LinkState) (bytes : List ℕ) : Type 0 where
-  pub heard : Hears old new bytes
-  pub few : length bytes < 2 ^ 40
-  pub at_end : IsAtEnd new.reading.left
-
--- the messages before the rest of the bytes were answered, and nothing else was written
-pub record Spoke (keys : List KeyRow) (H : History) (old : LinkState) (bytes rest : List ℕ) (after : History)
-    (new : LinkState) : Type 0 where
-  pub messages : List Message
-  pub texts : List (List ℕ)
-  pub split : Behind bytes messages rest
-  pub talk : Talk keys H old.clock messages texts after new.clock
-  pub written : Appends old.writing.written new.writing.written (concat texts)
-
--- all messages of the bytes were answered, and then the end that the bytes have
-pub record SpokeAll (keys : List KeyRow) (H : History) (old : LinkState) (bytes : List ℕ) (after : History)
-    (new : LinkState) (ending : Ending) : Type 0 where
-  pub messages : List Message
-  pub texts : List (List ℕ)
-  pub are_messages : Messages bytes messages ending
-  pub talk : Talk keys H old.clock messages texts after new.clock
-  pub written : Appends old.writing.written new.writing.written (concat texts ++ last_text ending)
-
--- The messages before the rest of the bytes were answered, but a write failed in the last text: the answer of
--- the last message, or that of the refused message behind them. The texts before it were written, and so many
--- bytes of it.
-pub record SpokePart (keys : List KeyRow) (H : History) (old : LinkState) (bytes : List ℕ) (after : History)
-    (new : LinkState) : Type 0 where
-  pub messages : List Message
-  pub rest : List ℕ
-  pub texts : List (List ℕ)
-  pub last : List ℕ
-  pub count : ℕ
-  pub split : Behind bytes messages rest
-  pub talk : Talk keys H old.clock messages (texts ++ last ∷ []) after new.clock
-      ⊎ ((fault : WireFault) × IsEnding rest (Refused fault) × (last ≡ last_text (Refused fault))
-      × Talk keys H old.clock messages texts after new.clock)
-  pub few : count ≤ length last
-  pub written : Appends old.writing.written new.writing.written (concat texts ++ take count last)
-  pub fault : Rose old.writing.faults new.writing.faults
-
--- nothing was answered, and no moment was taken
-pub record IsSilent (H : History) (old : LinkState) (after : History) (new : LinkState) : Type 0 where
-  pub history : after ≡ H
-  pub writing : new.writing ≡ old.writing
-  pub clock : new.clock ≡ old.clock
-
--- What a session comes to, by its end: the entries before and after it, and what the link tells then.
-abbrev pub Ends : List KeyRow → History → LinkState → History → LinkState → End → Type 0
-Ends keys H old after new end.Ended = (bytes : List ℕ) × HearsAll old new bytes × SpokeAll keys H old bytes after new Clean
-Ends keys H old after new end.Cut = (bytes : List ℕ) × HearsAll old new bytes × SpokeAll keys H old bytes after new Cut
-Ends keys H old after new (end.Refused fault) =
-    (bytes : List ℕ) × HearsAll old new bytes × SpokeAll keys H old bytes after new (Refused fault)
-Ends keys H old after new end.ReadFault = Rose old.reading.faults new.reading.faults × IsSilent H old after new
-Ends keys H old after new end.WriteFault = (bytes : List ℕ) × HearsAll old new bytes × SpokePart keys H old bytes after new
-Ends keys H old after new end.Memory = (bytes : List ℕ) × (rest : List ℕ) × Hears old new bytes × Spoke keys H old bytes rest after new
-Ends keys H old after new end.Worn = (bytes : List ℕ) × Hears old new bytes × (length bytes ≡ 2 ^ 40) × IsSilent H old after new
+-- the talk of a session with a campaign in memory, from its entries before to those after
+abbrev pub IsTalkAlone : List KeyRow → History → Clock → History → Clock → List Said → Type 0
+IsTalkAlone keys before clock after later said = (places : List ℕ) × Talks true keys (length before) 0 clock after 0 later places said

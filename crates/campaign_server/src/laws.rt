@@ -1,7 +1,11 @@
 ghost use Rattle.std.specs.Prelude.{ℕ, List};
-ghost use Rattle.campaign_server.specs.Messages.{IsOneReading};
+ghost use Rattle.routes.specs.declared.keys.KeyRow.{KeyRow};
+ghost use Rattle.rulebook.specs.Campaign.{History};
+ghost use Rattle.campaign_server.specs.Chains.{Said};
+ghost use Rattle.campaign_server.specs.Talks.{TalkLaws};
 
-/// Bytes are read as messages and an end in one way at most.
-pub fn one_reading()
-    ensures { (bytes : List ℕ) → IsOneReading bytes }
+/// A talk stays one over a longer list of entries, and from an earlier start.
+pub fn talks_go_on()
+    ensures { (keys : List KeyRow) (n c : ℕ) (S : History) (last : ℕ) (places : List ℕ) (said : List Said)
+        → TalkLaws keys n c S last places said }
 {}

@@ -1,33 +1,27 @@
-//! One connection to a campaign: the messages of its bytes, what each asks, and the answers that are
-//! written. `Link` stands for the connection; it has a form in memory and an adapter over standard
-//! input and output.
+//! One connection to a campaign: its requests are asked as their bytes come, and each answer is written
+//! before more is read. `Link` stands for the connection; it has a form in memory and an adapter over
+//! standard input and output. `Teller` stands for the campaign.
 #![tactic(auto)]
 
-mod answers;
-mod faults;
-mod growth;
-mod heads;
-mod keys;
+mod answering;
+mod asks;
+mod buffers;
+mod connections;
+mod ends;
 mod laws;
 mod links;
 mod memory_link;
-mod messages;
-mod names;
-mod plan;
-mod reading;
-mod routes;
 mod sessions;
+mod states;
 mod stream_link;
+mod tellers;
 
-pub use faults::Failed;
-pub use keys::{KeyRow, Keys};
-pub use laws::one_reading;
+pub use connections::converse;
+pub use decimal_rank::Failed;
+pub use ends::End;
+pub use laws::talks_go_on;
 pub use links::{Link, write_all};
 pub use memory_link::MemoryLink;
-pub use messages::WireFault;
-pub use routes::RouteFault;
-pub use sessions::{End, session};
+pub use sessions::session;
 pub use stream_link::StreamLink;
-
-#[cfg(test)]
-mod tests;
+pub use tellers::Teller;

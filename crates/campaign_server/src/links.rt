@@ -5,7 +5,7 @@ ghost use Rattle.decimal_rank.specs.Causes.{HasCause};
 ghost use Rattle.decimal_rank.specs.KnownBytes.{AppendsPart};
 ghost use Rattle.campaign_server.specs.Links.{LinkState, ReadTakes, Ticks};
 
-use crate::faults::Failed;
+use decimal_rank::Failed;
 
 /// A connection: bytes that come, bytes that go, and the moments of a clock.
 pub trait Link {

@@ -1,15 +1,13 @@
 ghost use Rattle.std.specs.Prelude.{◌≡◌, ◌≤◌, ◌<◌, ◌↔◌, ◌++◌, ℕ, [], IsTrue, IsSome, IsErr, IfOk, length, take, drop, min, slice_get, option_copied};
 ghost use Rattle.std.specs.List.{concat};
 ghost use Rattle.rulebook.specs.declared.limits.TheConstants.{MAX_MOMENT};
-ghost use Rattle.campaign_server.specs.Plans.{fails_next, count_more as one_more};
+ghost use Rattle.decimal_rank.specs.FailurePlans.{fails_next, count_more as one_more};
 ghost use Rattle.campaign_server.specs.Links.{moment_at};
 ghost use Rattle.campaign_server.specs.Pieces.{are_filled, taken_of, left_of, IsPlace};
 ghost use Rattle.campaign_server.specs.MemoryLinks.{told_by, are_moments, after_read, after_write};
 
-use crate::faults::Failed;
 use crate::links::Link;
-use crate::plan::{Plan, count_more};
-use decimal_rank::Text;
+use decimal_rank::{Failed, FailurePlan, Text, count_more};
 use std::marker::Model;
 
 /// A link in memory, which tells its bytes and moments. A read gives bytes of one piece, and a write
@@ -24,8 +22,8 @@ pub struct MemoryLink {
     written: Vec<u8>,
     moments: Vec<u64>,
     asked: u64,
-    reads: Plan,
-    writes: Plan,
+    reads: FailurePlan,
+    writes: FailurePlan,
     read_faults: u64,
     write_faults: u64,
     wants: u64,
@@ -88,8 +86,8 @@ impl MemoryLink {
             within: 0,
             moments,
             asked: 0,
-            reads: Plan::new(read_fails),
-            writes: Plan::new(write_fails),
+            reads: FailurePlan::new(read_fails),
+            writes: FailurePlan::new(write_fails),
             read_faults: 0,
             write_faults: 0,
             wants: 0,

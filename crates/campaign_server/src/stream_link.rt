@@ -1,9 +1,8 @@
 ghost use Rattle.std.specs.Prelude.{◌≡◌, ◌≤◌, None};
 ghost use Rattle.rulebook.specs.declared.limits.TheConstants.{MAX_MOMENT};
 
-use crate::faults::Failed;
 use crate::links::Link;
-use crate::plan::count_more;
+use decimal_rank::{Failed, count_more};
 use rulebook::MAX_MOMENT;
 use std::io::Read;
 use std::rt::Clock;

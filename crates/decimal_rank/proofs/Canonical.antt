@@ -21,7 +21,7 @@ use Rattle.decimal_rank.specs.DecimalText.{is_digit, is_zero, is_point, is_expon
 use Rattle.decimal_rank.proofs.Digits.{digit_range, digit_at}
 use Rattle.decimal_rank.proofs.Reading.{leading-other, zeros_push}
 use Rattle.decimal_rank.proofs.Scores.{scaled_as, scaled_some}
-use Rattle.decimal_rank.proofs.Texts.{has_value}
+use Rattle.decimal_rank.proofs.ScoreTexts.{has_value}
 
 -- ---- the digits of a number
 

@@ -22,9 +22,9 @@ pub digit_at : (digits : List ℕ) (i : ℕ) → list_all is_digit digits ≡ tr
 digit_at digits i all inside = true_from_ne_false (is_digit (get_or digits i 0)) (λ other. let wrong = list_all_at is_digit digits i 0 inside other in cc)
 
 -- the capped value with one more digit
-pub capped_more : (digits : List ℕ) (i value next : ℕ) → list_all is_digit digits ≡ true → i < length digits → value ≡ min (digits_value 10 (take i digits)) 401
-    → next ≡ min (value * 10 + (get_or digits i 0 - 48)) 401 → next ≡ min (digits_value 10 (take (i + 1) digits)) 401
-capped_more digits i value next all inside was is =
+pub capped_more : (digits : List ℕ) (i value next cap : ℕ) → list_all is_digit digits ≡ true → i < length digits → value ≡ min (digits_value 10 (take i digits)) cap
+    → next ≡ min (value * 10 + (get_or digits i 0 - 48)) cap → next ≡ min (digits_value 10 (take (i + 1) digits)) cap
+capped_more digits i value next cap all inside was is =
     omega (arith, was, is, digits_value_more 10 digits i inside, digit_value_digit (get_or digits i 0) (digit_range (get_or digits i 0) (digit_at digits i all inside)))
 
 -- ---- zeros at the end

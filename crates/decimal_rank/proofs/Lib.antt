@@ -1,6 +1,9 @@
+pub mod Bucketed
 pub mod Canonical
+pub mod Chained
 pub mod Cuts
 pub mod Digits
+pub mod Growing
 pub mod Growth
 pub mod Listing
 pub mod Mapped
@@ -9,5 +12,5 @@ pub mod Scores
 pub mod Search
 pub mod Shifts
 pub mod Standing
-pub mod Texts
+pub mod ScoreTexts
 pub mod Values

@@ -13,7 +13,7 @@ use Rattle.decimal_rank.specs.Significands.{IsSignificand, ArePartsOf}
 use Rattle.decimal_rank.specs.declared.parts.Parts.{Parts}
 use Rattle.decimal_rank.specs.declared.significands.Significand.{Significand}
 use Rattle.decimal_rank.proofs.Reading.{sized, is_kept, is_trimmed, some_counted, same_zeros, zeros_within, count_within}
-use Rattle.decimal_rank.proofs.Texts.{IsShaped}
+use Rattle.decimal_rank.proofs.ScoreTexts.{IsShaped}
 
 pub of_parts : (text : List ℕ) (parts : Parts) (s : Significand) → ArePartsOf text parts → IsSignificand (parts.whole.now ++ parts.fraction.now) s → IsSignificand (mantissa_digits text) s
 of_parts text parts s p was =

@@ -1,5 +1,5 @@
 -- The entries by which a ranking finds the place of a document.
-use Rattle.std.specs.Prelude.{List, map, ℕ}
+use Rattle.std.specs.Prelude.{List, map}
 use Rattle.std.specs.List.{enumerate_from}
 use Rattle.std.specs.List.Sorted.{IsPermutation, IsNonDecreasingBy}
 use Rattle.decimal_rank.specs.declared.naming.DocId.{DocId}

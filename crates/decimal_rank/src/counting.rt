@@ -1,3 +1,4 @@
+//! A count of steps, by which a contract bounds the work of a call.
 ghost use Rattle.std.specs.Prelude.{◌≡◌, ℕ, ◌+◌, ◌<◌};
 
 use std::marker::Model;

@@ -1,10 +1,12 @@
+//! The exact values of scores, read from their texts, compared, and written as canonical texts.
 ghost use Rattle.std.specs.Prelude.{IfOk, ◌≡◌, ◌≢◌, ◌-◌, ◌*◌, ◌/◌, ◌%◌, ◌^◌, ◌<◌, ◌≤◌, pos, negsuc, ◌≤ℤ◌, ◌+ℤ◌, ◌-ℤ◌};
 ghost use Rattle.decimal_rank.specs.DecimalText.{canonical, decimal_of, scaled};
 ghost use Rattle.decimal_rank.specs.Decimal.{DecimalValue, decimal_cmp, size_of};
 
 use crate::parts::{exponent_of, parts_of};
 use crate::significands::{MOST_DIGITS, significand_of};
-use crate::storage::{Memory, Text};
+use crate::storage::Memory;
+use crate::texts::Text;
 use std::alloc::Global;
 use std::cmp::Ordering;
 use std::marker::Model;

@@ -1,10 +1,13 @@
+//! Names that are numbered as they come, so that layers above hand on numbers in place of texts.
 ghost use Rattle.std.specs.Prelude.{◌≡◌, ℕ, ◌+◌, ◌<◌, ◌≤◌, ◌^◌, List, [], Some, length, take, map, IfOk, OnOk, OnErr, slice_get};
 ghost use Rattle.decimal_rank.specs.Names.{with_name, number_of, docno_of};
 ghost use Rattle.std.specs.List.{IsDistinct};
 ghost use Rattle.std.specs.Option.{option_map};
 ghost use Rattle.std.specs.Str.{bytes_eq};
 
-use crate::storage::{Memory, Text};
+use crate::secrets::Secret;
+use crate::storage::Memory;
+use crate::texts::Text;
 use indexmap::IndexSet;
 use std::alloc::Global;
 use std::marker::Model;
@@ -17,7 +20,7 @@ pub struct DocId(pub u32);
 /// Contracts see the list of the names.
 #[derive(Drop)]
 pub struct Names {
-    set: IndexSet<Vec<u8>>,
+    set: IndexSet<Vec<u8>, Secret>,
 }
 
 impl Model for Names {
@@ -33,7 +36,7 @@ impl Names {
         ensures { result ≡ [] }
     {
         Names {
-            set: IndexSet::new(alloc),
+            set: IndexSet::with_hasher(alloc, Secret::drawn()),
         }
     }
 
@@ -51,7 +54,8 @@ impl Names {
         ensures number { IfOk result (λ doc. number_of self.new name ≡ Some doc.0) }
         ensures err { OnErr result (self.new ≡ self.old) }
     {
-        let (index, _) = self.set.insert_full(name.into_bytes())?;
+        let owned = Vec::from_slice(*self.set.allocator(), name.bytes())?;
+        let (index, _) = self.set.insert_full(owned)?;
         Ok(DocId(index as u32))
     }
 
@@ -78,7 +82,7 @@ impl Names {
     }
 
     /// The name of a number, and no byte where there is none.
-    pub fn docno(&self, doc: DocId) -> &[u8]
+    pub fn name_or_empty(&self, doc: DocId) -> &[u8]
         ensures { result.now ≡ docno_of self.now doc.0 }
     {
         match self.set.get_index(doc.0 as usize) {

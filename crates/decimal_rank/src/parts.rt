@@ -1,14 +1,18 @@
+//! The parts of a score's text: `[+-] DIGITS [. DIGITS] [(e|E) [+-] DIGITS]`, with a digit on at least
+//! one side of the point.
 ghost use Rattle.std.specs.Prelude.{◌≡◌, ◌≤◌, ◌<◌, ◌++◌, false, true, [], length, min, position, IsTrue, MatchOption, IfSome};
 ghost use Rattle.std.specs.List.{list_all, list_any, before_first, after_first};
 ghost use Rattle.std.specs.Str.Parse.{digits_value, signed_digits_value, starts_with_minus, without_leading_sign};
 ghost use Rattle.decimal_rank.specs.DecimalText.{is_decimal, is_digit, is_point, is_exponent_mark, are_digits};
 ghost use Rattle.decimal_rank.specs.Significands.{ArePartsOf};
 
+use crate::numbers::{are_all_digits, capped_number};
+
 /// The most bytes of a score's text.
 const MOST_BYTES: usize = 400;
 
 /// The greatest size of a written exponent.
-const MOST_EXPONENT: u16 = 400;
+const MOST_EXPONENT: u64 = 400;
 
 /// The parts of a score's text.
 #[derive(Clone, Copy)]
@@ -26,12 +30,6 @@ fn is_exponent_mark(byte: u8) -> bool
     ensures { result ≡ is_exponent_mark byte }
 {
     byte == b'e' || byte == b'E'
-}
-
-fn are_all_digits(part: &[u8]) -> bool
-    ensures { result ≡ list_all is_digit part.now }
-{
-    part.iter().all(|byte| 48 <= *byte && *byte <= 57)
 }
 
 fn starts_with_minus(text: &[u8]) -> bool
@@ -125,26 +123,13 @@ pub(crate) fn parts_of(text: &[u8]) -> Option<Parts<'_>>
     })
 }
 
-// The number that the digits write, or 401 where it's greater.
-#[tactic(auto, using(crate::proofs::Digits::capped_more))]
-fn capped(digits: &[u8]) -> u16
-    requires { IsTrue (list_all is_digit digits.now) }
-    ensures { result ≡ min (digits_value 10 digits.now) 401 }
-{
-    let mut value: u16 = 0;
-    for digit in digits {
-        value = (value * 10 + u16::from(digit.saturating_sub(48))).min(MOST_EXPONENT + 1);
-    }
-    value
-}
-
 /// The value of an exponent as it is written, where it's -400 to 400; nothing written is 0.
 pub(crate) fn exponent_of(written: &[u8]) -> Option<i16>
     requires { IsTrue (list_all is_digit (without_leading_sign written.now)) }
     ensures { MatchOption result (400 < digits_value 10 (without_leading_sign written.now))
         (λ exponent. (digits_value 10 (without_leading_sign written.now) ≤ 400) × (exponent ≡ signed_digits_value 10 written.now)) }
 {
-    let size = capped(without_sign(written));
+    let size = capped_number(without_sign(written), MOST_EXPONENT + 1);
     if size > MOST_EXPONENT {
         return None;
     }

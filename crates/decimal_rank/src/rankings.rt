@@ -1,3 +1,5 @@
+//! The rank of each document of a ranked list, and lists in the order of their ranks that tell the
+//! document at a rank in one step and the rank of a document in a few.
 ghost use Rattle.std.specs.Prelude.{◌≡◌, ℕ, ◌+◌, ◌-◌, ◌<◌, ◌≤◌, List, length, map, take, All, Some, Err, IfOk, OnOk, MatchOption, slice_get, ◌≢◌, Any, IfSome, IfNone};
 ghost use Rattle.std.specs.List.Sorted.{IsNonDecreasingBy};
 ghost use Rattle.decimal_rank.specs.Places.{AreDistinct, IsFirstRepeat, place_in, levels};
@@ -8,7 +10,9 @@ ghost use Rattle.decimal_rank.specs.Names.{docno_of};
 use crate::counting::Steps;
 use crate::decimals::Decimal;
 use crate::naming::{DocId, Names};
+use crate::secrets::Secret;
 use crate::storage::Memory;
+use crate::ticked::Ticked;
 use std::alloc::{AllocError, AllocFailed, Global};
 use std::cmp::Ordering;
 use std::collections::HashMap;
@@ -43,9 +47,9 @@ impl From<Memory> for RankFault {
 /// The documents of a run on one topic, by rank. Contracts see the list of the documents.
 #[derive(Drop)]
 pub struct Ranking {
-    docs: Vec<DocId>,
+    docs: Ticked<DocId>,
     // by document
-    entries: Vec<Entry>,
+    entries: Ticked<Entry>,
 }
 
 // A document and its place, from 1.
@@ -78,7 +82,7 @@ fn first_repeat(alloc: Global, lines: &[Scored]) -> Result<Option<(u32, u32)>, M
     ensures { IfOk result (λ found. MatchOption found (AreDistinct (map (λ line. line.doc) lines.now))
         (λ p. IsFirstRepeat (map (λ line. line.doc) lines.now) p.0 p.1)) }
 {
-    let mut line_of = HashMap::with_capacity(alloc, lines.len())?;
+    let mut line_of = HashMap::with_capacity_and_hasher(alloc, lines.len(), Secret::drawn())?;
     for (i, line) in lines.iter().enumerate() {
         let second = i as u32 + 1;
         if let Some(first) = line_of.insert(line.doc.0, second)? {
@@ -119,7 +123,7 @@ fn standing(names: &Names, a: &Scored, b: &Scored) -> Ordering
     ensures { result ≡ standing_cmp (standing_of names.now a.now) (standing_of names.now b.now) }
 {
     match a.score.compare(&b.score) {
-        Ordering::Equal => names.docno(a.doc).cmp(names.docno(b.doc)),
+        Ordering::Equal => names.name_or_empty(a.doc).cmp(names.name_or_empty(b.doc)),
         unequal => unequal,
     }
 }
@@ -132,9 +136,9 @@ impl Model for Ranking {
 
     ghost Value = { List DocId };
 
-    ghost view = { λ ranking. ranking.docs.items };
+    ghost view = { λ ranking. ranking.docs };
 
-    ghost invariant = { λ ranking. (length ranking.docs.items ≤ 1000) × AreDistinct ranking.docs.items × AreEntries ranking.docs.items ranking.entries.items };
+    ghost invariant = { λ ranking. (length ranking.docs ≤ 1000) × AreDistinct ranking.docs × AreEntries ranking.docs ranking.entries };
 }
 
 impl Ranking {
@@ -145,7 +149,10 @@ impl Ranking {
         ensures { IfOk result (λ ranking. ranking ≡ docs.items) }
     {
         let entries = entries_of(*docs.allocator(), &docs)?;
-        Ok(Ranking { docs, entries })
+        Ok(Ranking {
+            docs: Ticked::new(docs),
+            entries: Ticked::new(entries),
+        })
     }
 
     /// How many documents there are, at most 1,000.
@@ -164,8 +171,7 @@ impl Ranking {
         ensures doc { slice_get self.now (place - 1) ≡ Some result }
         ensures cost { steps.new ≡ steps.old + 1 }
     {
-        steps.tick();
-        self.docs[place as usize - 1]
+        self.docs.at(place as usize - 1, steps)
     }
 
     /// The place of a document, from 1, in at most one step for each binary digit of the length and
@@ -203,7 +209,7 @@ fn placed(alloc: Global, docs: &[DocId]) -> Result<Vec<Entry>, Memory>
 }
 
 // The place that stands beside a document in entries by document.
-fn place_among<L: Ledger>(entries: &[Entry], doc: u32, steps: &mut Steps<L>) -> Option<u32>
+fn place_among<L: Ledger>(entries: &Ticked<Entry>, doc: u32, steps: &mut Steps<L>) -> Option<u32>
     requires { IsNonDecreasingBy (λ entry. entry.doc) entries.now }
     ensures found { IfSome result (λ place. Any (λ entry. (entry.doc ≡ doc) × (entry.place ≡ place)) entries.now) }
     ensures none { IfNone result (All (λ entry. entry.doc ≢ doc) entries.now) }
@@ -213,8 +219,7 @@ fn place_among<L: Ledger>(entries: &[Entry], doc: u32, steps: &mut Steps<L>) -> 
     let mut high = entries.len();
     while low < high {
         let middle = low + (high - low) / 2;
-        steps.tick();
-        let entry = entries[middle];
+        let entry = entries.at(middle, steps);
         match entry.doc.cmp(&doc) {
             Ordering::Less => low = middle + 1,
             Ordering::Equal => return Some(entry.place),

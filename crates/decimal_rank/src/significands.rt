@@ -1,3 +1,4 @@
+//! The digits of a score as one number, without the zeros in front and with those at its end counted.
 ghost use Rattle.std.specs.Prelude.{◌≡◌, ◌≤◌, ◌<◌, ◌+◌, ◌-◌, ◌*◌, ◌^◌, ◌++◌, ◌∷◌, [], ℕ, List, length, min, IsTrue};
 ghost use Rattle.std.specs.List.{list_all};
 ghost use Rattle.decimal_rank.specs.DecimalText.{is_digit};

@@ -1,4 +1,5 @@
-ghost use Rattle.std.specs.Prelude.{◌≡◌, ℕ, List, IfOk};
+//! What a caller keeps in order, and the want of memory.
+ghost use Rattle.std.specs.Prelude.{◌≡◌, List};
 
 use std::alloc::{AllocError, AllocFailed};
 use std::marker::Model;
@@ -16,47 +17,6 @@ impl From<AllocError> for Memory {
 impl<T: Drop> From<AllocFailed<T>> for Memory {
     fn from(_error: AllocFailed<T>) -> Memory {
         Memory
-    }
-}
-
-/// Bytes that a caller keeps, as a topic id, a docno or a page. Contracts see the list of the bytes.
-#[derive(Debug, Drop)]
-pub struct Text {
-    bytes: Vec<u8>,
-}
-
-impl Model for Text {
-    ghost Value = { List ℕ };
-
-    ghost view = { λ text. text.bytes.items };
-}
-
-impl Text {
-    pub fn new(bytes: Vec<u8>) -> Text
-        ensures { result ≡ bytes.items }
-    {
-        Text { bytes }
-    }
-
-    pub fn bytes(&self) -> &[u8]
-        ensures { result.now ≡ self.now }
-    {
-        self.bytes.as_slice()
-    }
-
-    /// The bytes, which leave the text.
-    pub fn into_bytes(self) -> Vec<u8>
-        ensures { result.items ≡ self }
-    {
-        self.bytes
-    }
-
-    pub fn copy(&self) -> Result<Text, Memory>
-        ensures { IfOk result (λ copy. copy ≡ self.now) }
-    {
-        Ok(Text {
-            bytes: self.bytes.clone()?,
-        })
     }
 }
 

@@ -143,15 +143,15 @@ impl Pool {
     }
 
     /// The documents that some run holds, each once, by docno.
-    pub fn docs(&self, alloc: Global, names: &Names) -> Result<Vec<DocId>, Memory>
+    pub fn docs(&self, names: &Names) -> Result<Vec<DocId>, Memory>
         requires docs_named { All (λ held. All (λ doc. doc.0 < length names.now) held.docs) self.now.runs }
         ensures each { IfOk result (λ docs. (doc : DocId) → has_doc doc docs.items ≡ some_run_holds doc self.now.runs) }
         ensures ascending { IfOk result (λ docs. AreByDocno names.now docs.items) }
     {
         // names tell with their length that no name stands twice
         let _ = names.len();
-        let mut docs = docs_held(&self.index, alloc)?;
-        docs.sort_unstable_by(|a, b| names.docno(*a).cmp(names.docno(*b)));
+        let mut docs = docs_held(&self.index, *self.runs.allocator())?;
+        docs.sort_unstable_by(|a, b| names.name_or_empty(*a).cmp(names.name_or_empty(*b)));
         Ok(docs)
     }
 }

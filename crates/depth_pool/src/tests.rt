@@ -158,7 +158,7 @@ fn the_documents_of_a_run_stand_by_rank(rt: HostRuntime) -> Result<(), Fail> {
 fn six_names(alloc: Global) -> Result<Names, Fail> {
     let mut names = Names::new(alloc);
     for docno in [b"F", b"B", b"E", b"A", b"D", b"C"] {
-        let name = Text::new(Vec::from_slice(alloc, docno)?);
+        let name = Text::from_slice(alloc, docno)?;
         if names.len() < 6 {
             names.add(name)?;
         }
@@ -176,11 +176,11 @@ fn the_documents_of_a_pool_stand_by_docno(rt: HostRuntime) -> Result<(), Fail> {
     for [first, third] in [[0, 2], [2, 0]] {
         assert!(rt; first != 1 && first != third && third != 1);
         let mut pool = filled(alloc, RunId(first), RunId(1), RunId(third))?;
-        let docs = pool.docs(alloc, &names)?;
+        let docs = pool.docs(&names)?;
         assert_eq!(rt; docs.as_slice(), all.as_slice());
         assert_eq!(rt; pool.len(), 6);
         pool.drop_run(RunId(1));
-        let docs = pool.docs(alloc, &names)?;
+        let docs = pool.docs(&names)?;
         assert_eq!(rt; docs.as_slice(), left.as_slice());
         assert_eq!(rt; pool.len(), 4);
     }

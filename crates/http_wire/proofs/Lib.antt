@@ -1,6 +1,6 @@
+pub mod Continuing
 pub mod FrontLaws
-pub mod Growing
 pub mod HeadLengths
 pub mod Looks
 pub mod ReadingLaws
-pub mod Sizes
+pub mod Searching

@@ -1,5 +1,5 @@
 -- What is found at the front of a message is what stands there, and stays while too few bytes come.
-use Rattle.std.proofs.Common.{◌≡◌, ℕ, ◌+◌, ◌<◌, ◌≤◌, List, [], ◌∷◌, ◌++◌, Some, None, Bool, true, false, length, take, drop, refl, sym, ap, ◌∙◌, subst, arith, inl, inr, length-append, length-drop, leb-true, append_assoc}
+use Rattle.std.proofs.Common.{◌≡◌, ℕ, ◌+◌, ◌-◌, ◌<◌, ◌≤◌, List, [], ◌∷◌, ◌++◌, Some, None, Bool, true, false, length, take, drop, refl, sym, ap, ◌∙◌, subst, arith, inl, inr, length-append, length-drop, leb-true, append_assoc}
 use Rattle.std.specs.Prelude.{nat_lt, nat_le, ◌==◌, not, Result, Ok, Err, IfOk, codes, map, if◌then◌else◌}
 use Rattle.std.specs.Str.{bytes_eq}
 use Rattle.std.specs.Str.Parse.{digits_value}
@@ -24,6 +24,7 @@ use Rattle.http_wire.specs.Fronts.{field_at, Says, request_with, found_with, fou
 use Rattle.http_wire.specs.Messages.{Front, Whole, Faulty, Unfinished, request_of, behind_head, AtHead, AtLength, AtMessage, Steps}
 use Rattle.http_wire.proofs.HeadLengths.{message-append}
 use Rattle.http_wire.proofs.FrontLaws.{at_head_more, inside_of}
+use Rattle.http_wire.proofs.Searching.{searched_none, searched_short}
 
 -- the fields at some spans, by what the spans cover
 pub fields_at : (text : List ℕ) (spans : List HeaderSpan) (fields : List Field) → map (header_bytes text) spans ≡ map name_and_value fields → map (field_at text) spans ≡ map field_of fields
@@ -92,7 +93,7 @@ found_size message n said head (Err cause) ends is says fault_is =
     at_head_here message n (Faulty cause) ends (inr (head, is, rw fault_is refl))
 found_size message n said head (Ok size) ends is says size_is =
     let inside = inside_of 8192 message n ends in
-    cond_both (nat_lt (length (drop n message)) size) (found.Unfinished (n + size)) (found.Whole (request_with said (take size (drop n message))) (n + size)) (IsFound message)
+    cond_both (nat_lt (length (drop n message)) size) (found.Unfinished (n + size) 0) (found.Whole (request_with said (take size (drop n message))) (n + size)) (IsFound message)
     (λ few.
     let short : length (drop n message) < size = ltb-true (length (drop n message)) size few in (
       at_head_here message n Unfinished ends (inr (head, is, short_behind head size (drop n message) size_is short)),
@@ -100,6 +101,7 @@ found_size message n said head (Ok size) ends is says size_is =
         front = λ more fewer. at_head_more message more n Unfinished ends inside.1
             (inr (head, is, short_behind head size (drop n message ++ more) size_is (omega (arith, fewer, inside.1, length-append message more, length-append (drop n message) more, length-drop n message))));
       },
+      searched_none message,
     ))
     (λ enough.
     let there : size ≤ length (drop n message) = ltb-false (length (drop n message)) size enough in
@@ -119,10 +121,10 @@ found_at message n said head ends is says =
     found_size message n said head (body_length said.method said.fields) ends is says (ap (λ m. body_length m (fields_of head)) (sym says.method) ∙ ap (λ f. body_length said.method f) (sym says.fields))
 
 -- the first 8,192 bytes end no head
-pub unfinished_head : (message : List ℕ) → head_length (take 8192 message) ≡ None → length message < 8192 → IsFound message (found.Unfinished 0)
+pub unfinished_head : (message : List ℕ) → head_length (take 8192 message) ≡ None → length message < 8192 → IsFound message (found.Unfinished 0 (length message - 2))
 unfinished_head message none few =
     let short : nat_lt (length message) 8192 ≡ true = lt-ltb (length message) 8192 few in
-    (subst (λ found. AtLength message found Unfinished) (sym none) (rw short refl), record { front = λ more fewer. absurd (omega (arith, fewer)) })
+    (subst (λ found. AtLength message found Unfinished) (sym none) (rw short refl), record { front = λ more fewer. absurd (omega (arith, fewer)) }, searched_short message few none)
 
 pub long_head : (message : List ℕ) → head_length (take 8192 message) ≡ None → 8192 ≤ length message → IsFound message (found.Faulty fault.HeadSize)
 long_head message none many =

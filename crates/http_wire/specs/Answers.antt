@@ -1,8 +1,6 @@
 -- The texts of the answers.
-use Rattle.std.specs.Prelude.{◌≡◌, ℕ, ◌+◌, ◌==◌, ◌≤◌, Bool, List, [], ◌∷◌, ◌++◌, Result, OnOk, OnErr, IsOk, length, vec_capacity, codes, decimal, if◌then◌else◌}
+use Rattle.std.specs.Prelude.{ℕ, ◌==◌, Bool, List, [], ◌∷◌, ◌++◌, length, codes, decimal, if◌then◌else◌}
 use Rattle.std.specs.List.{concat, list_any}
-use Rattle.std.specs.declared.alloc.Global.{Global}
-use Rattle.std.specs.declared.vec.Vec.{Vec}
 
 -- a status that has a reason
 abbrev pub is_status : ℕ → Bool
@@ -44,10 +42,3 @@ head_text status json close size = concat
 
 abbrev pub answer_text : ℕ → Bool → Bool → List ℕ → List ℕ
 answer_text status json close body = head_text status json close (length body) ++ body
-
--- The text is appended, or there was no memory for it and the bytes stay. There is memory where they have room for the text.
-pub record Adds {T E : Type 0} (old new : Vec ℕ Global) (text : List ℕ) (result : Result T E) : Type 0 where
-  pub text_added : OnOk result (new.items ≡ old.items ++ text)
-  pub unchanged : OnErr result (new.items ≡ old.items)
-  pub room : length old.items + length text ≤ vec_capacity old → IsOk result
-  pub capacity : vec_capacity old ≤ vec_capacity new

@@ -2,3 +2,4 @@ pub mod Answers
 pub mod Fronts
 pub mod Heads
 pub mod Messages
+pub mod Wires

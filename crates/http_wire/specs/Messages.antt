@@ -96,6 +96,19 @@ pub record GoesOn (old new more : List ℕ) : Type 0 where
   pub refused : (fault : WireFault) → Steps old (steps.Refused fault) new → Messages (old ++ more) [] (Refused fault)
   pub ends : (clean : Bool) → Steps old (steps.Need clean) new → Messages old [] (if clean then Clean else Cut)
 
+-- the bytes begin with these requests, none of which closes, and the rest stands behind them but for the CR and LF that are passed over
+abbrev pub Behind : List ℕ → List HttpRequest → List ℕ → Type 0
+Behind bytes [] rest = passed bytes ≡ passed rest
+Behind bytes (request ∷ requests) rest = (next : List ℕ) × IsFront bytes (Whole request next) × (request.close ≡ false) × Behind next requests rest
+
+-- how the requests at the front of bytes go on, where `old` is behind them: as bytes are fed, by a step, and to the end
+pub record ReadsOn (bytes : List ℕ) (requests : List HttpRequest) (old new more : List ℕ) : Type 0 where
+  pub fed : Behind bytes requests old → Behind (bytes ++ more) requests (old ++ more)
+  pub waits : (clean : Bool) → Behind bytes requests old → Steps old (steps.Need clean) new → Behind bytes requests new
+  pub request : (request : HttpRequest) → Behind bytes requests old → Steps old (steps.Request request) new → request.close ≡ false
+      → Behind bytes (requests ++ request ∷ []) new
+  pub ends : (others : List HttpRequest) (end : End) → Behind bytes requests old → Messages old others end → Messages bytes (requests ++ others) end
+
 -- where a step refuses, each further step is the same refusal, whatever more is fed
 abbrev pub RefusesAgain : List ℕ → List ℕ → List ℕ → Type 0
 RefusesAgain old new more =

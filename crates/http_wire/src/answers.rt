@@ -1,8 +1,8 @@
 ghost use Rattle.std.specs.Prelude.{◌≡◌, ◌+◌, ◌++◌, ◌≤◌, IsTrue, IsOk, OnOk, OnErr, length, map, vec_len, vec_capacity};
 ghost use Rattle.std.specs.List.{concat};
-ghost use Rattle.http_wire.specs.Answers.{Adds, answer_text, closing, head_text, is_status, reason_of, type_of};
+ghost use Rattle.http_wire.specs.Answers.{answer_text, closing, head_text, is_status, reason_of, type_of};
 
-use decimal_rank::Memory;
+use decimal_rank::{Memory, append, append_all};
 use itoa::Buffer;
 
 fn reason_of(status: u16) -> &'static [u8]
@@ -41,32 +41,6 @@ fn closing(close: bool) -> &'static [u8]
     ensures { result.now ≡ closing close }
 {
     if close { b"Connection: close\r\n" } else { b"" }
-}
-
-fn append(out: &mut Vec<u8>, part: &[u8]) -> Result<(), Memory>
-    ensures { Adds out.old out.new part.now result }
-{
-    out.extend_from_slice(part)?;
-    Ok(())
-}
-
-// Appends the parts, one after another, or leaves the bytes as they were.
-#[tactic(auto, using(crate::proofs::Growing::part_fits, crate::proofs::Growing::part_added))]
-fn append_all(out: &mut Vec<u8>, parts: &[&[u8]]) -> Result<(), Memory>
-    ensures { Adds out.old out.new (concat (map (λ part. part.now) parts.now)) result }
-{
-    let before = out.len();
-    let mut rest = parts;
-    while let [part, others @ ..] = rest {
-        match append(out, part) {
-            Ok(()) => rest = others,
-            Err(memory) => {
-                out.truncate(before);
-                return Err(memory);
-            }
-        }
-    }
-    Ok(())
 }
 
 /// Appends the head of an answer with a body of this size.

@@ -6,6 +6,7 @@ ghost use Rattle.decimal_rank.specs.DecimalText.{are_digits, is_digit};
 ghost use Rattle.http_wire.specs.Heads.{body_length, length_of_value, says_close, stated_length, values_named};
 
 use crate::messages::{HttpField, WireFault};
+use decimal_rank::{capped_number, is_number};
 
 /// The most bytes of a body.
 const MOST_BODY: u32 = 16_777_216;
@@ -32,32 +33,6 @@ pub fn find_named<'a>(fields: &'a [HttpField], name: &str) -> Option<(&'a [u8], 
     None
 }
 
-fn are_all_digits(text: &[u8]) -> bool
-    ensures { result ≡ list_all is_digit text.now }
-{
-    text.iter().all(|byte| 48 <= *byte && *byte <= 57)
-}
-
-// Whether one or more digits stand there, and nothing else.
-fn is_number(text: &[u8]) -> bool
-    ensures { result ≡ are_digits text.now }
-{
-    0 < text.len() && are_all_digits(text)
-}
-
-// The number that the digits write, or one more than the most bytes of a body where it's greater.
-#[tactic(auto, using(crate::proofs::Sizes::capped_more))]
-fn capped(digits: &[u8]) -> u32
-    requires { IsTrue (list_all is_digit digits.now) }
-    ensures { result ≡ min (digits_value 10 digits.now) 16777217 }
-{
-    let mut value: u32 = 0;
-    for digit in digits {
-        value = (value * 10 + u32::from(digit.saturating_sub(48))).min(MOST_BODY + 1);
-    }
-    value
-}
-
 // The length of a body that the value of `Content-Length` states.
 fn length_of_value(value: &[u8]) -> Result<u32, WireFault>
     ensures { result ≡ length_of_value value.now }
@@ -65,7 +40,7 @@ fn length_of_value(value: &[u8]) -> Result<u32, WireFault>
     if !is_number(value) {
         return Err(WireFault::Head);
     }
-    let length = capped(value);
+    let length = capped_number(value, u64::from(MOST_BODY) + 1) as u32;
     if length <= MOST_BODY {
         Ok(length)
     } else {

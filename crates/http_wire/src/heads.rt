@@ -1,4 +1,5 @@
 ghost use Rattle.std.specs.Prelude.{◌≡◌, ◌+◌, ◌≤◌, ℕ, List, [], true, length, drop, take, map, All, IfOk, IfSome, IfNone};
+ghost use Rattle.std.specs.Option.{option_map};
 ghost use Rattle.httparse.specs.Grammar.{RequestHead};
 ghost use Rattle.httparse.specs.Spans.{IsHeaderWithin, IsRequestAt, IsRequestWithin};
 ghost use Rattle.http_wire.specs.Fronts.{Says, field_at};
@@ -13,6 +14,9 @@ use std::alloc::Global;
 
 /// The most bytes of a head.
 pub(crate) const MOST_HEAD: usize = 8_192;
+
+/// The most bytes of the empty line that ends a head: CR and LF.
+pub(crate) const LONGEST_EMPTY_LINE: usize = 2;
 
 /// The most fields of a head.
 pub(crate) const MOST_FIELDS: usize = 32;
@@ -56,8 +60,22 @@ fn empty_line(bytes: &[u8]) -> usize
     }
 }
 
-/// How many bytes a head in front has, up to the end of its empty line.
-pub(crate) fn find_head(bytes: &[u8]) -> Option<usize>
+/// How many bytes a head in front has, up to the end of its empty line. None ends at a byte before
+/// those that are left to be searched.
+pub(crate) fn find_head_from(bytes: &[u8], searched: usize) -> Option<usize>
+    requires inside { searched ≤ length bytes.now }
+    requires ends { head_length bytes.now ≡ option_map (λ n. n + searched) (head_length (drop searched bytes.now)) }
+    ensures value { result ≡ head_length bytes.now }
+    ensures inside { IfSome result (λ count. count ≤ length bytes.now) }
+{
+    match find_head(&bytes[searched..]) {
+        Some(count) => Some(count + searched),
+        None => None,
+    }
+}
+
+// How many bytes a head in front has.
+fn find_head(bytes: &[u8]) -> Option<usize>
     ensures value { result ≡ head_length bytes.now }
     ensures inside { IfSome result (λ count. count ≤ length bytes.now) }
 {
@@ -90,7 +108,7 @@ pub(crate) fn find_parts(text: &[u8], spans: &mut [HeaderSpan]) -> Option<Reques
 fn copy_text(alloc: Global, bytes: &[u8]) -> Result<Text, Memory>
     ensures { IfOk result (λ text. text ≡ bytes.now) }
 {
-    Ok(Text::new(Vec::from_slice(alloc, bytes)?))
+    Text::from_slice(alloc, bytes)
 }
 
 fn copy_field(alloc: Global, text: &[u8], span: &HeaderSpan) -> Result<HttpField, Memory>

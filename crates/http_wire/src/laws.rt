@@ -1,6 +1,6 @@
 ghost use Rattle.std.specs.Prelude.{◌≡◌, ℕ, List};
 ghost use Rattle.http_wire.specs.declared.messages.HttpRequest.{HttpRequest};
-ghost use Rattle.http_wire.specs.Messages.{End, Front, GoesOn, IsFront, Messages, RefusesAgain, Stays};
+ghost use Rattle.http_wire.specs.Messages.{End, Front, GoesOn, IsFront, Messages, ReadsOn, RefusesAgain, Stays};
 
 /// At most one thing stands at the front of bytes. `Wire::next` tells that one does.
 pub fn one_front()
@@ -15,6 +15,12 @@ pub fn fronts_stay()
 /// The steps of a wire are the requests of its bytes, one after another, and then their end.
 pub fn steps_are_messages()
     ensures { (old new more : List ℕ) → GoesOn old new more }
+{}
+
+/// The requests that were given so far stand at the front of the bytes that were fed so far, and what a
+/// wire then holds stands behind them.
+pub fn readings_go_on()
+    ensures { (bytes : List ℕ) (requests : List HttpRequest) (old new more : List ℕ) → ReadsOn bytes requests old new more }
 {}
 
 /// Bytes are requests and an end in one way at most.

@@ -12,7 +12,9 @@ mod wires;
 
 pub use answers::{write_answer, write_head};
 pub use fields::find_named;
-pub use laws::{fronts_stay, one_front, one_reading, refusals_stay, steps_are_messages};
+pub use laws::{
+    fronts_stay, one_front, one_reading, readings_go_on, refusals_stay, steps_are_messages,
+};
 pub use messages::{HttpField, HttpRequest, Step, WireFault};
 pub use wires::Wire;
 

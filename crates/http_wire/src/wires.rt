@@ -1,4 +1,4 @@
-ghost use Rattle.std.specs.Prelude.{◌≡◌, ◌≤◌, ◌++◌, [], IfOk, OnOk, OnErr, drop, length};
+ghost use Rattle.std.specs.Prelude.{◌≡◌, ◌+◌, ◌≤◌, ◌++◌, [], IfOk, OnOk, OnErr, drop, length};
 ghost use Rattle.http_wire.specs.Messages.{BodyFits, Shortens, Steps};
 
 use crate::fronts::{Look, look_at};
@@ -15,17 +15,20 @@ pub struct Wire {
     done: usize,
     // so many bytes are needed for a further step
     needed: usize,
+    // the end of a head is looked for from here on, behind the CR and LF that are passed over
+    searched: usize,
 }
 
 impl Model for Wire {
-    ghost use Rattle.std.specs.Prelude.{◌≤◌, ℕ, List, drop, length};
-    ghost use Rattle.http_wire.specs.Fronts.{IsAwaiting};
+    ghost use Rattle.std.specs.Prelude.{ℕ, List, drop};
 
     ghost Value = { List ℕ };
 
+    ghost use Rattle.http_wire.specs.Wires.{IsKept};
+
     ghost view = { λ wire. drop wire.done wire.bytes.items };
 
-    ghost invariant = { λ wire. (wire.done ≤ length wire.bytes.items) × IsAwaiting (drop wire.done wire.bytes.items) wire.needed };
+    ghost invariant = { IsKept };
 }
 
 // The bytes that are not done with.
@@ -36,17 +39,18 @@ fn left_of(bytes: &[u8], done: usize) -> &[u8]
     &bytes[done..]
 }
 
-// Leaves out bytes that are done with, where they are half of all or more: so each byte that stays is
-// moved for one that goes.
-fn drop_done(bytes: &mut Vec<u8>, done: &mut usize)
-    requires { done.old ≤ length bytes.old.items }
-    ensures left { drop done.new bytes.new.items ≡ drop done.old bytes.old.items }
-    ensures inside { done.new ≤ length bytes.new.items }
+// Drops the bytes that are done with where they are more than those that are left, so that each byte
+// that stays is moved for one that goes. Gives how many at the front are done with then.
+fn drop_done(bytes: &mut Vec<u8>, done: usize) -> usize
+    requires { done ≤ length bytes.old.items }
+    ensures left { drop result bytes.new.items ≡ drop done bytes.old.items }
+    ensures half { result + result ≤ length bytes.new.items }
 {
-    let count = *done;
-    if bytes.len() - count <= count {
-        let _removed = bytes.drain(..count);
-        *done = 0;
+    if bytes.len() - done < done {
+        let _removed = bytes.drain(..done);
+        0
+    } else {
+        done
     }
 }
 
@@ -58,6 +62,7 @@ impl Wire {
             bytes: Vec::new(alloc),
             done: 0,
             needed: 0,
+            searched: 0,
         }
     }
 
@@ -66,12 +71,12 @@ impl Wire {
         ensures ok { OnOk result (self.new ≡ self.old ++ piece.now) }
         ensures err { OnErr result (self.new ≡ self.old) }
     {
-        drop_done(&mut self.bytes, &mut self.done);
         self.bytes.extend_from_slice(piece)?;
         Ok(())
     }
 
     /// The next request of the bytes that were fed. After a refusal each further call gives the same.
+    /// Behind a request that closes nothing more is to be asked for: what follows is read as it stands.
     pub fn next(&mut self) -> Result<Step, Memory>
         ensures ok { IfOk result (λ step. Steps self.old step self.new) }
         ensures body { IfOk result BodyFits }
@@ -87,9 +92,11 @@ impl Wire {
             step,
             taken,
             needed,
-        } = look_at(alloc, left)?;
-        self.done += taken;
+            searched,
+        } = look_at(alloc, left, self.searched)?;
+        self.done = drop_done(&mut self.bytes, self.done + taken);
         self.needed = needed;
+        self.searched = searched;
         Ok(step)
     }
 }

@@ -29,7 +29,7 @@ fn play(alloc: Global, labels: &mut Labels, call: &Call) -> Result<(), Fail> {
 }
 
 fn set(alloc: Global, labels: &mut Labels, assessor: &[u8], grade: u8) -> Result<(), Fail> {
-    let assessor = Text::new(Vec::from_slice(alloc, assessor)?);
+    let assessor = Text::from_slice(alloc, assessor)?;
     labels.reserve()?;
     if labels.count() < u32::MAX {
         labels.set(assessor, grade);
@@ -147,7 +147,7 @@ fn set_at(
     assessor: &[u8],
     grade: u8,
 ) -> Result<(), Fail> {
-    let assessor = Text::new(Vec::from_slice(alloc, assessor)?);
+    let assessor = Text::from_slice(alloc, assessor)?;
     marks.reserve(doc)?;
     if marks.count(doc) < u32::MAX {
         marks.set(doc, assessor, grade);

@@ -23,7 +23,7 @@ fn grant(
     if desk.len() >= 1000 {
         return Ok(None);
     }
-    let assessor = Text::new(Vec::from_slice(alloc, &[assessor])?);
+    let assessor = Text::from_slice(alloc, &[assessor])?;
     desk.reserve()?;
     Ok(Some(desk.grant(assessor, topic, DocId(doc), until)))
 }

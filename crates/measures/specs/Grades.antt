@@ -1,16 +1,7 @@
 -- The effective grades of a ranked list, by rank. A document that isn't judged has none.
-use Rattle.std.specs.Prelude.{ℕ, Bool, false, List, Option, Some, None, if◌then◌else◌, nat_le, nat_lt, take, count_by, sum_by}
+use Rattle.std.specs.Prelude.{ℕ, List, Option, if◌then◌else◌, take, count_by, sum_by}
 use Rattle.std.specs.List.{enumerate_from}
-
--- graded with at least the level
-abbrev pub is_relevant : ℕ → Option ℕ → Bool
-is_relevant level None = false
-is_relevant level (Some grade) = nat_le level grade
-
--- graded below the level
-abbrev pub is_non_relevant : ℕ → Option ℕ → Bool
-is_non_relevant level None = false
-is_non_relevant level (Some grade) = nat_lt grade level
+pub use Rattle.decimal_rank.specs.Relevance.{is_non_relevant, is_relevant}
 
 -- the relevant documents in ranks 1 to k
 abbrev pub relevant_to : ℕ → List (Option ℕ) → ℕ → ℕ

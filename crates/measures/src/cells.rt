@@ -2,6 +2,8 @@ ghost use Rattle.std.specs.Prelude.{◌≡◌, ◌*◌, ◌^◌, ◌<◌, ◌≤
 ghost use Rattle.measures.specs.Grades.{is_relevant as relevant_is, is_non_relevant as non_relevant_is, relevant_to as relevant_to_rank, sum_over_relevant};
 ghost use Rattle.measures.specs.Cells.{cutoffs, first_relevant as first_relevant_rank, ap_sum_of, left_of_cap, bpref_num as bpref_num_of, bpref_den as bpref_den_of, cell_of, IsSound};
 
+use decimal_rank::{is_non_relevant, is_relevant};
+
 /// The cutoffs k of the measures P_k.
 pub const CUTOFFS: [u32; 9] = [5, 10, 15, 20, 30, 100, 200, 500, 1000];
 
@@ -47,15 +49,6 @@ pub fn scratch(grades: &[Option<u8>], r: u32, n: u32, level: u8) -> Cell
         ap_sum: precision_sum(level, grades),
         bpref_num: bpref_num(level, grades, r, n),
         bpref_den: bpref_den(r, n),
-    }
-}
-
-fn is_relevant(level: u8, grade: Option<u8>) -> bool
-    ensures { result ≡ relevant_is level grade }
-{
-    match grade {
-        Some(grade) => level <= grade,
-        None => false,
     }
 }
 
@@ -120,12 +113,6 @@ fn first_relevant(level: u8, grades: &[Option<u8>]) -> u32
     }
 }
 
-fn is_judged_lower(level: u8, grade: Option<u8>) -> bool
-    ensures { result ≡ non_relevant_is level grade }
-{
-    grade.is_some_and(|grade| grade < level)
-}
-
 /// The sum, over the relevant documents, of what those that are judged lower above each leave of
 /// the cap.
 fn preference_sum(level: u8, grades: &[Option<u8>], cap: u64) -> u64
@@ -139,7 +126,7 @@ fn preference_sum(level: u8, grades: &[Option<u8>], cap: u64) -> u64
     for grade in grades {
         if is_relevant(level, *grade) {
             sum += cap - cap.min(lower);
-        } else if is_judged_lower(level, *grade) {
+        } else if is_non_relevant(level, *grade) {
             lower += 1;
         }
     }

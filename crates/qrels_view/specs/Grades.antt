@@ -1,5 +1,6 @@
 -- The grades of a topic's documents, by the documents' first grades.
-use Rattle.std.specs.Prelude.{ℕ, ◌==◌, nat_le, nat_lt, Bool, true, false, List, [], ◌∷◌, Option, Some, None, map, if◌then◌else◌}
+use Rattle.std.specs.Prelude.{ℕ, ◌==◌, Bool, true, false, List, [], ◌∷◌, Option, Some, None, map, if◌then◌else◌}
+pub use Rattle.decimal_rank.specs.Relevance.{is_non_relevant, is_relevant}
 use Rattle.decimal_rank.specs.declared.naming.DocId.{DocId}
 use Rattle.qrels_view.specs.declared.grades.Graded.{Graded}
 
@@ -21,16 +22,6 @@ first_grade doc (Some grade) = record { doc = doc; grade = Some grade } ∷ []
 abbrev pub with_grade : DocId → Option ℕ → List Graded → List Graded
 with_grade doc grade [] = first_grade doc grade
 with_grade doc grade (graded ∷ later) = if doc.0 == graded.doc.0 then record { doc = graded.doc; grade = grade } ∷ later else graded ∷ with_grade doc grade later
-
--- whether a grade is at least the level
-abbrev pub is_relevant : ℕ → Option ℕ → Bool
-is_relevant level None = false
-is_relevant level (Some grade) = nat_le level grade
-
--- whether there is a grade that is lower than the level
-abbrev pub is_non_relevant : ℕ → Option ℕ → Bool
-is_non_relevant level None = false
-is_non_relevant level (Some grade) = nat_lt grade level
 
 -- 1 for what counts, and 0 for what doesn't
 abbrev pub as_number : Bool → ℕ

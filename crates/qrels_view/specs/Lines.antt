@@ -1,10 +1,11 @@
 -- The qrels text of a topic's grades.
-use Rattle.std.specs.Prelude.{ℕ, List, [], ◌∷◌, ◌++◌, Option, Some, None, codes, decimal, if◌then◌else◌}
+use Rattle.std.specs.Prelude.{ℕ, List, [], ◌∷◌, Option, Some, None, if◌then◌else◌}
 use Rattle.std.specs.Cmp.Lexicographic.{slice_cmp}
 use Rattle.std.specs.List.{flat_map}
 use Rattle.std.specs.Ordering.{nat_cmp, is_lt}
 use Rattle.std.specs.declared.cmp.Ordering.{Ordering}
 use Rattle.decimal_rank.specs.Names.{docno_of}
+use Rattle.decimal_rank.specs.QrelLines.{qrel_line}
 use Rattle.decimal_rank.specs.declared.naming.DocId.{DocId}
 use Rattle.qrels_view.specs.declared.grades.Graded.{Graded}
 
@@ -22,14 +23,10 @@ abbrev pub by_docno : List (List ℕ) → List Graded → List Graded
 by_docno names [] = []
 by_docno names (one ∷ later) = put_by_docno names one (by_docno names later)
 
--- a topic, 0, a docno and a grade with a space between two of them, and a line feed
-abbrev pub grade_line : List ℕ → List ℕ → ℕ → List ℕ
-grade_line topic docno grade = topic ++ codes " 0 " ++ docno ++ codes " " ++ decimal grade ++ codes "\n"
-
 -- the line of a document, and nothing where it has no grade
 abbrev pub line_if_graded : List ℕ → List ℕ → Option ℕ → List ℕ
 line_if_graded topic docno None = []
-line_if_graded topic docno (Some grade) = grade_line topic docno grade
+line_if_graded topic docno (Some grade) = qrel_line topic docno grade
 
 abbrev pub line_of : List ℕ → List (List ℕ) → Graded → List ℕ
 line_of topic names one = line_if_graded topic (docno_of names one.doc.0) one.grade

@@ -105,14 +105,14 @@ fn text_after(alloc: Global, line: &[u8], view: &View, names: &Names) -> Result<
     let mut out = Vec::new(alloc);
     if are_named(view, names) {
         out.extend_from_slice(line)?;
-        view.write(alloc, b"7", names, &mut out)?;
+        view.write(b"7", names, &mut out)?;
     }
     Ok(out)
 }
 
 fn add(alloc: Global, names: &mut Names, name: &[u8]) -> Result<(), Fail> {
     if names.len() < 1000 {
-        names.add(Text::new(Vec::from_slice(alloc, name)?))?;
+        names.add(Text::from_slice(alloc, name)?)?;
     }
     Ok(())
 }

@@ -1,46 +1,46 @@
-ghost use Rattle.std.specs.Prelude.{◌≡◌, ◌<◌, ◌++◌, All, OnOk, length};
+//! The qrels lines of a topic.
+ghost use Rattle.std.specs.Prelude.{◌≡◌, ◌++◌, OnOk, OnErr};
 ghost use Rattle.std.specs.List.{flat_map};
-ghost use Rattle.decimal_rank.specs.Names.{docno_of};
-ghost use Rattle.qrels_view.specs.Lines.{docno_cmp, grade_line, line_of};
+ghost use Rattle.decimal_rank.specs.Additions.{Adds};
+ghost use Rattle.qrels_view.specs.Lines.{docno_cmp, line_of};
 
 use crate::grades::Graded;
-use decimal_rank::{DocId, Memory, Names};
-use itoa::Buffer;
+use decimal_rank::{DocId, Memory, Names, append_qrel};
 use std::cmp::Ordering;
 
 // The order of two documents by docno.
 pub(crate) fn by_docno(names: &Names, a: DocId, b: DocId) -> Ordering
     ensures { result ≡ docno_cmp names.now a b }
 {
-    names.docno(a).cmp(names.docno(b))
+    names.name_or_empty(a).cmp(names.name_or_empty(b))
 }
 
-// Appends the lines of documents in this very order.
+// Appends the lines of documents in this very order, or leaves the bytes as they were.
 pub(crate) fn write_lines(
     topic: &[u8],
     names: &Names,
     graded: &[Graded],
     out: &mut Vec<u8>,
 ) -> Result<(), Memory>
-    ensures { OnOk result (out.new.items ≡ out.old.items ++ flat_map (line_of topic.now names.now) graded.now) }
+    ensures ok { OnOk result (out.new.items ≡ out.old.items ++ flat_map (line_of topic.now names.now) graded.now) }
+    ensures err { OnErr result (out.new.items ≡ out.old.items) }
 {
+    let before = out.len();
     for one in graded {
-        if let Some(grade) = one.grade {
-            write_line(topic, names.docno(one.doc), grade, out)?;
+        if let Err(memory) = write_line(topic, names, *one, out) {
+            out.truncate(before);
+            return Err(memory);
         }
     }
     Ok(())
 }
 
-fn write_line(topic: &[u8], docno: &[u8], grade: u8, out: &mut Vec<u8>) -> Result<(), Memory>
-    ensures { OnOk result (out.new.items ≡ out.old.items ++ grade_line topic.now docno.now grade) }
+// Appends the line of a document that has a grade.
+fn write_line(topic: &[u8], names: &Names, one: Graded, out: &mut Vec<u8>) -> Result<(), Memory>
+    ensures { Adds out.old out.new (line_of topic.now names.now one) result }
 {
-    let mut digits = Buffer::new();
-    out.extend_from_slice(topic)?;
-    out.extend_from_slice(b" 0 ")?;
-    out.extend_from_slice(docno)?;
-    out.extend_from_slice(b" ")?;
-    out.extend_from_slice(digits.format(grade).as_bytes())?;
-    out.extend_from_slice(b"\n")?;
-    Ok(())
+    match one.grade {
+        Some(grade) => append_qrel(topic, names.name_or_empty(one.doc), grade, out),
+        None => Ok(()),
+    }
 }

@@ -1,13 +1,14 @@
-ghost use Rattle.std.specs.Prelude.{◌≡◌, ◌+◌, ◌<◌, ◌≤◌, ◌^◌, ◌++◌, ◌||◌, [], true, All, IfOk, IfSome, OnOk, count_by, is_some, length, vec_capacity, vec_len};
+//! The effective grades of one topic, in the order of the first grades.
+ghost use Rattle.std.specs.Prelude.{◌≡◌, ◌+◌, ◌<◌, ◌≤◌, ◌^◌, ◌++◌, ◌||◌, [], true, All, IfOk, IfSome, OnErr, OnOk, count_by, is_some, length, vec_capacity, vec_len};
 ghost use Rattle.indexmap.specs.IndexMap.{spare};
 ghost use Rattle.decimal_rank.specs.Places.{AreDistinct, place_in};
 ghost use Rattle.qrels_view.specs.Grades.{docs_of, effective_in, graded_of, is_non_relevant, is_relevant, with_grade};
 ghost use Rattle.qrels_view.specs.Lines.{qrels_text};
 
-use crate::counts::{is_non_relevant, is_relevant, recount};
+use crate::counts::recount;
 use crate::grades::Graded;
 use crate::text::{by_docno, write_lines};
-use decimal_rank::{DocId, Memory, Names};
+use decimal_rank::{DocId, Memory, Names, is_non_relevant, is_relevant};
 use indexmap::IndexMap;
 use std::alloc::Global;
 use std::marker::Model;
@@ -142,22 +143,16 @@ impl View {
         Some(index as u32 + 1)
     }
 
-    /// Appends the qrels line of each document that has a grade, by docno in byte order. Where there
-    /// is no memory for all lines the first of them may stand there.
-    pub fn write(
-        &self,
-        alloc: Global,
-        topic: &[u8],
-        names: &Names,
-        out: &mut Vec<u8>,
-    ) -> Result<(), Memory>
+    /// Appends the qrels line of each document that has a grade, by docno in byte order.
+    pub fn write(&self, topic: &[u8], names: &Names, out: &mut Vec<u8>) -> Result<(), Memory>
         requires docs_named { All (λ graded. graded.doc.0 < length names.now) self.now.graded }
-        ensures { OnOk result (out.new.items ≡ out.old.items ++ qrels_text topic.now names.now self.now.graded) }
+        ensures err { OnErr result (out.new.items ≡ out.old.items) }
+        ensures ok { OnOk result (out.new.items ≡ out.old.items ++ qrels_text topic.now names.now self.now.graded) }
     {
         // names tell with their length that no name stands twice, and grades that no document does
         let _ = names.len();
         let _ = self.grades.len();
-        let mut graded = listed(alloc, &self.grades)?;
+        let mut graded = listed(*self.trail.allocator(), &self.grades)?;
         graded.sort_unstable_by(|a, b| by_docno(names, a.doc, b.doc));
         write_lines(topic, names, graded.as_slice(), out)
     }

@@ -1,10 +1,12 @@
 -- Bytes that grow by one part after another.
-use Rattle.std.proofs.Common.{◌≡◌, ℕ, ◌+◌, ◌<◌, ◌≤◌, List, [], ◌∷◌, ◌++◌, length, drop, Some, get_or, ◌-◌, ap, sym, ◌∙◌, append_assoc, refl, take, map, arith, length-append, append-nil}
-use Rattle.std.specs.Prelude.{slice_get}
-use Rattle.std.specs.List.{flat_map, join_with_byte}
+use Rattle.std.proofs.Common.{◌≡◌, ℕ, ◌+◌, ◌<◌, ◌≤◌, List, [], ◌∷◌, ◌++◌, Bool, true, false, length, drop, Some, get_or, ◌-◌, ap, sym, ◌∙◌, append_assoc, refl, take, map, arith, length-append, append-nil}
+use Rattle.std.specs.Prelude.{slice_get, not, ◌==◌, ◌||◌, ◌&&◌, if◌then◌else◌}
+use Rattle.std.specs.List.{flat_map, join_with_byte, list_all}
 use Rattle.std.proofs.Math.Seq.{take-append_seam}
 use Rattle.std.proofs.lemmas.List.{take-append-le, take_all}
-use Rattle.routes.specs.Answers.{quoted}
+use Rattle.routes.specs.Answers.{escaped, escaped_byte, quoted}
+use Rattle.routes.specs.Parts.{is_unmarked_byte}
+use Rattle.std.proofs.lemmas.Bool.{and_parts}
 
 pub part_added : (first all before part rest after : List ℕ) → first ++ all ≡ before ++ (part ++ rest) → after ≡ before ++ part → first ++ all ≡ after ++ rest
 part_added first all before part rest after bytes is = bytes ∙ sym (append_assoc before part rest) ∙ ap (λ text. text ++ rest) (sym is)
@@ -35,6 +37,21 @@ joined_split (doc ∷ docs) first is =
     let whole : take (length (doc ∷ docs) - 1) docs ≡ docs = take_all (length (doc ∷ docs) - 1) docs (omega arith) in
     let same : doc ≡ first = cc in
     rw (whole, ← same) (sym (joined_first doc docs))
+
+plain_byte : (b : ℕ) → is_unmarked_byte b ≡ true → escaped_byte b ≡ b ∷ []
+plain_byte b is = by_tests (b == 34) (b == 92) is
+  where
+    by_tests : (quote slash : Bool) → (not quote && not slash) ≡ true → (if quote || slash then 92 ∷ b ∷ [] else b ∷ []) ≡ b ∷ []
+    by_tests true slash is = cc
+    by_tests false true is = cc
+    by_tests false false is = refl
+
+-- a text without marks is its own escaped text
+pub escaped_same : (text : List ℕ) → list_all is_unmarked_byte text ≡ true → escaped text ≡ text
+escaped_same [] is = refl
+escaped_same (b ∷ text) is =
+    let parts = and_parts (is_unmarked_byte b) (list_all is_unmarked_byte text) is in
+    ap (λ front. front ++ escaped text) (plain_byte b parts.0) ∙ ap (λ rest. b ∷ rest) (escaped_same text parts.1)
 
 -- the byte that stands first
 pub first_byte : (bytes : List ℕ) → 0 < length bytes → slice_get bytes 0 ≡ Some (get_or bytes 0 0)

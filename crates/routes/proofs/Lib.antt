@@ -6,7 +6,7 @@ pub mod Matching
 pub mod Members
 pub mod OneReading
 pub mod Permuted
+pub mod RowRoles
 pub mod RunLines
 pub mod RunRequests
-pub mod Sizes
 pub mod TopicSizes

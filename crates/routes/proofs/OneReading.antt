@@ -222,4 +222,4 @@ module _ (runs : (text : List ℕ) → ExactlyOne (IsRunReading text)) (topics_r
       ap (λ cause. Err cause) equal
 
   pub request_same : (request : HttpRequest) (keys : List KeyRow) (a b : Result Asked RouteFault) → Reads request keys a → Reads request keys b → a ≡ b
-  request_same request keys a b x y = behind_same (opening_of request keys) request a b x y
+  request_same request keys a b x y = behind_same (opening_of request.method request.path request.fields keys) request a b x y

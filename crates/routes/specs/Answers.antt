@@ -1,6 +1,6 @@
 -- The text of an answer.
-use Rattle.std.specs.Prelude.{ℕ, Bool, true, false, ◌&&◌, ◌||◌, ◌==◌, List, [], ◌∷◌, ◌++◌, map, codes, decimal, if◌then◌else◌}
-use Rattle.std.specs.List.{concat, flat_map, join_with_byte, list_all}
+use Rattle.std.specs.Prelude.{ℕ, Bool, true, false, ◌||◌, ◌==◌, List, [], ◌∷◌, ◌++◌, map, codes, decimal, if◌then◌else◌}
+use Rattle.std.specs.List.{concat, flat_map, join_with_byte}
 use Rattle.http_wire.specs.Answers.{answer_text}
 use Rattle.http_wire.specs.declared.messages.WireFault.{WireFault}
 use Rattle.http_wire.specs.declared.messages.WireFault.TheVariants as wire
@@ -8,7 +8,6 @@ use Rattle.trec_formats.specs.declared.faults.FormatFault.{FormatFault}
 use Rattle.trec_formats.specs.declared.faults.Kind.{Kind}
 use Rattle.trec_formats.specs.declared.faults.Kind.TheVariants as kind
 use Rattle.trec_formats.specs.FaultNames.{cause_name, kind_name}
-use Rattle.trec_formats.specs.Names.{is_name, is_docno}
 use Rattle.rulebook.specs.declared.rules.Phase.{Phase}
 use Rattle.rulebook.specs.declared.rules.Phase.TheVariants as phase
 use Rattle.rulebook.specs.declared.reply.Quantity.{Quantity}
@@ -17,7 +16,7 @@ use Rattle.rulebook.specs.declared.reply.Refusal.{Refusal}
 use Rattle.rulebook.specs.declared.reply.Refusal.TheVariants as refusal
 use Rattle.rulebook.specs.declared.reply.Reply.{Reply}
 use Rattle.rulebook.specs.declared.reply.Reply.TheVariants as reply
-use Rattle.rulebook.specs.Spelling.{is_printable}
+use Rattle.rulebook.specs.Plain.{is_plain_reply, is_short_reply}
 use Rattle.routes.specs.declared.faults.RouteFault.{RouteFault}
 use Rattle.routes.specs.declared.faults.RouteFault.TheVariants as route
 use Rattle.routes.specs.declared.answers.Answered.{Answered}
@@ -223,26 +222,17 @@ unfoldable pub text_of : Answered → Bool → List ℕ
 text_of a close = answer_text (status_of a) (is_json a) close (body_of a)
 
 -- the names of a reply are names, its docnos are docnos, and a title has at most 1,000 bytes of printable ASCII
-abbrev pub is_plain_reply : Reply → Bool
-is_plain_reply (reply.Submitted run topics lines) = is_name run
-is_plain_reply (reply.Leased lease topic doc until title) = is_name topic && is_docno doc && is_printable 1000 title
-is_plain_reply (reply.Graded topic doc grade) = is_name topic && is_docno doc
-is_plain_reply (reply.Pool topic docs) = is_name topic && list_all is_docno docs
-is_plain_reply reply.Done = true
-is_plain_reply (reply.Topics topics) = true
-is_plain_reply (reply.Page text) = true
-is_plain_reply (reply.Refused r) = true
-
 abbrev pub is_plain : Answered → Bool
 is_plain (answered.Reply r query) = is_plain_reply r
-is_plain _ = true
+is_plain (answered.Route cause) = true
+is_plain (answered.Wire cause) = true
+is_plain answered.DiskFault = true
+is_plain answered.Memory = true
 
 -- the reply of an accepted command, a refusal or a fault
-abbrev pub is_short_reply : Reply → Bool
-is_short_reply (reply.Pool topic docs) = false
-is_short_reply (reply.Page text) = false
-is_short_reply _ = true
-
 abbrev pub is_short : Answered → Bool
 is_short (answered.Reply r query) = is_short_reply r
-is_short _ = true
+is_short (answered.Route cause) = true
+is_short (answered.Wire cause) = true
+is_short answered.DiskFault = true
+is_short answered.Memory = true

@@ -86,7 +86,7 @@ ReadsBehind (Ok opening) request (Err cause) = Asks opening.place (parameter req
 
 -- what a request is read as: who asks, with which number, and what; or its first fault
 abbrev pub Reads : HttpRequest → List KeyRow → Result Asked RouteFault → Type 0
-Reads request keys result = ReadsBehind (opening_of request keys) request result
+Reads request keys result = ReadsBehind (opening_of request.method request.path request.fields keys) request result
 
 -- topics that are asked for are within the limits of their format, and no two have one id
 abbrev pub HasSoundTopics : Ask → Type 0

@@ -3,9 +3,9 @@ pub mod Asks
 pub mod Bodies
 pub mod BodyParts
 pub mod Faults
-pub mod Growth
 pub mod Keys
 pub mod OpeningParts
 pub mod Openings
 pub mod Parts
 pub mod Places
+pub mod RoleRules

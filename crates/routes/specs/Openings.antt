@@ -1,7 +1,6 @@
 -- Who asks, and where: what is read of a request before its body.
 use Rattle.std.specs.Prelude.{ℕ, List, [], ◌∷◌, Option, None, Result, Ok, Err, codes, bytes_eq, if◌then◌else◌}
 use Rattle.http_wire.specs.declared.messages.HttpField.{HttpField}
-use Rattle.http_wire.specs.declared.messages.HttpRequest.{HttpRequest}
 use Rattle.http_wire.specs.Heads.{values_named, is_filled}
 use Rattle.routes.specs.declared.faults.RouteFault.{RouteFault}
 use Rattle.routes.specs.declared.faults.RouteFault.TheVariants as faults
@@ -46,10 +45,10 @@ number_in fields = if is_filled (values_named (codes "x-request-number") fields)
 abbrev pub number_at : Place → List HttpField → Result (Option ℕ) RouteFault
 number_at place fields = if is_post place then number_in fields else Ok None
 
--- what is read of a request before its body, or the first fault
-unfoldable pub opening_of : HttpRequest → List KeyRow → Result Opening RouteFault
-opening_of request keys = do
-  place ← place_of request.path >>= with_method request.method
-  row ← row_at keys (values_named (codes "x-campaign-key") request.fields) >>= with_role place
-  number ← number_at place request.fields
+-- what is read of a request's method, path and fields, or the first fault
+unfoldable pub opening_of : List ℕ → List ℕ → List HttpField → List KeyRow → Result Opening RouteFault
+opening_of method path fields keys = do
+  place ← place_of path >>= with_method method
+  row ← row_at keys (values_named (codes "x-campaign-key") fields) >>= with_role place
+  number ← number_at place fields
   Ok (record { place = place; row = row; number = number })

@@ -1,10 +1,14 @@
 -- The parts of a body, as they are found.
-use Rattle.std.specs.Prelude.{ℕ, List, decimal, map}
+use Rattle.std.specs.Prelude.{ℕ, Bool, not, ◌==◌, ◌&&◌, List, decimal, map}
 use Rattle.std.specs.List.{join_with_byte}
 use Rattle.routes.specs.declared.growth.Part.{Part}
 use Rattle.routes.specs.declared.growth.Part.TheVariants.{Plain, Number, Escaped, Listed}
 use Rattle.routes.specs.declared.answers.Field.{Field as FoundField}
 use Rattle.routes.specs.Answers.{Field, escaped, quoted}
+
+-- a byte that is written as it is
+abbrev pub is_unmarked_byte : ℕ → Bool
+is_unmarked_byte b = not (b == 34) && not (b == 92)
 
 -- the bytes of a part
 abbrev pub part_bytes : Part → List ℕ

@@ -1,5 +1,5 @@
 -- The table of the paths.
-use Rattle.std.specs.Prelude.{ℕ, Bool, true, false, ◌||◌, ◌==◌, ◌&&◌, List, [], ◌∷◌, Option, None, Result, Ok, Err, codes, drop, length, nat_le, if◌then◌else◌}
+use Rattle.std.specs.Prelude.{ℕ, Bool, true, false, ◌||◌, ◌==◌, ◌&&◌, List, [], ◌∷◌, Option, None, Result, Ok, Err, is_none, codes, drop, length, nat_le, if◌then◌else◌}
 use Rattle.std.specs.Option.{option_map}
 use Rattle.std.specs.List.{fold, before_first, after_first}
 use Rattle.std.specs.Str.{is_utf8}
@@ -7,7 +7,7 @@ use Rattle.std.specs.Str.Parse.{digits_value}
 use Rattle.matchit.specs.Order.{placed}
 use Rattle.matchit.specs.Rows.{RowsOf}
 use Rattle.matchit.specs.Route.{Scan, parse_route}
-use Rattle.matchit.specs.Router.{RouteOf, route_from}
+use Rattle.matchit.specs.Router.{RouteOf, nearest, route_from}
 use Rattle.matchit.specs.Seek.{first}
 use Rattle.matchit.specs.declared.error.InsertError.{InsertError}
 use Rattle.decimal_rank.specs.DecimalText.{are_digits}
@@ -45,6 +45,16 @@ with_read (Err e) place routes = routes
 
 abbrev pub with_route : Routes → List ℕ × Place → Routes
 with_route routes row = with_read (parse_route row.0) row.1 routes
+
+-- whether a path that was read can be a route beside these, none of which it conflicts with
+abbrev pub is_free_route : Result Scan InsertError → Routes → Bool
+is_free_route (Ok s) routes = is_none (nearest s.pattern routes)
+is_free_route (Err e) routes = false
+
+-- whether each of these rows can, beside those before it
+abbrev pub are_free : Routes → List (List ℕ × Place) → Bool
+are_free routes [] = true
+are_free routes (row ∷ later) = is_free_route (parse_route row.0) routes && are_free (with_route routes row) later
 
 -- the paths of the table as routes of `matchit`
 abbrev pub table : Routes

@@ -1,9 +1,10 @@
 ghost use Rattle.std.specs.Prelude.{◌≡◌, ◌+◌, ◌^◌, ◌<◌, ◌≤◌, ◌++◌, IsTrue, IsOk, IfOk, OnOk, OnErr, length, vec_len, vec_capacity};
 ghost use Rattle.http_wire.specs.Answers.{is_status};
-ghost use Rattle.routes.specs.Answers.{body_of, detail, field_before, field_behind, format_body, graded_body, is_json, is_plain, is_plain_reply, is_short, is_short_reply, leased_body, phase_name, pool_body, quantity_name, refusal_body, refusal_name, refusal_status, reply_body, reply_status, route_body, route_status, status_of, submitted_body, text_of, topics_body, wire_body, wire_status};
+ghost use Rattle.routes.specs.Answers.{body_of, detail, field_before, field_behind, format_body, graded_body, is_json, is_plain, is_short, leased_body, phase_name, pool_body, quantity_name, refusal_body, refusal_name, refusal_status, reply_body, reply_status, route_body, route_status, status_of, submitted_body, text_of, topics_body, wire_body, wire_status};
+ghost use Rattle.rulebook.specs.Plain.{is_plain_reply, is_short_reply};
 ghost use Rattle.rulebook.specs.Spelling.{is_printable};
 ghost use Rattle.trec_formats.specs.Names.{is_docno, is_name};
-ghost use Rattle.routes.specs.Growth.{Adds};
+ghost use Rattle.decimal_rank.specs.Additions.{Adds};
 ghost use Rattle.routes.specs.Parts.{field_shown};
 
 use crate::faults::RouteFault;

@@ -12,18 +12,12 @@ use crate::faults::RouteFault;
 use crate::keys::Keys;
 use crate::openings::read_opening;
 use crate::paths::{lease_number, parameter};
-use crate::places::Place;
+use crate::places::{Paths, Place};
 use decimal_rank::{Memory, Rows, Text};
 use http_wire::HttpRequest;
 use rulebook::{Ask, Caller, Command, Query};
 use std::alloc::Global;
 use trec_formats::{FormatEnd, read_topics};
-
-fn copy_text(alloc: Global, bytes: &[u8]) -> Result<Text, Memory>
-    ensures { IfOk result (λ text. text ≡ bytes.now) }
-{
-    Ok(Text::new(Vec::from_slice(alloc, bytes)?))
-}
 
 // The fault of a text that isn't of its format.
 fn fault_of(end: FormatEnd) -> RouteFault
@@ -54,7 +48,7 @@ fn ask_submit(alloc: Global, run: &[u8], body: &[u8]) -> Result<Ask, RouteFault>
 {
     match read_ranked_run(alloc, body) {
         Ok(lists) => Ok(Ask::Act(Command::Submit {
-            run: copy_text(alloc, run)?,
+            run: Text::from_slice(alloc, run)?,
             lists: Rows::new(lists),
         })),
         Err(end) => Err(fault_of(end)),
@@ -75,7 +69,7 @@ fn with_nothing(body: &[u8], command: Command) -> Result<Ask, RouteFault>
 fn ask_lease(alloc: Global, topic: &[u8], body: &[u8]) -> Result<Ask, RouteFault>
     ensures { IsRead (Asks places.Lease topic.now body.now) result }
 {
-    let topic = copy_text(alloc, topic)?;
+    let topic = Text::from_slice(alloc, topic)?;
     with_nothing(body, Command::Lease { topic })
 }
 
@@ -103,7 +97,7 @@ fn ask_amend(alloc: Global, topic: &[u8], body: &[u8]) -> Result<Ask, RouteFault
 {
     match read_judgement(alloc, body)? {
         Some(given) => Ok(Ask::Act(Command::Amend {
-            topic: copy_text(alloc, topic)?,
+            topic: Text::from_slice(alloc, topic)?,
             doc: given.doc,
             grade: given.grade,
         })),
@@ -116,7 +110,7 @@ fn ask_rule(alloc: Global, topic: &[u8], body: &[u8]) -> Result<Ask, RouteFault>
 {
     match read_judgement(alloc, body)? {
         Some(given) => Ok(Ask::Act(Command::Rule {
-            topic: copy_text(alloc, topic)?,
+            topic: Text::from_slice(alloc, topic)?,
             doc: given.doc,
             grade: given.grade,
         })),
@@ -127,14 +121,14 @@ fn ask_rule(alloc: Global, topic: &[u8], body: &[u8]) -> Result<Ask, RouteFault>
 fn ask_pool(alloc: Global, topic: &[u8]) -> Result<Ask, RouteFault>
     ensures { (body : List ℕ) → IsRead (Asks places.Pool topic.now body) result }
 {
-    let topic = copy_text(alloc, topic)?;
+    let topic = Text::from_slice(alloc, topic)?;
     Ok(Ask::See(Query::Pool { topic }))
 }
 
 fn ask_scores(alloc: Global, run: &[u8]) -> Result<Ask, RouteFault>
     ensures { (body : List ℕ) → IsRead (Asks places.Scores run.now body) result }
 {
-    let run = copy_text(alloc, run)?;
+    let run = Text::from_slice(alloc, run)?;
     Ok(Ask::See(Query::Scores { run }))
 }
 
@@ -175,8 +169,31 @@ pub fn read_ask(
         → IsTrue (is_well_addressed asked.0 asked.1 asked.2 moment)) }
     ensures unnumbered { IfOk result (λ asked. asked.1 ≡ None) }
 {
-    let opening = read_opening(alloc, request, keys)?;
-    let text = parameter(request.path.bytes());
-    let ask = ask_at(alloc, opening.place, text, request.body.bytes())?;
+    let paths = Paths::new(alloc)?;
+    read_ask_by(alloc, &paths, request, keys)
+}
+
+/// The same by a table of the paths that was made before.
+pub fn read_ask_by(
+    alloc: Global,
+    paths: &Paths,
+    request: &HttpRequest,
+    keys: &Keys,
+) -> Result<(Caller, Option<u64>, Ask), RouteFault>
+    requires { length request.now.body ≤ 16777216 }
+    ensures reading { IsRead (Reads request.now keys.now) result }
+    ensures addressed { IfOk result (λ asked. (moment : ℕ) → moment ≤ MAX_MOMENT
+        → IsTrue (is_well_addressed asked.0 asked.1 asked.2 moment)) }
+    ensures unnumbered { IfOk result (λ asked. asked.1 ≡ None) }
+{
+    let path = request.path.bytes();
+    let opening = read_opening(
+        paths,
+        request.method.bytes(),
+        path,
+        request.fields.items(),
+        keys,
+    )?;
+    let ask = ask_at(alloc, opening.place, parameter(path), request.body.bytes())?;
     Ok((opening.row.caller()?, opening.number, ask))
 }

@@ -95,7 +95,7 @@ fn copy_judgement(alloc: Global, doc: &[u8], grade: u8) -> Result<Judgement, Mem
     ensures { IfOk result (λ judgement. judgement_shown judgement ≡ record { doc = doc.now; grade = grade }) }
 {
     Ok(Judgement {
-        doc: Text::new(Vec::from_slice(alloc, doc)?),
+        doc: Text::from_slice(alloc, doc)?,
         grade,
     })
 }

@@ -1,10 +1,10 @@
 ghost use Rattle.std.specs.Prelude.{◌≡◌, ◌∷◌, ◌++◌, [], decimal, map};
-ghost use Rattle.std.specs.List.{flat_map, join_with_byte};
+ghost use Rattle.std.specs.List.{flat_map, join_with_byte, list_all};
 ghost use Rattle.routes.specs.Answers.{escaped, escaped_byte, quoted};
-ghost use Rattle.routes.specs.Growth.{Adds};
-ghost use Rattle.routes.specs.Parts.{part_bytes};
+ghost use Rattle.decimal_rank.specs.Additions.{Adds};
+ghost use Rattle.routes.specs.Parts.{is_unmarked_byte, part_bytes};
 
-use decimal_rank::{Memory, Text};
+use decimal_rank::{Memory, Text, append};
 use itoa::Buffer;
 
 /// A part of a body.
@@ -17,13 +17,6 @@ pub(crate) enum Part<'a> {
     Escaped(&'a [u8]),
     /// Docnos between quotes, joined by commas.
     Listed(&'a [Text]),
-}
-
-fn append(out: &mut Vec<u8>, part: &[u8]) -> Result<(), Memory>
-    ensures { Adds out.old out.new part.now result }
-{
-    out.extend_from_slice(part)?;
-    Ok(())
 }
 
 fn append_byte(out: &mut Vec<u8>, byte: u8) -> Result<(), Memory>
@@ -55,12 +48,31 @@ fn append_escaped(out: &mut Vec<u8>, text: &[u8]) -> Result<(), Memory>
     Ok(())
 }
 
+// Whether a text has no `"` and no `\`.
+fn is_unmarked(text: &[u8]) -> bool
+    ensures { result ≡ list_all is_unmarked_byte text.now }
+{
+    text.iter().all(|byte| *byte != b'"' && *byte != b'\\')
+}
+
+// Appends the text with its escapes. One without any is copied whole.
+#[tactic(auto, using(crate::proofs::Growing::escaped_same))]
+fn append_text(out: &mut Vec<u8>, text: &[u8]) -> Result<(), Memory>
+    ensures { Adds out.old out.new (escaped text.now) result }
+{
+    if is_unmarked(text) {
+        append(out, text)
+    } else {
+        append_escaped(out, text)
+    }
+}
+
 fn append_behind(out: &mut Vec<u8>, front: &[u8], text: &[u8]) -> Result<(), Memory>
     ensures { Adds out.old out.new (front.now ++ escaped text.now) result }
 {
     let before = out.len();
     append(out, front)?;
-    match append_escaped(out, text) {
+    match append_text(out, text) {
         Ok(()) => Ok(()),
         Err(memory) => {
             out.truncate(before);
@@ -140,7 +152,7 @@ fn append_part(out: &mut Vec<u8>, part: &Part<'_>) -> Result<(), Memory>
     match part {
         Part::Plain(text) => append(out, text),
         Part::Number(number) => append_number(out, *number),
-        Part::Escaped(text) => append_escaped(out, text),
+        Part::Escaped(text) => append_text(out, text),
         Part::Listed(docs) => append_listed(out, docs),
     }
 }

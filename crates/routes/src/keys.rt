@@ -4,10 +4,10 @@ ghost use Rattle.rulebook.specs.Spelling.{differ};
 ghost use Rattle.trec_formats.specs.Names.{is_name};
 ghost use Rattle.routes.specs.Keys.{are_rows, caller, row_of};
 
-use crate::paths::is_name;
 use decimal_rank::{Memory, Text};
 use rulebook::{Caller, Role};
 use std::marker::Model;
+use trec_formats::is_name;
 
 /// A caller and the key by which it is known.
 #[derive(Debug, Drop)]

@@ -3,8 +3,14 @@ ghost use Rattle.http_wire.specs.declared.messages.HttpRequest.{HttpRequest};
 ghost use Rattle.routes.specs.declared.faults.RouteFault.{RouteFault};
 ghost use Rattle.routes.specs.declared.keys.KeyRow.{KeyRow};
 ghost use Rattle.routes.specs.Asks.{Asked, Reads};
+ghost use Rattle.routes.specs.RoleRules.{RolesAreTheRules};
 
 use trec_formats::{one_run_reading, one_topics_reading};
+
+/// A role may ask what is asked at a row of the table exactly where the rules say so.
+pub fn roles_are_the_rules()
+    ensures { RolesAreTheRules }
+{}
 
 /// A request is read in one way at most: as what it asks, or as its first fault.
 pub fn one_request_reading()

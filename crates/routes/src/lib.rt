@@ -14,10 +14,11 @@ mod paths;
 mod places;
 
 pub use answers::{Answered, render};
-pub use asks::read_ask;
+pub use asks::{read_ask, read_ask_by};
 pub use faults::RouteFault;
 pub use keys::{KeyRow, Keys, are_rows};
-pub use laws::one_request_reading;
+pub use laws::{one_request_reading, roles_are_the_rules};
+pub use places::Paths;
 
 #[cfg(test)]
 mod tests;

@@ -10,9 +10,8 @@ ghost use Rattle.trec_formats.specs.Names.{is_name};
 use crate::faults::RouteFault;
 use crate::keys::{KeyRow, Keys};
 use crate::paths::{fits, parameter};
-use crate::places::{Place, is_post, make_table, may_ask};
-use http_wire::{HttpField, HttpRequest, find_named};
-use std::alloc::Global;
+use crate::places::{Paths, Place, is_post, may_ask};
+use http_wire::{HttpField, find_named};
 
 /// Who asks at which row, and with which number.
 #[derive(Clone, Copy)]
@@ -24,17 +23,16 @@ pub(crate) struct Opening<'a> {
 
 // The row of a path whose parameter fits.
 #[tactic(auto, using(crate::proofs::Matching::is_text, crate::proofs::Matching::is_no_text))]
-fn find_place(alloc: Global, path: &[u8]) -> Result<Place, RouteFault>
+fn find_place(paths: &Paths, path: &[u8]) -> Result<Place, RouteFault>
     ensures place { Gives (λ place. place) result (place_of path.now) }
     ensures fitting { IfOk result (λ place. IsTrue (fits place (parameter path.now))) }
 {
     let Ok(text) = str::from_utf8(path) else {
         return Err(RouteFault::Route);
     };
-    let table = make_table(alloc)?;
-    match table.at(text) {
-        Ok(found) => with_parameter(*found.value, parameter(path)),
-        Err(_) => Err(RouteFault::Route),
+    match paths.place_of(text) {
+        Some(place) => with_parameter(place, parameter(path)),
+        None => Err(RouteFault::Route),
     }
 }
 
@@ -127,21 +125,23 @@ fn number_at(place: Place, fields: &[HttpField]) -> Result<Option<u64>, RouteFau
 /// Who asks, and where, or the first fault before the body.
 #[tactic(auto, unfolding(crate::specs::Openings::opening_of))]
 pub(crate) fn read_opening<'a>(
-    alloc: Global,
-    request: &HttpRequest,
+    paths: &Paths,
+    method: &[u8],
+    path: &[u8],
+    fields: &[HttpField],
     keys: &'a Keys,
 ) -> Result<Opening<'a>, RouteFault>
-    ensures opening { Gives opening_shown result (opening_of request.now keys.now) }
+    ensures opening { Gives opening_shown result (opening_of method.now path.now fields.now keys.now) }
     ensures named { IfOk result (λ opening. IsTrue (is_name opening.row.now.name)) }
     ensures role { IfOk result (λ opening. IsTrue (may_ask opening.row.now.role opening.place)) }
-    ensures fitting { IfOk result (λ opening. IsTrue (fits opening.place (parameter request.now.path))) }
+    ensures fitting { IfOk result (λ opening. IsTrue (fits opening.place (parameter path.now))) }
     ensures number { IfOk result (λ opening. IsTrue (is_number opening.number)) }
     ensures unnumbered { IfOk result (λ opening. opening.number ≡ None) }
 {
-    let found = find_place(alloc, request.path.bytes())?;
-    let place = with_method(found, request.method.bytes())?;
-    let known = find_row(keys, request.fields.items())?;
+    let found = find_place(paths, path)?;
+    let place = with_method(found, method)?;
+    let known = find_row(keys, fields)?;
     let row = with_role(place, known)?;
-    let number = number_at(place, request.fields.items())?;
+    let number = number_at(place, fields)?;
     Ok(Opening { place, row, number })
 }

@@ -1,11 +1,15 @@
-ghost use Rattle.std.specs.Prelude.{◌≡◌, IfOk, OnOk, map};
+ghost use Rattle.std.specs.Prelude.{◌≡◌, IfOk, IsTrue, OnOk, map};
 ghost use Rattle.std.specs.List.{fold};
-ghost use Rattle.routes.specs.Places.{is_post, may_ask, table, with_route};
+ghost use Rattle.std.specs.Option.{option_map};
+ghost use Rattle.matchit.specs.Route.{parse_route};
+ghost use Rattle.matchit.specs.Seek.{first};
+ghost use Rattle.routes.specs.Places.{are_free, is_free_route, is_post, may_ask, table, with_route};
 
 use decimal_rank::Memory;
-use matchit::Router;
+use matchit::{InsertError, Router};
 use rulebook::Role;
 use std::alloc::Global;
+use std::marker::Model;
 
 /// A row of the table of the paths: what is asked there.
 #[derive(Clone, Copy, Debug, PartialEq, Eq)]
@@ -43,25 +47,69 @@ static ROWS: [(&str, Place); 14] = [
     ("/progress", Place::Progress),
 ];
 
+// Adds a path as a route that conflicts with none.
+fn add_row(router: &mut Router<Place>, path: &str, place: Place) -> Result<(), Memory>
+    requires { IsTrue (is_free_route (parse_route path.now) router.old) }
+    ensures { OnOk result (router.new ≡ with_route router.old (path.now, place)) }
+{
+    match router.insert(path, place) {
+        Ok(()) => Ok(()),
+        Err(InsertError::OutOfMemory) => Err(Memory),
+        Err(InsertError::Conflict { .. })
+        | Err(InsertError::InvalidParamSegment)
+        | Err(InsertError::InvalidParam)
+        | Err(InsertError::InvalidCatchAll) => unreachable!(),
+    }
+}
+
 // Adds the paths of some rows as routes, in their order.
 fn add_rows(router: &mut Router<Place>, rows: &[(&str, Place)]) -> Result<(), Memory>
+    requires { IsTrue (are_free router.old (map (λ row. (row.0.now, row.1)) rows.now)) }
     ensures { OnOk result (router.new ≡ fold with_route router.old (map (λ row. (row.0.now, row.1)) rows.now)) }
 {
-    for row in rows {
-        if router.insert(row.0, row.1).is_err() {
-            return Err(Memory);
-        }
+    let mut rest = rows;
+    while let [row, others @ ..] = rest {
+        add_row(router, row.0, row.1)?;
+        rest = others;
     }
     Ok(())
 }
 
-/// The paths of the table as routes, in its order.
-pub(crate) fn make_table(alloc: Global) -> Result<Router<Place>, Memory>
-    ensures { IfOk result (λ router. router ≡ table) }
-{
-    let mut router = Router::new(alloc);
-    add_rows(&mut router, &ROWS)?;
-    Ok(router)
+/// The paths of the table as routes, in its order. They are made once and lent to each reading.
+#[derive(Drop)]
+pub struct Paths {
+    router: Router<Place>,
+}
+
+impl Model for Paths {
+    ghost use Rattle.std.specs.Prelude.{◌≡◌};
+    ghost use Rattle.routes.specs.Places.{Routes, table};
+
+    ghost Value = { Routes };
+
+    ghost view = { λ paths. paths.router };
+
+    ghost invariant = { λ paths. paths.router ≡ table };
+}
+
+impl Paths {
+    pub fn new(alloc: Global) -> Result<Paths, Memory>
+        ensures { IfOk result (λ paths. paths ≡ table) }
+    {
+        let mut router = Router::new(alloc);
+        add_rows(&mut router, &ROWS)?;
+        Ok(Paths { router })
+    }
+
+    /// The row of a path.
+    pub(crate) fn place_of(&self, path: &str) -> Option<Place>
+        ensures { result ≡ option_map (λ route. route.value) (first table path.now) }
+    {
+        match self.router.at(path) {
+            Ok(found) => Some(*found.value),
+            Err(_) => None,
+        }
+    }
 }
 
 /// Whether the row has the method POST, and else GET.
@@ -75,7 +123,14 @@ pub(crate) fn is_post(place: Place) -> bool
         | Place::Table
         | Place::Disagreements
         | Place::Progress => false,
-        _ => true,
+        Place::Topics
+        | Place::Submit
+        | Place::Open
+        | Place::Lease
+        | Place::Grade
+        | Place::Release
+        | Place::Amend
+        | Place::Rule => true,
     }
 }
 
@@ -90,6 +145,12 @@ pub(crate) fn may_ask(role: Role, place: Place) -> bool
         }
         Place::Pool => matches!(role, Role::Organiser | Role::Assessor),
         Place::Scores => matches!(role, Role::Organiser | Role::Group),
-        _ => matches!(role, Role::Organiser),
+        Place::Topics
+        | Place::Open
+        | Place::Rule
+        | Place::Qrels
+        | Place::Table
+        | Place::Disagreements
+        | Place::Progress => matches!(role, Role::Organiser),
     }
 }

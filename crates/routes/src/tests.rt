@@ -13,7 +13,7 @@ use trec_formats::{Topic, TopicList};
 fn text(alloc: Global, bytes: &[u8]) -> Result<Text, Memory>
     ensures { IfOk result (λ text. text ≡ bytes.now) }
 {
-    Ok(Text::new(Vec::from_slice(alloc, bytes)?))
+    Text::from_slice(alloc, bytes)
 }
 
 fn row(alloc: Global, name: &[u8], role: Role, key: &[u8]) -> Result<KeyRow, Memory>

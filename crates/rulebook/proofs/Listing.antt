@@ -1,5 +1,5 @@
 -- Which documents are listed: those with a label, and those of the trail that have a grade.
-use Rattle.std.proofs.Common.{◌≡◌, ◌||◌, ◌⊎◌, inl, inr, ℕ, suc, length, Bool, true, false, cond, List, [], ◌∷◌, ◌++◌, Option, map, refl, sym, ap, ◌∙◌, filter, is_some, arith, lt-ltb}
+use Rattle.std.proofs.Common.{◌≡◌, ◌||◌, ◌⊎◌, inl, inr, ℕ, suc, length, Bool, true, false, cond, List, [], ◌∷◌, ◌++◌, map, refl, sym, ap, ◌∙◌, filter, is_some, arith, lt-ltb}
 use Rattle.std.specs.Prelude.{◌&&◌, if◌then◌else◌, nat_lt}
 use Rattle.std.specs.List.{flat_map, fold, list_any}
 use Rattle.std.specs.Str.{bytes_eq}
@@ -13,7 +13,7 @@ use Rattle.labels.specs.declared.given.Given.{Given}
 use Rattle.labels.specs.Labelled.{with_label}
 use Rattle.rulebook.specs.Words.{Text, contains_text, each_once, prefixes}
 use Rattle.rulebook.specs.Campaign.{History}
-use Rattle.rulebook.specs.Grades.{Label, effective, given_labels, graded, is_labelled, is_on, label_of, labelled, labels_on, trail}
+use Rattle.rulebook.specs.Grades.{Label, effective, given_labels, graded, is_labelled, is_on, label_of, labelled, trail}
 use Rattle.rulebook.proofs.Entering.{all-among, all-stay-among, graded-on-trail, passes-among}
 
 decided : (s t : Bool) → (s ≡ true → t ≡ true) → (t ≡ true → s ≡ true) → s ≡ t

@@ -5,7 +5,7 @@ use Rattle.std.specs.Option.{option_or}
 use Rattle.std.specs.Str.{bytes_eq}
 use Rattle.std.proofs.lemmas.List.{append_assoc, append-nil}
 use Rattle.std.proofs.lemmas.Slice.Eq.{bytes_eq-Decides}
-use Rattle.labels.specs.Grades.{common_grade, effective_grade}
+use Rattle.labels.specs.Grades.{common_grade}
 use Rattle.labels.specs.Labelled.{grades_of}
 use Rattle.labels.specs.declared.given.Given.{Given}
 use Rattle.rulebook.specs.declared.limits.TheConstants.{MAX_ENTRIES}
@@ -20,7 +20,7 @@ use Rattle.rulebook.specs.declared.reply.Refusal.TheVariants as refusal
 use Rattle.rulebook.specs.declared.reply.Reply.TheVariants as reply
 use Rattle.rulebook.specs.Answers.{acting, adding_nothing, grade_range, moment_after, rule_ruling, ruled}
 use Rattle.rulebook.specs.Campaign.{History, is_topic, need}
-use Rattle.rulebook.specs.Grades.{effective, graded, is_labelled, labelled, labels_on, ruling, ruling_in, trail}
+use Rattle.rulebook.specs.Grades.{effective, is_labelled, labelled, labels_on, ruling, ruling_in, trail}
 use Rattle.rulebook.specs.Legal.{AreAccepted, IsAccepted, IsFounding, IsLegal}
 use Rattle.rulebook.specs.Refusals.{Ruling, ◌when◌, unless, wrong_phase_unless}
 use Rattle.rulebook.specs.Words.{Text, contains_text}

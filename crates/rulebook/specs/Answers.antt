@@ -36,33 +36,46 @@ unknown_line H lists = reduce min (map (λ l. l.line) (filter (λ l. not (is_top
 
 -- What each command comes to: its refusals in their order, and else its reply.
 
-abbrev pub topics_ruling : History → List Topic → Ruling
-topics_ruling H topics =
-    unless (wrong_phase_unless Collecting H
+abbrev pub topics_tests : History → List Topic → List (Option Refusal)
+topics_tests H topics =
+    wrong_phase_unless Collecting H
     ∷ (refusal.TopicsFixed when has_topics H)
-    ∷ (refusal.Limit quantity.Topics when nat_lt MAX_TOPICS (length topics)) ∷ [])
-    (Ok (reply.Topics (length topics)))
+    ∷ (refusal.Limit quantity.Topics when nat_lt MAX_TOPICS (length topics)) ∷ []
 
-abbrev pub submit_ruling : History → Text → List TopicList → Ruling
-submit_ruling H run lists =
-    unless (wrong_phase_unless Collecting H
+abbrev pub topics_ruling : History → List Topic → Ruling
+topics_ruling H topics = unless (topics_tests H topics) (Ok (reply.Topics (length topics)))
+
+abbrev pub submit_tests : History → Text → List TopicList → List (Option Refusal)
+submit_tests H run lists =
+    wrong_phase_unless Collecting H
     ∷ (refusal.TagTaken when is_taken H run)
     ∷ option_map refusal.LineTopic (unknown_line H lists)
     ∷ (refusal.Limit quantity.Runs when nat_le MAX_RUNS (length (runs H)))
     ∷ (refusal.Limit quantity.Lines when nat_lt MAX_LINES (lines_with H lists))
-    ∷ (refusal.Limit quantity.Docnos when nat_lt MAX_DOCNOS (length (docnos_with H lists))) ∷ [])
-    (Ok (reply.Submitted run (length lists) (line_count lists)))
+    ∷ (refusal.Limit quantity.Docnos when nat_lt MAX_DOCNOS (length (docnos_with H lists))) ∷ []
+
+abbrev pub submit_ruling : History → Text → List TopicList → Ruling
+submit_ruling H run lists = unless (submit_tests H run lists) (Ok (reply.Submitted run (length lists) (line_count lists)))
+
+abbrev pub open_tests : History → List (Option Refusal)
+open_tests H = wrong_phase_unless Collecting H ∷ []
 
 abbrev pub open_ruling : History → Ruling
-open_ruling H = unless (wrong_phase_unless Collecting H ∷ []) (Ok reply.Done)
+open_ruling H = unless (open_tests H) (Ok reply.Done)
+
+abbrev pub lease_tests : History → Caller → ℕ → Text → List (Option Refusal)
+lease_tests H who now topic =
+    wrong_phase_unless Judging H
+    ∷ (refusal.UnknownTopic when not (is_topic H topic))
+    ∷ (refusal.TooMany (length (live_leases_of H now who.name)) when nat_le (rules_of H).hold (length (live_leases_of H now who.name))) ∷ []
+
+-- the lease of a document, numbered next, up to the rules' term from now
+abbrev pub leased : History → ℕ → Text → Text → Ruling
+leased H now topic doc = Ok (reply.Leased (length (leases H) + 1) topic doc (now + (rules_of H).term) (title H topic))
 
 abbrev pub lease_ruling : History → Caller → ℕ → Text → Ruling
 lease_ruling H who now topic =
-    unless (wrong_phase_unless Judging H
-    ∷ (refusal.UnknownTopic when not (is_topic H topic))
-    ∷ (refusal.TooMany (length (live_leases_of H now who.name)) when nat_le (rules_of H).hold (length (live_leases_of H now who.name))) ∷ [])
-    (given (named H now who.name topic) refusal.NothingLeft (λ doc.
-    Ok (reply.Leased (length (leases H) + 1) topic doc (now + (rules_of H).term) (title H topic))))
+    unless (lease_tests H who now topic) (given (named H now who.name topic) refusal.NothingLeft (leased H now topic))
 
 -- The refusals of a request about a lease: it isn't the caller's, it ended, its moment passed.
 abbrev pub lease_refusals : History → Caller → ℕ → Lease → List (Option Refusal)
@@ -75,32 +88,45 @@ lease_refusals H who now lease =
 abbrev pub grade_range : History → ℕ → Option Refusal
 grade_range H grade = refusal.GradeRange when nat_lt (rules_of H).top_grade grade
 
+abbrev pub judging_tests : History → List (Option Refusal)
+judging_tests H = wrong_phase_unless Judging H ∷ []
+
+-- the grade of a lease that was found
+abbrev pub graded_lease : History → Caller → ℕ → ℕ → Lease → Ruling
+graded_lease H who now grade lease =
+    unless (lease_refusals H who now lease ++ grade_range H grade ∷ []) (Ok (reply.Graded lease.topic lease.doc grade))
+
 abbrev pub grade_ruling : History → Caller → ℕ → ℕ → ℕ → Ruling
 grade_ruling H who now number grade =
-    unless (wrong_phase_unless Judging H ∷ [])
-    (given (lease_numbered H number) refusal.UnknownLease (λ lease.
-    unless (lease_refusals H who now lease ++ (refusal.GradeRange when nat_lt (rules_of H).top_grade grade) ∷ [])
-    (Ok (reply.Graded lease.topic lease.doc grade))))
+    unless (judging_tests H) (given (lease_numbered H number) refusal.UnknownLease (graded_lease H who now grade))
+
+-- the release of a lease that was found
+abbrev pub released_lease : History → Caller → ℕ → Lease → Ruling
+released_lease H who now lease = unless (lease_refusals H who now lease) (Ok reply.Done)
 
 abbrev pub release_ruling : History → Caller → ℕ → ℕ → Ruling
 release_ruling H who now number =
-    unless (wrong_phase_unless Judging H ∷ [])
-    (given (lease_numbered H number) refusal.UnknownLease (λ lease.
-    unless (lease_refusals H who now lease) (Ok reply.Done)))
+    unless (judging_tests H) (given (lease_numbered H number) refusal.UnknownLease (released_lease H who now))
 
-abbrev pub amend_ruling : History → Caller → Text → Text → ℕ → Ruling
-amend_ruling H who topic doc grade =
-    unless (wrong_phase_unless Judging H
+abbrev pub amend_tests : History → Caller → Text → Text → ℕ → List (Option Refusal)
+amend_tests H who topic doc grade =
+    wrong_phase_unless Judging H
     ∷ (refusal.UnknownTopic when not (is_topic H topic))
     ∷ (refusal.NotLabelled when not (is_labelled_by H topic doc who.name))
-    ∷ grade_range H grade ∷ []) (Ok reply.Done)
+    ∷ grade_range H grade ∷ []
 
-abbrev pub rule_ruling : History → Text → Text → ℕ → Ruling
-rule_ruling H topic doc grade =
-    unless (wrong_phase_unless Judging H
+abbrev pub amend_ruling : History → Caller → Text → Text → ℕ → Ruling
+amend_ruling H who topic doc grade = unless (amend_tests H who topic doc grade) (Ok reply.Done)
+
+abbrev pub rule_tests : History → Text → Text → ℕ → List (Option Refusal)
+rule_tests H topic doc grade =
+    wrong_phase_unless Judging H
     ∷ (refusal.UnknownTopic when not (is_topic H topic))
     ∷ (refusal.NotLabelled when not (is_labelled H topic doc))
-    ∷ grade_range H grade ∷ []) (Ok reply.Done)
+    ∷ grade_range H grade ∷ []
+
+abbrev pub rule_ruling : History → Text → Text → ℕ → Ruling
+rule_ruling H topic doc grade = unless (rule_tests H topic doc grade) (Ok reply.Done)
 
 -- What a caller's command comes to at a moment. No request gives another command yet.
 abbrev pub ruled : History → Caller → ℕ → Command → Ruling
@@ -116,19 +142,23 @@ ruled H who now _ = Err (refusal.WrongPhase (phase H))
 
 -- What each query comes to.
 
+abbrev pub pool_tests : History → Text → List (Option Refusal)
+pool_tests H topic = (refusal.UnknownTopic when not (is_topic H topic)) ∷ []
+
 abbrev pub pool_ruling : History → Text → Ruling
-pool_ruling H topic = unless ((refusal.UnknownTopic when not (is_topic H topic)) ∷ []) (Ok (reply.Pool topic (pool H topic)))
+pool_ruling H topic = unless (pool_tests H topic) (Ok (reply.Pool topic (pool H topic)))
 
 -- A page is told to everyone who may ask for it.
 abbrev pub paged : Text → Ruling
 paged text = Ok (reply.Page text)
 
 -- A group is told the scores of its own runs alone.
+abbrev pub scores_tests : History → Caller → Text → List (Option Refusal)
+scores_tests H who name = (refusal.NotYours when (is_group who.role && not (is_submitter H who.name name))) ∷ []
+
 abbrev pub scores_ruling : History → Caller → Text → Ruling
 scores_ruling H who name =
-    given (run_named H name) refusal.UnknownRun (λ run.
-    unless ((refusal.NotYours when (is_group who.role && not (is_submitter H who.name name))) ∷ [])
-    (paged (scores_page H run)))
+    given (run_named H name) refusal.UnknownRun (λ run. unless (scores_tests H who name) (paged (scores_page H run)))
 
 -- What a caller's query comes to at a moment. No request asks another query yet.
 abbrev pub told : History → Caller → ℕ → Query → Ruling

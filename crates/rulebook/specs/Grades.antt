@@ -5,7 +5,7 @@ use Rattle.std.specs.Str.{bytes_eq}
 use Rattle.labels.specs.declared.given.Given.{Given}
 use Rattle.labels.specs.Grades.{effective_grade, shows_disagreement}
 use Rattle.labels.specs.Labelled.{grades_of, has_label, with_label}
-use Rattle.measures.specs.Grades.{is_non_relevant, is_relevant}
+use Rattle.decimal_rank.specs.Relevance.{is_non_relevant, is_relevant}
 use Rattle.rulebook.specs.declared.ask.Command.{Command}
 use Rattle.rulebook.specs.declared.ask.Command.TheVariants as command
 use Rattle.rulebook.specs.declared.entry.Entry.{Entry}

@@ -11,3 +11,5 @@ pub mod Roles
 pub mod Legal
 pub mod Entries
 pub mod Scores
+pub mod Plain
+pub mod Stories

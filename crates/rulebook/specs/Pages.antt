@@ -1,7 +1,8 @@
 -- The printed pages of a campaign whose list of accepted entries is H.
-use Rattle.std.specs.Prelude.{ℕ, ◌∷◌, [], ◌++◌, List, codes, decimal, filter, length, map, unwrap_or}
+use Rattle.std.specs.Prelude.{ℕ, ◌++◌, List, codes, decimal, filter, length, map, unwrap_or}
 use Rattle.std.specs.List.{flat_map}
 use Rattle.std.specs.Str.{bytes_eq}
+use Rattle.decimal_rank.specs.QrelLines.{qrel_line}
 use Rattle.rulebook.specs.Words.{Text, in_order}
 use Rattle.rulebook.specs.Campaign.{History, pool, topics}
 use Rattle.rulebook.specs.Grades.{disagrees, effective, graded, labelled, non_relevant_count, relevant_count}
@@ -11,13 +12,9 @@ use Rattle.rulebook.specs.Leases.{live_leases}
 abbrev pub topics_in_order : History → List Text
 topics_in_order H = in_order (map (λ t. t.id) (topics H))
 
--- a topic, 0, a docno and a grade with a space between two of them, and a line feed
-abbrev pub qrels_line : Text → Text → ℕ → Text
-qrels_line topic doc grade = topic ++ codes " 0 " ++ doc ++ codes " " ++ decimal grade ++ codes "\n"
-
 -- the effective grades of a topic, by docno
 abbrev pub qrels_lines : History → Text → Text
-qrels_lines H topic = flat_map (λ doc. qrels_line topic doc (unwrap_or (effective H topic doc) 0)) (in_order (graded H topic))
+qrels_lines H topic = flat_map (λ doc. qrel_line topic doc (unwrap_or (effective H topic doc) 0)) (in_order (graded H topic))
 
 -- all effective grades, by topic id and docno
 abbrev pub qrels_page : History → Text

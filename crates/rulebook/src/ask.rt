@@ -1,4 +1,4 @@
-use crate::rules::Rules;
+use crate::rules::{Caller, Rules};
 use decimal_rank::{Rows, Text};
 use trec_formats::{Topic, TopicList};
 
@@ -55,4 +55,14 @@ pub enum Query {
 pub enum Ask {
     Act(Command),
     See(Query),
+}
+
+/// A request as it reaches a campaign: who asks what, under which number, and its moment in
+/// seconds.
+#[derive(Debug, Drop)]
+pub struct Addressed {
+    pub who: Caller,
+    pub number: Option<u64>,
+    pub ask: Ask,
+    pub moment: u64,
 }

@@ -1,4 +1,5 @@
 ghost use Rattle.rulebook.specs.Entries.{GradedAreOnTrail, GradedAreThere, LabelledAreListed, LabelsJoin, QuietEntriesKeepGrades, RulingsJoin};
+ghost use Rattle.rulebook.specs.Plain.{CommandsAreAnsweredShort, EntriesArePlain, RepliesArePlain};
 
 /// An entry that gives no label and no ruling leaves each label, ruling, effective grade and trail.
 pub fn quiet_entries_keep_grades()
@@ -30,4 +31,19 @@ pub fn labelled_are_listed()
 /// In a list of entries that can come about each document with an effective grade is on the trail.
 pub fn graded_are_there()
     ensures { GradedAreThere }
+{}
+
+/// The commands of a legal history are plain, and so are their replies, which are short.
+pub fn entries_are_plain()
+    ensures { EntriesArePlain }
+{}
+
+/// A well addressed request to a legal history has a plain reply.
+pub fn replies_are_plain()
+    ensures { RepliesArePlain }
+{}
+
+/// A well addressed command to a legal history has a short reply.
+pub fn commands_are_answered_short()
+    ensures { CommandsAreAnsweredShort }
 {}

@@ -2,6 +2,7 @@
 //! themselves, as definitions over the list of accepted entries.
 #![tactic(auto)]
 
+mod answer;
 mod ask;
 mod entry;
 mod laws;
@@ -11,11 +12,12 @@ mod rules;
 #[cfg(test)]
 mod tests;
 
-pub use ask::{Ask, Command, Query};
+pub use answer::Answer;
+pub use ask::{Addressed, Ask, Command, Query};
 pub use entry::{Entry, EntryCore};
 pub use laws::{
-    graded_are_on_trail, graded_are_there, labelled_are_listed, labels_join,
-    quiet_entries_keep_grades, rulings_join,
+    commands_are_answered_short, entries_are_plain, graded_are_on_trail, graded_are_there,
+    labelled_are_listed, labels_join, quiet_entries_keep_grades, replies_are_plain, rulings_join,
 };
 pub use limits::{
     MAX_DOCNOS, MAX_ENTRIES, MAX_ENTRY_BYTES, MAX_LINES, MAX_MOMENT, MAX_RUNS, MAX_TOPICS,

@@ -5,7 +5,7 @@ use std::alloc::Global;
 use std::test::Fail;
 
 fn text(alloc: Global, bytes: &[u8]) -> Result<Text, Memory> {
-    Ok(Text::new(Vec::from_slice(alloc, bytes)?))
+    Text::from_slice(alloc, bytes)
 }
 
 #[test]

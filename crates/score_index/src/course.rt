@@ -3,6 +3,7 @@ ghost use Rattle.measures.specs.Cells.{IsSound};
 ghost use Rattle.measures.specs.Grades.{is_non_relevant, is_relevant};
 
 use crate::scored::Scored;
+use decimal_rank::{is_non_relevant, is_relevant};
 use measures::{Cell, Summary, mean, scratch};
 use std::alloc::Global;
 use std::test::Fail;
@@ -97,28 +98,22 @@ impl Told {
     }
 }
 
-fn is_relevant(grade: Option<u8>) -> bool
-    ensures { result ≡ is_relevant 1 grade }
-{
-    grade.is_some_and(|grade| 1 <= grade)
-}
-
-fn is_lower(grade: Option<u8>) -> bool
-    ensures { result ≡ is_non_relevant 1 grade }
-{
-    grade.is_some_and(|grade| grade < 1)
-}
-
 fn relevant_in(grades: &[Option<u8>]) -> usize
     ensures { result ≡ count_by (is_relevant 1) grades.now }
 {
-    grades.iter().filter(|grade| is_relevant(**grade)).count()
+    grades
+        .iter()
+        .filter(|grade| is_relevant(1, **grade))
+        .count()
 }
 
 fn lower_in(grades: &[Option<u8>]) -> usize
     ensures { result ≡ count_by (is_non_relevant 1) grades.now }
 {
-    grades.iter().filter(|grade| is_lower(**grade)).count()
+    grades
+        .iter()
+        .filter(|grade| is_non_relevant(1, **grade))
+        .count()
 }
 
 // The cell of these grades by rank, where the topic's documents have the other grades. None where the

@@ -7,7 +7,7 @@ ghost use Rattle.score_index.specs.Kept.{IsTopicKept, has_grades, kept_cell, see
 ghost use Rattle.score_index.specs.Scores.{TopicScores, new_topic};
 
 use crate::lists::{RunList, drop_lists, list_of, regrade_lists};
-use decimal_rank::{DocId, Memory, Steps};
+use decimal_rank::{DocId, Memory, Steps, is_non_relevant, is_relevant};
 use depth_pool::RunId;
 use measures::{Cell, Totals, scratch};
 use std::alloc::Global;
@@ -66,18 +66,6 @@ pub(crate) fn drop_run(topics: &mut [Topic], run: RunId)
     for topic in topics.iter_mut() {
         drop_lists(&mut topic.lists, run);
     }
-}
-
-fn is_relevant(level: u8, grade: Option<u8>) -> bool
-    ensures { result ≡ is_relevant level grade }
-{
-    grade.is_some_and(|grade| level <= grade)
-}
-
-fn is_non_relevant(level: u8, grade: Option<u8>) -> bool
-    ensures { result ≡ is_non_relevant level grade }
-{
-    grade.is_some_and(|grade| grade < level)
 }
 
 // A count after one document was counted or not, and now is or not.

@@ -64,7 +64,7 @@ none_cases : (p : ℕ → Bool) (xs : List ℕ) (t : Bool) → ltb (position_or_
 none_cases p xs true is none = cc
 none_cases p xs false is none = ltb-false _ _ is
 
-none_past : (p : ℕ → Bool) (xs : List ℕ) → None ≡ position p xs → length xs ≤ position_or_len p xs
+pub none_past : (p : ℕ → Bool) (xs : List ℕ) → None ≡ position p xs → length xs ≤ position_or_len p xs
 none_past p xs is = none_cases p xs (ltb (position_or_len p xs) (length xs)) refl (sym is)
 
 -- a text without a line feed

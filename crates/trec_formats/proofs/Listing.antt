@@ -8,14 +8,12 @@ use Rattle.std.proofs.lemmas.Bool.{false_from_ne_true}
 use Rattle.std.proofs.lemmas.Cmp.{nat_list_eq_equiv}
 use Rattle.std.proofs.lemmas.List.{append-nil, append_assoc, drop_at, drop-drop, drop-map, length-append, length-drop, length-map, length_push, get_or_append_left, get_or_push}
 use Rattle.std.proofs.lemmas.List.Elements.{All-append, All-push, All-cons, All-filter, All-same, filter-append}
-use Rattle.std.proofs.lemmas.List.Sums.{length-filter}
 use Rattle.std.proofs.lemmas.Option.{same_Some}
 use Rattle.std.proofs.lemmas.Slice.Eq.{bytes_eq-Decides}
 use Rattle.trec_formats.specs.Faults.{IsDistinct}
 use Rattle.trec_formats.specs.declared.lists.TopicList.{TopicList}
 use Rattle.trec_formats.specs.declared.runs.RunLine.{RunLine}
 use denote.Ref.{Bor}
-use Rattle.trec_formats.specs.Runs.{count_on}
 use Rattle.trec_formats.specs.Groups.{shown, topic_lt, AreByTopic, IsAscending, IsFirstGroup, IsGroupList, DocsDiffer}
 use Rattle.trec_formats.specs.Lists.{lines_on, AreLists, AreRanked, IsListOf, same_document}
 use Rattle.trec_formats.proofs.TopicOrder.{never_below_itself, is_above}
@@ -185,18 +183,13 @@ listed_all order lists w =
       whole = whole;
     }
 
--- a group whose lines have one document twice
-pub group_repeats : (order rest group : List RunLine) → Cuts order rest group → (DocsDiffer group → ⊥) → IsDistinct same_document order → ⊥
-group_repeats order rest group c repeats distinct = repeats (subst DocsDiffer c.whole (differ_from_distinct c.first.topic order distinct))
+-- a group of lines of which none repeats a document
+pub group_differs : (order rest group : List RunLine) → Cuts order rest group → IsDistinct same_document order → DocsDiffer group
+group_differs order rest group c distinct = subst DocsDiffer c.whole (differ_from_distinct c.first.topic order distinct)
 
 -- what lies behind a group
 pub after_is : (order rest group : List RunLine) (c : Cuts order rest group) → c.after ≡ drop (length group) rest
 after_is order rest group c = sym (ap (drop (length group)) c.rest_is ∙ drop_at group c.after (length group) refl)
-
-pub group_few : (order rest group : List RunLine) → Cuts order rest group → ((topic : List ℕ) → count_on topic order ≤ 1000) → length group ≤ 1000
-group_few order rest group c short =
-    let on : length (lines_on c.first.topic order) ≡ length group = ap length c.whole in
-    omega (arith, on, length-filter (λ line. bytes_eq line.topic c.first.topic) order, short c.first.topic)
 
 pub group_within : (order : List (Bor RunLine)) (start : ℕ) (group : List (Bor RunLine)) → start ≤ length order → Cuts (shown order) (shown (drop start order)) (shown group) → start + length group ≤ length order
 group_within order start group within c =
@@ -228,12 +221,5 @@ lists_carry lines order lists w l = record {
       unkept (λ line. bytes_eq line.topic topic) P lines on k d within (nat_list_eq_equiv.refl topic);
 }
 
-pub fault_carry : (lines order : List RunLine) → AreByTopic lines order → (IsDistinct same_document order → ⊥) → IsDistinct same_document lines → ⊥
-fault_carry lines order w repeats distinct =
-    repeats (distinct_from_differ order (λ topic. subst DocsDiffer (sym (w.same topic)) (differ_from_distinct topic lines distinct)))
-
-pub short_carry : (lines order : List RunLine) → AreByTopic lines order → ((topic : List ℕ) → count_on topic lines ≤ 1000) → (topic : List ℕ) → count_on topic order ≤ 1000
-short_carry lines order w short topic =
-    let p = λ (line : RunLine). bytes_eq line.topic topic in
-    let same : length (lines_on topic order) ≡ length (lines_on topic lines) = ap length (w.same topic) in
-    omega (arith, same, length-filter p order, length-filter p lines, short topic)
+pub distinct_carry : (lines order : List RunLine) → AreByTopic lines order → IsDistinct same_document lines → IsDistinct same_document order
+distinct_carry lines order w distinct = distinct_from_differ order (λ topic. subst DocsDiffer (sym (w.same topic)) (differ_from_distinct topic lines distinct))

@@ -1,158 +1,169 @@
--- The ranking of numbered documents, read back as their docnos.
-use Rattle.std.proofs.Common.{◌≡◌, ◌<◌, ◌+◌, ◌-◌, ◌==◌, ℕ, zero, suc, false, List, [], ◌∷◌, length, map, get_or, refl, sym, subst, ◌∙◌, ap, arith, pos, Option, Some, None, position, bytes_eq}
-use Rattle.std.specs.Prelude.{◌≢◌, All, AllPairs, slice_get}
-use Rattle.std.specs.List.{AllZip}
+-- Lines of a topic in the order of their ranks.
+use Rattle.std.proofs.Common.{Ordering, Less, Equal, Greater, ◌≡◌, ◌≢◌, ℕ, zero, suc, ◌+◌, ◌-◌, ◌<◌, Bool, true, false, cond, List, [], ◌∷◌, length, map, get_or, refl, sym, ap, subst, ◌∙◌, Some, arith, pos, zero-add}
+use Rattle.std.specs.Prelude.{All, AllPairs, slice_get}
+use Rattle.std.specs.Cmp.{IsTotalOrder, IsStrictWeakOrder}
+use Rattle.std.specs.Cmp.Lexicographic.{slice_cmp}
+use Rattle.std.specs.List.{count_by}
 use Rattle.std.specs.List.Sorted.{IsPermutation}
-use Rattle.std.specs.Option.{option_map}
-use Rattle.std.proofs.lemmas.Bool.{eqb-true}
-use Rattle.std.proofs.lemmas.Cmp.{nat_list_eq_equiv}
+use Rattle.std.specs.Ordering.{is_lt, is_gt, nat_cmp, ordering_then, ordering_reverse}
+use Rattle.std.proofs.lemmas.Bool.{false≢true}
+use Rattle.std.proofs.lemmas.Cmp.{then_total, on_total, nat_list_cmp_total, nat_list_eq_equiv, tied_itself}
 use Rattle.std.proofs.lemmas.List.{get_or-map, length-map}
-use Rattle.std.proofs.lemmas.List.Quantifiers.{position-Some}
-use Rattle.std.proofs.lemmas.List.Sorted.{IsPermutation-map}
+use Rattle.std.proofs.lemmas.List.Sorted.{ranks_by, IsStrictWeakOrder-flip, IsPermutation-map, IsPermutation-sym, All-permutation, length_permutation, sum_by-IsPermutation}
+use Rattle.std.proofs.lemmas.List.Sums.{sum_by-cons}
 use Rattle.std.proofs.lemmas.Map.Keys.{IsDistinct-IsPermutation}
+use Rattle.std.proofs.lemmas.Map.Lookups.{exact_bytes}
 use Rattle.std.proofs.lemmas.Map.Made.{AllPairs-from_IsDistinct, IsDistinct-from_AllPairs}
-use Rattle.std.proofs.lemmas.Option.{slice_get-get_or, same_Some}
+use Rattle.std.proofs.lemmas.Option.{slice_get-get_or}
 use Rattle.std.proofs.lemmas.Slice.Eq.{bytes_eq-Decides}
-use Rattle.decimal_rank.specs.declared.naming.DocId.{DocId}
-use Rattle.decimal_rank.specs.declared.rankings.Scored.{Scored}
-use Rattle.decimal_rank.specs.Names.{number_of, docno_of}
-use Rattle.decimal_rank.specs.Places.{AreDistinct, IsFirstRepeat}
-use Rattle.decimal_rank.specs.Ranks.{IsRanking, standing_of}
+use Rattle.std.specs.Str.{bytes_eq}
+use denote.Ref.{Bor}
+use Rattle.decimal_rank.specs.Decimal.{decimal_cmp}
+use Rattle.decimal_rank.specs.Ranks.{Standing, standing_cmp, stands_before, rank_in}
 use Rattle.trec_formats.specs.declared.runs.RunLine.{RunLine}
-use Rattle.trec_formats.specs.Groups.{AreNumbered, DocsDiffer}
+use Rattle.trec_formats.specs.Groups.{shown, AreByRank, DocsDiffer}
 use Rattle.trec_formats.specs.Lists.{AreRanked, standing}
 
-zip_length : {A B : Type 0} (R : A → B → Type 0) (xs : List A) (ys : List B) → AllZip R xs ys → length xs ≡ length ys
-zip_length R [] [] all = refl
-zip_length R [] (y ∷ ys) all = absurd all
-zip_length R (x ∷ xs) [] all = absurd all
-zip_length R (x ∷ xs) (y ∷ ys) all = ap suc (zip_length R xs ys all.1)
+count-none : {X : Type 0} (p : X → Bool) (xs : List X) → All (λ x. p x ≡ false) xs → count_by p xs ≡ 0
+count-none p [] none = refl
+count-none p (x ∷ xs) none =
+    sum_by-cons (λ y. cond (p y) 1 0) x xs
+    ∙ ap (λ t. cond t 1 0 + count_by p xs) (none 0 x (omega arith))
+    ∙ zero-add (count_by p xs)
+    ∙ count-none p xs (λ k d within. none (suc k) d (omega arith))
 
-zip_at : {A B : Type 0} (R : A → B → Type 0) (xs : List A) (ys : List B) → AllZip R xs ys → (k : ℕ) → k < length xs → (d : A) (e : B) → R (get_or xs k d) (get_or ys k e)
-zip_at R [] ys all k within d e = absurd (omega arith)
-zip_at R (x ∷ xs) [] all k within d e = absurd all
-zip_at R (x ∷ xs) (y ∷ ys) all zero within d e = all.0
-zip_at R (x ∷ xs) (y ∷ ys) all (suc k) within d e = zip_at R xs ys all.1 k (omega arith) d e
+-- x stands before y and y not before x
+abbrev Strictly : {X : Type 0} → (X → X → Bool) → X → X → Type 0
+Strictly R x y = (R x y ≡ true) × (R y x ≡ false)
 
--- what a number among the names says
-pub record IsNumber (names : List (List ℕ)) (name : List ℕ) (i : ℕ) : Type 0 where
-  pub within : i < length names
-  pub is : docno_of names i ≡ name
+-- where each element stands before each later one, k of them stand before the one at place k
+count-before : {X : Type 0} (R : X → X → Bool) (xs : List X) (k : ℕ) (d : X) → ((x : X) → R x x ≡ false) → AllPairs (Strictly R) xs → k < length xs
+    → count_by (λ e. R e (get_or xs k d)) xs ≡ k
+count-before R [] k d irr pairs within = absurd (omega arith)
+count-before R (x ∷ xs) zero d irr pairs within =
+    sum_by-cons (λ e. cond (R e x) 1 0) x xs
+    ∙ ap (λ t. cond t 1 0 + count_by (λ e. R e x) xs) (irr x)
+    ∙ zero-add (count_by (λ e. R e x) xs)
+    ∙ count-none (λ e. R e x) xs (λ j e h. (pairs 0 (suc j) e (omega arith) (omega arith)).1)
+count-before R (x ∷ xs) (suc k) d irr pairs within =
+    sum_by-cons (λ e. cond (R e (get_or xs k d)) 1 0) x xs
+    ∙ ap (λ t. cond t 1 0 + count_by (λ e. R e (get_or xs k d)) xs) (pairs 0 (suc k) d (omega arith) within).0
+    ∙ ap (λ n. 1 + n) (count-before R xs k d irr (λ i j e h l. pairs (suc i) (suc j) e (omega arith) (omega arith)) (omega arith))
+    ∙ (let e : 1 + k ≡ suc k = omega arith in e)
 
-number_is : (names : List (List ℕ)) (name : List ℕ) (i : ℕ) → number_of names name ≡ Some i → IsNumber names name i
-number_is names name i is =
-    let w = position-Some (bytes_eq name) names i [] is in
-    record { within = w.0; is = sym ((bytes_eq-Decides name (docno_of names i)).0 w.1) }
+count_by-map : {X Y : Type 0} (f : X → Y) (p : Y → Bool) (xs : List X) → count_by p (map f xs) ≡ count_by (λ x. p (f x)) xs
+count_by-map f p [] = refl
+count_by-map f p (x ∷ xs) =
+    sum_by-cons (λ y. cond (p y) 1 0) (f x) (map f xs) ∙ ap (λ n. cond (p (f x)) 1 0 + n) (count_by-map f p xs) ∙ sym (sum_by-cons (λ y. cond (p (f y)) 1 0) x xs)
 
-pub numbers_within : (names : List (List ℕ)) (scored : List Scored) (lines : List RunLine) → AreNumbered names scored lines → All (λ s. s.doc.0 < length names) scored
-numbers_within names [] lines all k d within = absurd (omega arith)
-numbers_within names (s ∷ scored) [] all k d within = absurd all
-numbers_within names (s ∷ scored) (line ∷ lines) all zero d within = (number_is names line.doc s.doc.0 all.0.0).within
-numbers_within names (s ∷ scored) (line ∷ lines) all (suc k) d within = numbers_within names scored lines all.1 k d (omega arith)
+standing_total : IsTotalOrder decimal_cmp → IsTotalOrder standing_cmp
+unfolding standing_cmp
+standing_total total = then_total (on_total (λ d. d.score) total) (on_total (λ d. d.docno) nat_list_cmp_total)
 
-pub numbered_length : (names : List (List ℕ)) (scored : List Scored) (lines : List RunLine) → AreNumbered names scored lines → length scored ≡ length lines
-numbered_length names = zip_length _
+second_equal : (r s : Ordering) → ordering_then r s ≡ Equal → s ≡ Equal
+second_equal Less s e = cc
+second_equal Equal s e = e
+second_equal Greater s e = cc
 
-standing_is : (names : List (List ℕ)) (s : Scored) (line : RunLine) → number_of names line.doc ≡ Some s.doc.0 → s.score ≡ line.score → standing_of names s ≡ standing line
-standing_is names s line number score =
-    let is = (number_is names line.doc s.doc.0 number).is in
-    rw (is, score) refl
+-- what stands equal has one docno
+one_docno : (s t : Standing) → standing_cmp s t ≡ Equal → s.docno ≡ t.docno
+unfolding standing_cmp
+one_docno s t e = exact_bytes s.docno t.docno (second_equal (decimal_cmp s.score t.score) (slice_cmp nat_cmp s.docno t.docno) e)
 
-standings : (names : List (List ℕ)) (scored : List Scored) (lines : List RunLine) → AreNumbered names scored lines → map (standing_of names) scored ≡ map standing lines
-standings names [] [] all = refl
-standings names [] (line ∷ lines) all = absurd all
-standings names (s ∷ scored) [] all = absurd all
-standings names (s ∷ scored) (line ∷ lines) all =
-    let first : standing_of names s ≡ standing line = standing_is names s line all.0.0 all.0.1 in
-    let rest : map (standing_of names) scored ≡ map standing lines = standings names scored lines all.1 in
-    rw (first, rest) refl
-
--- what stands at a place that was found
-placed : (names : List (List ℕ)) (docs : List DocId) (doc : DocId) (o : Option ℕ) (rank : ℕ) → position (λ d. d.0 == doc.0) docs ≡ o → option_map (λ i. i + 1) o ≡ Some rank → slice_get (map (λ d. docno_of names d.0) docs) (rank - 1) ≡ Some (docno_of names doc.0)
-placed names docs doc None rank found is = cc is
-placed names docs doc (Some i) rank found is =
-    let w = position-Some (λ d. d.0 == doc.0) docs i doc found in
-    let at : rank - 1 ≡ i = omega (arith, same_Some _ _ is) in
-    let same : (get_or docs i doc).0 ≡ doc.0 = eqb-true _ _ w.1 in
-    let shows = λ (d : DocId). docno_of names d.0 in
-    let long : i < length (map shows docs) = rw length-map w.0 in
-    rw at (slice_get-get_or (map shows docs) i (shows doc) long ∙ ap (λ x. Some x) (get_or-map shows docs i doc (shows doc) w.0 ∙ ap (docno_of names) same))
-
-docnos_are : (names : List (List ℕ)) (scored : List Scored) (lines : List RunLine) → AreNumbered names scored lines → map (λ doc. docno_of names doc.0) (map (λ s. s.doc) scored) ≡ map (λ line. line.doc) lines
-docnos_are names [] [] all = refl
-docnos_are names [] (line ∷ lines) all = absurd all
-docnos_are names (s ∷ scored) [] all = absurd all
-docnos_are names (s ∷ scored) (line ∷ lines) all =
-    let first : docno_of names s.doc.0 ≡ line.doc = (number_is names line.doc s.doc.0 all.0.0).is in
-    let rest : map (λ doc. docno_of names doc.0) (map (λ s. s.doc) scored) ≡ map (λ line. line.doc) lines = docnos_are names scored lines all.1 in
-    rw (first, rest) refl
+abbrev doc_of : RunLine → List ℕ
+doc_of line = line.doc
 
 -- the docnos of lines that differ in them, in any order
-listed_once : (lines : List RunLine) (docs : List (List ℕ)) → DocsDiffer lines → IsPermutation (map (λ line. line.doc) lines) docs → AllPairs (λ a b. a ≢ b) docs
+listed_once : (lines : List RunLine) (docs : List (List ℕ)) → DocsDiffer lines → IsPermutation (map doc_of lines) docs → AllPairs (λ a b. a ≢ b) docs
 listed_once lines docs differ listed =
-    let before : AllPairs (λ a b. a ≢ b) (map (λ (line : RunLine). line.doc) lines) = λ i j d below within same.
+    let before : AllPairs (λ a b. a ≢ b) (map doc_of lines) = λ i j d below within same.
     let none : RunLine = record { line = 0; topic = []; doc = d; score = record { negative = false; digits = 0; exponent = pos 0 } } in
     let here : j < length lines = rw length-map at within in
-    differ i j none below here (sym (get_or-map (λ (line : RunLine). line.doc) lines i none d (omega (arith, below, here))) ∙ same ∙ get_or-map (λ (line : RunLine). line.doc) lines j none d here) in
+    differ i j none below here (sym (get_or-map doc_of lines i none d (omega (arith, below, here))) ∙ same ∙ get_or-map doc_of lines j none d here) in
     AllPairs-from_IsDistinct bytes_eq-Decides docs
-    (IsDistinct-IsPermutation bytes_eq nat_list_eq_equiv.symm (map (λ line. line.doc) lines) docs listed (IsDistinct-from_AllPairs bytes_eq-Decides (map (λ line. line.doc) lines) before))
+    (IsDistinct-IsPermutation bytes_eq nat_list_eq_equiv.symm (map doc_of lines) docs listed (IsDistinct-from_AllPairs bytes_eq-Decides (map doc_of lines) before))
 
-pub are_ranked : (names : List (List ℕ)) (scored : List Scored) (lines : List RunLine) (docs : List DocId) → AreNumbered names scored lines → IsRanking names scored docs → DocsDiffer lines → AreRanked lines (map (λ doc. docno_of names doc.0) docs)
-are_ranked names scored lines docs all w differ = record {
-  size = length-map docs (λ doc. docno_of names doc.0) ∙ w.size ∙ numbered_length names scored lines all;
-  once = listed_once lines (map (λ doc. docno_of names doc.0) docs) differ
-      (subst (λ ds. IsPermutation ds (map (λ doc. docno_of names doc.0) docs)) (docnos_are names scored lines all) (IsPermutation-map (λ doc. docno_of names doc.0) (map (λ s. s.doc) scored) docs w.listed));
-  places = λ k line within.
-      let none : Scored = record { doc = record { 0 = 0 }; score = line.score } in
-      let here : k < length scored = omega (arith, within, numbered_length names scored lines all) in
-      let s = get_or scored k none in
-      let one = zip_at _ scored lines all k here none line in
-      let rank = w.places k none here in
-      let found = placed names docs s.doc (position (λ d. d.0 == s.doc.0) docs) _ refl rank in
-      let same : docno_of names s.doc.0 ≡ (get_or lines k line).doc = (number_is names (get_or lines k line).doc s.doc.0 one.0).is in
-      rw (← standings names scored lines all, ← standing_is names s (get_or lines k line) one.0 one.1, ← same) found;
-}
+abbrev stands : RunLine → RunLine → Bool
+stands a b = stands_before (standing a) (standing b)
 
-same_doc : (names : List (List ℕ)) (a b : Scored) (line other : RunLine) → number_of names line.doc ≡ Some a.doc.0 → number_of names other.doc ≡ Some b.doc.0 → line.doc ≡ other.doc → a.doc ≡ b.doc
-same_doc names a b line other first second same =
-    let numbers : a.doc.0 ≡ b.doc.0 = same_Some _ _ (sym first ∙ ap (number_of names) same ∙ second) in
-    ap (λ n. let d : DocId = record { 0 = n } in d) numbers
+module _ (lines order : List RunLine) (total : IsTotalOrder decimal_cmp) (differ : DocsDiffer lines) (w : AreByRank lines order) where
+  once : AllPairs (λ a b. a ≢ b) (map doc_of order)
+  once = listed_once lines (map doc_of order) differ (IsPermutation-map doc_of lines order w.same)
 
-same_docno : (names : List (List ℕ)) (a b : Scored) (line other : RunLine) → number_of names line.doc ≡ Some a.doc.0 → number_of names other.doc ≡ Some b.doc.0 → a.doc ≡ b.doc → line.doc ≡ other.doc
-same_docno names a b line other first second same =
-    sym (number_is names line.doc a.doc.0 first).is ∙ ap (λ (d : DocId). docno_of names d.0) same ∙ (number_is names other.doc b.doc.0 second).is
+  -- no two lines stand equal
+  apart : (i j : ℕ) (d : RunLine) → i < j → j < length order → standing_cmp (standing (get_or order i d)) (standing (get_or order j d)) ≡ Equal → ⊥
+  apart i j d less within e =
+      once i j d.doc less (omega (arith, length-map order doc_of))
+      (get_or-map doc_of order i d d.doc (omega (arith, less, within)) ∙ one_docno _ _ e ∙ sym (get_or-map doc_of order j d d.doc within))
 
-doc_at : (scored : List Scored) (k : ℕ) (d : Scored) → k < length scored → get_or (map (λ s. s.doc) scored) k d.doc ≡ (get_or scored k d).doc
-doc_at scored k d within = get_or-map (λ s. s.doc) scored k d d.doc within
+  strict : (i j : ℕ) (d : RunLine) → i < j → j < length order → (r : Ordering) → standing_cmp (standing (get_or order i d)) (standing (get_or order j d)) ≡ r
+      → is_lt r ≡ false → (is_gt r ≡ true) × (is_gt (ordering_reverse r) ≡ false)
+  strict i j d less within Less e h = absurd (false≢true (sym h))
+  strict i j d less within Equal e h = absurd (apart i j d less within e)
+  strict i j d less within Greater e h = (refl, refl)
 
-pub docs_differ : (names : List (List ℕ)) (scored : List Scored) (lines : List RunLine) → AreNumbered names scored lines → AreDistinct (map (λ s. s.doc) scored) → DocsDiffer lines
-docs_differ names scored lines all distinct i j line below within same =
-    let none : Scored = record { doc = record { 0 = 0 }; score = line.score } in
-    let long = numbered_length names scored lines all in
-    let second : j < length scored = omega (arith, within, long) in
-    let first : i < length scored = omega (arith, below, second) in
-    let one = zip_at _ scored lines all i first none line in
-    let other = zip_at _ scored lines all j second none line in
-    let mapped : j < length (map (λ s. s.doc) scored) = rw length-map second in
-    let docs = same_doc names (get_or scored i none) (get_or scored j none) (get_or lines i line) (get_or lines j line) one.0 other.0 same in
-    distinct i j none.doc below mapped (doc_at scored i none first ∙ docs ∙ sym (doc_at scored j none second))
+  pairs : AllPairs (Strictly stands) order
+  pairs i j d less within =
+      let a = standing (get_or order i d) in
+      let b = standing (get_or order j d) in
+      let s = strict i j d less within (standing_cmp a b) refl (w.ranked i j d less within) in
+      (s.0, ap is_gt ((standing_total total).antisymm b a) ∙ s.1)
 
-repeat_at : (names : List (List ℕ)) (scored : List Scored) (lines : List RunLine) (i j : ℕ) (none : Scored) (line : RunLine) → AreNumbered names scored lines → i < j → j < length scored → slice_get (map (λ s. s.doc) scored) i ≡ slice_get (map (λ s. s.doc) scored) j → DocsDiffer lines → ⊥
-repeat_at names scored lines i j none line all below within same differ =
-    let before : i < length scored = omega (arith, below, within) in
-    let one = zip_at _ scored lines all i before none line in
-    let other = zip_at _ scored lines all j within none line in
-    let docs = map (λ (s : Scored). s.doc) scored in
-    let long : length docs ≡ length scored = length-map scored (λ s. s.doc) in
-    let first : slice_get docs i ≡ Some (get_or docs i none.doc) = slice_get-get_or docs i none.doc (omega (arith, long, before)) in
-    let second : slice_get docs j ≡ Some (get_or docs j none.doc) = slice_get-get_or docs j none.doc (omega (arith, long, within)) in
-    let equal : get_or docs i none.doc ≡ get_or docs j none.doc = same_Some _ _ (sym first ∙ same ∙ second) in
-    let docnos = same_docno names (get_or scored i none) (get_or scored j none) (get_or lines i line) (get_or lines j line) one.0 other.0 (sym (doc_at scored i none before) ∙ equal ∙ doc_at scored j none within) in
-    differ i j line below (omega (arith, within, numbered_length names scored lines all)) docnos
+  stands_itself : (a : RunLine) → stands a a ≡ false
+  stands_itself a = ap is_gt (tied_itself (standing_total total) (standing a))
 
-pub docs_repeat : (names : List (List ℕ)) (scored : List Scored) (lines : List RunLine) (first second : ℕ) → AreNumbered names scored lines → IsFirstRepeat (map (λ s. s.doc) scored) first second → DocsDiffer lines → ⊥
-docs_repeat names [] lines first second all w differ = absurd (omega (arith, w.later, w.within))
-docs_repeat names (s ∷ scored) [] first second all w differ = absurd all
-docs_repeat names (s ∷ scored) (line ∷ lines) first second all w differ =
-    let long : length (map (λ s. s.doc) (s ∷ scored)) ≡ length (s ∷ scored) = length-map (s ∷ scored) (λ s. s.doc) in
-    repeat_at names (s ∷ scored) (line ∷ lines) (first - 1) (second - 1) s line all (omega (arith, w.later, w.from_one)) (omega (arith, w.within, w.later, w.from_one, long)) w.same differ
+  rank_at : (k : ℕ) (d : RunLine) → k < length order → rank_in (map standing lines) (standing (get_or order k d)) ≡ 1 + k
+  rank_at k d within =
+      let line = get_or order k d in
+      ap (λ n. 1 + n) (count_by-map standing (λ e. stands_before e (standing line)) lines
+      ∙ sym (sum_by-IsPermutation (λ e. cond (stands e line) 1 0) lines order w.same)
+      ∙ count-before stands order k d stands_itself pairs within)
+
+  at_rank : (k : ℕ) (d : RunLine) → k < length order → slice_get (map doc_of order) (rank_in (map standing lines) (standing (get_or order k d)) - 1) ≡ Some (get_or order k d).doc
+  at_rank k d within =
+      let place : rank_in (map standing lines) (standing (get_or order k d)) - 1 ≡ k = omega (arith, rank_at k d within) in
+      ap (slice_get (map doc_of order)) place
+      ∙ slice_get-get_or (map doc_of order) k d.doc (omega (arith, within, length-map order doc_of))
+      ∙ ap (λ doc. Some doc) (get_or-map doc_of order k d d.doc within)
+
+  -- lines in the order of their ranks list their documents by rank
+  pub are_ranked : AreRanked lines (map doc_of order)
+  are_ranked = record {
+    size = length-map order doc_of ∙ length_permutation lines order w.same;
+    once = once;
+    places = All-permutation (λ line. slice_get (map doc_of order) (rank_in (map standing lines) (standing line) - 1) ≡ Some line.doc) order lines (IsPermutation-sym lines order w.same) at_rank;
+  }
+
+-- what holds of lent lines holds of the lines
+pub order_shown : (R : RunLine → RunLine → Bool) (items : List (Bor RunLine)) → ((i j : ℕ) (d : Bor RunLine) → i < j → j < length items → R (get_or items i d).now (get_or items j d).now ≡ false)
+    → (i j : ℕ) (d : RunLine) → i < j → j < length (shown items) → R (get_or (shown items) i d) (get_or (shown items) j d) ≡ false
+order_shown R [] h i j d less within = absurd (omega arith)
+order_shown R (x ∷ xs) h i j d less within =
+    let here : j < length (x ∷ xs) = omega (arith, length-map (x ∷ xs) (λ (line : Bor RunLine). line.now)) in
+    ap (λ a. R a (get_or (shown (x ∷ xs)) j d)) (get_or-map (λ line. line.now) (x ∷ xs) i x d (omega arith))
+    ∙ ap (λ b. R (get_or (x ∷ xs) i x).now b) (get_or-map (λ line. line.now) (x ∷ xs) j x d here)
+    ∙ h i j x less here
+
+pub rank_order : IsTotalOrder decimal_cmp → IsStrictWeakOrder (λ (a b : Bor RunLine). is_lt (standing_cmp (standing b.now) (standing a.now)))
+rank_order total = IsStrictWeakOrder-flip _ (ranks_by (standing_total total) (λ (a : Bor RunLine). standing a.now))
+
+pub docs_shown : (items : List (Bor RunLine)) → map (λ (line : RunLine). line.doc) (shown items) ≡ map (λ line. line.now.doc) items
+docs_shown [] = refl
+docs_shown (x ∷ xs) = ap (λ docs. x.now.doc ∷ docs) (docs_shown xs)
+
+pub ranked_docs : (lines : List RunLine) (items given : List (Bor RunLine)) (docs : List (List ℕ)) → IsTotalOrder decimal_cmp → DocsDiffer lines → AreByRank lines (shown items) → given ≡ items → docs ≡ map (λ (line : RunLine). line.doc) (shown given) → AreRanked lines docs
+ranked_docs lines items given docs total differ w same docs_are =
+    subst (AreRanked lines) (sym (docs_are ∙ ap (λ items. map doc_of (shown items)) same)) (are_ranked lines (shown items) total differ w)
+
+pub equal_scores : (a b : RunLine) (r : Ordering) → decimal_cmp a.score b.score ≡ Equal → r ≡ slice_cmp nat_cmp a.doc b.doc → r ≡ standing_cmp (standing a) (standing b)
+unfolding standing_cmp
+equal_scores a b r scores docs = docs ∙ sym (ap (λ o. ordering_then o (slice_cmp nat_cmp a.doc b.doc)) scores)
+
+first_unequal : (r s : Ordering) → (r ≢ Equal) → ordering_then r s ≡ r
+first_unequal Less s other = refl
+first_unequal Equal s other = absurd (other refl)
+first_unequal Greater s other = refl
+
+pub unequal_scores : (a b : RunLine) (r : Ordering) → r ≡ decimal_cmp a.score b.score → (r ≢ Equal) → r ≡ standing_cmp (standing a) (standing b)
+unfolding standing_cmp
+unequal_scores a b r scores other = sym (first_unequal r (slice_cmp nat_cmp a.doc b.doc) other) ∙ ap (λ o. ordering_then o (slice_cmp nat_cmp a.doc b.doc)) scores

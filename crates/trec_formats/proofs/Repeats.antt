@@ -3,8 +3,7 @@ use Rattle.std.proofs.Common.{◌≡◌, ◌<◌, ◌≤◌, ◌+◌, ◌&&◌, 
 use Rattle.std.specs.List.{list_any}
 use Rattle.std.specs.Option.{option_map, option_or}
 use Rattle.std.specs.HashMap.{HashMap, get_by}
-use Rattle.std.specs.declared.hash.FoldHasher.{FoldHasher}
-use Rattle.std.specs.declared.hash.BuildHasherDefault.{BuildHasherDefault}
+use Rattle.decimal_rank.specs.declared.secrets.Secret.{Secret}
 use Rattle.std.proofs.lemmas.List.{take-append-drop, drop_more, take_more, take_all}
 use Rattle.std.proofs.lemmas.List.Folds.{find-append}
 use Rattle.std.proofs.lemmas.Cmp.{nat_list_eq_equiv}
@@ -26,8 +25,12 @@ find_some p (x ∷ xs) some = find_some_step p x xs (p x) refl some (find_some p
 abbrev pub Document : Type 0
 Document = Bor (List ℕ) × Bor (List ℕ)
 
+-- these texts, wherever they stand
+abbrev pub document_at : List ℕ → List ℕ → Document
+document_at topic doc = (record { ref_ptr = (0, 0); now = topic }, record { ref_ptr = (0, 0); now = doc })
+
 abbrev pub Firsts : Type 0
-Firsts = HashMap Document ℕ (BuildHasherDefault FoldHasher)
+Firsts = HashMap Document ℕ Secret
 
 -- the number of the first line of a document
 abbrev pub first_at : Firsts → List ℕ → List ℕ → Option ℕ

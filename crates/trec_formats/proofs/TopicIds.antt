@@ -2,8 +2,7 @@
 use Rattle.std.proofs.Common.{◌≡◌, ◌<◌, ◌≤◌, ◌+◌, ℕ, Bool, true, false, cond, List, [], ◌∷◌, ◌++◌, length, take, drop, get_or, find, refl, sym, ◌∙◌, ap, Option, Some, None, bytes_eq}
 use Rattle.std.specs.Option.{option_map, option_or}
 use Rattle.std.specs.HashMap.{HashMap, get_by}
-use Rattle.std.specs.declared.hash.FoldHasher.{FoldHasher}
-use Rattle.std.specs.declared.hash.BuildHasherDefault.{BuildHasherDefault}
+use Rattle.decimal_rank.specs.declared.secrets.Secret.{Secret}
 use Rattle.std.proofs.lemmas.List.{take-append-drop, drop_more, take_more, take_all}
 use Rattle.std.proofs.lemmas.List.Folds.{find-append}
 use Rattle.std.proofs.lemmas.Cmp.{nat_list_eq_equiv}
@@ -15,7 +14,7 @@ use Rattle.trec_formats.specs.Topics.{Numbered, same_id}
 use Rattle.trec_formats.proofs.Readings.{distinct_push, cut_nil}
 
 abbrev pub Firsts : Type 0
-Firsts = HashMap (Bor (List ℕ)) ℕ (BuildHasherDefault FoldHasher)
+Firsts = HashMap (Bor (List ℕ)) ℕ Secret
 
 -- the line of the first topic of an id
 abbrev pub first_at : Firsts → List ℕ → Option ℕ

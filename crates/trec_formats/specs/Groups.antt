@@ -1,15 +1,14 @@
 -- The lines of a run by topic, as they are ranked.
 use Rattle.std.specs.Prelude.{◌≡◌, ◌≢◌, ℕ, Bool, false, List, ◌∷◌, ◌++◌, map, All, AllPairs, Some, slice_get}
-use Rattle.std.specs.List.{AllZip}
+use Rattle.std.specs.List.Sorted.{IsPermutation}
 use Rattle.std.specs.Cmp.Lexicographic.{slice_cmp}
 use Rattle.std.specs.Option.{option_map}
 use Rattle.std.specs.Ordering.{nat_cmp, is_lt}
 use denote.Ref.{Bor}
-use Rattle.decimal_rank.specs.declared.rankings.Scored.{Scored}
-use Rattle.decimal_rank.specs.Names.{number_of}
+use Rattle.decimal_rank.specs.Ranks.{standing_cmp}
 use Rattle.trec_formats.specs.declared.lists.TopicList.{TopicList}
 use Rattle.trec_formats.specs.declared.runs.RunLine.{RunLine}
-use Rattle.trec_formats.specs.Lists.{lines_on, AreRanked}
+use Rattle.trec_formats.specs.Lists.{lines_on, standing, AreRanked}
 
 -- the lines that references lead to
 abbrev pub shown : List (Bor RunLine) → List RunLine
@@ -41,9 +40,10 @@ pub record IsFirstGroup (lines group : List RunLine) : Type 0 where
 abbrev pub DocsDiffer : List RunLine → Type 0
 DocsDiffer lines = AllPairs (λ a b. a.doc ≢ b.doc) lines
 
--- the documents have numbers among the names
-abbrev pub AreNumbered : List (List ℕ) → List Scored → List RunLine → Type 0
-AreNumbered names scored lines = AllZip (λ s line. (number_of names line.doc ≡ Some s.doc.0) × (s.score ≡ line.score)) scored lines
+-- the lines by rank: none stands before an earlier one
+pub record AreByRank (lines order : List RunLine) : Type 0 where
+  pub same : IsPermutation lines order
+  pub ranked : AllPairs (λ a b. is_lt (standing_cmp (standing a) (standing b)) ≡ false) order
 
 -- the list of a topic's lines
 pub record IsGroupList (lines : List RunLine) (list : TopicList) : Type 0 where

@@ -10,6 +10,8 @@ pub mod Marks
 pub mod Names
 pub mod Qrels
 pub mod QrelsText
+pub mod RunFields
+pub mod RunStates
 pub mod Runs
 pub mod SoundTopics
 pub mod TopicBlocks

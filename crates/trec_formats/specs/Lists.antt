@@ -1,5 +1,5 @@
 -- The ranked lists of a run, one for each topic.
-use Rattle.std.specs.Prelude.{◌≡◌, ◌≢◌, ◌-◌, ℕ, ◌&&◌, Bool, true, List, length, map, filter, All, Any, AllPairs, Some, slice_get, bytes_eq}
+use Rattle.std.specs.Prelude.{◌≡◌, ◌≢◌, ◌-◌, ℕ, ◌&&◌, Bool, true, List, length, map, filter, All, Any, AllPairs, Some, Ok, Err, Result, slice_get, bytes_eq}
 use Rattle.std.specs.Cmp.Lexicographic.{slice_cmp}
 use Rattle.std.specs.Option.{option_map}
 use Rattle.std.specs.Ordering.{nat_cmp, is_lt}
@@ -7,7 +7,8 @@ use Rattle.decimal_rank.specs.Ranks.{Standing, rank_in}
 use Rattle.trec_formats.specs.declared.lists.TopicList.{TopicList}
 use Rattle.trec_formats.specs.declared.runs.RunLine.{RunLine}
 use Rattle.trec_formats.specs.declared.faults.FormatFault.{FormatFault}
-use Rattle.trec_formats.specs.Faults.{IsDistinct, IsTwice}
+use Rattle.trec_formats.specs.Faults.{IsDistinct, IsReadOnce, IsTwice}
+use Rattle.trec_formats.specs.Runs.{IsRunReading}
 
 abbrev pub same_document : RunLine → RunLine → Bool
 same_document a b = bytes_eq a.topic b.topic && bytes_eq a.doc b.doc
@@ -40,3 +41,15 @@ pub record AreLists (lines : List RunLine) (lists : List TopicList) : Type 0 whe
 -- the least line that repeats the document of an earlier line of its topic
 abbrev pub IsListsFault : List RunLine → FormatFault → Type 0
 IsListsFault lines fault = IsTwice same_document (λ line. line.line) lines fault
+
+-- What a run's text is read as: its lines, its first fault, or else its first repeat of a document on a topic.
+abbrev pub IsRankableReading : List ℕ → Result (List RunLine) FormatFault → Type 0
+IsRankableReading text = IsReadOnce (IsRunReading text) same_document (λ line. line.line)
+
+-- a text of these lines, which has these ranked lists
+abbrev pub IsRankedRun : List ℕ → List TopicList → Type 0
+IsRankedRun text lists = (lines : List RunLine) × IsRankableReading text (Ok lines) × AreLists lines lists
+
+-- the fault of a text that has no ranked lists
+abbrev pub IsRankedRunFault : List ℕ → FormatFault → Type 0
+IsRankedRunFault text fault = IsRankableReading text (Err fault)

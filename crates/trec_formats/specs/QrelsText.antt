@@ -1,7 +1,8 @@
 -- The qrels format as it is written.
-use Rattle.std.specs.Prelude.{ℕ, List, ◌++◌, codes, decimal}
+use Rattle.std.specs.Prelude.{ℕ, List}
+use Rattle.decimal_rank.specs.QrelLines.{qrel_line}
 use Rattle.trec_formats.specs.declared.qrels.QrelLine.{QrelLine}
 
--- a topic, 0, a docno and a grade with a space between two of them, and a line feed
+-- the written line of a judgement
 abbrev pub qrel_text : QrelLine → List ℕ
-qrel_text line = line.topic ++ codes " 0 " ++ line.doc ++ codes " " ++ decimal line.grade ++ codes "\n"
+qrel_text line = qrel_line line.topic line.doc line.grade

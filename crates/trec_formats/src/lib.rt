@@ -8,22 +8,23 @@ mod lists;
 mod names;
 mod qrels;
 mod qrels_text;
+mod run_fields;
+mod run_reader;
 mod runs;
-#[cfg(test)]
-mod tests;
 mod topic_blocks;
+mod topic_counts;
 mod topic_fields;
 mod topic_laws;
 mod topic_marks;
-#[cfg(test)]
-mod topic_tests;
 mod topics;
 
 pub use faults::{FormatEnd, FormatFault, Kind, cause_name};
-pub use laws::{one_qrels_reading, one_run_reading};
+pub use laws::{one_qrels_reading, one_rankable_reading, one_run_reading};
 pub use lists::{TopicList, rank_run};
+pub use names::{is_docno, is_name};
 pub use qrels::{QrelLine, read_qrels};
 pub use qrels_text::write_qrels;
+pub use run_reader::RunReader;
 pub use runs::{RunLine, read_run};
 pub use topic_laws::one_topics_reading;
 pub use topics::{Topic, read_topics};

@@ -31,6 +31,7 @@ fn field_start(line: &[u8]) -> Option<usize>
     line.iter().position(|byte| !is_white_space(*byte))
 }
 
+#[inline(never)]
 fn field_end(line: &[u8]) -> Option<usize>
     ensures { result ≡ position is_white_space line.now }
 {

@@ -1,19 +1,17 @@
 ghost use Rattle.std.specs.Prelude.{◌≡◌, ◌≤◌, ◌<◌, ℕ, List, length, map, IfOk, MatchOption, position, not, bytes_eq};
 ghost use Rattle.std.specs.List.Sorted.{IsStrictlyIncreasing};
-ghost use Rattle.decimal_rank.specs.Names.{docno_of};
+ghost use Rattle.decimal_rank.specs.Ranks.{standing_cmp};
 ghost use Rattle.trec_formats.specs.Faults.{IsDistinct, IfFault};
-ghost use Rattle.trec_formats.specs.Groups.{shown, AreByTopic, IsAscending, IsFirstGroup, DocsDiffer, AreNumbered, IsGroupList};
-ghost use Rattle.trec_formats.specs.Lists.{same_document, AreLists, AreRanked, IsListsFault};
+ghost use Rattle.trec_formats.specs.Groups.{shown, AreByRank, AreByTopic, IsAscending, IsFirstGroup, DocsDiffer, IsGroupList};
+ghost use Rattle.trec_formats.specs.Lists.{same_document, standing, AreLists, AreRanked, IsListsFault};
 ghost use Rattle.trec_formats.specs.Runs.{count_on};
 
 use crate::faults::{FormatEnd, FormatFault, Kind};
-use crate::names::copy_of;
 use crate::runs::RunLine;
-use decimal_rank::{DocId, Memory, Names, RankFault, Ranking, Rows, Scored, Steps, Text, rank};
+use decimal_rank::{Memory, Rows, Secret, Text, decimals_have_an_order};
 use std::alloc::Global;
+use std::cmp::Ordering;
 use std::collections::HashMap;
-use std::marker::Brand;
-use std::sync::ledger::{Blank, Ledger};
 
 /// The ranked list of a run on one topic.
 #[derive(Debug, Drop)]
@@ -57,122 +55,93 @@ fn first_group<'a, 'b>(lines: &'a [&'b RunLine]) -> &'a [&'b RunLine]
     &lines[..end]
 }
 
-/// The documents of a topic's lines with their scores, and their docnos.
-fn numbered(alloc: Global, lines: &[&RunLine]) -> Result<(Vec<Scored>, Names), Memory>
-    requires { length lines.now ≤ 1000 }
-    ensures { IfOk result (λ numbered. AreNumbered numbered.1 numbered.0.items (shown lines.now)) }
+/// The order of two lines of a topic by score, and at equal scores by docno.
+fn compare(a: &RunLine, b: &RunLine) -> Ordering
+    ensures { result ≡ standing_cmp (standing a.now) (standing b.now) }
 {
-    let mut names = Names::new(alloc);
-    let mut scored = Vec::with_capacity(alloc, lines.len())?;
-    for line in lines {
-        let doc = names.add(line.doc.copy()?)?;
-        scored.push(Scored {
-            doc,
-            score: line.score.copy(),
-        })?;
-    }
-    Ok((scored, names))
-}
-
-/// The docno of a document, and nothing past the end of the names.
-fn docno(names: &Names, doc: DocId) -> &[u8]
-    ensures { result.now ≡ docno_of names.now doc.0 }
-{
-    if doc.0 < names.len() {
-        names.name(doc)
-    } else {
-        &[]
+    match a.score.compare(&b.score) {
+        Ordering::Equal => a.doc.bytes().cmp(b.doc.bytes()),
+        unequal => unequal,
     }
 }
 
-/// The docnos of a ranking.
-fn docnos<L: Ledger>(
-    alloc: Global,
-    ranking: &Ranking,
-    names: &Names,
-    blank: Blank,
-) -> Result<Rows<Text>, Memory>
-    requires name { blank.name ≡ L.name }
-    requires parts { blank.parts ≡ L.parts }
-    requires some { 0 < L.parts }
-    ensures { IfOk result (λ docs. docs ≡ map (λ doc. docno_of names.now doc.0) ranking.now) }
+/// The lines of a topic by rank.
+fn by_rank<'a>(alloc: Global, lines: &[&'a RunLine]) -> Result<Vec<&'a RunLine>, Memory>
+    ensures { IfOk result (λ order. AreByRank (shown lines.now) (shown order.items)) }
 {
-    let mut steps: Steps<L> = Steps::new(blank);
-    let mut docs = Vec::with_capacity(alloc, ranking.len() as usize)?;
-    for place in 0..ranking.len() {
-        let doc = ranking.doc_at(place + 1, &mut steps);
-        docs.push(copy_of(alloc, docno(names, doc))?)?;
+    decimals_have_an_order();
+    let mut order = Vec::from_slice(alloc, lines)?;
+    order.sort_unstable_by(|a, b| compare(b, a));
+    Ok(order)
+}
+
+/// The docnos of lines, in their order.
+fn docnos(alloc: Global, order: &[&RunLine]) -> Result<Rows<Text>, Memory>
+    ensures { IfOk result (λ docs. docs ≡ map (λ line. line.doc) (shown order.now)) }
+{
+    let mut docs = Vec::with_capacity(alloc, order.len())?;
+    for line in order {
+        docs.push(line.doc.copy()?)?;
     }
     Ok(Rows::new(docs))
 }
 
-/// The docnos of a topic's lines, by rank, unless a document stands twice.
-fn ranked(alloc: Global, lines: &[&RunLine]) -> Result<Option<Rows<Text>>, Memory>
-    requires { length lines.now ≤ 1000 }
-    ensures { IfOk result (λ found. MatchOption found (¬ (DocsDiffer (shown lines.now)))
-        (λ docs. AreRanked (shown lines.now) docs × DocsDiffer (shown lines.now))) }
+/// The docnos of a topic's lines, by rank.
+fn ranked(alloc: Global, lines: &[&RunLine]) -> Result<Rows<Text>, Memory>
+    requires { DocsDiffer (shown lines.now) }
+    ensures { IfOk result (AreRanked (shown lines.now)) }
 {
-    let (scored, names) = numbered(alloc, lines)?;
-    match rank(alloc, scored.as_slice(), &names) {
-        Ok(ranking) => Ok(Some(docnos::<Brand>(alloc, &ranking, &names, Blank::new(1))?)),
-        Err(RankFault::Twice { .. }) => Ok(None),
-        Err(RankFault::Memory) => Err(Memory),
-    }
+    decimals_have_an_order();
+    let order = by_rank(alloc, lines)?;
+    docnos(alloc, order.as_slice())
 }
 
-/// The list of a topic's lines, unless a document stands twice.
-fn group_list(alloc: Global, lines: &[&RunLine]) -> Result<Option<TopicList>, Memory>
+/// The list of a topic's lines.
+fn group_list(alloc: Global, lines: &[&RunLine]) -> Result<TopicList, Memory>
     requires some { 0 < length lines.now }
-    requires few { length lines.now ≤ 1000 }
-    ensures { IfOk result (λ found. MatchOption found (¬ (DocsDiffer (shown lines.now))) (IsGroupList (shown lines.now))) }
+    requires differ { DocsDiffer (shown lines.now) }
+    ensures { IfOk result (IsGroupList (shown lines.now)) }
 {
-    let Some(docs) = ranked(alloc, lines)? else {
-        return Ok(None);
-    };
+    let docs = ranked(alloc, lines)?;
     let first = lines[0];
-    Ok(Some(TopicList {
+    Ok(TopicList {
         topic: first.topic.copy()?,
         line: first.line,
         docs,
-    }))
+    })
 }
 
-/// The lists of lines that stand by ascending topic, unless a document stands twice on a topic.
-fn lists_of(alloc: Global, order: &[&RunLine]) -> Result<Option<Vec<TopicList>>, Memory>
+/// The lists of lines that stand by ascending topic.
+fn lists_of(alloc: Global, order: &[&RunLine]) -> Result<Vec<TopicList>, Memory>
     requires ascending { IsAscending (shown order.now) }
-    requires short { (topic : List ℕ) → count_on topic (shown order.now) ≤ 1000 }
-    ensures { IfOk result (λ found. MatchOption found (¬ (IsDistinct same_document (shown order.now)))
-        (λ lists. AreLists (shown order.now) lists.items)) }
+    requires distinct { IsDistinct same_document (shown order.now) }
+    ensures { IfOk result (λ lists. AreLists (shown order.now) lists.items) }
 {
     let mut lists = Vec::new(alloc);
     let mut start = 0;
     while start < order.len() {
         let group = first_group(&order[start..]);
-        let Some(list) = group_list(alloc, group)? else {
-            return Ok(None);
-        };
-        lists.push(list)?;
+        lists.push(group_list(alloc, group)?)?;
         start += group.len();
     }
-    Ok(Some(lists))
+    Ok(lists)
 }
 
-/// The first of these lines that has the topic and docno of an earlier one.
-fn first_repeat(alloc: Global, lines: &[RunLine]) -> Result<FormatFault, Memory>
-    requires { ¬ (IsDistinct same_document lines.now) }
-    ensures { IfOk result (IsListsFault lines.now) }
+/// The first line that has the topic and docno of an earlier one.
+fn first_repeat(alloc: Global, lines: &[RunLine]) -> Result<Option<FormatFault>, Memory>
+    ensures { IfOk result (λ found. MatchOption found (IsDistinct same_document lines.now) (IsListsFault lines.now)) }
 {
-    let mut firsts = HashMap::with_capacity(alloc, lines.len())?;
+    let mut firsts = HashMap::with_capacity_and_hasher(alloc, lines.len(), Secret::drawn())?;
     for line in lines {
-        let document = (line.topic.bytes(), line.doc.bytes());
+        let document = (&line.topic, &line.doc);
         if let Some(first) = firsts.insert(document, line.line)? {
-            return Ok(FormatFault {
+            return Ok(Some(FormatFault {
                 line: line.line,
                 kind: Kind::Twice { first },
-            });
+            }));
         }
     }
-    unreachable!()
+    Ok(None)
 }
 
 /// The ranked lists of a run, by ascending topic. A document that stands twice on a topic is a fault,
@@ -183,9 +152,9 @@ pub fn rank_run(alloc: Global, lines: &[RunLine]) -> Result<Vec<TopicList>, Form
     ensures lists { IfOk result (λ lists. AreLists lines.now lists.items) }
     ensures fault { IfFault result (IsListsFault lines.now) }
 {
-    let order = by_topic(alloc, lines)?;
-    match lists_of(alloc, order.as_slice())? {
-        Some(lists) => Ok(lists),
-        None => Err(FormatEnd::Fault(first_repeat(alloc, lines)?)),
+    if let Some(fault) = first_repeat(alloc, lines)? {
+        return Err(FormatEnd::Fault(fault));
     }
+    let order = by_topic(alloc, lines)?;
+    Ok(lists_of(alloc, order.as_slice())?)
 }

@@ -1,9 +1,6 @@
-ghost use Rattle.std.specs.Prelude.{◌≡◌, IfOk};
+ghost use Rattle.std.specs.Prelude.{◌≡◌};
 ghost use Rattle.std.specs.List.{list_all};
 ghost use Rattle.trec_formats.specs.Names.{is_name, is_docno, is_name_byte, is_between, grade_of};
-
-use decimal_rank::{Memory, Text};
-use std::alloc::Global;
 
 fn is_name_byte(byte: u8) -> bool
     ensures { result ≡ is_name_byte byte }
@@ -11,6 +8,7 @@ fn is_name_byte(byte: u8) -> bool
     matches!(byte, b'0'..=b'9' | b'A'..=b'Z' | b'a'..=b'z' | b'.' | b'_' | b'-')
 }
 
+#[inline(never)]
 fn are_name_bytes(text: &[u8]) -> bool
     ensures { result ≡ list_all is_name_byte text.now }
 {
@@ -19,12 +17,13 @@ fn are_name_bytes(text: &[u8]) -> bool
 
 /// Whether a field may be the id of a topic or the name of a run.
 #[tactic(auto, unfolding(crate::specs::Names::is_name))]
-pub(crate) fn is_name(text: &[u8]) -> bool
+pub fn is_name(text: &[u8]) -> bool
     ensures { result ≡ is_name text.now }
 {
     1 <= text.len() && text.len() <= 32 && are_name_bytes(text)
 }
 
+#[inline(never)]
 fn are_visible(text: &[u8]) -> bool
     ensures { result ≡ list_all (is_between 33 126) text.now }
 {
@@ -33,7 +32,7 @@ fn are_visible(text: &[u8]) -> bool
 
 /// Whether a field may be the number of a document.
 #[tactic(auto, unfolding(crate::specs::Names::is_docno))]
-pub(crate) fn is_docno(text: &[u8]) -> bool
+pub fn is_docno(text: &[u8]) -> bool
     ensures { result ≡ is_docno text.now }
 {
     1 <= text.len() && text.len() <= 64 && are_visible(text)
@@ -54,11 +53,4 @@ pub(crate) fn grade_of(text: &[u8]) -> Option<u8>
         }
     }
     Some(value as u8)
-}
-
-/// A copy of a field.
-pub(crate) fn copy_of(alloc: Global, field: &[u8]) -> Result<Text, Memory>
-    ensures { IfOk result (λ copy. copy ≡ field.now) }
-{
-    Ok(Text::new(Vec::from_slice(alloc, field)?))
 }

@@ -5,8 +5,8 @@ ghost use Rattle.trec_formats.specs.Qrels.{qrel_of, same_document, IsEachRead, I
 
 use crate::faults::{FormatEnd, FormatFault, Kind};
 use crate::lines::{cut_field, next_row};
-use crate::names::{copy_of, grade_of, is_docno, is_name};
-use decimal_rank::{Memory, Text};
+use crate::names::{grade_of, is_docno, is_name};
+use decimal_rank::{Memory, Secret, Text};
 use std::alloc::Global;
 use std::collections::HashMap;
 
@@ -83,8 +83,8 @@ fn read_lines(alloc: Global, bytes: &[u8]) -> Result<Vec<QrelLine>, FormatEnd>
         };
         lines.push(QrelLine {
             line: number,
-            topic: copy_of(alloc, fields.topic)?,
-            doc: copy_of(alloc, fields.doc)?,
+            topic: Text::from_slice(alloc, fields.topic)?,
+            doc: Text::from_slice(alloc, fields.doc)?,
             grade: fields.grade,
         })?;
     }
@@ -100,9 +100,9 @@ fn first_repeat(alloc: Global, lines: &[QrelLine]) -> Result<Option<FormatFault>
         (IsDistinct same_document lines.now)
         (IsTwice same_document (λ line. line.line) lines.now)) }
 {
-    let mut firsts = HashMap::with_capacity(alloc, lines.len())?;
+    let mut firsts = HashMap::with_capacity_and_hasher(alloc, lines.len(), Secret::drawn())?;
     for line in lines {
-        let document = (line.topic.bytes(), line.doc.bytes());
+        let document = (&line.topic, &line.doc);
         if let Some(first) = firsts.insert(document, line.line)? {
             return Ok(Some(FormatFault {
                 line: line.line,

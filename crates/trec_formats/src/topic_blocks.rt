@@ -6,7 +6,7 @@ ghost use Rattle.trec_formats.specs.MarkViews.{mark_seen};
 ghost use Rattle.trec_formats.specs.TopicBlocks.{begun_in, block_behind, ended, is_long_in, part_in, said_in, within_limits, TellsBy};
 
 use crate::faults::{FormatEnd, Kind};
-use crate::names::{copy_of, is_name};
+use crate::names::is_name;
 use crate::topic_fields::Field;
 use crate::topic_marks::{Mark, Part};
 use crate::topics::Topic;
@@ -131,7 +131,7 @@ impl Block {
         if !is_name(text) {
             return Err(FormatEnd::at(number, Kind::Topic));
         }
-        self.number = Some((number, copy_of(alloc, text)?));
+        self.number = Some((number, Text::from_slice(alloc, text)?));
         self.present = None;
         Ok(())
     }

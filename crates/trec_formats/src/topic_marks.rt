@@ -121,6 +121,7 @@ fn is_same(line: &[u8], tag: &[u8]) -> bool
 }
 
 /// What a stripped line does.
+#[inline(never)]
 pub(crate) fn mark_of(line: &[u8]) -> Mark<'_>
     ensures { mark_seen result ≡ mark_of line.now }
 {

@@ -11,7 +11,7 @@ use crate::faults::{FormatEnd, FormatFault, Kind};
 use crate::lines::cut_line;
 use crate::topic_blocks::Block;
 use crate::topic_marks::{Mark, mark_of, strip};
-use decimal_rank::{Memory, Text};
+use decimal_rank::{Memory, Secret, Text};
 use std::alloc::Global;
 use std::collections::HashMap;
 
@@ -120,9 +120,9 @@ fn first_repeat(alloc: Global, topics: &[(u32, Topic)]) -> Result<Option<FormatF
         (IsDistinct same_id topics.now)
         (IsTwice same_id (λ topic. topic.0) topics.now)) }
 {
-    let mut firsts = HashMap::with_capacity(alloc, topics.len())?;
+    let mut firsts = HashMap::with_capacity_and_hasher(alloc, topics.len(), Secret::drawn())?;
     for topic in topics {
-        if let Some(first) = firsts.insert(topic.1.id.bytes(), topic.0)? {
+        if let Some(first) = firsts.insert(&topic.1.id, topic.0)? {
             return Ok(Some(FormatFault {
                 line: topic.0,
                 kind: Kind::Twice { first },

@@ -9,6 +9,6 @@ loop-doc-preserved c =
     let before = take c.loop-doc.doc-index c.args.docs.now in
     c.in_ok-push.ensures.items
     ∙ ap (λ items. items ++ c.copied.result ∷ []) c.loop-doc.invariant
-    ∙ ap (λ g. map grade before ++ g ∷ []) (c.copied.ensures ∙ c.get.ensures.value ∙ ap (grade_at c.args.grades.now) c.bytes.ensures)
+    ∙ ap (λ g. map grade before ++ g ∷ []) (c.copied.ensures ∙ c.get.ensures.value)
     ∙ sym (map-append grade before (c.doc-item.result ∷ []))
     ∙ ap (map grade) (sym (take_more c.args.docs.now c.loop-doc.doc-index c.doc-item.result c.loop-doc-test.true ∙ ap (λ d. before ++ d ∷ []) (sym c.doc-item.is)))

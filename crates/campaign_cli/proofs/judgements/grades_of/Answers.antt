@@ -1,8 +1,8 @@
-use Rattle.std.proofs.Common.{◌≡◌, ◌∙◌, ap, sym, cond, take, ℕ, List, Option, Some}
+use Rattle.std.proofs.Common.{◌≡◌, ◌∙◌, ap, sym, cond, ℕ, List, Option, Some}
 use Rattle.std.specs.Option.{is_some}
 use Rattle.std.specs.Str.{bytes_eq}
 use Rattle.std.proofs.lemmas.Map.Text.{hash_map_updates_str}
-use Rattle.campaign_cli.specs.Tables.{shown, grade_at, grade_in}
+use Rattle.campaign_cli.specs.Tables.{grade_at}
 use Rattle.campaign_cli.proofs.Grades.{grade_in-more, graded_more, newly_graded, put_back}
 use Rattle.campaign_cli.proofs.judgements.grades_of.Goals as goal
 use Rattle.campaign_cli.proofs.judgements.grades_of.Goals.{in-Some+in_ok-insert, in_default}
@@ -11,7 +11,7 @@ pub loop-line-preserved : goal.loop-line-preserved
 loop-line-preserved c = λ doc.
     let line = c.line-item.result.now in
     let before : List ℕ → Option ℕ = grade_at c.loop-line.grades in
-    let key = c.bytes-doc.result.now in
+    let key = line.doc in
     let was : before key ≡ c.in_ok-first.field-0 = sym c.in_ok-first.ensures.old in
     let inserted = hash_map_updates_str key c.loop-line.grades c.insert.new.self (Some line.grade) c.in_ok-first.ensures.updates doc in
     let more : grade_at c.match-branch-3.grades doc ≡ graded_more (before doc) (bytes_eq key doc) line.grade =
@@ -24,5 +24,4 @@ loop-line-preserved c = λ doc.
     ] in
     more
     ∙ ap (λ o. graded_more o (bytes_eq key doc) line.grade) (c.loop-line.invariant doc)
-    ∙ ap (λ k. graded_more (grade_in (shown (take c.loop-line.line-index c.args.lines.now)) doc) (bytes_eq k doc) line.grade) c.bytes-doc.ensures
     ∙ sym (grade_in-more c.args.lines.now c.loop-line.line-index c.line-item.result doc c.loop-line-test.true c.line-item.is)

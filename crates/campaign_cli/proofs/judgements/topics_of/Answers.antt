@@ -13,7 +13,7 @@ loop-line-preserved c =
     let topic = c.line-item.result.topic in
     let more : c.if-not-is_known.topics ≡ with_name c.loop-line.topics topic =
     elim c.if-not-is_known.branch [
-      | then-not-is_known+in_ok-copy+in_ok-add w ↦ w.topics-is ∙ w.in_ok-add.ensures.added ∙ ap (with_name c.loop-line.topics) w.in_ok-copy.ensures
+      | then-not-is_known+in_ok-copy+in_ok-add w ↦ w.topics-is ∙ w.in_ok-add.ensures.added ∙ ap (with_name c.loop-line.topics) w.in_ok-copy.ensures.copy
       | else-not-is_known w ↦ w.topics-is
           ∙ sym (with_name-known c.loop-line.topics topic (number_of c.loop-line.topics topic) refl (sym (c.is_known.ensures ∙ ap (λ t. is_some (number_of c.loop-line.topics t)) c.bytes.ensures) ∙ w.if-not-is_known.false))
     ] in

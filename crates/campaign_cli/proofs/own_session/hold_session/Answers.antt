@@ -1,6 +1,17 @@
-use Rattle.std.proofs.Common.{inl}
+use Rattle.std.proofs.Common.{inl, subst}
+use Rattle.rulebook.specs.Stories.{StartsWith}
 use Rattle.campaign_cli.proofs.own_session.hold_session.Goals as goal
 
 pub returns-in-Ok : goal.returns-in-Ok
 returns-in-Ok g c =
-    inl (c.session.result, (c.session.new.state.history, rw (← c.in-Ok.ensures.0, ← c.in-Ok.ensures.1) c.session.ensures.ends), c.status_of.ensures)
+    let opened = c.in-Ok.ensures in
+    inl (
+      c.session.result,
+      (
+        c.session.new.state.history,
+        rw (← opened.0, ← opened.1) c.session.ensures.ends,
+        c.session.ensures.legal,
+        subst (λ first. StartsWith c.session.new.state.history first) opened.0 c.session.ensures.longer,
+      ),
+      c.status_of.ensures,
+    )

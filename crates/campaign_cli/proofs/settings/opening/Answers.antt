@@ -8,7 +8,7 @@ use Rattle.rulebook.specs.declared.rules.Rules.{Rules}
 use Rattle.rulebook.specs.Answers.{Answer, answer}
 use Rattle.rulebook.specs.Campaign.{History}
 use Rattle.rulebook.specs.Legal.{founding}
-use Rattle.campaign_cli.specs.Settings.{first_rules, first_topics, organiser}
+use Rattle.campaign_cli.specs.Settings.{first_rules, organiser}
 use Rattle.campaign_cli.proofs.settings.opening.Goals as goal
 
 pub prepare-requires-clause-addressed : goal.prepare-requires-clause-addressed

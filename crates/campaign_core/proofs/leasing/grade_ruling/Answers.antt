@@ -37,7 +37,7 @@ returns c =
     let H = c.args.history.now in
     let w = found-lease H (names_of H) c.args.desk.now.leases c.args.number c.in-Some.lease.now c.requires.stands.leased (sym c.in-Some.ensures.lease) in
     let at = stands-at H c.args.topics.now c.args.desk.now.leases c.requires.stands w.lease.topic c.in-Some.lease.now.topic (ap (λ (k : KnownLease). k.topic) w.alike) w.listed c.index-topics-lease.result c.index-topics-lease.is in
-    let topic : c.in_ok-copy.field-0 ≡ w.lease.topic = c.in_ok-copy.ensures ∙ ap (λ (s : TopicState). s.id) (sym c.index-topics-lease.is) ∙ ap (λ (k : KeptTopic). k.id) at.kept_is in
+    let topic : c.in_ok-copy.field-0 ≡ w.lease.topic = c.in_ok-copy.ensures.copy ∙ ap (λ (s : TopicState). s.id) (sym c.index-topics-lease.is) ∙ ap (λ (k : KeptTopic). k.id) at.kept_is in
     let doc : c.in_ok-docno.field-0 ≡ w.lease.doc =
     c.in_ok-docno.ensures
     ∙ ap (λ names. docno_of names c.in-Some.lease.now.doc.0) c.requires.names

@@ -56,18 +56,18 @@ returns-in_ok-from_slice-in-Some-named c =
     c.in-Some-named.ensures ∙ ap (λ (name : Text). first_open (is_open_in s.need s.marks.marked desk c.in-Some.number now name) s.pool.runs s.queue.order) c.bytes-assessor.ensures in
     let named_is = doc-named H c.args.topics.now desk c.requires.stands topic c.in-Some.number at.number_is at.listed s stands now who.name c.first_that_passes.ensures doc is in
     let text : c.in_ok-docno-in-Some-named.field-0 ≡ docno_of (names_of H) doc.0 = c.in_ok-docno-in-Some-named.ensures ∙ ap (λ (names : List Text). docno_of names doc.0) c.requires.names in
-    let titled : c.new.result ≡ title H topic =
-    c.new.ensures ∙ c.in_ok-from_slice-in-Some-named.ensures.items ∙ c.title.ensures ∙ ap (title H) c.bytes-in-Some-named.ensures in
+    let titled : c.in_ok-from_slice-in-Some-named.field-0 ≡ title H topic =
+    c.in_ok-from_slice-in-Some-named.ensures.text ∙ c.title.ensures ∙ ap (title H) c.bytes-in-Some-named.ensures in
     let number : c.len.result + 1 ≡ length (leases H) + 1 = omega (arith, c.len.ensures.len, desk-long H desk c.requires.stands.leased) in
     let until : now + c.rules-rules.result.now.term ≡ now + (rules_of H).term = ap (λ (r : Rules). now + r.term) c.rules-rules.ensures in
     let told : ℕ → Text → Text → ℕ → Text → Ruling = λ n t d u title. Ok (reply.Leased n t d u title) in
     let first = c.in_ok-copy-in-Some-named.field-0 in
     let second = c.in_ok-docno-in-Some-named.field-0 in
     let last = now + c.rules-rules.result.now.term in
-    ap (λ n. told n first second last c.new.result) number
-    ∙ ap (λ t. told (length (leases H) + 1) t second last c.new.result) c.in_ok-copy-in-Some-named.ensures
-    ∙ ap (λ d. told (length (leases H) + 1) topic d last c.new.result) text
-    ∙ ap (λ u. told (length (leases H) + 1) topic (docno_of (names_of H) doc.0) u c.new.result) until
+    ap (λ n. told n first second last c.in_ok-from_slice-in-Some-named.field-0) number
+    ∙ ap (λ t. told (length (leases H) + 1) t second last c.in_ok-from_slice-in-Some-named.field-0) c.in_ok-copy-in-Some-named.ensures.copy
+    ∙ ap (λ d. told (length (leases H) + 1) topic d last c.in_ok-from_slice-in-Some-named.field-0) text
+    ∙ ap (λ u. told (length (leases H) + 1) topic (docno_of (names_of H) doc.0) u c.in_ok-from_slice-in-Some-named.field-0) until
     ∙ ap (λ title. told (length (leases H) + 1) topic (docno_of (names_of H) doc.0) (now + (rules_of H).term) title) titled
     ∙ lease-granted H who now topic c.args.phase c.requires.phase c.if-not-is_judging.ensures at.listed few (docno_of (names_of H) doc.0) named_is
 

@@ -11,4 +11,4 @@ pub returns-in-Qrels : goal.returns-in-Qrels
 returns-in-Qrels c = λ H now is lives.
     let topic = c.args.topic.now in
     let lines = ap (λ id. qrels_text id c.args.docnos.now topic.view.graded) c.bytes.ensures ∙ qrels-same H c.args.docnos.now topic c.graded_are_on_trail.ensures is in
-    rw c.in-Qrels.is (subst (λ text. OnOk c.write.result (c.write.new.out.items ≡ c.args.out.now.items ++ text)) lines c.write.ensures)
+    rw c.in-Qrels.is (subst (λ text. OnOk c.write.result (c.write.new.out.items ≡ c.args.out.now.items ++ text)) lines c.write.ensures.ok)

@@ -77,7 +77,7 @@ returns-in_ok-assessor-in-Amend-clause-plan c =
       c.in-Amend.topic,
       c.in-Amend.doc,
       is,
-      c.in_ok-assessor-in-Amend.ensures,
+      c.in_ok-assessor-in-Amend.ensures.copy,
       c.in_ok-number-in-Amend.ensures.place (topic_ids H) (told-amendment H c.args.docnos.now c.args.topics.now c.args.desk.now.leases c.args.core.now c.in-Amend.topic c.in-Amend.doc c.in-Amend.grade c.args.reply.now is c.requires.accepted c.requires.stands c.requires.docnos_are),
     )
 

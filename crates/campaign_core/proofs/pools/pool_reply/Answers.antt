@@ -40,4 +40,4 @@ returns c = λ H w.
     ∙ ap (λ ds. map (λ (doc : DocId). docno_of c.args.docnos.now doc.0) ds) c.deref.ensures.value
     ∙ ap (λ names. map (λ (doc : DocId). docno_of names doc.0) docs) w.names_are
     ∙ texts ∙ ap (pool H) c.bytes.ensures in
-    ap (λ topic. reply.Pool topic c.in_ok-texts.field-0) c.topic.view_is ∙ pool-told H c.args.topic c.in_ok-texts.field-0 known told
+    pool-told H c.args.topic c.in_ok-texts.field-0 known told

@@ -23,7 +23,7 @@ returns-clause-ruling c =
     let docnos_are : c.add_docnos.new.docnos ≡ each_once (submitted_docnos H ++ docnos lists)
     = c.in_ok-add_docnos.ensures.ok ∙ ap (λ texts. fold with_name texts (docnos lists)) c.requires.docnos_are ∙ sym (each_once-submitted H lists) in
     let same = submit-accepted H c.args.run.now lists collecting new known runs_fit (search rules) (rw (← docnos_are) (search rules)) in
-    ap (λ run. Ok (reply.Submitted run (length lists) c.line_count-lines.result)) c.in_ok-copy.ensures
+    ap (λ run. Ok (reply.Submitted run (length lists) c.line_count-lines.result)) c.in_ok-copy.ensures.copy
     ∙ ap (λ lines. Ok (reply.Submitted c.args.run.now (length lists) lines)) c.line_count-lines.ensures
     ∙ sym same
 

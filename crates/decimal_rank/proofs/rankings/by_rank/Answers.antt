@@ -1,4 +1,4 @@
-use Rattle.std.proofs.Common.{refl, sym, ap, ◌∙◌, ◌≡◌, map, length, IfOk, rules, subst, le_of_lt}
+use Rattle.std.proofs.Common.{sym, ap, ◌∙◌, ◌≡◌, map, rules, subst, le_of_lt}
 use Rattle.std.specs.List.Sorted.{IsPermutation}
 use Rattle.std.specs.Ordering.{is_lt}
 use Rattle.std.proofs.lemmas.Fn.{always_returns_same}

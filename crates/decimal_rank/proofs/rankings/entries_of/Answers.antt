@@ -1,7 +1,5 @@
-use Rattle.std.proofs.Common.{rules, ap, sym, ◌≡◌, subst}
-use Rattle.std.specs.List.Sorted.{IsPermutation}
+use Rattle.std.proofs.Common.{rules}
 use Rattle.std.proofs.lemmas.List.Sorted.{IsNonDecreasingBy-from_sort_by_key}
-use Rattle.decimal_rank.specs.Entries.{entries_in}
 use Rattle.decimal_rank.proofs.rankings.entries_of.Goals as goal
 
 pub returns : goal.returns

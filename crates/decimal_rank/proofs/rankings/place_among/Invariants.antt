@@ -1,4 +1,4 @@
-use Rattle.std.proofs.Common.{◌-◌, length}
+use Rattle.std.proofs.Common.{◌-◌}
 use Rattle.decimal_rank.proofs.Search.{IsNarrowed}
 use Rattle.decimal_rank.proofs.rankings.place_among.Given as goal
 

@@ -1,8 +1,10 @@
 use Rattle.std.proofs.Common.{true, false, subst}
 use Rattle.http_wire.specs.declared.messages.Step.TheVariants as steps
-use Rattle.http_wire.specs.Fronts.{IsAwaiting}
+use Rattle.http_wire.specs.Fronts.{IsAwaiting, IsSearched}
+use Rattle.http_wire.specs.Heads.{passed}
 use Rattle.http_wire.specs.Messages.{Steps}
 use Rattle.http_wire.proofs.Looks.{look_clean, look_whole, look_more, look_awaits, none_left, some_left}
+use Rattle.http_wire.proofs.Searching.{searched_none, searched_behind}
 use Rattle.http_wire.proofs.fronts.look_at.Goals as goal
 
 pub returns-then-is_empty-clause-step : goal.returns-then-is_empty-clause-step
@@ -30,3 +32,18 @@ returns-in-Unfinished-clause-awaits c =
     let found = rw c.in-Unfinished.is at c.in_ok-found.ensures in
     subst (λ bytes. IsAwaiting bytes c.in-Unfinished.needed) c.pass_line_ends-taken.ensures.behind
     (look_awaits c.args.bytes.now message c.in-Unfinished.needed c.pass_line_ends-taken.ensures.message some found.1)
+
+pub returns-then-is_empty-clause-searched : goal.returns-then-is_empty-clause-searched
+returns-then-is_empty-clause-searched c = searched_none _
+
+pub returns-in-Whole-clause-searched : goal.returns-in-Whole-clause-searched
+returns-in-Whole-clause-searched c = searched_none _
+
+pub returns-in-Faulty-clause-searched : goal.returns-in-Faulty-clause-searched
+returns-in-Faulty-clause-searched c = searched_none _
+
+pub returns-in-Unfinished-clause-searched : goal.returns-in-Unfinished-clause-searched
+returns-in-Unfinished-clause-searched c =
+    let found = rw c.in-Unfinished.is at c.in_ok-found.ensures in
+    subst (λ bytes. IsSearched (passed bytes) c.in-Unfinished.searched) c.pass_line_ends-taken.ensures.behind
+    (searched_behind c.args.bytes.now c.pass_line_ends-taken.result.1.now c.in-Unfinished.searched c.pass_line_ends-taken.ensures.message found.2)

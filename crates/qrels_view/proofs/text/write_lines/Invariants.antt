@@ -1,7 +1,10 @@
-use Rattle.std.proofs.Common.{◌≡◌, ◌++◌, take}
+use Rattle.std.proofs.Common.{◌≡◌, ◌++◌, length, take}
 use Rattle.std.specs.List.{flat_map}
 use Rattle.qrels_view.specs.Lines.{line_of}
 use Rattle.qrels_view.proofs.text.write_lines.Given as goal
 
 abbrev pub invariant-loop-one : goal.invariant-loop-one
-invariant-loop-one l = l.out.items ≡ l.initial.out.items ++ flat_map (line_of l.topic l.names) (take l.one-index l.graded)
+invariant-loop-one l = record {
+  lines : l.out.items ≡ l.initial.out.items ++ flat_map (line_of l.topic l.names) (take l.one-index l.graded);
+  before : l.before ≡ length l.initial.out.items;
+}

@@ -1,6 +1,6 @@
 use Rattle.std.proofs.Common.{rules, ◌≡◌, Some, subst}
 use Rattle.std.specs.Prelude.{slice_get}
-use Rattle.routes.specs.Growth.{Adds}
+use Rattle.decimal_rank.specs.Additions.{Adds}
 use Rattle.routes.proofs.Growing.{joined_split}
 use Rattle.routes.proofs.growth.append_listed.Goals as goal
 

@@ -1,24 +1,17 @@
-use Rattle.std.proofs.Common.{arith, ◌≡◌, [], drop}
-use Rattle.std.proofs.lemmas.List.{drop_all, length-map, take_rest}
-use denote.Ref.{Bor}
-use Rattle.trec_formats.specs.declared.runs.RunLine.{RunLine}
-use Rattle.trec_formats.proofs.Listing.{cuts, listed_next, listed_all, group_repeats, group_few, group_within, rest_after, after_is}
+use Rattle.std.proofs.Common.{◌≡◌, [], drop}
+use Rattle.std.proofs.lemmas.List.{drop_all, take_rest}
+use Rattle.trec_formats.proofs.Listing.{cuts, listed_next, listed_all, group_differs, group_within, rest_after, after_is}
 use Rattle.trec_formats.proofs.lists.lists_of.Goals as goal
 
-pub group_list-requires-clause-few : goal.group_list-requires-clause-few
-group_list-requires-clause-few c =
+pub group_list-requires-clause-differ : goal.group_list-requires-clause-differ
+group_list-requires-clause-differ c =
     let cut = cuts _ _ _ _ c.loop-start.invariant.listed c.requires.ascending (rw take_rest at c.first_group-group.ensures) in
-    omega (arith, group_few _ _ _ cut c.requires.short, length-map c.first_group-group.result.now (λ (line : Bor RunLine). line.now))
-
-pub returns-in_default : goal.returns-in_default
-returns-in_default c =
-    let cut = cuts _ _ _ _ c.loop-start.invariant.listed c.requires.ascending (rw take_rest at c.first_group-group.ensures) in
-    group_repeats _ _ _ cut (rw c.in_default.is at c.in_ok-list.ensures)
+    group_differs _ _ _ cut c.requires.distinct
 
 pub loop-start-preserved : goal.loop-start-preserved
 loop-start-preserved c =
     let cut = cuts _ _ _ _ c.loop-start.invariant.listed c.requires.ascending (rw take_rest at c.first_group-group.ensures) in
-    let listed = listed_next _ _ _ _ _ c.loop-start.invariant.listed cut (rw c.in-Some.is at c.in_ok-list.ensures) in
+    let listed = listed_next _ _ _ _ _ c.loop-start.invariant.listed cut c.in_ok-group_list.ensures in
     record {
       within = group_within _ _ _ c.loop-start.invariant.within cut;
       listed = rw (c.in_ok-push.ensures.items, ← rest_after c.args.order.now c.loop-start.start c.first_group-group.result.now, ← after_is _ _ _ cut) listed;

@@ -19,7 +19,7 @@ loop-row-preserved c =
     let read = goes_on (Stand qrel_of) (λ _. qrel_of) (Stand-IsFormat qrel_of) _ _ _ _ _ _ line c.loop-row.invariant.read c.in-Some.ensures.row c.in-Some.ensures.fits (c.in-Ok.ensures c.in-Some.row.number) in
     let few : length (c.loop-row.lines.items ++ line ∷ []) + length c.in-Some.row.rest.now ≤ length c.args.bytes.now =
     omega (arith, length_push c.loop-row.lines.items line, c.loop-row.invariant.few, c.in-Some.ensures.shorter) in
-    rw (c.in_ok-push.ensures.items, c.in_ok-copy_of.ensures, c.in_ok-copy_of-2.ensures) (record { read = read; few = few })
+    rw (c.in_ok-push.ensures.items, c.in_ok-from_slice.ensures.text, c.in_ok-from_slice-2.ensures.text) (record { read = read; few = few })
 
 pub returns-then-is_empty-clause-fault : goal.returns-then-is_empty-clause-fault
 returns-then-is_empty-clause-fault c =

@@ -1,5 +1,3 @@
-use Rattle.std.proofs.Common.{Vec}
-use Rattle.std.specs.List.{IsDistinct}
 use Rattle.std.specs.Str.{bytes_eq}
 use Rattle.decimal_rank.proofs.Mapped.{IsDistinct-map}
 use Rattle.decimal_rank.proofs.naming.Names.len.Goals as goal

@@ -1,15 +1,20 @@
-use Rattle.std.proofs.Common.{◌≡◌, ◌∙◌, ◌++◌, ap, sym, subst, length, drop, arith, length-append}
+use Rattle.std.proofs.Common.{◌≡◌, ◌∙◌, ◌+◌, ◌≤◌, ◌++◌, ap, sym, subst, length, drop, arith, length-append}
 use Rattle.std.proofs.lemmas.List.{drop-append-le}
-use Rattle.http_wire.specs.Fronts.{IsAwaiting}
+use Rattle.http_wire.specs.Fronts.{IsAwaiting, IsSearched}
+use Rattle.http_wire.specs.Heads.{passed}
 use Rattle.http_wire.proofs.Looks.{awaits-append}
+use Rattle.http_wire.proofs.Searching.{searched-append}
 use Rattle.http_wire.proofs.wires.Wire.feed.Goals as goal
 
 pub invariant_of-self-2 : goal.invariant_of-self-2
 invariant_of-self-2 c =
-    let done = c.drop_done.new.done in
-    let left : drop done c.extend_from_slice.new.self.items ≡ drop c.self.inside.done c.self.inside.bytes.items ++ c.args.piece.now =
-    ap (drop done) c.in_ok-extend_from_slice.ensures.items ∙ drop-append-le done c.drop_done.new.bytes.items c.args.piece.now c.drop_done.ensures.inside
-    ∙ ap (λ bytes. bytes ++ c.args.piece.now) c.drop_done.ensures.left in (
-      omega (arith, c.drop_done.ensures.inside, ap length c.in_ok-extend_from_slice.ensures.items, length-append c.drop_done.new.bytes.items c.args.piece.now),
-      subst (λ bytes. IsAwaiting bytes c.self.inside.needed) (sym left) (awaits-append (drop c.self.inside.done c.self.inside.bytes.items) c.args.piece.now c.self.inside.needed c.self.invariant.1),
-    )
+    let wire = c.self.inside in
+    let old = drop wire.done wire.bytes.items in
+    let half : wire.done + wire.done ≤ length wire.bytes.items = c.self.invariant.half in
+    let left : drop wire.done c.extend_from_slice.new.self.items ≡ old ++ c.args.piece.now =
+    ap (drop wire.done) c.in_ok-extend_from_slice.ensures.items ∙ drop-append-le wire.done wire.bytes.items c.args.piece.now (omega (arith, half)) in
+    record {
+      half = omega (arith, half, ap length c.in_ok-extend_from_slice.ensures.items, length-append wire.bytes.items c.args.piece.now);
+      awaiting = subst (λ bytes. IsAwaiting bytes wire.needed) (sym left) (awaits-append old c.args.piece.now wire.needed c.self.invariant.awaiting);
+      searched = subst (λ bytes. IsSearched (passed bytes) wire.searched) (sym left) (searched-append old c.args.piece.now wire.searched c.self.invariant.searched);
+    }

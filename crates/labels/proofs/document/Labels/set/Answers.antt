@@ -7,7 +7,7 @@ use Rattle.labels.specs.Labelled.{IsOncePerAssessor, Labelled, with_label}
 use Rattle.labels.proofs.Setting.{none_passes, once_after_set, set_again, set_new}
 use Rattle.labels.proofs.document.Labels.set.Goals as goal
 
-again : (c : goal.After-drop-assessor-inside)
+again : (c : goal.After-drop-assessor)
     → slice_set c.self.inside.given.items c.in-Some.place (record { assessor = c.index_mut.result.now.assessor; grade = c.args.grade }) ≡ with_label c.args.assessor c.args.grade c.self.inside.given.items
 again c =
     let labels = c.self.inside.given.items in

@@ -1,0 +1,12 @@
+use Rattle.std.proofs.Common.{refl}
+use Rattle.campaign_server.specs.Chains.{Chain}
+use Rattle.campaign_server.proofs.Hearing.{ends_before}
+use Rattle.campaign_server.proofs.connections.converse.Goals as goal
+
+pub returns-in_default : goal.returns-in_default
+returns-in_default g c =
+    ends_before (Chain g.T.Teller.tells c.args.keys.now c.args.teller.now (g.I.Link.seen c.args.link.now).clock c.args.teller.now (g.I.Link.seen c.args.link.now).clock) (g.I.Link.seen c.args.link.now) (refl, refl)
+
+pub returns-in_default-new : goal.returns-in_default-new
+returns-in_default-new g c =
+    ends_before (Chain g.T.Teller.tells c.args.keys.now c.args.teller.now (g.I.Link.seen c.args.link.now).clock c.args.teller.now (g.I.Link.seen c.args.link.now).clock) (g.I.Link.seen c.args.link.now) (refl, refl)

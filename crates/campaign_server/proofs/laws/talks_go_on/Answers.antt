@@ -1,0 +1,5 @@
+use Rattle.campaign_server.proofs.TalkLemmas.{talk_laws}
+use Rattle.campaign_server.proofs.laws.talks_go_on.Goals as goal
+
+pub returns : goal.returns
+returns c = talk_laws

@@ -1,4 +1,0 @@
-use Rattle.campaign_server.proofs.routes.ranked_run.Goals as goal
-
-pub rank_run-requires-clause-short : goal.rank_run-requires-clause-short
-rank_run-requires-clause-short c = rw c.deref.ensures.value c.in_ok-lines.ensures.short

@@ -1,0 +1,166 @@
+//! The loop of a connection: a piece is read, every whole request of the bytes so far is answered in
+//! order, and then more is read.
+ghost use Rattle.std.specs.Prelude.{◌≡◌, ◌<◌, ◌≤◌, ◌^◌, [], IfOk, IfErr};
+ghost use Rattle.campaign_server.specs.Chains.{Chain};
+ghost use Rattle.campaign_server.specs.Connections.{Ends};
+ghost use Rattle.campaign_server.specs.LoopParts.{EndsFrom, Pauses, ReadsPiece, RefusesWith, at_end, last_end, worn};
+
+use crate::answering::{answer, refuse};
+use crate::asks::{AskReader, AskStep};
+use crate::buffers::Buffer;
+use crate::ends::End;
+use crate::links::Link;
+use crate::tellers::Teller;
+use decimal_rank::{Failed, Memory};
+use http_wire::{WireFault, readings_go_on, steps_are_messages};
+use routes::Keys;
+use std::alloc::Global;
+
+/// The most bytes that a connection takes.
+const MOST_TAKEN: usize = 1 << 40;
+
+/// The most bytes of one read.
+const CHUNK: usize = 8192;
+
+// Answers the whole requests that the reader has. True is that nothing but line ends is left.
+fn answer_all<T: Teller, I: Link>(
+    alloc: Global,
+    teller: &mut T,
+    link: &mut I,
+    keys: &Keys,
+    reader: &mut AskReader,
+    buffer: &mut Buffer,
+) -> Result<bool, End>
+    ensures pause { IfOk result (λ clean. Pauses T.tells keys.now teller.old (I.seen link.old) reader.old clean teller.new (I.seen link.new) reader.new) }
+    ensures ends { IfErr result (λ end. EndsFrom T.tells keys.now teller.old (I.seen link.old) reader.old end teller.new (I.seen link.new)) }
+    ensures reading_kept { (I.seen link.new).reading ≡ (I.seen link.old).reading }
+{
+    readings_go_on();
+    steps_are_messages();
+    'requests: loop {
+        match reader.next(alloc, keys) {
+            Err(Memory) => return Err(End::Memory),
+            Ok(AskStep::Need { clean }) => return Ok(clean),
+            Ok(AskStep::Refused(fault)) => return Err(refuse_with(link, buffer, fault)),
+            Ok(AskStep::Whole { reading, close }) => {
+                match answer(teller, link, buffer, reading, close) {
+                    Ok(()) => {
+                        if close {
+                            return Err(End::Ended);
+                        }
+                    }
+                    Err(Failed) => return Err(End::WriteFault),
+                }
+            }
+        }
+    }
+}
+
+// The end behind the answer of a refused message.
+fn refuse_with<I: Link>(link: &mut I, buffer: &mut Buffer, fault: WireFault) -> End
+    ensures ends { RefusesWith (I.seen link.old) (I.seen link.new) fault result }
+    ensures reading_kept { (I.seen link.new).reading ≡ (I.seen link.old).reading }
+    ensures clock_kept { (I.seen link.new).clock ≡ (I.seen link.old).clock }
+{
+    match refuse(link, buffer, fault) {
+        Ok(()) => End::Refused(fault),
+        Err(Failed) => End::WriteFault,
+    }
+}
+
+/// Why no piece was read.
+#[derive(Clone, Copy)]
+enum ReadFault {
+    Failed,
+    Memory,
+}
+
+// Reads a piece into the reader, and returns how many bytes it has: none at the end.
+fn read_piece<I: Link>(
+    link: &mut I,
+    reader: &mut AskReader,
+    taken: usize,
+) -> Result<usize, ReadFault>
+    requires { taken < 2 ^ 40 }
+    ensures piece { ReadsPiece (I.seen link.old) (I.seen link.new) reader.old taken result reader.new }
+    ensures later { (I.seen link.old).reading.faults ≤ (I.seen link.new).reading.faults }
+    ensures writing_kept { (I.seen link.new).writing ≡ (I.seen link.old).writing }
+    ensures clock_kept { (I.seen link.new).clock ≡ (I.seen link.old).clock }
+{
+    let mut chunk = [0; CHUNK];
+    let room = (MOST_TAKEN - taken).min(CHUNK);
+    match link.read(&mut chunk[..room]) {
+        Ok(count) => match reader.feed(&chunk[..count]) {
+            Ok(()) => Ok(count),
+            Err(Memory) => Err(ReadFault::Memory),
+        },
+        Err(Failed) => Err(ReadFault::Failed),
+    }
+}
+
+// The end where as many bytes were taken as may be.
+fn worn(end: End) -> End
+    ensures { result ≡ worn end }
+{
+    match end {
+        End::Ended | End::Cut | End::Refused(_) | End::Worn => End::Worn,
+        End::ReadFault => End::ReadFault,
+        End::WriteFault => End::WriteFault,
+        End::Memory => End::Memory,
+    }
+}
+
+fn last_end(end: End, taken: usize) -> End
+    ensures { result ≡ last_end end taken }
+{
+    if taken < MOST_TAKEN { end } else { worn(end) }
+}
+
+fn at_end(clean: bool) -> End
+    ensures { result ≡ at_end clean }
+{
+    if clean { End::Ended } else { End::Cut }
+}
+
+// Reads and answers to the end of the connection.
+fn converse_by<T: Teller, I: Link>(
+    alloc: Global,
+    teller: &mut T,
+    link: &mut I,
+    keys: &Keys,
+    reader: &mut AskReader,
+    buffer: &mut Buffer,
+) -> End
+    requires { reader.old ≡ [] }
+    ensures { Ends (Chain T.tells keys.now teller.old (I.seen link.old).clock teller.new (I.seen link.new).clock) (I.seen link.old) (I.seen link.new) result }
+{
+    readings_go_on();
+    let mut taken = 0;
+    let mut clean = true;
+    'pieces: while taken < MOST_TAKEN {
+        match read_piece(link, reader, taken) {
+            Err(ReadFault::Failed) => return End::ReadFault,
+            Err(ReadFault::Memory) => return End::Memory,
+            Ok(0) => return at_end(clean),
+            Ok(count) => taken += count,
+        }
+        match answer_all(alloc, teller, link, keys, reader, buffer) {
+            Ok(now) => clean = now,
+            Err(end) => return last_end(end, taken),
+        }
+    }
+    End::Worn
+}
+
+/// Answers the requests of a link as they come. An answer is written before more is read.
+pub fn converse<T: Teller, I: Link>(alloc: Global, teller: &mut T, link: &mut I, keys: &Keys) -> End
+    ensures { Ends (Chain T.tells keys.now teller.old (I.seen link.old).clock teller.new (I.seen link.new).clock) (I.seen link.old) (I.seen link.new) result }
+{
+    let Ok(mut buffer) = Buffer::new(alloc) else {
+        return End::Memory;
+    };
+    let Ok(mut reader) = AskReader::new(alloc) else {
+        return End::Memory;
+    };
+    converse_by(alloc, teller, link, keys, &mut reader, &mut buffer)
+}

@@ -1,3 +1,0 @@
-/// A call on the outside failed, and the object's count of faults rose.
-#[derive(Clone, Copy, Debug, PartialEq, Eq)]
-pub struct Failed;

@@ -1,0 +1,33 @@
+//! Tables that find items by a key.
+use decimal_rank::{Chains, Secret};
+use std::test::Fail;
+
+#[test]
+fn equal_texts_share_a_key(rt: HostRuntime) {
+    let secret = Secret::drawn();
+    assert_eq!(rt; secret.key_of(b"FT911-3"), secret.key_of(b"FT911-3"));
+    assert_eq!(rt;
+        secret.pair_key_of(b"401", b"a"),
+        secret.pair_key_of(b"401", b"a")
+    );
+    assert_ne!(rt;
+        secret.pair_key_of(b"40", b"1a"),
+        secret.pair_key_of(b"401", b"a")
+    );
+    assert_ne!(rt;
+        secret.key_of(b"FT911-3"),
+        Secret::drawn().key_of(b"FT911-3")
+    );
+    assert!(rt; Secret::is_source_answering());
+}
+
+#[test]
+fn items_of_a_bucket_are_found_from_the_newest_on(rt: HostRuntime) -> Result<(), Fail> {
+    let mut chains = Chains::with_room(rt.alloc(), 4)?;
+    chains.push(1)?;
+    chains.push(5)?;
+    assert_eq!(rt; chains.newest(9), Some(1));
+    assert_eq!(rt; chains.earlier(1), Some(0));
+    assert_eq!(rt; chains.newest(4), None);
+    Ok(())
+}

@@ -1,0 +1,176 @@
+-- The images of a disk in memory: its content is one, and one more call adds its own.
+use Rattle.std.proofs.Common.{◌≡◌, ◌≢◌, ◌⊎◌, inl, inr, ⊎_elim, ℕ, suc, ◌+◌, ◌-◌, ◌<◌, ◌≤◌, min, max, List, [], ◌∷◌, ◌++◌, length, take, drop, refl, sym, ap, ◌∙◌, subst, arith, length-append, length-drop, le_refl}
+use Rattle.std.specs.Prelude.{Err, Result, Some, Vec}
+use Rattle.std.specs.declared.alloc.Global.{Global}
+use Rattle.std.proofs.lemmas.List.{append-nil, append_assoc, drop-append-le, drop_all, length-take-le, take-append-le, take_all, take-append-drop}
+use mathlib.Core.Logic.{dite}
+use native.Mathlib.Decide.{dec_le}
+use Rattle.decimal_rank.specs.Causes.{HasCause, Rose}
+use Rattle.decimal_rank.specs.declared.failures.Failed.{Failed}
+use Rattle.disk_model.specs.declared.memory_disk.DiskCall.{DiskCall}
+use Rattle.disk_model.specs.declared.memory_disk.DiskCall.TheVariants.{Len, Read, Write, Cut, Sync}
+use Rattle.disk_model.specs.Calls.{ImageSince, Images, content_after, content_by, images_after, images_by, images_of}
+use Rattle.disk_model.specs.Disks.{Alone, CutShort, Elapses, Follows, NoFurther, Torn, written}
+
+-- One call more
+
+abbrev images_push : (calls : List DiskCall) (call : DiskCall) (content : List ℕ) (images : List ℕ → Type 0) (image : List ℕ)
+    → images_after (calls ++ call ∷ []) content images image → images_by call (content_after calls content) (images_after calls content images) image
+images_push [] call content images image here = here
+images_push (c ∷ calls) call content images image here = images_push calls call (content_by c content) (images_by c content images) image here
+
+pub content_push : (calls : List DiskCall) (call : DiskCall) (content : List ℕ) → content_after (calls ++ call ∷ []) content ≡ content_by call (content_after calls content)
+content_push [] call content = refl
+content_push (c ∷ calls) call content = content_push calls call (content_by c content)
+
+-- What is written over a content, and what a cut leaves of it
+
+pub torn_same : (place count : ℕ) (content : List ℕ) → Torn place count content content
+torn_same place count content = record { before = refl; after = refl; no_shorter = omega arith; no_longer = omega arith }
+
+pub cut_same : (to : ℕ) (content : List ℕ) → CutShort to content content
+cut_same to content = record { before = refl; no_shorter = omega arith; no_longer = omega arith }
+
+length_written : (place : ℕ) (piece content : List ℕ) → place ≤ length content → length (written place piece content) ≡ place + length piece + (length content - (place + length piece))
+length_written place piece content within =
+    length-append (take place content ++ piece) (drop (place + length piece) content)
+    ∙ ap (λ (n : ℕ). n + length (drop (place + length piece) content)) (length-append (take place content) piece ∙ ap (λ (n : ℕ). n + length piece) (length-take-le place content within))
+    ∙ ap (λ (n : ℕ). place + length piece + n) (length-drop (place + length piece) content)
+
+pub torn_written : (place : ℕ) (piece content : List ℕ) → place ≤ length content → Torn place (length piece) content (written place piece content)
+torn_written place piece content within =
+    let front : List ℕ = take place content in
+    let front_length : length front ≡ place = length-take-le place content within in
+    let both_length : length (front ++ piece) ≡ place + length piece = length-append front piece ∙ ap (λ (n : ℕ). n + length piece) front_length in
+    let rest : List ℕ = drop (place + length piece) content in
+    let all_length = length_written place piece content within in
+    let place_in : place ≤ length (front ++ piece) = omega arith in
+    let place_front : place ≤ length front = omega arith in
+    let end_in : place + length piece ≤ length (front ++ piece) = omega arith in
+    record {
+      before = take-append-le place (front ++ piece) rest place_in ∙ take-append-le place front piece place_front ∙ take_all place front (omega arith);
+      after = drop-append-le (place + length piece) (front ++ piece) rest end_in ∙ ap (λ (xs : List ℕ). xs ++ rest) (drop_all (place + length piece) (front ++ piece) (omega arith));
+      no_shorter = omega arith;
+      no_longer = omega arith;
+    }
+
+pub cut_taken : (to : ℕ) (content : List ℕ) → to ≤ length content → CutShort to content (take to content)
+cut_taken to content within =
+    let size : length (take to content) ≡ to = length-take-le to content within in
+    record { before = take_all to (take to content) (omega arith); no_shorter = omega arith; no_longer = omega arith }
+
+-- a write behind the end goes on at the end
+written_within : (place : ℕ) (piece content : List ℕ) → written (min place (length content)) piece content ≡ written place piece content
+written_within place piece content = dite (dec_le place (length content))
+    (λ (within : place ≤ length content). let same : min place (length content) ≡ place = omega arith in ap (λ (n : ℕ). written n piece content) same)
+    (λ (beyond : ¬ (place ≤ length content)).
+    let same : min place (length content) ≡ length content = omega arith in
+    ap (λ (n : ℕ). written n piece content) same
+    ∙ ap (λ (xs : List ℕ). xs ++ piece ++ drop (length content + length piece) content) (take_all (length content) content (le_refl (length content)) ∙ sym (take_all place content (omega arith)))
+    ∙ ap (λ (xs : List ℕ). take place content ++ piece ++ xs) (drop_all (length content + length piece) content (omega arith) ∙ sym (drop_all (place + length piece) content (omega arith))))
+
+content_among : (call : DiskCall) (content : List ℕ) (images : List ℕ → Type 0) → images content → images_by call content images (content_by call content)
+content_among Len content images here = here
+content_among (Read place count) content images here = here
+content_among (Write place piece) content images here = (
+  content,
+  here,
+  subst (λ (xs : List ℕ). Torn (min place (length content)) (length piece.items) content xs) (written_within place piece.items content)
+      (torn_written (min place (length content)) piece.items content (omega arith)),
+)
+content_among (Cut to) content images here = (content, here, cut_any)
+  where
+    cut_any : CutShort to content (take to content)
+    cut_any = dite (dec_le to (length content)) (λ (within : to ≤ length content). cut_taken to content within)
+        (λ (beyond : ¬ (to ≤ length content)). subst (λ (xs : List ℕ). CutShort to content xs) (sym (take_all to content (omega arith))) (cut_same to content))
+content_among Sync content images here = refl
+
+images_hold : (calls : List DiskCall) (content : List ℕ) (images : List ℕ → Type 0) → images content → images_after calls content images (content_after calls content)
+images_hold [] content images here = here
+images_hold (call ∷ calls) content images here = images_hold calls (content_by call content) (images_by call content images) (content_among call content images here)
+
+module _ (calls : List DiskCall) (start content : List ℕ) (replayed : content ≡ content_after calls start) where
+  content_now : images_of calls start content
+  content_now = subst (λ (i : List ℕ). images_of calls start i) (sym replayed) (images_hold calls start (λ image. image ≡ start) refl)
+
+  -- Time goes on by one call.
+  pub one_more : (call : DiskCall) (content' : List ℕ) → Elapses (length calls) (length (calls ++ call ∷ [])) (ImageSince calls start content)
+      (ImageSince (calls ++ call ∷ []) start content') (Images (calls ++ call ∷ []) start content')
+  one_more call content' = record {
+    later = (let l = longer in omega arith);
+    nothing_else = λ moment image le since. ⊎_elim (λ (is : image ≡ content'). inr (inl is)) (λ since. split moment image since.0 since.1 since.2 since.3) since;
+    keeps = λ moment image le past. ⊎_elim
+        (λ (is : image ≡ content). inr (length calls, le, (let l = longer in omega arith), subst (λ (cs : List DiskCall). images_of cs start image) (sym front) (subst (λ (i : List ℕ). images_of calls start i) (sym is) content_now)))
+        (λ past. inr (past.0, past.1, (let l = longer in let low : past.0 ≤ length calls = past.2 in omega arith), subst (λ (cs : List DiskCall). images_of cs start image) (sym (take-append-le past.0 calls (call ∷ []) past.2)) past.3))
+        past;
+  }
+    where
+      front : take (length calls) (calls ++ call ∷ []) ≡ calls
+      front = take-append-le (length calls) calls (call ∷ []) (le_refl (length calls)) ∙ take_all (length calls) calls (le_refl (length calls))
+
+      longer : length (calls ++ call ∷ []) ≡ length calls + 1
+      longer = length-append calls (call ∷ [])
+
+      split : (moment : ℕ) (image : List ℕ) (count : ℕ) → moment ≤ count → count ≤ length (calls ++ call ∷ []) → images_of (take count (calls ++ call ∷ [])) start image
+          → ImageSince calls start content moment image ⊎ Images (calls ++ call ∷ []) start content' image
+      split moment image count low high here = dite (dec_le count (length calls))
+          (λ (within : count ≤ length calls). inl (inr (count, low, within, subst (λ (cs : List DiskCall). images_of cs start image) (take-append-le count calls (call ∷ []) within) here)))
+          (λ (beyond : ¬ (count ≤ length calls)). let l = longer in
+          inr (inr (subst (λ (cs : List DiskCall). images_of cs start image) (take_all count (calls ++ call ∷ []) (omega arith)) here)))
+
+  -- What a crash leaves behind a call.
+  pub quiet : (call : DiskCall) → ((found : List ℕ) (images : List ℕ → Type 0) (image : List ℕ) → images_by call found images image → images image)
+      → NoFurther (Images calls start content) (Images (calls ++ call ∷ []) start content)
+  quiet call leaves image (inl is) = inl is
+  quiet call leaves image (inr here) = inr (leaves (content_after calls start) (images_of calls start) image (images_push calls call start (λ other. other ≡ start) image here))
+
+  synced_image : (image : List ℕ) → Images (calls ++ Sync ∷ []) start content image → image ≡ content
+  synced_image image (inl is) = is
+  synced_image image (inr here) = let now : image ≡ content_after calls start = images_push calls Sync start (λ other. other ≡ start) image here in now ∙ sym replayed
+
+  pub synced : NoFurther (Images calls start content) (Images (calls ++ Sync ∷ []) start content)
+  synced image here = inl (synced_image image here)
+
+  pub alone : Alone (Some content) (Images (calls ++ Sync ∷ []) start content)
+  alone image here = ap (λ (i : List ℕ). Some i) (sym (synced_image image here))
+
+  pub written_follows : (place : ℕ) (piece : List ℕ) (kept : Vec ℕ Global) → kept.items ≡ piece → place ≤ length content
+      → Follows (Torn place (length piece)) (Images calls start content) (Images (calls ++ Write place kept ∷ []) start (written place piece content))
+  written_follows place piece kept same within image (inl is) = (content, inl refl, subst (λ (i : List ℕ). Torn place (length piece) content i) (sym is) (torn_written place piece content within))
+  written_follows place piece kept same within image (inr here) =
+      let pushed : images_by (Write place kept) (content_after calls start) (images_of calls start) image = images_push calls (Write place kept) start (λ other. other ≡ start) image here in
+      let size : length content ≡ length (content_after calls start) = ap (λ (i : List ℕ). length i) replayed in
+      let at : min place (length (content_after calls start)) ≡ place = omega arith in (
+        pushed.0,
+        inr pushed.1,
+        subst (λ (n : ℕ). Torn n (length piece) pushed.0 image) at
+            (subst (λ (p : List ℕ). Torn (min place (length (content_after calls start))) (length p) pushed.0 image) same pushed.2),
+      )
+
+  pub cut_follows : (to : ℕ) → to ≤ length content → Follows (CutShort to) (Images calls start content) (Images (calls ++ Cut to ∷ []) start (take to content))
+  cut_follows to within image (inl is) = (content, inl refl, subst (λ (i : List ℕ). CutShort to content i) (sym is) (cut_taken to content within))
+  cut_follows to within image (inr here) =
+      let pushed : images_by (Cut to) (content_after calls start) (images_of calls start) image = images_push calls (Cut to) start (λ other. other ≡ start) image here in
+      (pushed.0, inr pushed.1, pushed.2)
+
+-- The same of a disk behind the call, whose calls, start and content are known by equations.
+module _ (calls calls' : List DiskCall) (start start' content content' : List ℕ) (call : DiskCall) (replayed : content ≡ content_after calls start) (calls_are : calls' ≡ calls ++ call ∷ []) (start_is : start' ≡ start) where
+  pub time_behind : Elapses (length calls) (length calls') (ImageSince calls start content) (ImageSince calls' start' content') (Images calls' start' content')
+  time_behind = subst (λ (cs : List DiskCall). Elapses (length calls) (length cs) (ImageSince calls start content) (ImageSince cs start' content') (Images cs start' content')) (sym calls_are)
+      (subst (λ (s : List ℕ). Elapses (length calls) (length (calls ++ call ∷ [])) (ImageSince calls start content) (ImageSince (calls ++ call ∷ []) s content') (Images (calls ++ call ∷ []) s content')) (sym start_is)
+      (one_more calls start content replayed call content'))
+
+  -- what holds of the images with the call last holds of those of the disk
+  pub behind : (P : (List ℕ → Type 0) → Type 0) (now : List ℕ) → content' ≡ now → P (Images (calls ++ call ∷ []) start now) → P (Images calls' start' content')
+  behind P now content_is holds = subst (λ (cs : List DiskCall). P (Images cs start' content')) (sym calls_are)
+      (subst (λ (s : List ℕ). P (Images (calls ++ call ∷ []) s content')) (sym start_is)
+      (subst (λ (i : List ℕ). P (Images (calls ++ call ∷ []) start i)) (sym content_is) holds))
+
+  -- the content is still that of the calls
+  pub replayed_behind : content' ≡ content_by call content → content' ≡ content_after calls' start'
+  replayed_behind content_is = content_is ∙ ap (content_by call) replayed ∙ sym (content_push calls call start)
+      ∙ ap (λ (cs : List DiskCall). content_after cs start) (sym calls_are) ∙ ap (content_after calls') (sym start_is)
+
+-- a call that failed for want of memory has its cause
+pub cause_of : {T : Type 0} (before between after : ℕ) (failed : Failed) → before ≤ between → between ≤ after → Rose between after → (let result : Result T Failed = Err failed in HasCause before after result)
+cause_of before between after failed first second rose = record { later = omega arith; failed = omega arith }

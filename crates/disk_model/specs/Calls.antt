@@ -1,0 +1,60 @@
+-- A disk in memory: what its calls so far make of its content, and which images the rules allow.
+use Rattle.std.specs.Prelude.{◌≡◌, ◌≤◌, ◌⊎◌, ℕ, List, [], ◌∷◌, Option, None, Some, Vec, length, min, take}
+use Rattle.std.specs.declared.alloc.Global.{Global}
+use Rattle.std.proofs.Common.{inl, inr, subst, sym, le_refl}
+use Rattle.std.proofs.lemmas.List.{take_all}
+use Rattle.disk_model.specs.declared.memory_disk.DiskCall.{DiskCall}
+use Rattle.disk_model.specs.declared.memory_disk.DiskCall.TheVariants.{Len, Read, Write, Cut, Sync}
+use Rattle.disk_model.specs.Disks.{CutShort, Torn, written}
+
+-- the content after a call
+abbrev pub content_by : DiskCall → List ℕ → List ℕ
+content_by Len content = content
+content_by (Read place count) content = content
+content_by (Write place piece) content = written place piece.items content
+content_by (Cut to) content = take to content
+content_by Sync content = content
+
+-- the images after a call that found this content and these images
+abbrev pub images_by : DiskCall → List ℕ → (List ℕ → Type 0) → List ℕ → Type 0
+images_by Len content images image = images image
+images_by (Read place count) content images image = images image
+images_by (Write place piece) content images image = (earlier : List ℕ) × images earlier × Torn (min place (length content)) (length piece.items) earlier image
+images_by (Cut to) content images image = (earlier : List ℕ) × images earlier × CutShort to earlier image
+images_by Sync content images image = image ≡ content
+
+abbrev pub content_after : List DiskCall → List ℕ → List ℕ
+content_after [] content = content
+content_after (call ∷ calls) content = content_after calls (content_by call content)
+
+abbrev pub images_after : List DiskCall → List ℕ → (List ℕ → Type 0) → List ℕ → Type 0
+images_after [] content images = images
+images_after (call ∷ calls) content images = images_after calls (content_by call content) (images_by call content images)
+
+-- at the start the content is the one image
+abbrev pub images_of : List DiskCall → List ℕ → List ℕ → Type 0
+images_of calls start = images_after calls start (λ image. image ≡ start)
+
+-- the images now: the content is one
+abbrev pub Images : List DiskCall → List ℕ → List ℕ → List ℕ → Type 0
+Images calls start content image = (image ≡ content) ⊎ images_of calls start image
+
+-- an image after some number of the calls, from that number on
+abbrev pub ImageSince : List DiskCall → List ℕ → List ℕ → ℕ → List ℕ → Type 0
+ImageSince calls start content moment image = (image ≡ content) ⊎ ((count : ℕ) × (moment ≤ count) × (count ≤ length calls) × images_of (take count calls) start image)
+
+-- the content at the start: it is kept from the first call that changes something on
+abbrev pub begun_with : Option (Vec ℕ Global) → List ℕ → List ℕ
+begun_with None content = content
+begun_with (Some kept) content = kept.items
+
+-- What holds of these images at each moment.
+module _ (calls : List DiskCall) (start content : List ℕ) where
+  pub now_among : (moment : ℕ) (image : List ℕ) → moment ≤ length calls → Images calls start content image → ImageSince calls start content moment image
+  now_among moment image within (inl is) = inl is
+  now_among moment image within (inr here) =
+      inr (length calls, within, le_refl (length calls), subst (λ (cs : List DiskCall). images_of cs start image) (sym (take_all (length calls) calls (le_refl (length calls)))) here)
+
+  pub only_now_left : (image : List ℕ) → ImageSince calls start content (length calls) image → Images calls start content image
+  only_now_left image (inl is) = inl is
+  only_now_left image (inr since) = inr (subst (λ (cs : List DiskCall). images_of cs start image) (take_all since.0 calls since.1) since.3)

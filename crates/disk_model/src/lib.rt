@@ -1,0 +1,12 @@
+//! A disk as a journal sees it: what a read gives, and what a crash may leave. A disk in memory, by
+//! which tests and drills try each fault and each crash, and a file of the system.
+#![tactic(auto)]
+
+mod disks;
+mod file_disk;
+mod memory_disk;
+
+pub use decimal_rank::Failed;
+pub use disks::{Disk, MOST_BYTES};
+pub use file_disk::FileDisk;
+pub use memory_disk::{DiskCall, MemoryDisk};

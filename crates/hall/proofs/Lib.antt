@@ -1,0 +1,4 @@
+pub mod Ascending
+pub mod Growing
+pub mod Keeping
+pub mod Acting

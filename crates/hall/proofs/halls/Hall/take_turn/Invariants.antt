@@ -1,0 +1,6 @@
+-- A look that finds the turn taken changes nothing of the seat.
+use Rattle.std.proofs.Common.{◌≡◌}
+use Rattle.hall.proofs.halls.Hall.take_turn.Given as goal
+
+abbrev pub invariant-loop : goal.invariant-loop
+invariant-loop g l = (l.seat.table_id ≡ l.initial.seat.table_id) × (l.seat.me ≡ l.initial.seat.me)

@@ -1,0 +1,4 @@
+pub mod Places
+pub mod Stories
+pub mod Acts
+pub mod Rule

@@ -1,0 +1,118 @@
+//! Workers that write notes at the same time.
+ghost use Rattle.std.specs.Prelude.{◌≡◌};
+ghost use Rattle.std.specs.Thread.{IsSync};
+
+use crate::tallies::{Note, Tally};
+use hall::{Hall, Pass};
+use std::sync::Wait;
+use std::thread;
+use std::thread::Threads;
+
+/// How many workers there are.
+#[derive(Clone, Copy, Debug, PartialEq, Eq)]
+pub enum Crowd {
+    One,
+    Two,
+    Four,
+}
+
+impl Crowd {
+    pub fn size(self) -> u32 {
+        match self {
+            Crowd::One => 1,
+            Crowd::Two => 2,
+            Crowd::Four => 4,
+        }
+    }
+}
+
+// One worker writes its notes, in order.
+fn work<R: Wait>(
+    rt: &R,
+    hall: &Hall<Tally>,
+    mut pass: Pass<Tally>,
+    worker: u32,
+    notes: u32,
+) -> Pass<Tally>
+    requires { pass.hall ≡ hall.now }
+    ensures { result.hall ≡ hall.now }
+{
+    for number in 0..notes {
+        let _ = hall.act(rt, &mut pass, Note { worker, number });
+    }
+    pass
+}
+
+// Two workers, the second of which has the number after the first's.
+fn two<R: Threads + Wait + Sync>(
+    rt: &R,
+    hall: &Hall<Tally>,
+    mut pass: Pass<Tally>,
+    first: u32,
+    notes: u32,
+) -> Pass<Tally>
+    requires pass { pass.hall ≡ hall.now }
+    requires shared { IsSync R.row }
+    ensures { result.hall ≡ hall.now }
+{
+    let other = hall.split(&mut pass);
+    let second = first.saturating_add(1);
+    let (mut pass, other) = thread::join(
+        rt,
+        move ||
+            requires { pass.hall ≡ hall.now }
+            ensures { result.hall ≡ hall.entry.now }
+        { work(rt, hall, pass, first, notes) },
+        move ||
+            requires { other.hall ≡ hall.now }
+            ensures { result.hall ≡ hall.entry.now }
+        { work(rt, hall, other, second, notes) },
+    );
+    hall.join(other, &mut pass);
+    pass
+}
+
+fn four<R: Threads + Wait + Sync>(
+    rt: &R,
+    hall: &Hall<Tally>,
+    mut pass: Pass<Tally>,
+    notes: u32,
+) -> Pass<Tally>
+    requires pass { pass.hall ≡ hall.now }
+    requires shared { IsSync R.row }
+    ensures { result.hall ≡ hall.now }
+{
+    let other = hall.split(&mut pass);
+    let (mut pass, other) = thread::join(
+        rt,
+        move ||
+            requires { IsSync R.row × (pass.hall ≡ hall.now) }
+            ensures { result.hall ≡ hall.entry.now }
+        { two(rt, hall, pass, 0, notes) },
+        move ||
+            requires { IsSync R.row × (other.hall ≡ hall.now) }
+            ensures { result.hall ≡ hall.entry.now }
+        { two(rt, hall, other, 2, notes) },
+    );
+    hall.join(other, &mut pass);
+    pass
+}
+
+/// Each worker writes so many notes. The pass afterwards has seen all of them.
+pub fn write_notes<R: Threads + Wait + Sync>(
+    rt: &R,
+    hall: &Hall<Tally>,
+    pass: Pass<Tally>,
+    crowd: Crowd,
+    notes: u32,
+) -> Pass<Tally>
+    requires pass { pass.hall ≡ hall.now }
+    requires shared { IsSync R.row }
+    ensures { result.hall ≡ hall.now }
+{
+    match crowd {
+        Crowd::One => work(rt, hall, pass, 0, notes),
+        Crowd::Two => two(rt, hall, pass, 0, notes),
+        Crowd::Four => four(rt, hall, pass, notes),
+    }
+}

@@ -1,0 +1,12 @@
+-- What a wire keeps true of its fields.
+use Rattle.std.specs.Prelude.{◌+◌, ◌≤◌, length, drop}
+use Rattle.http_wire.specs.declared.wires.Wire.TheInside.{Inside}
+use Rattle.http_wire.specs.Heads.{passed}
+use Rattle.http_wire.specs.Fronts.{IsAwaiting, IsSearched}
+
+-- At most half of the bytes that are kept were given or passed over. Nothing comes of the others before so many are there, and no head of
+-- theirs ends before where it is looked for.
+pub record IsKept (wire : Inside) : Type 0 where
+  pub half : wire.done + wire.done ≤ length wire.bytes.items
+  pub awaiting : IsAwaiting (drop wire.done wire.bytes.items) wire.needed
+  pub searched : IsSearched (passed (drop wire.done wire.bytes.items)) wire.searched

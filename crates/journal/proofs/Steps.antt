@@ -1,0 +1,225 @@
+-- What each step leaves of the images.
+use Rattle.std.proofs.Common.{◌≡◌, ◌≢◌, ◌⊎◌, inl, inr, ⊎_elim, ℕ, ◌+◌, ◌≤◌, List, [], ◌∷◌, ◌++◌, length, get_or, take, drop, sym, ap, ◌∙◌, arith, append_assoc, length-append}
+use Rattle.std.specs.Prelude.{Some}
+use Rattle.std.proofs.lemmas.List.{append-nil, drop_all, drop_at, drop_more, take-append-drop, take_all, take_at}
+use Rattle.std.proofs.lemmas.Bool.{cases_eq}
+use mathlib.Core.Logic.{dite}
+use native.Mathlib.Decide.{dec_le}
+use Rattle.disk_model.specs.Disks.{CutShort, Follows, Torn, written}
+use Rattle.journal.specs.Format.{decode, payload_behind, records}
+use Rattle.journal.specs.Frames.{IsFrame}
+use Rattle.journal.specs.Kept.{CutDue, GateDue, IsFront, Settled, Staged, StandsFor}
+use Rattle.journal.specs.Synced.{ReachesTo, WithStep}
+use Rattle.journal.proofs.RecordBytes.{body, frame_gives, front_grows, shut_ends}
+
+-- Bytes with a gate at this place.
+module _ (front : List ℕ) (place : ℕ) (size : length front ≡ place) where
+  pub up_to_gate : (gate : ℕ) (rest : List ℕ) → take (place + 1) (front ++ gate ∷ rest) ≡ front ++ gate ∷ []
+  up_to_gate gate rest =
+      let with_gate : length (front ++ gate ∷ []) ≡ place + 1 = omega (arith, size, length-append front (gate ∷ [])) in
+      ap (λ (bytes : List ℕ). take (place + 1) bytes) (sym (append_assoc front (gate ∷ []) rest)) ∙ take_at (front ++ gate ∷ []) rest (place + 1) with_gate
+
+  pub behind_gate : (gate : ℕ) (rest : List ℕ) → drop (place + 1) (front ++ gate ∷ rest) ≡ rest
+  behind_gate gate rest =
+      let with_gate : length (front ++ gate ∷ []) ≡ place + 1 = omega (arith, size, length-append front (gate ∷ [])) in
+      ap (λ (bytes : List ℕ). drop (place + 1) bytes) (sym (append_assoc front (gate ∷ []) rest)) ∙ drop_at (front ++ gate ∷ []) rest (place + 1) with_gate
+
+  pub before_gate : (rest : List ℕ) → take place (front ++ rest) ≡ front
+  before_gate rest = take_at front rest place size
+
+  -- the same front and the same gate
+  pub gate_stays : (gate : ℕ) (rest image : List ℕ) → take (place + 1) image ≡ take (place + 1) (front ++ gate ∷ rest) → image ≡ front ++ gate ∷ drop (place + 1) image
+  gate_stays gate rest image same =
+      sym (take-append-drop (place + 1) image)
+      ∙ ap (λ (bytes : List ℕ). bytes ++ drop (place + 1) image) (same ∙ up_to_gate gate rest)
+      ∙ append_assoc front (gate ∷ []) (drop (place + 1) image)
+
+  -- the same front and the same bytes behind the gate
+  pub gate_changes : (tail image : List ℕ) → take place image ≡ front → drop (place + 1) image ≡ tail → place + 1 ≤ length image → image ≡ front ++ get_or image place 0 ∷ tail
+  gate_changes tail image first last long =
+      sym (take-append-drop place image)
+      ∙ ap (λ (bytes : List ℕ). bytes ++ drop place image) first
+      ∙ ap (λ (bytes : List ℕ). front ++ bytes) (drop_more image place 0 (omega (arith, long)) ∙ ap (λ (bytes : List ℕ). get_or image place 0 ∷ bytes) last)
+
+  pub written_at_gate : (byte : ℕ) (rest : List ℕ) → written place (byte ∷ []) (front ++ rest) ≡ front ++ byte ∷ drop (place + 1) (front ++ rest)
+  written_at_gate byte rest = ap (λ (bytes : List ℕ). bytes ++ (byte ∷ []) ++ drop (place + 1) (front ++ rest)) (before_gate rest)
+      ∙ append_assoc front (byte ∷ []) (drop (place + 1) (front ++ rest))
+
+  pub written_behind : (gate : ℕ) (bytes : List ℕ) → written (place + 1) bytes (front ++ gate ∷ []) ≡ front ++ gate ∷ bytes
+  written_behind gate bytes =
+      let short : length (front ++ gate ∷ []) ≤ place + 1 + length bytes = omega (arith, size, length-append front (gate ∷ [])) in
+      ap (λ (first : List ℕ). first ++ bytes ++ drop (place + 1 + length bytes) (front ++ gate ∷ [])) (up_to_gate gate [])
+      ∙ ap (λ (last : List ℕ). (front ++ gate ∷ []) ++ bytes ++ last) (drop_all (place + 1 + length bytes) (front ++ gate ∷ []) short)
+      ∙ append-nil ((front ++ gate ∷ []) ++ bytes)
+      ∙ append_assoc front (gate ∷ []) bytes
+
+  pub reaches_gate : (gate : ℕ) (rest image : List ℕ) → image ≡ front ++ gate ∷ rest → place + 1 ≤ length image
+  reaches_gate gate rest image is = omega (arith, size, ap (λ (bytes : List ℕ). length bytes) is, length-append front (gate ∷ rest))
+
+-- What is kept stands for these records.
+module _ (images : List ℕ → Type 0) (place : ℕ) (all : List (List ℕ)) where
+  shut_reads : (front : List ℕ) → IsFront front place all → (gate : ℕ) → gate ≢ 1 → (rest image : List ℕ) → image ≡ front ++ gate ∷ rest → decode image ≡ Some all
+  shut_reads front is_front gate shut rest image is =
+      ap (λ (bytes : List ℕ). decode bytes) is ∙ is_front.reads (gate ∷ rest)
+      ∙ ap (λ (more : List (List ℕ)). Some (all ++ more)) (shut_ends gate rest shut) ∙ ap (λ (found : List (List ℕ)). Some found) (append-nil all)
+
+  pub settled_reads : Settled images place all → (image : List ℕ) → images image → decode image ≡ Some all
+  settled_reads kept image here = shut_reads kept.front kept.is_front kept.gate kept.shut [] image (kept.each image here)
+
+  pub cut_reads : CutDue images place all → (image : List ℕ) → images image → decode image ≡ Some all
+  cut_reads kept image here = let found = kept.each image here in shut_reads kept.front kept.is_front kept.gate kept.shut found.0 image found.1
+
+  pub staged_reads : (bytes : List ℕ) → Staged images place all bytes → (image : List ℕ) → images image → decode image ≡ Some all
+  staged_reads bytes kept image here = shut_reads kept.front kept.is_front kept.gate kept.shut bytes image (kept.each image here)
+
+  -- a gate that may be open gives the records, with the pending ones or without
+  gate_gives : (front : List ℕ) → IsFront front place all → (tail : List ℕ) (pending : List (List ℕ)) → records 0 (1 ∷ tail) ≡ pending → (gate : ℕ) (image : List ℕ) → image ≡ front ++ gate ∷ tail → StandsFor all pending image
+  gate_gives front is_front tail pending behind gate image is = ⊎_elim (λ (open_gate : gate ≡ 1). inr (reads ∙ ap (λ (more : List (List ℕ)). Some (all ++ more)) (ap (λ (g : ℕ). records 0 (g ∷ tail)) open_gate ∙ behind)))
+      (λ (shut : gate ≢ 1). inl (shut_reads front is_front gate shut tail image is))
+      (cases_eq gate 1)
+    where
+      reads : decode image ≡ Some (all ++ records 0 (gate ∷ tail))
+      reads = ap (λ (bytes : List ℕ). decode bytes) is ∙ is_front.reads (gate ∷ tail)
+
+  pub gate_reads : (pending : List (List ℕ)) → GateDue images place all pending → (image : List ℕ) → images image → StandsFor all pending image
+  gate_reads pending kept image here = ⊎_elim
+      (λ (end : (image ≡ kept.front) × (kept.tail ≡ [])). inl (
+      ap (λ (bytes : List ℕ). decode bytes) (end.0 ∙ sym (append-nil kept.front)) ∙ kept.is_front.reads [] ∙ ap (λ (found : List (List ℕ)). Some found) (append-nil all)))
+      (λ (found : (gate : ℕ) × (image ≡ kept.front ++ gate ∷ kept.tail)). gate_gives kept.front kept.is_front kept.tail pending kept.behind found.0 image found.1)
+      (kept.each image here)
+
+  pub settled_is_cut : Settled images place all → CutDue images place all
+  settled_is_cut kept = record { front = kept.front; is_front = kept.is_front; gate = kept.gate; shut = kept.shut; each = λ image here. ([], kept.each image here) }
+
+  pub settled_reaches : Settled images place all → ReachesTo (place + 1) images
+  settled_reaches kept image here = reaches_gate kept.front place kept.is_front.size kept.gate [] image (kept.each image here)
+
+  pub cut_reaches : CutDue images place all → ReachesTo (place + 1) images
+  cut_reaches kept image here = let found = kept.each image here in reaches_gate kept.front place kept.is_front.size kept.gate found.0 image found.1
+
+  pub staged_reaches : (bytes : List ℕ) → Staged images place all bytes → ReachesTo place images
+  staged_reaches bytes kept image here = let long = reaches_gate kept.front place kept.is_front.size kept.gate bytes image (kept.each image here) in omega (arith, long)
+
+  pub gate_reaches : (pending : List (List ℕ)) → GateDue images place all pending → ReachesTo place images
+  gate_reaches pending kept image here = ⊎_elim
+      (λ (end : (image ≡ kept.front) × (kept.tail ≡ [])). omega (arith, kept.is_front.size, ap (λ (bytes : List ℕ). length bytes) end.0))
+      (λ (found : (gate : ℕ) × (image ≡ kept.front ++ gate ∷ kept.tail)). let long = reaches_gate kept.front place kept.is_front.size found.0 kept.tail image found.1 in omega (arith, long))
+      (kept.each image here)
+
+-- From images to those after a step.
+module _ (images after : List ℕ → Type 0) (place : ℕ) (all : List (List ℕ)) where
+  -- what leaves the bytes up to the gate
+  gate_kept : CutDue images place all → ((image : List ℕ) → after image → (earlier : List ℕ) × images earlier × (take (place + 1) image ≡ take (place + 1) earlier)) → CutDue after place all
+  gate_kept kept follows = record {
+    front = kept.front;
+    is_front = kept.is_front;
+    gate = kept.gate;
+    shut = kept.shut;
+    each = λ image here.
+        let from = follows image here in
+        let was = kept.each from.0 from.1 in
+        (drop (place + 1) image, gate_stays kept.front place kept.is_front.size kept.gate was.0 image (from.2 ∙ ap (λ (bytes : List ℕ). take (place + 1) bytes) was.1));
+  }
+
+  pub torn_behind : (count : ℕ) → CutDue images place all → Follows (Torn (place + 1) count) images after → CutDue after place all
+  torn_behind count kept follows = gate_kept kept (λ image here. let from = follows image here in (from.0, from.1, from.2.before))
+
+  pub cut_behind : CutDue images place all → Follows (CutShort (place + 1)) images after → CutDue after place all
+  cut_behind kept follows = gate_kept kept (λ image here. let from = follows image here in (from.0, from.1, from.2.before))
+
+  pub trimmed : CutDue images place all → Follows (λ earlier image. image ≡ take (place + 1) earlier) images after → Settled after place all
+  trimmed kept follows = record {
+    front = kept.front;
+    is_front = kept.is_front;
+    gate = kept.gate;
+    shut = kept.shut;
+    each = λ image here.
+        let from = follows image here in
+        let was = kept.each from.0 from.1 in
+        from.2 ∙ ap (λ (bytes : List ℕ). take (place + 1) bytes) was.1 ∙ up_to_gate kept.front place kept.is_front.size kept.gate was.0;
+  }
+
+  pub staged : (bytes : List ℕ) → Settled images place all → Follows (λ earlier image. image ≡ written (place + 1) bytes earlier) images after → Staged after place all bytes
+  staged bytes kept follows = record {
+    front = kept.front;
+    is_front = kept.is_front;
+    gate = kept.gate;
+    shut = kept.shut;
+    each = λ image here.
+        let from = follows image here in
+        from.2 ∙ ap (λ (earlier : List ℕ). written (place + 1) bytes earlier) (kept.each from.0 from.1) ∙ written_behind kept.front place kept.is_front.size kept.gate bytes;
+  }
+
+  -- a torn write of the gate leaves the same bytes behind it
+  torn_gate : (front : List ℕ) → length front ≡ place → (gate : ℕ) (tail earlier image : List ℕ) → earlier ≡ front ++ gate ∷ tail → Torn place 1 earlier image → image ≡ front ++ get_or image place 0 ∷ tail
+  torn_gate front size gate tail earlier image was torn = gate_changes front place size tail image
+      (torn.before ∙ ap (λ (bytes : List ℕ). take place bytes) was ∙ before_gate front place size (gate ∷ tail))
+      (torn.after ∙ ap (λ (bytes : List ℕ). drop (place + 1) bytes) was ∙ behind_gate front place size gate tail)
+      (let long = reaches_gate front place size gate tail earlier was in let more = torn.no_shorter in omega (arith, long, more))
+
+  pub staged_torn : (bytes : List ℕ) → IsFrame bytes → Staged images place all bytes → Follows (Torn place 1) images after → GateDue after place all (payload_behind bytes ∷ [])
+  staged_torn bytes frame kept follows = record {
+    front = kept.front;
+    is_front = kept.is_front;
+    tail = bytes;
+    behind = frame_gives bytes frame;
+    each = λ image here.
+        let from = follows image here in
+        inr (get_or image place 0, torn_gate kept.front kept.is_front.size kept.gate bytes from.0 image (kept.each from.0 from.1) from.2);
+  }
+
+  pub opened : (bytes : List ℕ) → IsFrame bytes → Staged images place all bytes → Follows (λ earlier image. image ≡ written place (1 ∷ []) earlier) images after → Settled after (place + length bytes) (all ++ payload_behind bytes ∷ [])
+  opened bytes frame kept follows = record {
+    front = kept.front ++ 1 ∷ body bytes frame;
+    is_front = front_grows bytes frame kept.front place all kept.is_front;
+    gate = 0;
+    shut = λ is. omega (arith, is);
+    each = λ image here.
+        let from = follows image here in
+        from.2 ∙ ap (λ (earlier : List ℕ). written place (1 ∷ []) earlier) (kept.each from.0 from.1)
+        ∙ written_at_gate kept.front place kept.is_front.size 1 (kept.gate ∷ bytes)
+        ∙ ap (λ (rest : List ℕ). kept.front ++ 1 ∷ rest) (behind_gate kept.front place kept.is_front.size kept.gate bytes ∙ frame.ended)
+        ∙ sym (append_assoc kept.front (1 ∷ body bytes frame) (0 ∷ []));
+  }
+
+  pub gate_torn : (pending : List (List ℕ)) → GateDue images place all pending → Follows (Torn place 1) images after → GateDue after place all pending
+  gate_torn pending kept follows = record {
+    front = kept.front;
+    is_front = kept.is_front;
+    tail = kept.tail;
+    behind = kept.behind;
+    each = λ image here. let from = follows image here in ⊎_elim (at_end image from.0 from.2) (λ (found : (gate : ℕ) × (from.0 ≡ kept.front ++ gate ∷ kept.tail)). inr (get_or image place 0, torn_gate kept.front kept.is_front.size found.0 kept.tail from.0 image found.1 from.2)) (kept.each from.0 from.1);
+  }
+    where
+      at_end : (image earlier : List ℕ) → Torn place 1 earlier image → (earlier ≡ kept.front) × (kept.tail ≡ []) → ((image ≡ kept.front) × (kept.tail ≡ [])) ⊎ ((gate : ℕ) × (image ≡ kept.front ++ gate ∷ kept.tail))
+      at_end image earlier torn end =
+          let size = kept.is_front.size in
+          let same : length earlier ≡ place = ap (λ (bytes : List ℕ). length bytes) end.0 ∙ size in
+          let first : take place image ≡ kept.front = torn.before ∙ ap (λ (bytes : List ℕ). take place bytes) end.0 ∙ take_all place kept.front (omega (arith, size)) in
+          let last : drop (place + 1) image ≡ kept.tail = torn.after ∙ drop_all (place + 1) earlier (omega (arith, same)) ∙ sym end.1 in
+          dite (dec_le (place + 1) (length image))
+          (λ (long : place + 1 ≤ length image). inr (get_or image place 0, gate_changes kept.front place size kept.tail image first last long))
+          (λ (short : ¬ (place + 1 ≤ length image)). inl (sym (take_all place image (omega (arith, short))) ∙ first, end.1))
+
+  pub gate_closed : (pending : List (List ℕ)) → GateDue images place all pending → Follows (λ earlier image. image ≡ written place (0 ∷ []) earlier) images after → CutDue after place all
+  gate_closed pending kept follows = record {
+    front = kept.front;
+    is_front = kept.is_front;
+    gate = 0;
+    shut = λ is. omega (arith, is);
+    each = λ image here. let from = follows image here in ⊎_elim
+        (λ (end : (from.0 ≡ kept.front) × (kept.tail ≡ [])). closed_front image from.0 [] from.2 (end.0 ∙ sym (append-nil kept.front)))
+        (λ (found : (gate : ℕ) × (from.0 ≡ kept.front ++ gate ∷ kept.tail)). closed_front image from.0 (found.0 ∷ kept.tail) from.2 found.1)
+        (kept.each from.0 from.1);
+  }
+    where
+      closed_front : (image earlier rest : List ℕ) → image ≡ written place (0 ∷ []) earlier → earlier ≡ kept.front ++ rest → (behind : List ℕ) × (image ≡ kept.front ++ 0 ∷ behind)
+      closed_front image earlier rest is was = (
+        drop (place + 1) (kept.front ++ rest),
+        is ∙ ap (λ (bytes : List ℕ). written place (0 ∷ []) bytes) was ∙ written_at_gate kept.front place kept.is_front.size 0 rest,
+      )
+
+-- What holds of the images, and of those after a step, holds of each moment.
+pub with_step : (step : List ℕ → List ℕ → Type 0) (images : List ℕ → Type 0) (P : List ℕ → Type 0) → ((image : List ℕ) → images image → P image)
+    → ((after : List ℕ → Type 0) → Follows step images after → (image : List ℕ) → after image → P image) → (image : List ℕ) → WithStep step images image → P image
+with_step step images P now later image here = ⊎_elim (λ was. now image was) (λ made. later (λ new. (earlier : List ℕ) × images earlier × step earlier new) (λ new from. from) image made) here

@@ -1,0 +1,18 @@
+-- What a journal keeps after a mend.
+use Rattle.std.proofs.Common.{ℕ, List, subst}
+use Rattle.std.specs.Prelude.{OnOk}
+use Rattle.journal.specs.Journals.{JournalState, KeepsRecords}
+use Rattle.journal.specs.Kept.{Settled}
+use Rattle.journal.proofs.Keeping.{kept_of_some}
+use Rattle.journal.proofs.journals.Journal.mend.Goals as goal
+
+pub invariant_of-self : goal.invariant_of-self
+invariant_of-self g c =
+    let kept = c.self.invariant.1 in
+    (c.self.invariant.0, kept_of_some _ c.self.inside.place c.mend_due.new.due kept.0 kept.1 (c.mend_due.ensures.kept kept.0 kept.1 kept.2))
+
+pub returns-clause-mended : goal.returns-clause-mended
+returns-clause-mended g c = subst
+    (λ (journal : JournalState g.row.D.Denot). OnOk c.mend_due.result ((all pending : List (List ℕ)) → KeepsRecords g.D.Disk.images journal all pending
+    → Settled (g.D.Disk.images c.mend_due.new.disk) c.self.inside.place all))
+    c.self.view_is c.mend_due.ensures.mended

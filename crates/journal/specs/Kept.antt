@@ -1,0 +1,95 @@
+-- What a disk keeps for a journal: its records, and the one whose append failed last.
+use Rattle.std.specs.Prelude.{◌≡◌, ◌≢◌, ◌⊎◌, ℕ, ◌+◌, ◌≤◌, List, [], ◌∷◌, ◌++◌, Some, Vec, length, drop, get_or, map}
+use Rattle.std.specs.declared.alloc.Global.{Global}
+use Rattle.journal.specs.declared.dues.Due.{Due}
+use Rattle.journal.specs.declared.dues.Due.TheVariants.{Nothing, Cut, Gate}
+use Rattle.journal.specs.Format.{decode, place_behind, records, told_length}
+
+-- These bytes hold the records up to the gate at this place: whatever follows adds what it gives there.
+pub record IsFront (front : List ℕ) (place : ℕ) (all : List (List ℕ)) : Type 0 where
+  pub size : length front ≡ place
+  pub total : place ≡ place_behind all
+  pub reads : (rest : List ℕ) → decode (front ++ rest) ≡ Some (all ++ records 0 rest)
+
+-- a whole record with an open gate begins at this place, and its payload has so many bytes
+pub record IsRecord (bytes : List ℕ) (place count : ℕ) : Type 0 where
+  pub open_gate : drop place bytes ≡ 1 ∷ drop (place + 1) bytes
+  pub told : told_length (drop (place + 1) bytes) ≡ count
+  pub whole : place + 5 + count ≤ length bytes
+
+-- each image is the records and a closed gate
+pub record Settled (images : List ℕ → Type 0) (place : ℕ) (all : List (List ℕ)) : Type 0 where
+  pub front : List ℕ
+  pub is_front : IsFront front place all
+  pub gate : ℕ
+  pub shut : gate ≢ 1
+  pub each : (image : List ℕ) → images image → image ≡ front ++ gate ∷ []
+
+-- each image is the records and a closed gate, behind which anything may stand
+pub record CutDue (images : List ℕ → Type 0) (place : ℕ) (all : List (List ℕ)) : Type 0 where
+  pub front : List ℕ
+  pub is_front : IsFront front place all
+  pub gate : ℕ
+  pub shut : gate ≢ 1
+  pub each : (image : List ℕ) → images image → (rest : List ℕ) × (image ≡ front ++ gate ∷ rest)
+
+-- each image is the records, a closed gate and these bytes
+pub record Staged (images : List ℕ → Type 0) (place : ℕ) (all : List (List ℕ)) (bytes : List ℕ) : Type 0 where
+  pub front : List ℕ
+  pub is_front : IsFront front place all
+  pub gate : ℕ
+  pub shut : gate ≢ 1
+  pub each : (image : List ℕ) → images image → image ≡ front ++ gate ∷ bytes
+
+-- Each image is the records, some gate, and the same bytes behind it; or there is no gate, and nothing behind.
+pub record GateDue (images : List ℕ → Type 0) (place : ℕ) (all pending : List (List ℕ)) : Type 0 where
+  pub front : List ℕ
+  pub is_front : IsFront front place all
+  pub tail : List ℕ
+  pub behind : records 0 (1 ∷ tail) ≡ pending
+  pub each : (image : List ℕ) → images image → ((image ≡ front) × (tail ≡ [])) ⊎ ((gate : ℕ) × (image ≡ front ++ gate ∷ tail))
+
+-- What a mend has to do where no record begins at this place: close a gate that is open or missing, or only cut.
+abbrev pub DueAt : List ℕ → ℕ → Due → Type 0
+DueAt bytes place Nothing = ⊥
+DueAt bytes place Cut = (get_or bytes place 0 ≢ 1) × (drop place bytes ≡ get_or bytes place 0 ∷ drop (place + 1) bytes)
+DueAt bytes place Gate = (drop place bytes ≡ []) ⊎ (drop place bytes ≡ 1 ∷ drop (place + 1) bytes)
+
+-- these records, and perhaps the pending ones, with what a mend has to do
+abbrev pub Keeps : (List ℕ → Type 0) → ℕ → Due → List (List ℕ) → List (List ℕ) → Type 0
+Keeps images place Nothing all pending = Settled images place all × (pending ≡ [])
+Keeps images place Cut all pending = CutDue images place all × (pending ≡ [])
+Keeps images place Gate all pending = GateDue images place all pending
+
+-- some records are kept
+abbrev pub Kept : (List ℕ → Type 0) → ℕ → Due → Type 0
+Kept images place due = (all : List (List ℕ)) × (pending : List (List ℕ)) × Keeps images place due all pending
+
+-- these records are kept, with none pending or with these
+abbrev pub KeepsSome : (List ℕ → Type 0) → ℕ → Due → List (List ℕ) → List (List ℕ) → Type 0
+KeepsSome images place due all pending = Keeps images place due all [] ⊎ Keeps images place due all pending
+
+-- these records are kept, with none pending, with those that were, or with this one
+abbrev pub StillKeeps : (List ℕ → Type 0) → ℕ → Due → List (List ℕ) → List (List ℕ) → List ℕ → Type 0
+StillKeeps images place due all pending payload = KeepsSome images place due all pending ⊎ Keeps images place due all (payload ∷ [])
+
+-- the image gives these records, or these and the pending ones
+abbrev pub StandsFor : List (List ℕ) → List (List ℕ) → List ℕ → Type 0
+StandsFor all pending image = (decode image ≡ Some all) ⊎ (decode image ≡ Some (all ++ pending))
+
+-- the image gives these records, these and the pending ones, or these and this one
+abbrev pub StandsForOneOf : List (List ℕ) → List (List ℕ) → List ℕ → List ℕ → Type 0
+StandsForOneOf all pending payload image = StandsFor all pending image ⊎ StandsFor all (payload ∷ []) image
+
+-- the payloads as lists
+abbrev pub payloads : List (Vec ℕ Global) → List (List ℕ)
+payloads found = map (λ payload. payload.items) found
+
+abbrev pub HasSettled : (List ℕ → Type 0) → ℕ → Type 0
+HasSettled images place = (all : List (List ℕ)) × Settled images place all
+
+abbrev pub HasCutDue : (List ℕ → Type 0) → ℕ → Type 0
+HasCutDue images place = (all : List (List ℕ)) × CutDue images place all
+
+abbrev pub HasGateDue : (List ℕ → Type 0) → ℕ → Type 0
+HasGateDue images place = (all : List (List ℕ)) × (pending : List (List ℕ)) × GateDue images place all pending

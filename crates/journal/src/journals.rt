@@ -1,0 +1,149 @@
+//! A journal: records on a disk, to which one is added at a time.
+ghost use Rattle.std.specs.Prelude.{◌≡◌, ◌≢◌, ℕ, ◌+◌, ◌≤◌, ◌^◌, [], ◌∷◌, ◌++◌, List, None, Some, length, true, IfErr, IfOk, IfSome, OnErr, OnOk};
+ghost use Rattle.decimal_rank.specs.Causes.{HasCause, Rose};
+ghost use Rattle.disk_model.specs.Disks.{EachMoment, NoFurther};
+ghost use Rattle.journal.specs.declared.dues.Due.TheVariants.{Nothing};
+ghost use Rattle.journal.specs.declared.opening.OpenFault.{OpenFault};
+ghost use Rattle.journal.specs.declared.opening.OpenFault.TheVariants.{Disk as DiskFault};
+ghost use Rattle.journal.specs.Format.{decode, place_behind};
+ghost use Rattle.journal.specs.Journals.{KeepsRecords};
+ghost use Rattle.journal.specs.Kept.{KeepsSome, Settled, StandsFor, StandsForOneOf, StillKeeps, payloads};
+ghost use Rattle.journal.specs.Moments.{DecodesAs, Turned, Turns};
+
+use crate::appending::append_frame;
+use crate::dues::Due;
+use crate::frames::Frame;
+use crate::mending::mend_due;
+use crate::opening::{OpenFault, take_up};
+use crate::reading::Records;
+use disk_model::{Disk, Failed, MOST_BYTES};
+use std::alloc::Global;
+use std::marker::Model;
+
+/// A journal over a disk. Contracts see the disk, the place of the gate behind the last record, and what
+/// a mend has to do. The records themselves are known from the images of the disk: each clause speaks of
+/// whatever list of records the disk keeps, with the payload that may be pending.
+#[derive(Drop)]
+pub struct Journal<D: Disk> {
+    disk: D,
+    place: u64,
+    due: Due,
+}
+
+impl<D: Disk> Model for Journal<D> {
+    ghost use Rattle.std.specs.Prelude.{◌<◌, ◌^◌};
+    ghost use Rattle.journal.specs.Kept.{Kept};
+    ghost use Rattle.journal.specs.Journals.{JournalState};
+
+    ghost Value = { JournalState D };
+
+    ghost view = { λ journal. record { disk = journal.disk; place = journal.place; due = journal.due } };
+
+    ghost invariant = { λ journal. (journal.place < 2 ^ 40) × Kept (D.images journal.disk) journal.place journal.due };
+}
+
+impl<D: Disk> Journal<D> {
+    /// Reads the records of a disk and mends its end. A disk with no more bytes than a header and a gate
+    /// becomes an empty journal. One with another header is left as it is. A disk of 2^39 bytes and more
+    /// finds no memory.
+    pub fn open(alloc: Global, disk: D) -> Result<(Journal<D>, Vec<Vec<u8>>), (D, OpenFault)>
+        ensures read { IfOk result (λ opened. IfSome (D.content disk) (λ bytes. decode bytes ≡ Some (payloads opened.1.items))) }
+        ensures settled { IfOk result (λ opened. Settled (D.images opened.0.disk) opened.0.place (payloads opened.1.items)) }
+        ensures nothing_due { IfOk result (λ opened. opened.0.due ≡ Nothing) }
+        ensures any_moment { IfOk result (λ opened. Turned D.clock D.images D.images_since disk opened.0.disk (DecodesAs (D.content disk))) }
+        ensures any_moment_err { IfErr result (λ fault. Turns D.clock D.images D.images_since disk fault.0 (DecodesAs (D.content disk))) }
+        ensures header { IfErr result (λ fault. fault.1 ≡ OpenFault.Header → IfSome (D.content disk) (λ bytes. decode bytes ≡ None)) }
+        ensures untouched { IfErr result (λ fault. fault.1 ≢ DiskFault
+            → (D.content fault.0 ≡ D.content disk) × NoFurther (D.images disk) (D.images fault.0)) }
+        ensures fault { IfErr result (λ fault. fault.1 ≡ DiskFault → Rose (D.fault_count disk) (D.fault_count fault.0)) }
+        ensures later { IfOk result (λ opened. D.fault_count disk ≤ D.fault_count opened.0.disk) }
+        ensures later_err { IfErr result (λ fault. D.fault_count disk ≤ D.fault_count fault.0) }
+    {
+        let mut disk = disk;
+        match take_up(alloc, &mut disk) {
+            Ok(found) => {
+                let Records { payloads, place } = found;
+                let journal = Journal {
+                    disk,
+                    place: place as u64,
+                    due: Due::Nothing,
+                };
+                Ok((journal, payloads))
+            }
+            Err(fault) => Err((disk, fault)),
+        }
+    }
+
+    /// Adds a frame's record, and acknowledges it by Ok. Where the last append or mend failed it mends
+    /// first. It takes no memory.
+    pub fn append(&mut self, frame: &Frame) -> Result<(), Failed>
+        requires { self.old.place + 6 + length frame.now ≤ 2 ^ 40 }
+        ensures added { OnOk result ((all pending : List (List ℕ)) → KeepsRecords D.images self.old all pending
+            → Settled (D.images self.new.disk) self.new.place (all ++ frame.now ∷ [])) }
+        ensures nothing_due { OnOk result (self.new.due ≡ Nothing) }
+        ensures place { OnOk result (self.new.place ≡ self.old.place + 5 + length frame.now) }
+        ensures place_err { OnErr result (self.new.place ≡ self.old.place) }
+        ensures kept { OnErr result ((all pending : List (List ℕ)) → KeepsRecords D.images self.old all pending
+            → StillKeeps (D.images self.new.disk) self.new.place self.new.due all pending frame.now) }
+        ensures any_moment { (all pending : List (List ℕ)) → KeepsRecords D.images self.old all pending
+            → EachMoment D.clock D.images_since self.old.disk self.new.disk (StandsForOneOf all pending frame.now) }
+        ensures cause { HasCause (D.fault_count self.old.disk) (D.fault_count self.new.disk) result }
+    {
+        append_frame(
+            &mut self.disk,
+            &mut self.place,
+            &mut self.due,
+            frame.bytes(),
+        )
+    }
+
+    /// Leaves the acknowledged records alone on the disk. It takes no memory.
+    pub fn mend(&mut self) -> Result<(), Failed>
+        ensures mended { OnOk result ((all pending : List (List ℕ)) → KeepsRecords D.images self.old all pending
+            → Settled (D.images self.new.disk) self.new.place all) }
+        ensures nothing_due { OnOk result (self.new.due ≡ Nothing) }
+        ensures place { self.new.place ≡ self.old.place }
+        ensures kept { (all pending : List (List ℕ)) → KeepsRecords D.images self.old all pending
+            → KeepsSome (D.images self.new.disk) self.new.place self.new.due all pending }
+        ensures any_moment { (all pending : List (List ℕ)) → KeepsRecords D.images self.old all pending
+            → EachMoment D.clock D.images_since self.old.disk self.new.disk (StandsFor all pending) }
+        ensures cause { HasCause (D.fault_count self.old.disk) (D.fault_count self.new.disk) result }
+    {
+        mend_due(&mut self.disk, self.place, &mut self.due)
+    }
+
+    /// What a journal keeps is what each image of its disk gives; the place follows from the payloads.
+    pub fn stands(&self)
+        ensures stands { (all pending : List (List ℕ)) → KeepsRecords D.images self.now all pending
+            → (image : List ℕ) → D.images self.now.disk image → StandsFor all pending image }
+        ensures alone { (all : List (List ℕ)) → Settled (D.images self.now.disk) self.now.place all
+            → (image : List ℕ) → D.images self.now.disk image → decode image ≡ Some all }
+        ensures total { (all pending : List (List ℕ)) → KeepsRecords D.images self.now all pending → self.now.place ≡ place_behind all }
+    {}
+
+    /// Whether the next append mends first.
+    pub fn is_due(&self) -> bool
+        ensures { (result ≡ true → self.now.due ≢ Nothing) × (self.now.due ≢ Nothing → result ≡ true) }
+    {
+        self.due != Due::Nothing
+    }
+
+    /// Whether a frame's record can be added: with it the journal has at most `MOST_BYTES` of the disk.
+    pub fn has_room(&self, frame: &Frame) -> bool
+        ensures { (result ≡ true → self.now.place + 6 + length frame.now ≤ 2 ^ 40) × (self.now.place + 6 + length frame.now ≤ 2 ^ 40 → result ≡ true) }
+    {
+        self.place + 6 + frame.payload().len() as u64 <= MOST_BYTES
+    }
+
+    /// The disk, on which no call is made.
+    pub fn close(self) -> D
+        ensures { result ≡ self.disk }
+    {
+        let Journal {
+            disk,
+            place: _,
+            due: _,
+        } = self;
+        disk
+    }
+}

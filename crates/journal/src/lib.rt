@@ -1,0 +1,24 @@
+//! An append-only journal over a disk. A record is acknowledged once a crash can't lose it; a crash at
+//! any moment leaves the acknowledged records, with the one that is being added or without it.
+//!
+//! A record is written behind a closed gate and synced; only then its gate is opened, by a write of one
+//! byte of its own.
+#![tactic(auto)]
+
+mod appending;
+mod dues;
+mod frames;
+mod journals;
+mod layout;
+mod mending;
+mod opening;
+mod reading;
+mod stages;
+mod synced;
+
+pub use disk_model::{Disk, Failed};
+pub use dues::Due;
+pub use frames::Frame;
+pub use journals::Journal;
+pub use layout::MOST_PAYLOAD;
+pub use opening::OpenFault;

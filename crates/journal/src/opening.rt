@@ -1,0 +1,135 @@
+//! Opening a journal. The bytes are read whole, at once; what a crash left behind the last whole record
+//! is mended. Bytes with another header are left as they are.
+ghost use Rattle.std.specs.Prelude.{◌≡◌, ◌≢◌, ℕ, ◌≤◌, ◌<◌, ◌^◌, [], List, None, Some, length, true, IfErr, IfOk, IfSome, OnOk, nat_eq};
+ghost use Rattle.std.specs.List.{starts_with};
+ghost use Rattle.decimal_rank.specs.Causes.{HasCause, Rose};
+ghost use Rattle.disk_model.specs.Disks.{EachMoment, NoFurther};
+ghost use Rattle.journal.specs.declared.opening.OpenFault.{OpenFault};
+ghost use Rattle.journal.specs.declared.opening.OpenFault.TheVariants.{Disk as DiskFault, Memory as MemoryFault};
+ghost use Rattle.journal.specs.Format.{decode, header};
+ghost use Rattle.journal.specs.Kept.{Settled, payloads};
+ghost use Rattle.journal.specs.Moments.{DecodesAs, Turned, Turns};
+
+use crate::layout::{EMPTY_JOURNAL, HEADER_LENGTH, MOST_OPENED};
+use crate::mending::mend_due;
+use crate::reading::{Records, due_at, has_header, read_records};
+use decimal_rank::Memory;
+use disk_model::{Disk, Failed};
+use std::alloc::Global;
+
+/// Why a journal isn't opened.
+#[derive(Clone, Copy, Debug, PartialEq, Eq)]
+pub enum OpenFault {
+    /// A call on the disk failed.
+    Disk,
+    /// The bytes are more than an empty journal's and begin otherwise.
+    Header,
+    Memory,
+}
+
+impl From<Failed> for OpenFault {
+    ghost from_gives = { λ _ fault. fault ≡ DiskFault };
+
+    fn from(_failed: Failed) -> OpenFault {
+        OpenFault::Disk
+    }
+}
+
+impl From<Memory> for OpenFault {
+    ghost from_gives = { λ _ fault. fault ≡ MemoryFault };
+
+    fn from(_memory: Memory) -> OpenFault {
+        OpenFault::Memory
+    }
+}
+
+/// Reads a journal's records and mends it; a disk with fewer bytes than a record takes becomes an empty
+/// journal.
+pub(crate) fn take_up<D: Disk>(alloc: Global, disk: &mut D) -> Result<Records, OpenFault>
+    ensures read { IfOk result (λ found. IfSome (D.content disk.old) (λ bytes. decode bytes ≡ Some (payloads found.payloads.items))) }
+    ensures settled { IfOk result (λ found. Settled (D.images disk.new) found.place (payloads found.payloads.items)) }
+    ensures within { IfOk result (λ found. found.place < 2 ^ 40) }
+    ensures any_moment { IfOk result (λ _. Turned D.clock D.images D.images_since disk.old disk.new (DecodesAs (D.content disk.old))) }
+    ensures any_moment_err { IfErr result (λ _. Turns D.clock D.images D.images_since disk.old disk.new (DecodesAs (D.content disk.old))) }
+    ensures header { IfErr result (λ fault. fault ≡ OpenFault.Header → IfSome (D.content disk.old) (λ bytes. decode bytes ≡ None)) }
+    ensures untouched { IfErr result (λ fault. fault ≢ DiskFault → (D.content disk.new ≡ D.content disk.old) × NoFurther (D.images disk.old) (D.images disk.new)) }
+    ensures disk { IfErr result (λ fault. fault ≡ DiskFault → Rose (D.fault_count disk.old) (D.fault_count disk.new)) }
+    ensures later { D.fault_count disk.old ≤ D.fault_count disk.new }
+{
+    let bytes = read_all(alloc, disk)?;
+    if bytes.len() <= EMPTY_JOURNAL.len() {
+        found(disk)?;
+        return Ok(Records {
+            payloads: Vec::new(alloc),
+            place: HEADER_LENGTH,
+        });
+    }
+    reopen(alloc, disk, &bytes)
+}
+
+// All bytes of the disk, which are then the only ones that a crash leaves.
+fn read_all<D: Disk>(alloc: Global, disk: &mut D) -> Result<Vec<u8>, OpenFault>
+    ensures alone { IfOk result (λ bytes. (image : List ℕ) → D.images disk.new image → image ≡ bytes.items) }
+    ensures told { IfOk result (λ bytes. IfSome (D.content disk.old) (λ content. content ≡ bytes.items)) }
+    ensures few { IfOk result (λ bytes. length bytes.items < 2 ^ 39) }
+    ensures any_moment { IfOk result (λ bytes. Turned D.clock D.images D.images_since disk.old disk.new (λ image. image ≡ bytes.items)) }
+    ensures any_moment_err { IfErr result (λ _. Turns D.clock D.images D.images_since disk.old disk.new (DecodesAs (D.content disk.old))) }
+    ensures content { D.content disk.new ≡ D.content disk.old }
+    ensures crash { NoFurther (D.images disk.old) (D.images disk.new) }
+    ensures fault { IfErr result (λ fault. fault ≢ OpenFault.Header) }
+    ensures disk { IfErr result (λ fault. fault ≡ DiskFault → Rose (D.fault_count disk.old) (D.fault_count disk.new)) }
+    ensures later { D.fault_count disk.old ≤ D.fault_count disk.new }
+{
+    disk.sync()?;
+    let count = disk.len()?;
+    if count >= MOST_OPENED {
+        return Err(OpenFault::Memory);
+    }
+    let mut bytes = zeros(alloc, count as usize)?;
+    disk.read(0, &mut bytes)?;
+    Ok(bytes)
+}
+
+fn zeros(alloc: Global, count: usize) -> Result<Vec<u8>, Memory>
+    ensures { IfOk result (λ bytes. length bytes.items ≡ count) }
+{
+    let mut bytes = Vec::new(alloc);
+    bytes.resize(count, 0)?;
+    Ok(bytes)
+}
+
+// Makes an empty journal of a disk that has no more bytes than one.
+fn found<D: Disk>(disk: &mut D) -> Result<(), Failed>
+    requires { (image : List ℕ) → D.images disk.old image → length image ≤ 17 }
+    ensures settled { OnOk result (Settled (D.images disk.new) 16 []) }
+    ensures any_moment { EachMoment D.clock D.images_since disk.old disk.new (λ image. length image ≤ 17) }
+    ensures cause { HasCause (D.fault_count disk.old) (D.fault_count disk.new) result }
+{
+    disk.write_at(0, &EMPTY_JOURNAL)?;
+    disk.cut(EMPTY_JOURNAL.len() as u64)?;
+    disk.sync()?;
+    Ok(())
+}
+
+// Reads the records of these bytes, which are the only ones that a crash leaves, and mends their end.
+fn reopen<D: Disk>(alloc: Global, disk: &mut D, bytes: &[u8]) -> Result<Records, OpenFault>
+    requires alone { (image : List ℕ) → D.images disk.old image → image ≡ bytes.now }
+    requires long { 17 < length bytes.now }
+    requires few { length bytes.now < 2 ^ 39 }
+    ensures read { IfOk result (λ found. decode bytes.now ≡ Some (payloads found.payloads.items)) }
+    ensures settled { IfOk result (λ found. Settled (D.images disk.new) found.place (payloads found.payloads.items)) }
+    ensures within { IfOk result (λ found. found.place < 2 ^ 40) }
+    ensures any_moment { EachMoment D.clock D.images_since disk.old disk.new (λ image. decode image ≡ decode bytes.now) }
+    ensures header { IfErr result (λ fault. fault ≡ OpenFault.Header → decode bytes.now ≡ None) }
+    ensures untouched { IfErr result (λ fault. fault ≢ DiskFault → disk.new ≡ disk.old) }
+    ensures disk { IfErr result (λ fault. fault ≡ DiskFault → Rose (D.fault_count disk.old) (D.fault_count disk.new)) }
+    ensures later { D.fault_count disk.old ≤ D.fault_count disk.new }
+{
+    if !has_header(bytes) {
+        return Err(OpenFault::Header);
+    }
+    let records = read_records(alloc, bytes)?;
+    let mut due = due_at(bytes, records.place);
+    mend_due(disk, records.place as u64, &mut due)?;
+    Ok(records)
+}

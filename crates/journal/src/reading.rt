@@ -1,0 +1,99 @@
+//! The records of a journal's bytes: the header, and record after record up to the first that is closed or
+//! isn't whole.
+ghost use Rattle.std.specs.Prelude.{◌≡◌, ℕ, ◌+◌, ◌≤◌, ◌<◌, [], false, true, List, Some, length, take, drop, IfSome, IfNone, IfOk, nat_eq};
+ghost use Rattle.std.specs.Int.{from_le_bytes, w32};
+ghost use Rattle.std.specs.List.{starts_with};
+ghost use Rattle.journal.specs.Format.{header, is_whole, records, told_length};
+ghost use Rattle.journal.specs.Kept.{DueAt, IsFront, IsRecord, payloads};
+
+use crate::dues::Due;
+use crate::layout::{HEADER, HEADER_LENGTH, LENGTH_BYTES, OPEN};
+use decimal_rank::Memory;
+use std::alloc::Global;
+
+/// The records of a journal, and the place of the gate behind the last.
+#[derive(Drop)]
+pub(crate) struct Records {
+    pub(crate) payloads: Vec<Vec<u8>>,
+    pub(crate) place: usize,
+}
+
+pub(crate) fn has_header(bytes: &[u8]) -> bool
+    ensures { result ≡ starts_with nat_eq bytes.now header }
+{
+    bytes.starts_with(&HEADER)
+}
+
+/// Reads all records behind a header.
+pub(crate) fn read_records(alloc: Global, bytes: &[u8]) -> Result<Records, Memory>
+    requires { starts_with nat_eq bytes.now header ≡ true }
+    ensures front { IfOk result (λ found. IsFront (take found.place bytes.now) found.place (payloads found.payloads.items)) }
+    ensures within { IfOk result (λ found. found.place ≤ length bytes.now) }
+    ensures all { IfOk result (λ found. records 0 (drop found.place bytes.now) ≡ []) }
+{
+    let mut payloads = Vec::new(alloc);
+    let mut place = HEADER_LENGTH;
+    while let Some(count) = record_at(bytes, place) {
+        let start = place + 1 + LENGTH_BYTES;
+        payloads.push(copy_of(alloc, &bytes[start..start + count])?)?;
+        place = start + count;
+    }
+    Ok(Records { payloads, place })
+}
+
+/// What has to be mended where no record begins.
+pub(crate) fn due_at(bytes: &[u8], place: usize) -> Due
+    requires { place ≤ length bytes.now }
+    ensures { DueAt bytes.now place result }
+{
+    match bytes.get(place) {
+        None => Due::Gate,
+        Some(gate) => { if *gate == OPEN { Due::Gate } else { Due::Cut } }
+    }
+}
+
+// The length of the payload of the record that begins here, where one does.
+fn record_at(bytes: &[u8], place: usize) -> Option<usize>
+    requires { place ≤ length bytes.now }
+    ensures none { IfNone result (records 0 (drop place bytes.now) ≡ []) }
+    ensures some { IfSome result (λ count. IsRecord bytes.now place count) }
+{
+    match &bytes[place..] {
+        [gate, behind @ ..] => {
+            if *gate == OPEN {
+                payload_length(behind)
+            } else {
+                None
+            }
+        }
+        [] => None,
+    }
+}
+
+// The length that is told behind an open gate, where so many bytes are there.
+fn payload_length(behind: &[u8]) -> Option<usize>
+    ensures none { IfNone result (is_whole behind.now ≡ false) }
+    ensures some { IfSome result (λ count. (told_length behind.now ≡ count) × (4 + count ≤ length behind.now)) }
+{
+    if behind.len() < LENGTH_BYTES {
+        return None;
+    }
+    let count = number_of(&behind[..LENGTH_BYTES]) as usize;
+    if behind.len() - LENGTH_BYTES < count {
+        return None;
+    }
+    Some(count)
+}
+
+fn number_of(bytes: &[u8]) -> u32
+    requires { length bytes.now ≡ 4 }
+    ensures { result ≡ from_le_bytes w32 bytes.now }
+{
+    u32::from_le_bytes([bytes[0], bytes[1], bytes[2], bytes[3]])
+}
+
+fn copy_of(alloc: Global, bytes: &[u8]) -> Result<Vec<u8>, Memory>
+    ensures { IfOk result (λ copy. copy.items ≡ bytes.now) }
+{
+    Ok(bytes.to_vec(alloc)?)
+}

@@ -1,0 +1,169 @@
+use disk_model::MemoryDisk;
+use journal::{Failed, Frame, Journal, OpenFault};
+use std::alloc::Global;
+use std::test::Fail;
+
+// Two records, `ab` and `c`.
+const WHOLE: [u8; 30] = *b"POOLJRNL\x01\0\0\0\0\0\0\0\x01\x02\0\0\0ab\x01\x01\0\0\0c\0";
+
+// A third behind them, `d`.
+const MENDED: [u8; 36] =
+    *b"POOLJRNL\x01\0\0\0\0\0\0\0\x01\x02\0\0\0ab\x01\x01\0\0\0c\x01\x01\0\0\0d\0";
+
+// Where the first record ends, and the second.
+const FIRST_END: usize = 23;
+
+const SECOND_END: usize = 29;
+
+type Opened = Result<(Journal<MemoryDisk>, Vec<Vec<u8>>), (MemoryDisk, OpenFault)>;
+
+fn open_copy(alloc: Global, bytes: &[u8], fails: Vec<u64>) -> Result<Opened, Fail> {
+    Ok(Journal::open(alloc, MemoryDisk::new(bytes.to_vec(alloc)?, fails)))
+}
+
+// What an append of this payload answers; None where there is no memory or no room.
+fn append(
+    alloc: Global,
+    journal: &mut Journal<MemoryDisk>,
+    payload: &[u8],
+) -> Option<Result<(), Failed>> {
+    if payload.len() > 100 {
+        return None;
+    }
+    match Frame::of(alloc, payload) {
+        Ok(frame) => {
+            if !journal.has_room(&frame) {
+                return None;
+            }
+            Some(journal.append(&frame))
+        }
+        Err(_) => None,
+    }
+}
+
+// What two appends leave on an empty disk, where each is answered Ok.
+fn after_two(alloc: Global) -> Result<Option<Vec<u8>>, Fail> {
+    match open_copy(alloc, b"", Vec::new(alloc))? {
+        Ok((mut journal, _records)) => {
+            if append(alloc, &mut journal, b"ab") != Some(Ok(())) {
+                return Ok(None);
+            }
+            if append(alloc, &mut journal, b"c") != Some(Ok(())) || journal.is_due() {
+                return Ok(None);
+            }
+            let disk = journal.close();
+            Ok(Some(disk.content().to_vec(alloc)?))
+        }
+        Err(_) => Ok(None),
+    }
+}
+
+#[test]
+fn an_empty_disk_becomes_a_journal_with_what_is_added(rt: HostRuntime) -> Result<(), Fail> {
+    let alloc = rt.alloc();
+    match after_two(alloc)? {
+        Some(content) => assert_eq!(rt; content.as_slice(), WHOLE.as_slice()),
+        None => assert!(rt; false),
+    }
+    Ok(())
+}
+
+// How many records these bytes give, and what an opening leaves of them.
+fn left_of(alloc: Global, bytes: &[u8]) -> Result<(Result<usize, OpenFault>, Vec<u8>), Fail> {
+    match open_copy(alloc, bytes, Vec::new(alloc))? {
+        Ok((journal, records)) => {
+            let disk = journal.close();
+            Ok((Ok(records.len()), disk.content().to_vec(alloc)?))
+        }
+        Err((disk, fault)) => Ok((Err(fault), disk.content().to_vec(alloc)?)),
+    }
+}
+
+#[test]
+fn a_file_that_is_cut_anywhere_gives_its_whole_records(rt: HostRuntime) -> Result<(), Fail> {
+    let alloc = rt.alloc();
+    for cut in 0..WHOLE.len() + 1 {
+        let (count, end) = if cut < FIRST_END {
+            (0, 16)
+        } else if cut < SECOND_END {
+            (1, FIRST_END)
+        } else {
+            (2, SECOND_END)
+        };
+        let (records, left) = left_of(alloc, &WHOLE[..cut])?;
+        assert_eq!(rt; records, Ok(count));
+        assert_eq!(rt; left.len(), end + 1);
+        assert_eq!(rt; &left[..end], &WHOLE[..end]);
+        assert_eq!(rt; left[end], 0);
+    }
+    Ok(())
+}
+
+#[test]
+fn other_bytes_are_refused_or_mended(rt: HostRuntime) -> Result<(), Fail> {
+    let alloc = rt.alloc();
+    let cases: [(&[u8], Result<usize, OpenFault>, &[u8]); 5] = [
+        (
+            b"another file of 17",
+            Err(OpenFault::Header),
+            b"another file of 17",
+        ),
+        (
+            b"POOLJRNL\x02\0\0\0\0\0\0\0\0\0",
+            Err(OpenFault::Header),
+            b"POOLJRNL\x02\0\0\0\0\0\0\0\0\0",
+        ),
+        (b"a file of 17 byte", Ok(0), b"POOLJRNL\x01\0\0\0\0\0\0\0\0"),
+        (
+            b"POOLJRNL\x01\0\0\0\0\0\0\0\x02\x01\0\0\0a\0",
+            Ok(0),
+            b"POOLJRNL\x01\0\0\0\0\0\0\0\x02",
+        ),
+        (
+            b"POOLJRNL\x01\0\0\0\0\0\0\0\x01\x03\0\0\0a\0",
+            Ok(0),
+            b"POOLJRNL\x01\0\0\0\0\0\0\0\0",
+        ),
+    ];
+    for (bytes, wanted, wanted_left) in &cases {
+        let (records, left) = left_of(alloc, bytes)?;
+        assert_eq!(rt; records, *wanted);
+        assert_eq!(rt; left.as_slice(), *wanted_left);
+    }
+    Ok(())
+}
+
+// What an append leaves of two records, and how many calls were done, where this call of the disk fails
+// in the append before it.
+fn after_fault(alloc: Global, failing: u64) -> Result<Option<(Vec<u8>, usize)>, Fail> {
+    match open_copy(alloc, &WHOLE, vec![in alloc; failing]?)? {
+        Ok((mut journal, _records)) => {
+            if append(alloc, &mut journal, b"lost") != Some(Err(Failed)) {
+                return Ok(None);
+            }
+            if !journal.is_due() || append(alloc, &mut journal, b"d") != Some(Ok(())) {
+                return Ok(None);
+            }
+            let disk = journal.close();
+            Ok(Some((disk.content().to_vec(alloc)?, disk.calls().len())))
+        }
+        Err(_) => Ok(None),
+    }
+}
+
+#[test]
+fn a_failed_append_is_mended_by_the_next(rt: HostRuntime) -> Result<(), Fail> {
+    let alloc = rt.alloc();
+    // The opening makes five calls, an append four, and a mend two or four.
+    let cases: [(u64, usize); 4] = [(6, 11), (7, 12), (8, 15), (9, 16)];
+    for (failing, calls) in &cases {
+        match after_fault(alloc, *failing)? {
+            Some((content, done)) => {
+                assert_eq!(rt; content.as_slice(), MENDED.as_slice());
+                assert_eq!(rt; done, *calls);
+            }
+            None => assert!(rt; false),
+        }
+    }
+    Ok(())
+}

@@ -1,0 +1,15 @@
+use Rattle.std.proofs.Common.{rules, Ok}
+use Rattle.routes.specs.Asks.{Asks}
+use Rattle.routes.specs.Places.{parameter}
+use Rattle.routes.proofs.Addressed.{addressed_at}
+use Rattle.routes.proofs.asks.read_ask_by.Goals as goal
+
+pub returns-clause-addressed : goal.returns-clause-addressed
+returns-clause-addressed c = λ moment latest.
+    let opening = c.in_ok-opening.opening in
+    let opened = c.in_ok-opening.ensures in
+    let text = parameter c.bytes-path.result.now in
+    let body = c.args.request.now.body in
+    let asks : Asks opening.place text body (Ok c.in_ok-ask.ask) = search (rules, c.in_ok-ask.ensures.ask) in
+    rw c.in_ok-caller.ensures
+    (addressed_at opening.place opening.row.now opening.number text body c.in_ok-ask.ask moment opened.named opened.number opened.role opened.fitting asks c.in_ok-ask.ensures.sound c.requires latest)

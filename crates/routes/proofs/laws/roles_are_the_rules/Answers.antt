@@ -1,0 +1,5 @@
+use Rattle.routes.proofs.RowRoles.{roles_same}
+use Rattle.routes.proofs.laws.roles_are_the_rules.Goals as goal
+
+pub returns : goal.returns
+returns c = roles_same

@@ -1,0 +1,13 @@
+use Rattle.std.proofs.Common.{refl}
+use Rattle.matchit.proofs.OnLiterals.{matchit_on_literals}
+use Rattle.routes.proofs.places.Paths.new.Goals as goal
+
+pub invariant_of-result : goal.invariant_of-result
+invariant_of-result c = rw c.new-router.ensures at c.in_ok-add_rows.ensures
+
+pub returns : goal.returns
+returns c = rw c.new-router.ensures at c.in_ok-add_rows.ensures
+
+pub add_rows-requires : goal.add_rows-requires
+unfolding matchit_on_literals
+add_rows-requires c = rw c.new-router.ensures refl

@@ -1,0 +1,54 @@
+-- What holds of the founding entry, and stays with each accepted entry, holds of every legal history.
+use Rattle.std.proofs.Common.{◌≡◌, Bool, true, false, [], ◌∷◌, ◌++◌, Ok, Err, length, refl, sym, ap, ◌∙◌, subst}
+use Rattle.std.specs.Prelude.{◌==◌, if◌then◌else◌}
+use Rattle.std.proofs.lemmas.List.{append_assoc, append-nil}
+use Rattle.rulebook.specs.declared.limits.TheConstants.{MAX_ENTRIES}
+use Rattle.rulebook.specs.declared.entry.Entry.{Entry}
+use Rattle.rulebook.specs.declared.entry.EntryCore.{EntryCore}
+use Rattle.rulebook.specs.declared.reply.Quantity.TheVariants as quantity
+use Rattle.rulebook.specs.declared.reply.Refusal.TheVariants as refusal
+use Rattle.rulebook.specs.declared.reply.Reply.TheVariants as reply
+use Rattle.rulebook.specs.Answers.{acting, adding_nothing, moment_after, ruled}
+use Rattle.rulebook.specs.Campaign.{History}
+use Rattle.rulebook.specs.Legal.{AreAccepted, IsAccepted, IsFounding, IsLegal, core_of}
+use Rattle.rulebook.specs.Refusals.{Ruling}
+
+module _ (P : History → Type 0) (step : (before : History) (e : Entry) → IsLegal before → P before → IsAccepted before e → P (before ++ e ∷ [])) where
+  legal_more : (before : History) (e : Entry) → IsLegal before → IsAccepted before e → IsLegal (before ++ e ∷ [])
+  legal_more [] e legal accepted = absurd legal
+  legal_more (first ∷ later) e legal accepted = (legal.0, accepted_more (first ∷ []) later e legal.1 accepted)
+    where
+      accepted_more : (front later : History) (e : Entry) → AreAccepted front later → IsAccepted (front ++ later) e → AreAccepted front (later ++ e ∷ [])
+      accepted_more front [] e all accepted = (subst (λ H. IsAccepted H e) (append-nil front) accepted, tt)
+      accepted_more front (x ∷ later) e all accepted =
+          (all.0, accepted_more (front ++ x ∷ []) later e all.1 (subst (λ H. IsAccepted H e) (sym (append_assoc front (x ∷ []) later)) accepted))
+
+  along : (before later : History) → IsLegal before → P before → AreAccepted before later → P (before ++ later)
+  along before [] legal holds accepted = subst P (sym (append-nil before)) holds
+  along before (e ∷ later) legal holds accepted =
+      subst P (append_assoc before (e ∷ []) later)
+      (along (before ++ e ∷ []) later (legal_more before e legal accepted.0) (step before e legal holds accepted.0) accepted.1)
+
+  pub legal_induction : ((first : Entry) → IsFounding first → P (first ∷ [])) → (H : History) → IsLegal H → P H
+  legal_induction founding [] legal = absurd legal
+  legal_induction founding (first ∷ later) legal = along (first ∷ []) later (legal.0, tt) (founding first legal.0) legal.1
+
+-- an accepted entry has the core that its request makes, and the reply that the rules give
+pub record Accepted (H : History) (e : Entry) : Type 0 where
+  pub core_is : e.core ≡ core_of e.core.caller e.core.number (moment_after H e.core.moment) e.core.command
+  pub ruled_is : ruled H e.core.caller (moment_after H e.core.moment) e.core.command ≡ Ok e.reply
+
+pub accepted_of : (H : History) (e : Entry) → IsAccepted H e → Accepted H e
+accepted_of H e accepted = step (length H == MAX_ENTRIES) (ruled H core.caller core.moment core.command) refl accepted.added
+  where
+    core : EntryCore
+    core = core_of e.core.caller e.core.number (moment_after H e.core.moment) e.core.command
+
+    step : (full : Bool) (ruling : Ruling) → ruled H core.caller core.moment core.command ≡ ruling
+        → (if full then adding_nothing (reply.Refused (refusal.Limit quantity.Entries)) else acting core ruling).added ≡ e ∷ [] → Accepted H e
+    step true ruling is added = cc added
+    step false (Err r) is added = cc added
+    step false (Ok r) is added =
+        let made : Entry = record { core = core; reply = r } in
+        let same : made ≡ e = cc added in
+        record { core_is = ap (λ (e : Entry). e.core) (sym same); ruled_is = is ∙ ap (λ (e : Entry). Ok e.reply) same }

@@ -1,0 +1,5 @@
+use Rattle.rulebook.proofs.PlainReplies.{entries_plain}
+use Rattle.rulebook.proofs.laws.entries_are_plain.Goals as goal
+
+pub returns : goal.returns
+returns c = entries_plain

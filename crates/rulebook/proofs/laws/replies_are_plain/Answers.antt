@@ -1,0 +1,5 @@
+use Rattle.rulebook.proofs.PlainReplies.{replies_plain}
+use Rattle.rulebook.proofs.laws.replies_are_plain.Goals as goal
+
+pub returns : goal.returns
+returns c = replies_plain

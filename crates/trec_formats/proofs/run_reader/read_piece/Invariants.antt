@@ -1,0 +1,11 @@
+use Rattle.std.proofs.Common.{length, take, ◌-◌, ◌≤◌, ◌+◌, ◌++◌, ℕ, List}
+use Rattle.trec_formats.specs.RunStates.{IsRead, IsWithin}
+use Rattle.trec_formats.proofs.run_reader.read_piece.Given as goal
+
+abbrev pub invariant-loop-at : goal.invariant-loop-at
+invariant-loop-at l =
+    (l.at ≤ length l.piece) × (l.reading.ended.number ≤ l.initial.reading.ended.number + l.at) × IsWithin l.reading
+    × ((text : List ℕ) → IsRead text l.initial.reading → IsRead (text ++ take l.at l.piece) l.reading)
+
+abbrev pub decreases-loop-at : goal.decreases-loop-at
+decreases-loop-at l = length l.piece - l.at

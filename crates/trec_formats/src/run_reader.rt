@@ -1,0 +1,266 @@
+//! A run read as it comes. Of the line that isn't whole its ended fields are kept as far as they are looked at,
+//! and of the present field at most 401 bytes. A line is judged where it ends, since a seventh field makes
+//! another fault of it.
+ghost use Rattle.std.specs.Prelude.{◌≡◌, ◌≢◌, ◌≤◌, ◌<◌, ◌+◌, ◌^◌, ◌++◌, ℕ, List, [], ◌∷◌, map, length, take, position, Ok, Err, IfOk, OnOk, OnErr, IsErr, MatchBool};
+ghost use Rattle.std.specs.List.Sorted.{IsStrictlyIncreasing};
+ghost use Rattle.trec_formats.specs.Faults.{IfFault};
+ghost use Rattle.trec_formats.specs.Lines.{Row};
+ghost use Rattle.trec_formats.specs.Counts.{IsTally};
+ghost use Rattle.trec_formats.specs.RunFields.{kept_fields};
+ghost use Rattle.trec_formats.specs.RunStates.{is_break, row_if, AreEnded, AreWithin, HasRoom, IsFaultBehind, IsRead, IsFaulty, IsHeld, IsWithin, OrFailed, IsAt, IsAfter, HasFailed, held_by};
+ghost use Rattle.trec_formats.specs.Runs.{run_of, count_on, IsRun, IsRunFault};
+
+use crate::faults::{FormatEnd, FormatFault, Kind};
+use crate::lines::is_white_space;
+use crate::run_fields::{KeptLine, end_field, hold, judged};
+use crate::runs::RunLine;
+use crate::topic_counts::{TopicCounts, count_line};
+use decimal_rank::Memory;
+use std::alloc::Global;
+use std::marker::Model;
+use std::mem::replace;
+
+/// The lines that ended, none of which has a fault.
+#[derive(Drop)]
+struct Ended {
+    /// How many lines ended, blank ones among them.
+    number: u32,
+    lines: Vec<RunLine>,
+    counts: TopicCounts,
+}
+
+/// A run that was read up to a byte, without a fault so far.
+#[derive(Drop)]
+struct Reading {
+    ended: Ended,
+    line: KeptLine,
+    /// Of the present field.
+    held: Vec<u8>,
+}
+
+/// How far a run was read.
+#[derive(Drop)]
+enum Progress {
+    Reads(Reading),
+    Faulty(FormatFault),
+    Failed,
+}
+
+/// A run that is read as it comes. Contracts see how many bytes were fed, and what is kept of them.
+#[derive(Drop)]
+pub struct RunReader {
+    alloc: Global,
+    progress: Progress,
+    fed: usize,
+}
+
+impl Model for RunReader {
+    ghost use Rattle.trec_formats.specs.RunStates.{IsSound, RunFed};
+
+    ghost Value = { RunFed };
+
+    ghost view = { λ reader. record { fed = reader.fed; progress = reader.progress } };
+
+    ghost invariant = { λ reader. IsSound reader.fed reader.progress };
+}
+
+fn is_break(byte: u8) -> bool
+    ensures { result ≡ is_break byte }
+{
+    is_white_space(byte) || byte == b'\n'
+}
+
+/// The place of the next byte that ends a field.
+#[inline(never)]
+fn break_at(rest: &[u8]) -> Option<usize>
+    ensures { result ≡ position is_break rest.now }
+{
+    rest.iter().position(|byte| is_break(*byte))
+}
+
+/// Adds a line without a fault of its own.
+fn add_line(alloc: Global, ended: &mut Ended, line: RunLine) -> Result<(), FormatEnd>
+    requires tally { IsTally ended.old.counts }
+    requires few { length ended.old.counts.topics + 1 < 2 ^ 32 }
+    ensures number { OnOk result (ended.new.number ≡ ended.old.number) }
+    ensures tally { OnOk result (IsTally ended.new.counts) }
+    ensures few { OnOk result (length ended.new.counts.topics ≤ length ended.old.counts.topics + 1) }
+    ensures ok { OnOk result ((done : List Row) (row : Row) → AreEnded done ended.old → run_of row ≡ Ok line → AreEnded (done ++ row ∷ []) ended.new) }
+    ensures fault { IfFault result (λ fault. (done : List Row) (row : Row) → AreEnded done ended.old → run_of row ≡ Ok line → ended.old.number ≡ row.0 →
+        IsFaultBehind done (row ∷ []) fault) }
+{
+    if !count_line(alloc, &mut ended.counts, line.topic.bytes())? {
+        return Err(FormatEnd::at(ended.number, Kind::TooLong));
+    }
+    ended.lines.push(line)?;
+    Ok(())
+}
+
+/// Judges a line that ended.
+fn end_line(alloc: Global, ended: &mut Ended, line: KeptLine) -> Result<(), FormatEnd>
+    requires within { AreWithin ended.old }
+    requires long { ended.old.number ≤ 268435456 }
+    ensures number { OnOk result (ended.new.number ≡ ended.old.number + 1) }
+    ensures within { OnOk result (AreWithin ended.new) }
+    ensures ok { OnOk result ((done : List Row) (fields : List (List ℕ)) → AreEnded done ended.old → line ≡ kept_fields fields →
+        AreEnded (done ++ row_if (ended.old.number + 1) fields) ended.new) }
+    ensures fault { IfFault result (λ fault. (done : List Row) (fields : List (List ℕ)) → AreEnded done ended.old → line ≡ kept_fields fields →
+        IsFaultBehind done (row_if (ended.old.number + 1) fields) fault) }
+{
+    ended.number += 1;
+    if line.count == 0 {
+        return Ok(());
+    }
+    match judged(line, ended.number) {
+        Ok(line) => add_line(alloc, ended, line),
+        Err(kind) => Err(FormatEnd::at(ended.number, kind)),
+    }
+}
+
+/// Reads on, up to the next end of a field. How many bytes were read.
+fn step(alloc: Global, reading: &mut Reading, rest: &[u8]) -> Result<usize, FormatEnd>
+    requires within { IsWithin reading.old }
+    requires some { 0 < length rest.now }
+    requires long { reading.old.ended.number + length rest.now ≤ 268435456 }
+    ensures taken { IfOk result (λ taken. (0 < taken) × (taken ≤ length rest.now) × (reading.new.ended.number ≤ reading.old.ended.number + taken)) }
+    ensures within { OnOk result (IsWithin reading.new) }
+    ensures ok { IfOk result (λ taken. (text : List ℕ) → IsRead text reading.old → IsRead (text ++ take taken rest.now) reading.new) }
+    ensures fault { IfFault result (λ fault. (text : List ℕ) → IsRead text reading.old → IsFaulty (text ++ rest.now) fault) }
+{
+    let Some(end) = break_at(rest) else {
+        hold(&mut reading.held, rest)?;
+        return Ok(rest.len());
+    };
+    end_field(alloc, &mut reading.line, &mut reading.held, &rest[..end])?;
+    if rest[end] != b'\n' {
+        return Ok(end + 1);
+    }
+    let line = replace(&mut reading.line, KeptLine::new(alloc));
+    end_line(alloc, &mut reading.ended, line)?;
+    Ok(end + 1)
+}
+
+/// Reads a piece.
+fn read_piece(alloc: Global, reading: &mut Reading, piece: &[u8]) -> Result<(), FormatEnd>
+    requires within { IsWithin reading.old }
+    requires long { reading.old.ended.number + length piece.now ≤ 268435456 }
+    ensures number { OnOk result (reading.new.ended.number ≤ reading.old.ended.number + length piece.now) }
+    ensures within { OnOk result (IsWithin reading.new) }
+    ensures ok { OnOk result ((text : List ℕ) → IsRead text reading.old → IsRead (text ++ piece.now) reading.new) }
+    ensures fault { IfFault result (λ fault. (text : List ℕ) → IsRead text reading.old → IsFaulty (text ++ piece.now) fault) }
+{
+    let mut at = 0;
+    while at < piece.len() {
+        at += step(alloc, reading, &piece[at..])?;
+    }
+    Ok(())
+}
+
+/// What a reading comes to behind a piece.
+fn after_piece(alloc: Global, progress: Progress, piece: &[u8]) -> Progress
+    requires room { HasRoom progress (length piece.now) }
+    ensures ok { OrFailed result ((text : List ℕ) → IsAt text progress → IsAt (text ++ piece.now) result) }
+    ensures failed { progress ≡ Progress.Failed → result ≡ Progress.Failed }
+    ensures held { (fed : ℕ) → IsHeld fed progress → IsHeld (fed + length piece.now) result }
+{
+    match progress {
+        Progress::Reads(mut reading) => match read_piece(alloc, &mut reading, piece) {
+            Ok(()) => Progress::Reads(reading),
+            Err(FormatEnd::Fault(fault)) => Progress::Faulty(fault),
+            Err(FormatEnd::Memory) => Progress::Failed,
+        },
+        Progress::Faulty(fault) => Progress::Faulty(fault),
+        Progress::Failed => Progress::Failed,
+    }
+}
+
+fn has_failed(progress: &Progress) -> bool
+    ensures { MatchBool result (progress.now ≡ Progress.Failed) (progress.now ≢ Progress.Failed) }
+{
+    match progress {
+        Progress::Failed => true,
+        Progress::Reads(_) | Progress::Faulty(_) => false,
+    }
+}
+
+/// What a run is read as that ends here.
+fn end_run(alloc: Global, reading: Reading) -> Result<Vec<RunLine>, FormatEnd>
+    requires within { IsWithin reading }
+    requires long { reading.ended.number ≤ 268435456 }
+    requires read { (text : List ℕ) × IsRead text reading }
+    ensures lines { IfOk result (λ lines. (text : List ℕ) → IsRead text reading → IsRun text lines.items) }
+    ensures ascending { IfOk result (λ lines. IsStrictlyIncreasing (map (λ line. line.line) lines.items)) }
+    ensures short { IfOk result (λ lines. (topic : List ℕ) → count_on topic lines.items ≤ 1000) }
+    ensures fault { IfFault result (λ fault. (text : List ℕ) → IsRead text reading → IsRunFault text fault) }
+{
+    let Reading {
+        mut ended,
+        mut line,
+        mut held,
+    } = reading;
+    end_field(alloc, &mut line, &mut held, &[])?;
+    end_line(alloc, &mut ended, line)?;
+    if ended.lines.is_empty() {
+        return Err(FormatEnd::at(0, Kind::Empty));
+    }
+    Ok(ended.lines)
+}
+
+impl RunReader {
+    pub fn new(alloc: Global) -> RunReader
+        ensures after { IsAfter [] result }
+        ensures fed { result.fed ≡ 0 }
+    {
+        RunReader {
+            alloc,
+            progress: Progress::Reads(Reading {
+                ended: Ended {
+                    number: 0,
+                    lines: Vec::new(alloc),
+                    counts: TopicCounts::new(alloc),
+                },
+                line: KeptLine::new(alloc),
+                held: Vec::new(alloc),
+            }),
+            fed: 0,
+        }
+    }
+
+    /// Reads on. After `Memory` each later call answers `Memory`.
+    pub fn feed(&mut self, piece: &[u8]) -> Result<(), Memory>
+        requires { self.old.fed + length piece.now ≤ 268435456 }
+        ensures ok { OnOk result ((text : List ℕ) → IsAfter text self.old → IsAfter (text ++ piece.now) self.new) }
+        ensures err { OnErr result (HasFailed self.new) }
+        ensures stays { HasFailed self.old → IsErr result }
+        ensures fed { self.new.fed ≡ self.old.fed + length piece.now }
+        ensures held { held_by self.new ≤ 401 }
+    {
+        let progress = replace(&mut self.progress, Progress::Failed);
+        self.progress = after_piece(self.alloc, progress, piece);
+        self.fed += piece.len();
+        if has_failed(&self.progress) {
+            return Err(Memory);
+        }
+        Ok(())
+    }
+
+    /// The lines of the run, or its first fault.
+    pub fn finish(self) -> Result<Vec<RunLine>, FormatEnd>
+        ensures lines { IfOk result (λ lines. (text : List ℕ) → IsAfter text self → IsRun text lines.items) }
+        ensures ascending { IfOk result (λ lines. IsStrictlyIncreasing (map (λ line. line.line) lines.items)) }
+        ensures short { IfOk result (λ lines. (topic : List ℕ) → count_on topic lines.items ≤ 1000) }
+        ensures fault { IfFault result (λ fault. (text : List ℕ) → IsAfter text self → IsRunFault text fault) }
+        ensures failed { HasFailed self → result ≡ Err FormatEnd.Memory }
+    {
+        let RunReader {
+            alloc,
+            progress,
+            ..
+        } = self;
+        match progress {
+            Progress::Reads(reading) => end_run(alloc, reading),
+            Progress::Faulty(fault) => Err(FormatEnd::Fault(fault)),
+            Progress::Failed => Err(FormatEnd::Memory),
+        }
+    }
+}

@@ -1,0 +1,260 @@
+use decimal_rank::{Decimal, DecimalFault, Text};
+use std::alloc::Global;
+use std::cmp::Ordering;
+use std::fmt::Write;
+use std::test::Fail;
+use trec_formats::{
+    FormatEnd, FormatFault, Kind, QrelLine, RunLine, TopicList, rank_run, read_qrels, read_run,
+};
+
+fn run_of(alloc: Global, text: &str) -> Result<Vec<RunLine>, FormatEnd> {
+    if text.len() > 1_000_000 {
+        return Err(FormatEnd::Memory);
+    }
+    read_run(alloc, text.as_bytes())
+}
+
+fn qrels_of(alloc: Global, text: &str) -> Result<Vec<QrelLine>, FormatEnd> {
+    if text.len() > 1_000_000 {
+        return Err(FormatEnd::Memory);
+    }
+    read_qrels(alloc, text.as_bytes())
+}
+
+fn lists_of(alloc: Global, text: &str) -> Result<Vec<TopicList>, FormatEnd> {
+    if text.len() > 1_000_000 {
+        return Err(FormatEnd::Memory);
+    }
+    let lines = read_run(alloc, text.as_bytes())?;
+    rank_run(alloc, lines.as_slice())
+}
+
+fn is_score(score: &Decimal, wanted: &str) -> bool {
+    match Decimal::read(wanted.as_bytes()) {
+        Ok(wanted) => score.compare(&wanted) == Ordering::Equal,
+        Err(_) => false,
+    }
+}
+
+fn is_run_line(line: &RunLine, wanted: &(u32, &str, &str, &str)) -> bool {
+    line.line == wanted.0
+        && line.topic.bytes() == wanted.1.as_bytes()
+        && line.doc.bytes() == wanted.2.as_bytes()
+        && is_score(&line.score, wanted.3)
+}
+
+fn is_qrel_line(line: &QrelLine, wanted: &(u32, &str, &str, u8)) -> bool {
+    line.line == wanted.0
+        && line.topic.bytes() == wanted.1.as_bytes()
+        && line.doc.bytes() == wanted.2.as_bytes()
+        && line.grade == wanted.3
+}
+
+fn are_docs(docs: &[Text], wanted: &[&str]) -> bool {
+    docs.len() == wanted.len()
+        && docs
+            .iter()
+            .zip(wanted)
+            .all(|(doc, name)| doc.bytes() == name.as_bytes())
+}
+
+fn is_list(list: &TopicList, topic: &str, line: u32, docs: &[&str]) -> bool {
+    list.topic.bytes() == topic.as_bytes() && list.line == line && are_docs(list.docs.items(), docs)
+}
+
+#[test]
+fn runs_are_read(rt: HostRuntime) -> Result<(), Fail> {
+    let lines = run_of(rt.alloc(), "1 Q0 A 1 3 t\n1 Q0 B 2 2 t\n1 Q0 C 3 1 t\n")?;
+    let wanted = [(1, "1", "A", "3"), (2, "1", "B", "2"), (3, "1", "C", "1")];
+    assert_eq!(rt; lines.len(), wanted.len());
+    assert!(rt;
+        lines
+            .iter()
+            .zip(&wanted)
+            .all(|(line, wanted)| is_run_line(line, wanted))
+    );
+
+    // white space of every kind, lines of it alone, lines of a topic apart, and no line feed at the end
+    let lines = run_of(
+        rt.alloc(),
+        "\n \t\n401\x0bQ0\tFR940-1~\x0c 7  010 x \r\nb.c_D-9 ? ! ? 999999999999999999 ?\r\n\r\n401 0 a 0 0 0",
+    )?;
+    let wanted = [
+        (3, "401", "FR940-1~", "10"),
+        (4, "b.c_D-9", "!", "999999999999999999"),
+        (6, "401", "a", "0"),
+    ];
+    assert_eq!(rt; lines.len(), wanted.len());
+    assert!(rt;
+        lines
+            .iter()
+            .zip(&wanted)
+            .all(|(line, wanted)| is_run_line(line, wanted))
+    );
+    Ok(())
+}
+
+fn is_fault(end: Option<FormatEnd>, line: u32, kind: Kind) -> bool {
+    end == Some(FormatEnd::Fault(FormatFault { line, kind }))
+}
+
+#[test]
+fn faults_of_runs(rt: HostRuntime) {
+    let cases = [
+        // no line with a field
+        ("", 0, Kind::Empty),
+        ("\n", 0, Kind::Empty),
+        (" \t\x0b\x0c\r\n\r\n", 0, Kind::Empty),
+        // five fields, and seven
+        ("1 Q0 A 1 3 t\n1 Q0 B 2 2\n", 2, Kind::Fields),
+        ("1 Q0 A 1 3 t u\n", 1, Kind::Fields),
+        // topics that are no names
+        ("a/b Q0 A 1 3 t\n", 1, Kind::Topic),
+        (
+            "\n\n123456789012345678901234567890123 Q0 A 1 3 t\n",
+            3,
+            Kind::Topic,
+        ),
+        // docnos of other bytes, or of 65
+        ("1 Q0 \x7f 1 3 t\n", 1, Kind::Docno),
+        ("1 Q0 \u{e9} 1 3 t\n", 1, Kind::Docno),
+        (
+            "1 Q0 12345678901234567890123456789012345678901234567890123456789012345 1 3 t\n",
+            1,
+            Kind::Docno,
+        ),
+        // a good line before, and one behind
+        (
+            "1 Q0 A 1 3 t\n1 Q0 B 2 x t\n1 Q0 C 3 1 t\n",
+            2,
+            Kind::Score(DecimalFault::Shape),
+        ),
+        // of two faults on a line the one that stands first
+        ("a/b Q0 \x7f 1 x t\n", 1, Kind::Topic),
+        ("1 Q0 \x7f 1 x t\n", 1, Kind::Docno),
+        // of two lines the first, and a fault before a repeat
+        (
+            "1 Q0 A 1 x t\n1 Q0 B\n",
+            1,
+            Kind::Score(DecimalFault::Shape),
+        ),
+        ("1 Q0 A 1 3 t\n1 Q0 A 1 3 t\n1 Q0 B\n", 3, Kind::Fields),
+    ];
+    for (text, line, kind) in cases {
+        assert!(rt;
+            is_fault(run_of(rt.alloc(), text).err(), line, kind),
+            "{text}"
+        );
+    }
+}
+
+#[test]
+fn a_topic_has_a_thousand_lines(rt: HostRuntime) -> Result<(), Fail> {
+    let mut text = String::new(rt.alloc());
+    for doc in 1..1001 {
+        writeln!(text, "1 Q0 D{doc} 1 {doc} t")?;
+        writeln!(text, "2 Q0 D{doc} 1 7 t")?;
+    }
+    let lists = lists_of(rt.alloc(), text.as_str())?;
+    assert_eq!(rt; lists.len(), 2);
+    assert_eq!(rt; lists[0].docs.items().len(), 1000);
+    assert_eq!(rt; lists[1].docs.items().len(), 1000);
+    assert!(rt; are_docs(&lists[0].docs.items()[..2], &["D1000", "D999"]));
+    assert!(rt; are_docs(&lists[1].docs.items()[..2], &["D999", "D998"]));
+    writeln!(text, "1 Q0 D1001 1 1 t")?;
+    assert!(rt; is_fault(run_of(rt.alloc(), text.as_str()).err(), 2001, Kind::TooLong));
+    Ok(())
+}
+
+#[test]
+fn qrels_are_read(rt: HostRuntime) -> Result<(), Fail> {
+    let lines = qrels_of(
+        rt.alloc(),
+        "1 0 A 1\n1 0 B 0\n\n2\t0 A\r\t0255 \r\n  1 x d 007",
+    )?;
+    let wanted = [
+        (1, "1", "A", 1),
+        (2, "1", "B", 0),
+        (4, "2", "A", 255),
+        (5, "1", "d", 7),
+    ];
+    assert_eq!(rt; lines.len(), wanted.len());
+    assert!(rt;
+        lines
+            .iter()
+            .zip(&wanted)
+            .all(|(line, wanted)| is_qrel_line(line, wanted))
+    );
+    Ok(())
+}
+
+#[test]
+fn faults_of_qrels(rt: HostRuntime) {
+    let cases = [
+        ("", 0, Kind::Empty),
+        ("\r\n\x0b", 0, Kind::Empty),
+        // three fields, and five
+        ("1 0 A\n", 1, Kind::Fields),
+        ("1 0 A 1 1\n", 1, Kind::Fields),
+        // a topic that is no name, a docno of other bytes
+        ("\na*b 0 A 1\n", 2, Kind::Topic),
+        ("1 0 \u{e9} 1\n", 1, Kind::Docno),
+        // grades that aren't digits alone, or above 255
+        ("1 0 A -1\n", 1, Kind::Grade),
+        ("1 0 A +1\n", 1, Kind::Grade),
+        ("1 0 A 1.0\n", 1, Kind::Grade),
+        ("1 0 A 256\n", 1, Kind::Grade),
+        ("1 0 A 99999999999999999999999999\n", 1, Kind::Grade),
+        // a document twice in a topic, told where there is no other fault
+        (
+            "1 0 A 1\n1 0 B 0\n2 0 B 0\n\n1 0 B 1\n1 0 A 1\n",
+            5,
+            Kind::Twice { first: 2 },
+        ),
+        ("1 0 A 1\n1 0 A 1\n", 2, Kind::Twice { first: 1 }),
+        ("1 0 A 1\n1 0 A 1\n1 0 A x\n", 3, Kind::Grade),
+    ];
+    for (text, line, kind) in cases {
+        assert!(rt;
+            is_fault(qrels_of(rt.alloc(), text).err(), line, kind),
+            "{text}"
+        );
+    }
+}
+
+#[test]
+fn lists_are_ranked(rt: HostRuntime) -> Result<(), Fail> {
+    // ranks and order of lines don't count; equal scores stand by descending docno
+    let lists = lists_of(
+        rt.alloc(),
+        "\n2 Q0 A 1 5 t\n10 Q0 x 1 1 t\n2 Q0 C 2 9 t\n10 Q0 y 9 1 t\n2 Q0 B 3 05 t\n10 Q0 xx 0 0 t\n1 Q0 A 1 1 t\n",
+    )?;
+    assert_eq!(rt; lists.len(), 3);
+    assert!(rt; is_list(&lists[0], "1", 8, &["A"]));
+    assert!(rt; is_list(&lists[1], "10", 3, &["y", "x", "xx"]));
+    assert!(rt; is_list(&lists[2], "2", 2, &["C", "B", "A"]));
+    Ok(())
+}
+
+#[test]
+fn a_document_stands_once(rt: HostRuntime) {
+    let twice = "1 Q0 A 1 3 t\n2 Q0 A 1 3 t\n1 Q0 B 2 2 t\n1 Q0 A 3 1 t\n";
+    assert!(rt;
+        is_fault(
+            lists_of(rt.alloc(), twice).err(),
+            4,
+            Kind::Twice { first: 1 }
+        )
+    );
+    assert_eq!(rt; run_of(rt.alloc(), twice).err(), None);
+
+    // the least line of all topics is told, whatever their order
+    let twice = "2 Q0 A 1 3 t\n1 Q0 A 1 3 t\n\n2 Q0 A 2 2 t\n1 Q0 A 3 1 t\n";
+    assert!(rt;
+        is_fault(
+            lists_of(rt.alloc(), twice).err(),
+            4,
+            Kind::Twice { first: 1 }
+        )
+    );
+}

@@ -1,0 +1,215 @@
+use decimal_rank::Text;
+use std::alloc::Global;
+use std::test::Fail;
+use trec_formats::{FormatEnd, FormatFault, Kind, QrelLine, Topic, read_topics, write_qrels};
+
+/// A file of one topic.
+const EXAMPLE: &str = "<top>
+<num> Number: 401
+<title> foreign minorities, Germany
+
+<desc> Description:
+What language and cultural differences
+impede integration?
+</top>
+";
+
+fn topics_of(alloc: Global, text: &[u8]) -> Result<Vec<Topic>, FormatEnd> {
+    if text.len() > 1_000_000 {
+        return Err(FormatEnd::Memory);
+    }
+    read_topics(alloc, text)
+}
+
+fn is_topic(topic: &Topic, wanted: &(&str, &str, &str, &str)) -> bool {
+    topic.id.bytes() == wanted.0.as_bytes()
+        && topic.title.bytes() == wanted.1.as_bytes()
+        && topic.desc.bytes() == wanted.2.as_bytes()
+        && topic.narr.bytes() == wanted.3.as_bytes()
+}
+
+#[test]
+fn the_example_is_read(rt: HostRuntime) -> Result<(), Fail> {
+    let topics = topics_of(rt.alloc(), EXAMPLE.as_bytes())?;
+    assert_eq!(rt; topics.len(), 1);
+    assert!(rt;
+        is_topic(
+            &topics[0],
+            &(
+                "401",
+                "foreign minorities, Germany",
+                "What language and cultural differences impede integration?",
+                "",
+            ),
+        )
+    );
+    Ok(())
+}
+
+#[test]
+fn topics_are_read(rt: HostRuntime) -> Result<(), Fail> {
+    let text = b" \r
+\t<top>\r
+before any field
+<num>Number:  A.b-1 \r
+behind the number
+<title>  \r
+\x0b a\ttitle
+<dom> Domain: skipped
+too
+<narr> Narrative: one\x00 \xc3\xa9\x7f
+</head> skipped
+</top
+<desc>Number: 2\x0c
+<3 is no tag
+</top>\r
+
+<top>
+<title>
+<num>2
+</top>";
+    let wanted = [
+        ("A.b-1", "a title", "Number: 2 <3 is no tag", "one? ???"),
+        ("2", "", "", ""),
+    ];
+    let topics = topics_of(rt.alloc(), text)?;
+    assert_eq!(rt; topics.len(), wanted.len());
+    assert!(rt;
+        topics
+            .iter()
+            .zip(&wanted)
+            .all(|(topic, wanted)| is_topic(topic, wanted))
+    );
+    Ok(())
+}
+
+fn is_fault(end: Option<FormatEnd>, line: u32, kind: Kind) -> bool {
+    end == Some(FormatEnd::Fault(FormatFault { line, kind }))
+}
+
+#[test]
+fn faults_of_topics(rt: HostRuntime) {
+    let cases = [
+        ("", 0, Kind::Empty),
+        (" \n\t\r\n", 0, Kind::Empty),
+        // outside a block only its begin may stand
+        ("\n<num> 1\n", 2, Kind::Tag),
+        ("</top>\n", 1, Kind::Tag),
+        ("<top> 1\n", 1, Kind::Tag),
+        ("<top>\n<num>1\n<title>t\n</top>\nx\n", 5, Kind::Tag),
+        // a block in a block, also in a stretch that is skipped
+        ("<top>\n<num>1\n<top>\n", 3, Kind::Tag),
+        ("<top>\n<dom>\n<top>\n", 3, Kind::Tag),
+        // a field twice
+        ("<top>\n<num>1\n<title>t\n<num>1\n</top>\n", 4, Kind::Tag),
+        ("<top>\n<title>\n<title>t\n", 3, Kind::Tag),
+        ("<top>\n<desc>a\n<narr>b\n<desc>c\n", 4, Kind::Tag),
+        ("<top>\n<narr>a\n<narr>b\n", 3, Kind::Tag),
+        // a block without a number, and one without a title
+        ("<top>\n<title>t\n</top>\n", 3, Kind::Tag),
+        ("<top>\n<num>1\n<desc>d\n</top>\n", 4, Kind::Tag),
+        // numbers that are no names
+        (
+            "<top>\n<title>t\n<num> Number: a/b\n</top>\n",
+            3,
+            Kind::Topic,
+        ),
+        ("<top>\n<num> Number:\n1\n</top>\n", 2, Kind::Topic),
+        // a text that ends inside a block
+        ("<top>\n\n", 3, Kind::Tag),
+        ("<top>\n<num>1\n<title>t", 4, Kind::Tag),
+        // an id twice, told where there is no other fault
+        (
+            "<top>\n<title>a\n<num>1\n</top>\n<top>\n<num>2\n<title>b\n</top>\n<top>\n\n<num>1\n<title>c\n</top>\n",
+            11,
+            Kind::Twice { first: 3 },
+        ),
+        (
+            "<top>\n<num>1\n<title>a\n</top>\n<top>\n<num>1\n<title>b\n</top>\nx\n",
+            9,
+            Kind::Tag,
+        ),
+    ];
+    for (text, line, kind) in cases {
+        assert!(rt;
+            is_fault(topics_of(rt.alloc(), text.as_bytes()).err(), line, kind),
+            "{text}"
+        );
+    }
+}
+
+#[test]
+fn an_example_without_its_end(rt: HostRuntime) {
+    let text = EXAMPLE.as_bytes();
+    let end = text.len() - b"</top>\n".len();
+    assert!(rt; is_fault(topics_of(rt.alloc(), &text[..end]).err(), 8, Kind::Tag));
+}
+
+/// A topic with a title of so many bytes, and a description of 4,000 bytes, a space and so many.
+fn long_topic(alloc: Global, title: usize, desc: usize) -> Result<Vec<u8>, Fail> {
+    let mut text = Vec::from_slice(alloc, b"<top>\n<num>1\n<title>")?;
+    for _ in 0..title {
+        text.push(b't')?;
+    }
+    text.extend_from_slice(b"\n<desc>")?;
+    for _ in 0..4000 {
+        text.push(b'd')?;
+    }
+    text.push(b'\n')?;
+    for _ in 0..desc {
+        text.push(b'd')?;
+    }
+    text.extend_from_slice(b"\n</top>\n")?;
+    Ok(text)
+}
+
+#[test]
+fn texts_have_limits(rt: HostRuntime) -> Result<(), Fail> {
+    let text = long_topic(rt.alloc(), 1000, 4191)?;
+    let topics = topics_of(rt.alloc(), text.as_slice())?;
+    assert_eq!(rt; topics.len(), 1);
+    assert_eq!(rt; topics[0].title.bytes().len(), 1000);
+    assert_eq!(rt; topics[0].desc.bytes().len(), 8192);
+
+    let text = long_topic(rt.alloc(), 1001, 4191)?;
+    assert!(rt;
+        is_fault(
+            topics_of(rt.alloc(), text.as_slice()).err(),
+            3,
+            Kind::TooLong
+        )
+    );
+    let text = long_topic(rt.alloc(), 1000, 4192)?;
+    assert!(rt;
+        is_fault(
+            topics_of(rt.alloc(), text.as_slice()).err(),
+            5,
+            Kind::TooLong
+        )
+    );
+    Ok(())
+}
+
+fn text_of(alloc: Global, bytes: &str) -> Result<Text, Fail> {
+    Ok(Text::new(Vec::from_slice(alloc, bytes.as_bytes())?))
+}
+
+#[test]
+fn qrels_are_written(rt: HostRuntime) -> Result<(), Fail> {
+    let judgements = [("a", 0), ("b", 1), ("c", 1), ("d", 0), ("e", 0), ("f", 255)];
+    let mut lines = Vec::new(rt.alloc());
+    for (doc, grade) in judgements {
+        lines.push(QrelLine {
+            line: 1,
+            topic: text_of(rt.alloc(), "1")?,
+            doc: text_of(rt.alloc(), doc)?,
+            grade,
+        })?;
+    }
+    let text = write_qrels(rt.alloc(), lines.as_slice())?;
+    assert_eq!(rt;
+        text.bytes(),
+        b"1 0 a 0\n1 0 b 1\n1 0 c 1\n1 0 d 0\n1 0 e 0\n1 0 f 255\n".as_slice()
+    );
+    Ok(())
+}
