@@ -6,7 +6,6 @@ pub mod Digits
 pub mod Growing
 pub mod Growth
 pub mod Listing
-pub mod Mapped
 pub mod Reading
 pub mod Scores
 pub mod Search

@@ -17,7 +17,11 @@ use Rattle.decimal_rank.specs.declared.rankings.Entry.{Entry}
 use Rattle.decimal_rank.specs.declared.rankings.Scored.{Scored}
 use Rattle.decimal_rank.specs.Places.{AreDistinct, place_in, IsFirstRepeat}
 use Rattle.decimal_rank.specs.Entries.{entries_in, AreEntries}
-use Rattle.decimal_rank.proofs.Mapped.{position_is}
+
+-- the place of what passes, where its test comes to one
+position_is : {X : Type 0} (p : X → Bool) (xs : List X) (n : ℕ) → position_or_len p xs ≡ n → n < length xs → position p xs ≡ Some n
+position_is p xs n e lt =
+    ap (λ k. cond (ltb k (length xs)) (Some k) None) e ∙ ap (λ t. cond t (Some n) None) (lt-ltb n (length xs) lt)
 
 abbrev pub numbered : ℕ → DocId
 numbered n = record { 0 = n }

@@ -1,5 +1,5 @@
 //! Names that are numbered as they come, so that layers above hand on numbers in place of texts.
-ghost use Rattle.std.specs.Prelude.{◌≡◌, ℕ, ◌+◌, ◌<◌, ◌≤◌, ◌^◌, List, [], Some, length, take, map, IfOk, OnOk, OnErr, slice_get};
+ghost use Rattle.std.specs.Prelude.{◌≡◌, ℕ, ◌+◌, ◌<◌, ◌≤◌, ◌^◌, List, [], Some, length, take, IfOk, OnOk, OnErr, slice_get};
 ghost use Rattle.decimal_rank.specs.Names.{with_name, number_of, docno_of};
 ghost use Rattle.std.specs.List.{IsDistinct};
 ghost use Rattle.std.specs.Option.{option_map};
@@ -7,7 +7,7 @@ ghost use Rattle.std.specs.Str.{bytes_eq};
 
 use crate::secrets::Secret;
 use crate::storage::Memory;
-use crate::texts::Text;
+use crate::texts::{Text, Wanted};
 use indexmap::IndexSet;
 use std::alloc::Global;
 use std::marker::Model;
@@ -20,13 +20,13 @@ pub struct DocId(pub u32);
 /// Contracts see the list of the names.
 #[derive(Drop)]
 pub struct Names {
-    set: IndexSet<Vec<u8>, Secret>,
+    set: IndexSet<Text, Secret>,
 }
 
 impl Model for Names {
     ghost Value = { List (List ℕ) };
 
-    ghost view = { λ names. map (λ name. name.items) names.set.keys };
+    ghost view = { λ names. names.set.keys };
 
     ghost invariant = { λ names. length names.set.keys < 2 ^ 32 };
 }
@@ -54,8 +54,7 @@ impl Names {
         ensures number { IfOk result (λ doc. number_of self.new name ≡ Some doc.0) }
         ensures err { OnErr result (self.new ≡ self.old) }
     {
-        let owned = Vec::from_slice(*self.set.allocator(), name.bytes())?;
-        let (index, _) = self.set.insert_full(owned)?;
+        let (index, _) = self.set.insert_full(name)?;
         Ok(DocId(index as u32))
     }
 
@@ -70,7 +69,7 @@ impl Names {
     pub fn find(&self, name: &[u8]) -> Option<DocId>
         ensures { option_map (λ doc. doc.0) result ≡ number_of self.now name.now }
     {
-        let index = self.set.get_index_of(name)?;
+        let index = self.set.get_index_of(Wanted(name))?;
         Some(DocId(index as u32))
     }
 
@@ -78,7 +77,7 @@ impl Names {
         requires { doc.0 < length self.now }
         ensures { slice_get self.now doc.0 ≡ Some result.now }
     {
-        self.set[doc.0 as usize].as_slice()
+        self.set[doc.0 as usize].bytes()
     }
 
     /// The name of a number, and no byte where there is none.
@@ -86,7 +85,7 @@ impl Names {
         ensures { result.now ≡ docno_of self.now doc.0 }
     {
         match self.set.get_index(doc.0 as usize) {
-            Some(name) => name.as_slice(),
+            Some(name) => name.bytes(),
             None => &[],
         }
     }

@@ -10,6 +10,7 @@ ghost use Rattle.std.proofs.Common.{rules};
 ghost use Rattle.decimal_rank.specs.TextHashes.{text_writes};
 
 use crate::storage::Memory;
+use indexmap::Equivalent;
 use std::alloc::Global;
 use std::cmp::Ordering;
 use std::hash::{Hash, Hasher};
@@ -158,8 +159,33 @@ impl Hash for Text {
     ghost respects_eq = { Prim.search (hashing, rules) };
 
     fn hash<H: Hasher>(&self, state: &mut H) {
-        let bytes = self.bytes();
-        state.write_usize(bytes.len());
-        state.write(bytes);
+        Wanted(self.bytes()).hash(state);
+    }
+}
+
+/// Bytes by which a text is looked up in a table of texts.
+#[derive(Clone, Copy, PartialEq, Eq)]
+pub(crate) struct Wanted<'a>(pub(crate) &'a [u8]);
+
+impl Hash for Wanted<'_> {
+    ghost hash_input = { λ wanted. text_writes wanted.0.now };
+
+    ghost respects_eq = { Prim.search (hashing, rules) };
+
+    fn hash<H: Hasher>(&self, state: &mut H) {
+        state.write_usize(self.0.len());
+        state.write(self.0);
+    }
+}
+
+impl Equivalent<Text> for Wanted<'_> {
+    ghost equivalent = { λ wanted text. bytes_eq wanted.0.now text };
+
+    ghost respects_hash = { λ wanted text. Prim.search (hashing, rules) };
+
+    ghost respects_eq = { λ wanted text other. Prim.search (comparing, rules) };
+
+    fn equivalent(&self, text: &Text) -> bool {
+        self.0 == text.bytes()
     }
 }

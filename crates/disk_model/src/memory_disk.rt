@@ -5,7 +5,7 @@ ghost use Rattle.std.specs.declared.alloc.Global.{Global};
 ghost use Rattle.decimal_rank.specs.Causes.{HasCause, Rose};
 ghost use Rattle.disk_model.specs.declared.memory_disk.DiskCall.TheVariants.{Cut as CutCall, Write as WriteCall};
 ghost use Rattle.disk_model.specs.Calls.{begun_with, content_after, content_by};
-ghost use Rattle.disk_model.specs.Disks.{written};
+ghost use Rattle.disk_model.specs.Disks.{written, Alone};
 
 use crate::disks::Disk;
 use decimal_rank::{Failed, FailurePlan, Memory, count_more};
@@ -53,6 +53,7 @@ impl MemoryDisk {
     /// places, from 1. It takes no memory.
     pub fn new(content: Vec<u8>, fails: Vec<u64>) -> MemoryDisk
         ensures content { ⟦<MemoryDisk as Disk>⟧.content result ≡ Some content.items }
+        ensures synced { Alone (⟦<MemoryDisk as Disk>⟧.content result) (⟦<MemoryDisk as Disk>⟧.images result) }
         ensures faults { ⟦<MemoryDisk as Disk>⟧.fault_count result ≡ 0 }
     {
         let alloc = *content.allocator();
