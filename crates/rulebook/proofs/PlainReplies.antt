@@ -1,13 +1,13 @@
 -- Every reply on a legal history is plain, and a command's is short.
 use Rattle.std.proofs.Common.{◌≡◌, ℕ, Bool, true, false, List, [], ◌∷◌, ◌++◌, Option, None, Some, Ok, Err, length, map, refl, sym, ap, ◌∙◌, filter}
-use Rattle.std.specs.Prelude.{◌&&◌, ◌==◌, ◌-◌, if◌then◌else◌, nat_lt, nat_le, slice_get, unwrap_or}
+use Rattle.std.specs.Prelude.{◌&&◌, ◌==◌, ◌-◌, ◌^◌, if◌then◌else◌, nat_lt, nat_le, slice_get, unwrap_or}
 use Rattle.std.specs.List.{All, filter_map, find, flat_map, list_all}
 use Rattle.std.specs.Option.{option_and_then, option_map_or}
 use Rattle.std.specs.Str.{bytes_eq}
 use Rattle.std.proofs.lemmas.List.Sums.{AllPass-from_list_all}
 use Rattle.trec_formats.specs.declared.Topic.{Topic}
 use Rattle.trec_formats.specs.declared.TopicList.{TopicList}
-use Rattle.trec_formats.specs.Names.{is_name, is_docno}
+use Rattle.trec_formats.specs.Names.{is_between, is_name, is_docno}
 use Rattle.rulebook.specs.declared.limits.TheConstants.{MAX_ENTRIES, MAX_ENTRY_BYTES, MAX_MOMENT}
 use Rattle.rulebook.specs.declared.rules.Caller.{Caller}
 use Rattle.rulebook.specs.declared.ask.Ask.{Ask}
@@ -32,7 +32,7 @@ use Rattle.rulebook.specs.Plain.{is_plain_and_short, is_plain_entry, is_plain_re
 use Rattle.rulebook.specs.Refusals.{Ruling, given, unless}
 use Rattle.rulebook.specs.Roles.{may_give, may_see}
 use Rattle.rulebook.specs.Scores.{run_named, scores_page}
-use Rattle.rulebook.specs.Spelling.{are_rules, entry_bytes, has_spelling, is_ascending, is_number, is_plain, is_plain_list, is_plain_topic, is_printable}
+use Rattle.rulebook.specs.Spelling.{are_rules, differ, entry_bytes, has_spelling, is_ascending, is_number, is_plain, is_plain_list, is_plain_topic, is_printable}
 use Rattle.rulebook.specs.Words.{Text}
 use Rattle.rulebook.proofs.AllPass.{all_filtered, all_found, all_given, all_got, all_in_order, all_mapped_flat, all_numbered, all_pushed, all_taken, both, first_of_both, second_of_both}
 use Rattle.rulebook.proofs.LegalWalk.{accepted_of, legal_induction}
@@ -50,7 +50,7 @@ is_plain_lease lease = is_name lease.topic && is_docno lease.doc
 
 submit_parts : (run : Text) (lists : List TopicList) → is_plain (command.Submit run lists) ≡ true → (is_name run ≡ true) × (list_all is_plain_list lists ≡ true)
 submit_parts run lists plain =
-    let some : Bool = nat_lt 0 (length lists) in
+    let some : Bool = is_between 1 (2 ^ 32 - 1) (length lists) in
     let front = first_of_both (is_name run && some && list_all is_plain_list lists) (is_ascending (map (λ l. l.topic) lists)) plain in (
       first_of_both (is_name run) some (first_of_both (is_name run && some) (list_all is_plain_list lists) front),
       second_of_both (is_name run && some) (list_all is_plain_list lists) front,
@@ -88,7 +88,11 @@ lease_plain assessor (reply.Refused r) lease plain is = cc is
 
 topics_plain : (c : Command) (ts : List Topic) → is_plain c ≡ true → topics_in c ≡ Some ts → list_all is_plain_topic ts ≡ true
 topics_plain (command.Topics topics) ts plain is =
-    let same : topics ≡ ts = cc is in ap (list_all is_plain_topic) (sym same) ∙ first_of_both (list_all is_plain_topic topics) _ plain
+    let same : topics ≡ ts = cc is in
+    let few : Bool = nat_lt (length topics) (2 ^ 32) in
+    ap (list_all is_plain_topic) (sym same)
+    ∙ second_of_both few (list_all is_plain_topic topics)
+    (first_of_both (few && list_all is_plain_topic topics) (differ (map (λ t. t.id) topics)) plain)
 topics_plain (command.Found rules) ts plain is = cc is
 topics_plain (command.Submit run lists) ts plain is = cc is
 topics_plain command.Open ts plain is = cc is

@@ -1,5 +1,5 @@
 -- Entries as bytes. Integers are little-endian; a short text is a byte for its length and its bytes, a long text two bytes for its length and its bytes; a list is four bytes for its count and its items.
-use Rattle.std.specs.Prelude.{◌≡◌, ℕ, Bool, true, not, ◌&&◌, ◌^◌, List, [], ◌∷◌, ◌++◌, Option, None, Some, map, length, nat_le, nat_lt}
+use Rattle.std.specs.Prelude.{◌≡◌, ℕ, Bool, true, not, ◌&&◌, ◌-◌, ◌^◌, List, [], ◌∷◌, ◌++◌, Option, None, Some, map, length, nat_le, nat_lt}
 use Rattle.std.specs.List.{list_all, flat_map}
 use Rattle.std.specs.Int.{to_le_bytes, w16, w32, w64}
 use Rattle.std.specs.Ordering.{nat_cmp, is_lt}
@@ -89,18 +89,21 @@ abbrev pub is_plain_topic : Topic → Bool
 is_plain_topic t = is_name t.id && is_printable 1000 t.title && is_printable 8192 t.desc && is_printable 8192 t.narr
 
 abbrev pub is_plain_list : TopicList → Bool
-is_plain_list l = is_name l.topic && is_between 1 1000 (length l.docs) && list_all is_docno l.docs && differ l.docs
+is_plain_list l = is_name l.topic && nat_lt l.line (2 ^ 32) && is_between 1 1000 (length l.docs) && list_all is_docno l.docs && differ l.docs
 
 abbrev pub is_plain : Command → Bool
 is_plain (Found rules) = are_rules rules
-is_plain (Topics topics) = list_all is_plain_topic topics && differ (map (λ t. t.id) topics)
+is_plain (Topics topics) = nat_lt (length topics) (2 ^ 32) && list_all is_plain_topic topics && differ (map (λ t. t.id) topics)
 is_plain (Submit run lists) =
-    is_name run && nat_lt 0 (length lists) && list_all is_plain_list lists && is_ascending (map (λ l. l.topic) lists)
+    is_name run && is_between 1 (2 ^ 32 - 1) (length lists) && list_all is_plain_list lists && is_ascending (map (λ l. l.topic) lists)
+is_plain Open = true
 is_plain (Lease topic) = is_name topic
-is_plain (Amend topic doc grade) = is_name topic && is_docno doc
-is_plain (Rule topic doc grade) = is_name topic && is_docno doc
+is_plain (Grade lease grade) = nat_lt lease (2 ^ 32) && nat_lt grade 256
+is_plain (Release lease) = nat_lt lease (2 ^ 32)
+is_plain (Amend topic doc grade) = is_name topic && is_docno doc && nat_lt grade 256
+is_plain (Rule topic doc grade) = is_name topic && is_docno doc && nat_lt grade 256
 is_plain (Withdraw run) = is_name run
-is_plain _ = true
+is_plain Publish = true
 
 abbrev pub is_number : Option ℕ → Bool
 is_number None = true
