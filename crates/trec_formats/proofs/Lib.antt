@@ -25,3 +25,4 @@ pub mod TopicOrder
 pub mod TopicProgress
 pub mod TopicReadings
 pub mod TopicSteps
+pub mod Walks

@@ -1,4 +1,5 @@
 pub mod Counts
+pub mod Documents
 pub mod FaultNames
 pub mod Faults
 pub mod FieldTexts

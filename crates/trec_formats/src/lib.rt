@@ -1,6 +1,7 @@
 //! The run, qrels and topics formats of TREC: their texts as lines and as topics, and the ranked lists of a run.
 #![tactic(auto)]
 
+mod documents;
 mod faults;
 mod laws;
 mod lines;
