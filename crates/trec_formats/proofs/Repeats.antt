@@ -1,5 +1,5 @@
 -- The documents of the lines that were looked at, in the buckets of their keys.
-use Rattle.std.proofs.Common.{◌≡◌, ◌<◌, ◌≤◌, ◌+◌, ◌%◌, ◌&&◌, ℕ, Bool, true, false, List, [], ◌∷◌, ◌++◌, length, map, take, drop, get_or, find, refl, sym, ◌∙◌, ap, Option, Some, None, bytes_eq}
+use Rattle.std.proofs.Common.{◌≡◌, ◌<◌, ◌≤◌, ◌+◌, ◌%◌, ◌&&◌, ℕ, Bool, true, false, List, [], ◌∷◌, ◌++◌, length, map, take, drop, get_or, find, refl, sym, ◌∙◌, ap, Some, None, bytes_eq}
 use Rattle.std.specs.List.{list_any, slice_get}
 use Rattle.std.specs.Option.{option_map}
 use Rattle.std.proofs.lemmas.List.{take-append-drop, drop_more, take_more, take_all, length-map, map-append}
@@ -8,7 +8,8 @@ use Rattle.std.proofs.lemmas.Slice.Eq.{bytes_eq-Decides}
 use Rattle.decimal_rank.specs.Buckets.{Buckets, with_item}
 use Rattle.decimal_rank.specs.declared.secrets.Secret.{Secret}
 use Rattle.trec_formats.specs.declared.faults.Kind.TheVariants.{Twice}
-use Rattle.trec_formats.specs.Documents.{same_by, document_key, AreUnder}
+use Rattle.trec_formats.specs.Documents.{same_by, document_key}
+use Rattle.trec_formats.specs.Searches.{AreUnder}
 use Rattle.trec_formats.specs.Faults.{IsDistinct, IsTwice}
 use Rattle.trec_formats.proofs.Readings.{distinct_push, distinct_nil}
 
@@ -29,6 +30,10 @@ module _ {L : Type 0} (topic doc : L → List ℕ) (number : L → ℕ) where
   abbrev same : L → L → Bool
   same = same_by topic doc
 
+  -- whether a line names a document
+  abbrev pub is_of : List ℕ → List ℕ → L → Bool
+  is_of t d line = bytes_eq t (topic line) && bytes_eq d (doc line)
+
   abbrev bucket : Secret → ℕ → L → ℕ
   bucket secret room line = document_key secret (topic line) (doc line) % room
 
@@ -37,59 +42,59 @@ module _ {L : Type 0} (topic doc : L → List ℕ) (number : L → ℕ) where
     pub items_are : table.items ≡ map (bucket secret table.room) lines
     pub distinct : IsDistinct same lines
 
-  none_of : (o : Option L) → option_map number o ≡ None → o ≡ None
-  none_of None is = refl
-  none_of (Some l) is = cc is
-
-  some_of : (o : Option L) (n : ℕ) → option_map number o ≡ Some n → (l : L) × (o ≡ Some l) × (number l ≡ n)
-  some_of None n is = cc is
-  some_of (Some l) n is = (l, refl, (cc is))
-
   pub seen_none : (secret : Secret) (table : Buckets) → table.items ≡ [] → HaveSeen secret table []
   seen_none secret table empty = record { items_are = empty; distinct = distinct_nil same number }
 
-  -- lines of the same document are in the bucket of its key
-  pub seen_under : (secret : Secret) (table : Buckets) (lines : List L) (line : L) (key : ℕ) → HaveSeen secret table lines → key ≡ document_key secret (topic line) (doc line) → AreUnder (same line) table lines key
-  seen_under secret table lines line key w keyed = record {
+  -- lines of a document are in the bucket of its key
+  pub seen_under : (secret : Secret) (table : Buckets) (lines : List L) (t d : List ℕ) (key : ℕ) → HaveSeen secret table lines → key ≡ document_key secret t d → AreUnder (is_of t d) table lines key
+  seen_under secret table lines t d key w keyed = record {
     sized = ap length w.items_are ∙ length-map lines (bucket secret table.room);
-    each = λ i other got yes.
-        let parts = both (bytes_eq (topic line) (topic other)) (bytes_eq (doc line) (doc other)) yes in
-        let topics : topic line ≡ topic other = (bytes_eq-Decides _ _).0 parts.0 in
-        let docs : doc line ≡ doc other = (bytes_eq-Decides _ _).0 parts.1 in
-        let keys : document_key secret (topic other) (doc other) ≡ key = sym (keyed ∙ ap (λ t. document_key secret t (doc line)) topics ∙ ap (λ d. document_key secret (topic other) d) docs) in
+    each = λ i line got yes.
+        let parts = both (bytes_eq t (topic line)) (bytes_eq d (doc line)) yes in
+        let topics : topic line ≡ t = sym ((bytes_eq-Decides _ _).0 parts.0) in
+        let docs : doc line ≡ d = sym ((bytes_eq-Decides _ _).0 parts.1) in
+        let keys : document_key secret (topic line) (doc line) ≡ key = ap (λ a. document_key secret a (doc line)) topics ∙ ap (λ b. document_key secret t b) docs ∙ sym keyed in
         ap (λ items. slice_get items i) w.items_are
         ∙ slice_get-map (bucket secret table.room) lines i
         ∙ ap (option_map (bucket secret table.room)) got
         ∙ ap (λ k. Some (k % table.room)) keys;
   }
 
-  seen_push : (secret : Secret) (table : Buckets) (lines : List L) (line : L) (key : ℕ) → HaveSeen secret table lines → key ≡ document_key secret (topic line) (doc line) → find (same line) lines ≡ None → HaveSeen secret (with_item table key) (lines ++ line ∷ [])
-  seen_push secret table lines line key w keyed none = record {
-    items_are =
-        ap (λ items. items ++ key % table.room ∷ []) w.items_are
-        ∙ ap (λ k. map (bucket secret table.room) lines ++ k % table.room ∷ []) keyed
-        ∙ sym (map-append (bucket secret table.room) lines (line ∷ []));
-    distinct = distinct_push same number lines line none w.distinct;
-  }
+  -- a line, and the document that it names
+  pub record Names (line : L) (t d : List ℕ) : Type 0 where
+    pub topic_is : t ≡ topic line
+    pub doc_is : d ≡ doc line
 
-  pub seen_next : (secret : Secret) (table more : Buckets) (lines : List L) (i : ℕ) (line : L) (key : ℕ) → i < length lines → line ≡ get_or lines i line → HaveSeen secret table (take i lines) → key ≡ document_key secret (topic line) (doc line) → option_map number (find (same line) (take i lines)) ≡ None → more ≡ with_item table key → HaveSeen secret more (take (i + 1) lines)
-  seen_next secret table more lines i line key within item w keyed none more_is =
-      rw (more_is, take_more lines i line within, ← item) (seen_push secret table (take i lines) line key w keyed (none_of _ none))
+  found_by : (line : L) (t d : List ℕ) (lines : List L) → Names line t d → find (same line) lines ≡ find (is_of t d) lines
+  found_by line t d lines names = ap (λ a. find (is_of a (doc line)) lines) (sym names.topic_is) ∙ ap (λ b. find (is_of t b) lines) (sym names.doc_is)
 
-  pub seen_twice : (secret : Secret) (table : Buckets) (lines : List L) (i : ℕ) (line : L) (first : ℕ) → i < length lines → line ≡ get_or lines i line → HaveSeen secret table (take i lines) → option_map number (find (same line) (take i lines)) ≡ Some first → IsTwice same number lines (record { line = number line; kind = Twice first })
-  seen_twice secret table lines i line first within item w there =
-      let earlier = some_of _ first there in
+  seen_push : (secret : Secret) (table : Buckets) (lines : List L) (line : L) (t d : List ℕ) (key : ℕ) → HaveSeen secret table lines → Names line t d → key ≡ document_key secret t d → find (is_of t d) lines ≡ None → HaveSeen secret (with_item table key) (lines ++ line ∷ [])
+  seen_push secret table lines line t d key w names keyed none =
+      let keys : key ≡ document_key secret (topic line) (doc line) = keyed ∙ ap (λ a. document_key secret a d) names.topic_is ∙ ap (document_key secret (topic line)) names.doc_is in
       record {
-        before = take i lines;
-        again = line;
-        after = drop (i + 1) lines;
-        first = earlier.0;
-        cut = sym (take-append-drop i lines) ∙ ap (λ rest. take i lines ++ rest) (drop_more lines i line within ∙ ap (λ l. l ∷ drop (i + 1) lines) (sym item));
-        earlier = earlier.1;
-        distinct = w.distinct;
-        line = refl;
-        kind = ap Twice (sym earlier.2);
+        items_are =
+            ap (λ items. items ++ key % table.room ∷ []) w.items_are
+            ∙ ap (λ k. map (bucket secret table.room) lines ++ k % table.room ∷ []) keys
+            ∙ sym (map-append (bucket secret table.room) lines (line ∷ []));
+        distinct = distinct_push same number lines line (found_by line t d lines names ∙ none) w.distinct;
       }
+
+  pub seen_next : (secret : Secret) (table more : Buckets) (lines : List L) (i : ℕ) (line : L) (t d : List ℕ) (key : ℕ) → i < length lines → line ≡ get_or lines i line → HaveSeen secret table (take i lines) → Names line t d → key ≡ document_key secret t d → find (is_of t d) (take i lines) ≡ None → more ≡ with_item table key → HaveSeen secret more (take (i + 1) lines)
+  seen_next secret table more lines i line t d key within item w names keyed none more_is =
+      rw (more_is, take_more lines i line within, ← item) (seen_push secret table (take i lines) line t d key w names keyed none)
+
+  pub seen_twice : (secret : Secret) (table : Buckets) (lines : List L) (i : ℕ) (line first : L) (t d : List ℕ) → i < length lines → line ≡ get_or lines i line → HaveSeen secret table (take i lines) → Names line t d → find (is_of t d) (take i lines) ≡ Some first → IsTwice same number lines (record { line = number line; kind = Twice (number first) })
+  seen_twice secret table lines i line first t d within item w names there = record {
+    before = take i lines;
+    again = line;
+    after = drop (i + 1) lines;
+    first = first;
+    cut = sym (take-append-drop i lines) ∙ ap (λ rest. take i lines ++ rest) (drop_more lines i line within ∙ ap (λ l. l ∷ drop (i + 1) lines) (sym item));
+    earlier = found_by line t d (take i lines) names ∙ there;
+    distinct = w.distinct;
+    line = refl;
+    kind = refl;
+  }
 
   pub seen_all : (secret : Secret) (table : Buckets) (lines : List L) (i : ℕ) → length lines ≤ i → HaveSeen secret table (take i lines) → IsDistinct same lines
   seen_all secret table lines i all w = rw (← take_all i lines all) w.distinct

@@ -1,12 +1,12 @@
 //! Lines that name a document of a topic, and the first that names the document of an earlier one. A
 //! table finds the earlier lines by a key of both texts.
-ghost use Rattle.std.specs.Prelude.{◌≡◌, ℕ, List, Some, find, IfOk, MatchOption, if◌then◌else◌};
-ghost use Rattle.std.specs.Option.{option_map};
+ghost use Rattle.std.specs.Prelude.{◌≡◌, ◌&&◌, ℕ, List, IfOk, MatchOption, bytes_eq};
 ghost use Rattle.decimal_rank.specs.TextKeys.{text_key};
-ghost use Rattle.trec_formats.specs.Documents.{same_by, AreUnder};
+ghost use Rattle.trec_formats.specs.Documents.{same_by};
 ghost use Rattle.trec_formats.specs.Faults.{IsDistinct, IsTwice};
 
 use crate::faults::{FormatFault, Kind};
+use crate::searches::{Sought, first_found};
 use decimal_rank::{Chains, Memory, Secret};
 use std::alloc::Global;
 
@@ -32,6 +32,21 @@ pub(crate) trait DocumentLine {
         ensures { result ≡ number_of self.now };
 }
 
+/// A document of a topic, as it's looked for among lines.
+#[derive(Clone, Copy)]
+struct Document<'a> {
+    topic: &'a [u8],
+    doc: &'a [u8],
+}
+
+impl<'a, L: DocumentLine> Sought<L> for Document<'a> {
+    ghost finds = { λ document line. bytes_eq document.topic.now (L.topic_of line) && bytes_eq document.doc.now (L.doc_of line) };
+
+    fn finds(&self, line: &L) -> bool {
+        self.topic == line.topic() && self.doc == line.doc()
+    }
+}
+
 /// The first line that names the topic and docno of an earlier one. More lines than a table numbers
 /// are as want of memory.
 pub(crate) fn first_repeat<L: DocumentLine>(
@@ -50,13 +65,19 @@ pub(crate) fn first_repeat<L: DocumentLine>(
     let mut newest: &[u8] = &[];
     let mut newest_key = secret.key_of(newest);
     for (i, line) in lines.iter().enumerate() {
-        newest_key = topic_key(&secret, newest, newest_key, line.topic());
-        newest = line.topic();
-        let key = newest_key.wrapping_add(secret.key_of(line.doc()));
-        if let Some(first) = first_same(&chains, &lines[..i], key, line) {
+        let document = Document {
+            topic: line.topic(),
+            doc: line.doc(),
+        };
+        newest_key = topic_key(&secret, newest, newest_key, document.topic);
+        newest = document.topic;
+        let key = newest_key.wrapping_add(secret.key_of(document.doc));
+        if let Some(first) = first_found(&chains, &lines[..i], key, &document) {
             return Ok(Some(FormatFault {
                 line: line.number(),
-                kind: Kind::Twice { first },
+                kind: Kind::Twice {
+                    first: first.number(),
+                },
             }));
         }
         chains.push(key)?;
@@ -74,35 +95,4 @@ fn topic_key(secret: &Secret, newest: &[u8], newest_key: u64, topic: &[u8]) -> u
         return newest_key;
     }
     secret.key_of(topic)
-}
-
-/// The number of the first of some lines that names the document of a line. Those that do are in the
-/// bucket of the key.
-fn first_same<L: DocumentLine>(chains: &Chains, lines: &[L], key: u64, line: &L) -> Option<u32>
-    requires { AreUnder (same_by L.topic_of L.doc_of line.now) chains.now lines.now key }
-    ensures { result ≡ option_map L.number_of (find (same_by L.topic_of L.doc_of line.now) lines.now) }
-{
-    let mut found = None;
-    let mut next = chains.newest(key);
-    while let Some(item) = next {
-        found = nearer(line, &lines[item as usize], found);
-        next = chains.earlier(item);
-    }
-    found
-}
-
-/// The number of an earlier line where it names the document of a line, and else what was found.
-fn nearer<L: DocumentLine>(line: &L, earlier: &L, found: Option<u32>) -> Option<u32>
-    ensures { result ≡ (if same_by L.topic_of L.doc_of line.now earlier.now then Some (L.number_of earlier.now) else found) }
-{
-    if is_same(line, earlier) {
-        return Some(earlier.number());
-    }
-    found
-}
-
-fn is_same<L: DocumentLine>(line: &L, other: &L) -> bool
-    ensures { result ≡ same_by L.topic_of L.doc_of line.now other.now }
-{
-    line.topic() == other.topic() && line.doc() == other.doc()
 }
