@@ -8,7 +8,7 @@ use Rattle.std.proofs.lemmas.Slice.Eq.{bytes_eq-Decides}
 use Rattle.trec_formats.specs.declared.qrels.QrelLine.{QrelLine}
 use Rattle.trec_formats.specs.declared.lists.TopicList.{TopicList}
 use Rattle.campaign_cli.specs.Evaluations.{docs_on}
-use Rattle.campaign_cli.specs.Tables.{AreRankedLists, Grades, grade_at, grade_in}
+use Rattle.campaign_cli.specs.Tables.{AreRankedLists, grade_in}
 use Rattle.campaign_cli.proofs.Listed.{docs_on-all}
 
 count-cons : {X : Type 0} (p : X → Bool) (x : X) (xs : List X) → count_by p (x ∷ xs) ≡ cond (p x) 1 0 + count_by p xs
@@ -71,16 +71,6 @@ module _ (p : Option ℕ → Bool) (q : ℕ → Bool) (at_some : (grade : ℕ) �
   judged_le (line ∷ lines) docs differ =
       let more : count_by p (map (grade_in (line ∷ lines)) docs) ≤ cond (q line.grade) 1 0 + count_by p (map (grade_in lines) docs) = one_more line lines docs differ in
       omega (arith, more, judged_le lines docs differ, count-cons (λ (l : QrelLine). q l.grade) line lines)
-
-looked_up : (grades : Grades) (lines : List QrelLine) (docs : List (List ℕ)) → ((doc : List ℕ) → grade_at grades doc ≡ grade_in lines doc) → map (grade_at grades) docs ≡ map (grade_in lines) docs
-looked_up grades lines [] same = refl
-looked_up grades lines (doc ∷ docs) same =
-    ap (λ g. g ∷ map (grade_at grades) docs) (same doc) ∙ ap (λ gs. grade_in lines doc ∷ gs) (looked_up grades lines docs same)
-
--- what is looked up for documents is what the lines say of them
-pub graded_docs : (grades : Grades) (lines : List QrelLine) (docs : List (List ℕ)) (items lent : List (Option ℕ)) → ((doc : List ℕ) → grade_at grades doc ≡ grade_in lines doc)
-    → items ≡ map (grade_at grades) docs → lent ≡ items → lent ≡ map (grade_in lines) docs
-graded_docs grades lines docs items lent same items_are lent_are = lent_are ∙ items_are ∙ looked_up grades lines docs same
 
 -- a topic's documents differ
 pub docs_differ : (lists : List TopicList) (topic : List ℕ) → AreRankedLists lists → AllPairs (λ a b. a ≢ b) (docs_on lists topic)

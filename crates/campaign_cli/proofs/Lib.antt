@@ -1,6 +1,6 @@
 pub mod Exclusive
-pub mod Grades
 pub mod Judged
+pub mod Judging
 pub mod Listed
 pub mod MemoryForms
 pub mod OnTopic

@@ -1,9 +1,10 @@
--- The lines of qrels by topic, and the table by which the grades of a topic are looked up.
-use Rattle.std.specs.Prelude.{◌≡◌, ◌≢◌, ◌≤◌, ℕ, Bool, true, false, List, Option, length, map, filter, find, option_map, count_by, All, AllPairs, bytes_eq, nat_le, nat_lt}
+-- The lines of qrels by topic, and in the buckets of their docnos.
+use Rattle.std.specs.Prelude.{◌≡◌, ◌≢◌, ◌≤◌, ◌%◌, ℕ, Bool, true, false, List, Option, length, map, filter, find, option_map, count_by, All, AllPairs, bytes_eq, nat_le, nat_lt}
 use Rattle.std.specs.Cmp.Lexicographic.{slice_cmp}
-use Rattle.std.specs.HashMap.{HashMap, get_by}
 use Rattle.std.specs.Ordering.{nat_cmp, is_lt}
 use denote.Ref.{Bor}
+use Rattle.decimal_rank.specs.Buckets.{Buckets}
+use Rattle.decimal_rank.specs.TextKeys.{text_key}
 use Rattle.decimal_rank.specs.declared.secrets.Secret.{Secret}
 use Rattle.trec_formats.specs.declared.lists.TopicList.{TopicList}
 use Rattle.trec_formats.specs.declared.qrels.QrelLine.{QrelLine}
@@ -44,11 +45,9 @@ grade_in lines doc = option_map (λ line. line.grade) (find (λ line. bytes_eq l
 abbrev pub cell_in : List (List ℕ) → List QrelLine → Cell
 cell_in docs lines = cell_of (map (grade_in lines) docs) (tally_in lines).relevant (tally_in lines).others level
 
-abbrev pub Grades : Type 0
-Grades = HashMap (Bor (List ℕ)) ℕ Secret
-
-abbrev pub grade_at : Grades → List ℕ → Option ℕ
-grade_at grades doc = get_by (λ key. bytes_eq doc key.now) grades
+-- each of these lines is in the bucket of its docno
+abbrev pub AreByDocno : Secret → Buckets → List (Bor QrelLine) → Type 0
+AreByDocno secret table lines = table.items ≡ map (λ line. text_key secret line.now.doc % table.room) lines
 
 -- ranked lists by ascending topic, each of at most 1,000 documents that differ
 pub record AreRankedLists (lists : List TopicList) : Type 0 where

@@ -1,13 +1,12 @@
 ghost use Rattle.std.specs.Prelude.{◌≡◌, ◌≢◌, ◌≤◌, length, map, All, AllPairs, IfOk};
 ghost use Rattle.measures.specs.Cells.{IsSound};
 ghost use Rattle.campaign_cli.specs.Evaluations.{docs_on as listed_on, cell_on, topics_of as qrels_topics};
-ghost use Rattle.campaign_cli.specs.Tables.{shown, cell_in, grade_at, AreRankedLists};
+ghost use Rattle.campaign_cli.specs.Tables.{shown, cell_in, grade_in, AreRankedLists};
 
-use crate::judgements::{LEVEL, by_topic, grades_of, judged_on, tally_of, topics_of};
+use crate::judgements::{LEVEL, by_docno, by_topic, grade_at, judged_on, tally_of, topics_of};
 use decimal_rank::{DocId, Memory, Names, Secret, Text};
 use measures::{Cell, scratch};
 use std::alloc::Global;
-use std::collections::HashMap;
 use trec_formats::{QrelLine, TopicList};
 
 /// The cells of a run on the topics of the qrels.
@@ -54,8 +53,7 @@ fn topic_cell<'a>(alloc: Global, docs: &'a [Text], judged: &[&'a QrelLine]) -> R
     ensures cell { IfOk result (λ cell. cell ≡ cell_in docs.now (shown judged.now)) }
     ensures sound { IfOk result IsSound }
 {
-    let grades = grades_of(alloc, judged)?;
-    let graded = graded(alloc, &grades, docs)?;
+    let graded = graded(alloc, judged, docs)?;
     let tally = tally_of(judged);
     Ok(scratch(&graded, tally.relevant, tally.others, LEVEL))
 }
@@ -71,17 +69,16 @@ fn docs_on<'a>(lists: &'a [TopicList], topic: &[u8]) -> &'a [Text]
     }
 }
 
-/// The grades of documents.
-fn graded<'a>(
-    alloc: Global,
-    grades: &HashMap<&'a Text, u8, Secret>,
-    docs: &'a [Text],
-) -> Result<Vec<Option<u8>>, Memory>
-    ensures { IfOk result (λ graded. graded.items ≡ map (grade_at grades.now) docs.now) }
+/// The grades of documents by the judgements of their topic.
+fn graded(alloc: Global, judged: &[&QrelLine], docs: &[Text]) -> Result<Vec<Option<u8>>, Memory>
+    requires { length judged.now ≤ 268435456 }
+    ensures { IfOk result (λ graded. graded.items ≡ map (grade_in (shown judged.now)) docs.now) }
 {
+    let secret = Secret::drawn();
+    let chains = by_docno(alloc, &secret, judged)?;
     let mut graded = Vec::with_capacity(alloc, docs.len())?;
     for doc in docs {
-        graded.push(grades.get(&doc).copied())?;
+        graded.push(grade_at(&secret, &chains, judged, doc.bytes()))?;
     }
     Ok(graded)
 }

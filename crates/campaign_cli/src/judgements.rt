@@ -1,13 +1,12 @@
-ghost use Rattle.std.specs.Prelude.{◌≡◌, ◌≤◌, ℕ, List, length, IfOk};
+ghost use Rattle.std.specs.Prelude.{◌≡◌, ◌≤◌, length, IfOk, bytes_eq};
 ghost use Rattle.std.specs.Option.{is_some};
 ghost use Rattle.decimal_rank.specs.Names.{number_of};
 ghost use Rattle.campaign_cli.specs.Evaluations.{topics_of as qrels_topics};
-ghost use Rattle.campaign_cli.specs.Tables.{shown, lines_on, IsAscending, AreByTopic, tally_in, grade_at, grade_in};
+ghost use Rattle.campaign_cli.specs.Tables.{shown, lines_on, IsAscending, AreByTopic, AreByDocno, tally_in, grade_in};
 
-use decimal_rank::{DocId, Memory, Names, Secret, Text};
+use decimal_rank::{Chains, DocId, Memory, Names, Secret};
 use std::alloc::Global;
-use std::collections::HashMap;
-use trec_formats::QrelLine;
+use trec_formats::{QrelLine, Sought, first_found};
 
 /// The least grade of a relevant document.
 pub(crate) const LEVEL: u8 = 1;
@@ -89,20 +88,49 @@ pub(crate) fn tally_of(lines: &[&QrelLine]) -> Tally
     tally
 }
 
-/// The grade of each document of some lines.
-pub(crate) fn grades_of<'a>(
+/// A table that finds some lines by their docnos.
+pub(crate) fn by_docno(
     alloc: Global,
-    lines: &[&'a QrelLine],
-) -> Result<HashMap<&'a Text, u8, Secret>, Memory>
-    ensures { IfOk result (λ grades. (doc : List ℕ) → grade_at grades doc ≡ grade_in (shown lines.now) doc) }
+    secret: &Secret,
+    lines: &[&QrelLine],
+) -> Result<Chains, Memory>
+    requires { length lines.now ≤ 268435456 }
+    ensures { IfOk result (λ chains. AreByDocno secret.now chains lines.now) }
 {
-    let mut grades = HashMap::with_capacity_and_hasher(alloc, lines.len(), Secret::drawn())?;
+    let mut chains = Chains::with_room(alloc, lines.len() as u32)?;
     for line in lines {
-        let doc = &line.doc;
-        // of two lines the first counts
-        if let Some(first) = grades.insert(doc, line.grade)? {
-            grades.insert(doc, first)?;
-        }
+        chains.push(secret.key_of(line.doc.bytes()))?;
     }
-    Ok(grades)
+    Ok(chains)
+}
+
+/// A docno, as it's looked for among lines.
+#[derive(Clone, Copy)]
+struct Docno<'a> {
+    text: &'a [u8],
+}
+
+impl<'a, 'b> Sought<&'b QrelLine> for Docno<'a> {
+    ghost finds = { λ docno line. bytes_eq line.now.doc docno.text.now };
+
+    fn finds(&self, line: &&'b QrelLine) -> bool {
+        line.doc.bytes() == self.text
+    }
+}
+
+/// The grade of a document in some lines, of which the first counts.
+pub(crate) fn grade_at(
+    secret: &Secret,
+    chains: &Chains,
+    lines: &[&QrelLine],
+    doc: &[u8],
+) -> Option<u8>
+    requires { AreByDocno secret.now chains.now lines.now }
+    ensures { result ≡ grade_in (shown lines.now) doc.now }
+{
+    let docno = Docno { text: doc };
+    match first_found(chains, lines, secret.key_of(doc), &docno) {
+        Some(line) => Some(line.grade),
+        None => None,
+    }
 }

@@ -8,6 +8,7 @@ pub mod Grouping
 pub mod KeptFields
 pub mod LineNumbers
 pub mod Listing
+pub mod NewestPlace
 pub mod Pieces
 pub mod Progress
 pub mod Ranked
@@ -25,3 +26,4 @@ pub mod TopicOrder
 pub mod TopicProgress
 pub mod TopicReadings
 pub mod TopicSteps
+pub mod Walks

@@ -1,17 +1,17 @@
--- The documents of the lines that were looked at, each with its first line.
-use Rattle.std.proofs.Common.{◌≡◌, ◌<◌, ◌≤◌, ◌+◌, ◌&&◌, ℕ, Bool, true, false, cond, List, [], ◌∷◌, ◌++◌, length, take, drop, get_or, find, refl, sym, ◌∙◌, ap, Option, Some, None, bytes_eq}
-use Rattle.std.specs.List.{list_any}
-use Rattle.std.specs.Option.{option_map, option_or}
-use Rattle.std.specs.HashMap.{HashMap, get_by}
-use Rattle.decimal_rank.specs.declared.secrets.Secret.{Secret}
-use Rattle.std.proofs.lemmas.List.{take-append-drop, drop_more, take_more, take_all}
-use Rattle.std.proofs.lemmas.List.Folds.{find-append}
-use Rattle.std.proofs.lemmas.Cmp.{nat_list_eq_equiv}
+-- The documents of the lines that were looked at, in the buckets of their keys.
+use Rattle.std.proofs.Common.{◌≡◌, ◌<◌, ◌≤◌, ◌+◌, ◌%◌, ◌&&◌, ℕ, Bool, true, false, List, [], ◌∷◌, ◌++◌, length, map, take, drop, get_or, find, refl, sym, ◌∙◌, ap, Some, None, bytes_eq}
+use Rattle.std.specs.List.{list_any, slice_get}
+use Rattle.std.specs.Option.{option_map}
+use Rattle.std.proofs.lemmas.List.{take-append-drop, drop_more, take_more, take_all, length-map, map-append}
+use Rattle.std.proofs.lemmas.Option.{slice_get-map}
 use Rattle.std.proofs.lemmas.Slice.Eq.{bytes_eq-Decides}
-use denote.Ref.{Bor}
+use Rattle.decimal_rank.specs.Buckets.{Buckets, with_item}
+use Rattle.decimal_rank.specs.declared.secrets.Secret.{Secret}
 use Rattle.trec_formats.specs.declared.faults.Kind.TheVariants.{Twice}
+use Rattle.trec_formats.specs.Documents.{same_by, document_key}
+use Rattle.trec_formats.specs.Searches.{AreUnder}
 use Rattle.trec_formats.specs.Faults.{IsDistinct, IsTwice}
-use Rattle.trec_formats.proofs.Readings.{distinct_push, cut_nil}
+use Rattle.trec_formats.proofs.Readings.{distinct_push, distinct_nil}
 
 find_some_step : {X : Type 0} (p : X → Bool) (x : X) (xs : List X) (t : Bool) → p x ≡ t → list_any p (x ∷ xs) ≡ true → (list_any p xs ≡ true → (y : X) × (find p xs ≡ Some y)) → (y : X) × (find p (x ∷ xs) ≡ Some y)
 find_some_step p x xs true is some rest = (x, rw is refl)
@@ -21,101 +21,80 @@ pub find_some : {X : Type 0} (p : X → Bool) (xs : List X) → list_any p xs �
 find_some p [] some = cc
 find_some p (x ∷ xs) some = find_some_step p x xs (p x) refl some (find_some p xs)
 
--- a topic and a docno
-abbrev pub Document : Type 0
-Document = Bor (List ℕ) × Bor (List ℕ)
-
--- these texts, wherever they stand
-abbrev pub document_at : List ℕ → List ℕ → Document
-document_at topic doc = (record { ref_ptr = (0, 0); now = topic }, record { ref_ptr = (0, 0); now = doc })
-
-abbrev pub Firsts : Type 0
-Firsts = HashMap Document ℕ Secret
-
--- the number of the first line of a document
-abbrev pub first_at : Firsts → List ℕ → List ℕ → Option ℕ
-first_at firsts topic doc = get_by (λ key. bytes_eq topic key.0.now && bytes_eq doc key.1.now) firsts
+both : (s t : Bool) → s && t ≡ true → (s ≡ true) × (t ≡ true)
+both true true e = (refl, refl)
+both true false e = cc e
+both false t e = cc e
 
 module _ {L : Type 0} (topic doc : L → List ℕ) (number : L → ℕ) where
-  abbrev pub same : L → L → Bool
-  same a b = bytes_eq (topic a) (topic b) && bytes_eq (doc a) (doc b)
+  abbrev same : L → L → Bool
+  same = same_by topic doc
 
-  abbrev is_of : List ℕ → List ℕ → L → Bool
+  -- whether a line names a document
+  abbrev pub is_of : List ℕ → List ℕ → L → Bool
   is_of t d line = bytes_eq t (topic line) && bytes_eq d (doc line)
 
-  -- each document of these lines, which are distinct, is there with its first line
-  pub record HaveSeen (firsts : Firsts) (lines : List L) : Type 0 where
-    pub firsts_are : (t d : List ℕ) → first_at firsts t d ≡ option_map number (find (is_of t d) lines)
+  abbrev bucket : Secret → ℕ → L → ℕ
+  bucket secret room line = document_key secret (topic line) (doc line) % room
+
+  -- these lines are distinct, and each is in the bucket of its document
+  pub record HaveSeen (secret : Secret) (table : Buckets) (lines : List L) : Type 0 where
+    pub items_are : table.items ≡ map (bucket secret table.room) lines
     pub distinct : IsDistinct same lines
 
-  -- a document of a line, and the table with this line for it
-  pub record IsNoted (before after : Firsts) (document : Document) (line : L) : Type 0 where
-    pub topic_is : document.0.now ≡ topic line
-    pub doc_is : document.1.now ≡ doc line
-    pub at_each : (q : Document) → first_at after q.0.now q.1.now ≡ cond (bytes_eq document.0.now q.0.now && bytes_eq document.1.now q.1.now) (Some (number line)) (first_at before q.0.now q.1.now)
+  pub seen_none : (secret : Secret) (table : Buckets) → table.items ≡ [] → HaveSeen secret table []
+  seen_none secret table empty = record { items_are = empty; distinct = distinct_nil same number }
 
-  none_of : (o : Option L) → option_map number o ≡ None → o ≡ None
-  none_of None is = refl
-  none_of (Some l) is = cc is
+  -- lines of a document are in the bucket of its key
+  pub seen_under : (secret : Secret) (table : Buckets) (lines : List L) (t d : List ℕ) (key : ℕ) → HaveSeen secret table lines → key ≡ document_key secret t d → AreUnder (is_of t d) table lines key
+  seen_under secret table lines t d key w keyed = record {
+    sized = ap length w.items_are ∙ length-map lines (bucket secret table.room);
+    each = λ i line got yes.
+        let parts = both (bytes_eq t (topic line)) (bytes_eq d (doc line)) yes in
+        let topics : topic line ≡ t = sym ((bytes_eq-Decides _ _).0 parts.0) in
+        let docs : doc line ≡ d = sym ((bytes_eq-Decides _ _).0 parts.1) in
+        let keys : document_key secret (topic line) (doc line) ≡ key = ap (λ a. document_key secret a (doc line)) topics ∙ ap (λ b. document_key secret t b) docs ∙ sym keyed in
+        ap (λ items. slice_get items i) w.items_are
+        ∙ slice_get-map (bucket secret table.room) lines i
+        ∙ ap (option_map (bucket secret table.room)) got
+        ∙ ap (λ k. Some (k % table.room)) keys;
+  }
 
-  some_of : (o : Option L) (n : ℕ) → option_map number o ≡ Some n → (l : L) × (o ≡ Some l) × (number l ≡ n)
-  some_of None n is = cc is
-  some_of (Some l) n is = (l, refl, (cc is))
+  -- a line, and the document that it names
+  pub record Names (line : L) (t d : List ℕ) : Type 0 where
+    pub topic_is : t ≡ topic line
+    pub doc_is : d ≡ doc line
 
-  pushed : (line : L) (o : Option L) (t : Bool) → (t ≡ true → o ≡ None) → cond t (Some (number line)) (option_map number o) ≡ option_map number (option_or o (cond t (Some line) None))
-  pushed line None true none = refl
-  pushed line (Some l) true none = let no : Some l ≡ None = none refl in cc no
-  pushed line None false none = refl
-  pushed line (Some l) false none = refl
+  found_by : (line : L) (t d : List ℕ) (lines : List L) → Names line t d → find (same line) lines ≡ find (is_of t d) lines
+  found_by line t d lines names = ap (λ a. find (is_of a (doc line)) lines) (sym names.topic_is) ∙ ap (λ b. find (is_of t b) lines) (sym names.doc_is)
 
-  both : (s t : Bool) → s && t ≡ true → (s ≡ true) × (t ≡ true)
-  both true true e = (refl, refl)
-  both true false e = cc e
-  both false t e = cc e
-
-  seen_push : (firsts more : Firsts) (lines : List L) (document : Document) (line : L) → HaveSeen firsts lines → IsNoted firsts more document line → first_at firsts document.0.now document.1.now ≡ None → HaveSeen more (lines ++ line ∷ [])
-  seen_push firsts more lines document line w n none =
-      let absent : find (same line) lines ≡ None =
-      none_of _ (sym (w.firsts_are (topic line) (doc line)) ∙ ap (λ t. first_at firsts t (doc line)) (sym n.topic_is) ∙ ap (λ d. first_at firsts document.0.now d) (sym n.doc_is) ∙ none) in
+  seen_push : (secret : Secret) (table : Buckets) (lines : List L) (line : L) (t d : List ℕ) (key : ℕ) → HaveSeen secret table lines → Names line t d → key ≡ document_key secret t d → find (is_of t d) lines ≡ None → HaveSeen secret (with_item table key) (lines ++ line ∷ [])
+  seen_push secret table lines line t d key w names keyed none =
+      let keys : key ≡ document_key secret (topic line) (doc line) = keyed ∙ ap (λ a. document_key secret a d) names.topic_is ∙ ap (document_key secret (topic line)) names.doc_is in
       record {
-        firsts_are = λ t d.
-            let q : Document = (record { ref_ptr = document.0.ref_ptr; now = t }, record { ref_ptr = document.1.ref_ptr; now = d }) in
-            let here : (bytes_eq document.0.now t && bytes_eq document.1.now d) ≡ is_of t d line =
-            rw (n.topic_is, n.doc_is, nat_list_eq_equiv.symm (topic line) t, nat_list_eq_equiv.symm (doc line) d) refl in
-            let gone : is_of t d line ≡ true → find (is_of t d) lines ≡ None = λ yes.
-            let parts = both (bytes_eq t (topic line)) (bytes_eq d (doc line)) yes in
-            ap (λ t. find (is_of t d) lines) ((bytes_eq-Decides _ _).0 parts.0) ∙ ap (λ d. find (is_of (topic line) d) lines) ((bytes_eq-Decides _ _).0 parts.1) ∙ absent in
-            n.at_each q
-            ∙ ap (λ t'. cond t' (Some (number line)) (first_at firsts t d)) here
-            ∙ ap (λ o. cond (is_of t d line) (Some (number line)) o) (w.firsts_are t d)
-            ∙ pushed line (find (is_of t d) lines) (is_of t d line) gone
-            ∙ ap (option_map number) (sym (find-append (is_of t d) lines (line ∷ [])));
-        distinct = distinct_push same number lines line absent w.distinct;
+        items_are =
+            ap (λ items. items ++ key % table.room ∷ []) w.items_are
+            ∙ ap (λ k. map (bucket secret table.room) lines ++ k % table.room ∷ []) keys
+            ∙ sym (map-append (bucket secret table.room) lines (line ∷ []));
+        distinct = distinct_push same number lines line (found_by line t d lines names ∙ none) w.distinct;
       }
 
-  pub seen_next : (firsts more : Firsts) (lines : List L) (i : ℕ) (document : Document) (line : L) → i < length lines → line ≡ get_or lines i line → HaveSeen firsts (take i lines) → IsNoted firsts more document line → first_at firsts document.0.now document.1.now ≡ None → HaveSeen more (take (i + 1) lines)
-  seen_next firsts more lines i document line within item w n none =
-      rw (take_more lines i line within, ← item) (seen_push firsts more (take i lines) document line w n none)
+  pub seen_next : (secret : Secret) (table more : Buckets) (lines : List L) (i : ℕ) (line : L) (t d : List ℕ) (key : ℕ) → i < length lines → line ≡ get_or lines i line → HaveSeen secret table (take i lines) → Names line t d → key ≡ document_key secret t d → find (is_of t d) (take i lines) ≡ None → more ≡ with_item table key → HaveSeen secret more (take (i + 1) lines)
+  seen_next secret table more lines i line t d key within item w names keyed none more_is =
+      rw (more_is, take_more lines i line within, ← item) (seen_push secret table (take i lines) line t d key w names keyed none)
 
-  pub seen_twice : (firsts : Firsts) (lines : List L) (i : ℕ) (document : Document) (line : L) (first : ℕ) → i < length lines → line ≡ get_or lines i line → HaveSeen firsts (take i lines) → document.0.now ≡ topic line → document.1.now ≡ doc line → first_at firsts document.0.now document.1.now ≡ Some first → IsTwice same number lines (record { line = number line; kind = Twice first })
-  seen_twice firsts lines i document line first within item w topic_is doc_is old =
-      let there : option_map number (find (same line) (take i lines)) ≡ Some first =
-      sym (w.firsts_are (topic line) (doc line)) ∙ ap (λ t. first_at firsts t (doc line)) (sym topic_is) ∙ ap (λ d. first_at firsts document.0.now d) (sym doc_is) ∙ old in
-      let earlier = some_of _ first there in
-      record {
-        before = take i lines;
-        again = line;
-        after = drop (i + 1) lines;
-        first = earlier.0;
-        cut = sym (take-append-drop i lines) ∙ ap (λ rest. take i lines ++ rest) (drop_more lines i line within ∙ ap (λ l. l ∷ drop (i + 1) lines) (sym item));
-        earlier = earlier.1;
-        distinct = w.distinct;
-        line = refl;
-        kind = ap Twice (sym earlier.2);
-      }
+  pub seen_twice : (secret : Secret) (table : Buckets) (lines : List L) (i : ℕ) (line first : L) (t d : List ℕ) → i < length lines → line ≡ get_or lines i line → HaveSeen secret table (take i lines) → Names line t d → find (is_of t d) (take i lines) ≡ Some first → IsTwice same number lines (record { line = number line; kind = Twice (number first) })
+  seen_twice secret table lines i line first t d within item w names there = record {
+    before = take i lines;
+    again = line;
+    after = drop (i + 1) lines;
+    first = first;
+    cut = sym (take-append-drop i lines) ∙ ap (λ rest. take i lines ++ rest) (drop_more lines i line within ∙ ap (λ l. l ∷ drop (i + 1) lines) (sym item));
+    earlier = found_by line t d (take i lines) names ∙ there;
+    distinct = w.distinct;
+    line = refl;
+    kind = refl;
+  }
 
-  pub seen_none : (firsts : Firsts) → ((t d : List ℕ) → first_at firsts t d ≡ None) → HaveSeen firsts []
-  seen_none firsts empty = record { firsts_are = empty; distinct = λ first again w. cut_nil w.before again w.after w.cut }
-
-  pub seen_all : (firsts : Firsts) (lines : List L) (i : ℕ) → length lines ≤ i → HaveSeen firsts (take i lines) → IsDistinct same lines
-  seen_all firsts lines i all w = rw (← take_all i lines all) w.distinct
+  pub seen_all : (secret : Secret) (table : Buckets) (lines : List L) (i : ℕ) → length lines ≤ i → HaveSeen secret table (take i lines) → IsDistinct same lines
+  seen_all secret table lines i all w = rw (← take_all i lines all) w.distinct

@@ -1,4 +1,5 @@
 pub mod Counts
+pub mod Documents
 pub mod FaultNames
 pub mod Faults
 pub mod FieldTexts
@@ -13,6 +14,7 @@ pub mod QrelsText
 pub mod RunFields
 pub mod RunStates
 pub mod Runs
+pub mod Searches
 pub mod SoundTopics
 pub mod TopicBlocks
 pub mod Topics

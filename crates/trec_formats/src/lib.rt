@@ -1,6 +1,7 @@
 //! The run, qrels and topics formats of TREC: their texts as lines and as topics, and the ranked lists of a run.
 #![tactic(auto)]
 
+mod documents;
 mod faults;
 mod laws;
 mod lines;
@@ -11,6 +12,7 @@ mod qrels_text;
 mod run_fields;
 mod run_reader;
 mod runs;
+mod searches;
 mod topic_blocks;
 mod topic_counts;
 mod topic_fields;
@@ -26,5 +28,6 @@ pub use qrels::{QrelLine, read_qrels};
 pub use qrels_text::write_qrels;
 pub use run_reader::RunReader;
 pub use runs::{RunLine, read_run};
+pub use searches::{Sought, first_found};
 pub use topic_laws::one_topics_reading;
 pub use topics::{Topic, read_topics};

@@ -6,12 +6,12 @@ ghost use Rattle.trec_formats.specs.Groups.{shown, AreByRank, AreByTopic, IsAsce
 ghost use Rattle.trec_formats.specs.Lists.{same_document, standing, AreLists, AreRanked, IsListsFault};
 ghost use Rattle.trec_formats.specs.Runs.{count_on};
 
-use crate::faults::{FormatEnd, FormatFault, Kind};
+use crate::documents::first_repeat;
+use crate::faults::FormatEnd;
 use crate::runs::RunLine;
-use decimal_rank::{Memory, Rows, Secret, Text, decimals_have_an_order};
+use decimal_rank::{Memory, Rows, Text, decimals_have_an_order};
 use std::alloc::Global;
 use std::cmp::Ordering;
-use std::collections::HashMap;
 
 /// The ranked list of a run on one topic.
 #[derive(Debug, Drop)]
@@ -125,23 +125,6 @@ fn lists_of(alloc: Global, order: &[&RunLine]) -> Result<Vec<TopicList>, Memory>
         start += group.len();
     }
     Ok(lists)
-}
-
-/// The first line that has the topic and docno of an earlier one.
-fn first_repeat(alloc: Global, lines: &[RunLine]) -> Result<Option<FormatFault>, Memory>
-    ensures { IfOk result (λ found. MatchOption found (IsDistinct same_document lines.now) (IsListsFault lines.now)) }
-{
-    let mut firsts = HashMap::with_capacity_and_hasher(alloc, lines.len(), Secret::drawn())?;
-    for line in lines {
-        let document = (&line.topic, &line.doc);
-        if let Some(first) = firsts.insert(document, line.line)? {
-            return Ok(Some(FormatFault {
-                line: line.line,
-                kind: Kind::Twice { first },
-            }));
-        }
-    }
-    Ok(None)
 }
 
 /// The ranked lists of a run, by ascending topic. A document that stands twice on a topic is a fault,

@@ -3,12 +3,12 @@ ghost use Rattle.trec_formats.specs.Lines.{fields_of};
 ghost use Rattle.trec_formats.specs.Faults.{IsDistinct, IsTwice, IfFault};
 ghost use Rattle.trec_formats.specs.Qrels.{qrel_of, same_document, IsEachRead, IsQrels, IsQrelsFault};
 
-use crate::faults::{FormatEnd, FormatFault, Kind};
+use crate::documents::{DocumentLine, first_repeat};
+use crate::faults::{FormatEnd, Kind};
 use crate::lines::{cut_field, next_row};
 use crate::names::{grade_of, is_docno, is_name};
-use decimal_rank::{Memory, Secret, Text};
+use decimal_rank::Text;
 use std::alloc::Global;
-use std::collections::HashMap;
 
 /// One judgement of a qrels text.
 #[derive(Debug, Drop)]
@@ -18,6 +18,26 @@ pub struct QrelLine {
     pub topic: Text,
     pub doc: Text,
     pub grade: u8,
+}
+
+impl DocumentLine for QrelLine {
+    ghost topic_of = { λ line. line.topic };
+
+    ghost doc_of = { λ line. line.doc };
+
+    ghost number_of = { λ line. line.line };
+
+    fn topic(&self) -> &[u8] {
+        self.topic.bytes()
+    }
+
+    fn doc(&self) -> &[u8] {
+        self.doc.bytes()
+    }
+
+    fn number(&self) -> u32 {
+        self.line
+    }
 }
 
 /// The fields of a line that has exactly four.
@@ -92,25 +112,6 @@ fn read_lines(alloc: Global, bytes: &[u8]) -> Result<Vec<QrelLine>, FormatEnd>
         return Err(FormatEnd::at(0, Kind::Empty));
     }
     Ok(lines)
-}
-
-/// The first line that has the topic and docno of an earlier one.
-fn first_repeat(alloc: Global, lines: &[QrelLine]) -> Result<Option<FormatFault>, Memory>
-    ensures { IfOk result (λ found. MatchOption found
-        (IsDistinct same_document lines.now)
-        (IsTwice same_document (λ line. line.line) lines.now)) }
-{
-    let mut firsts = HashMap::with_capacity_and_hasher(alloc, lines.len(), Secret::drawn())?;
-    for line in lines {
-        let document = (&line.topic, &line.doc);
-        if let Some(first) = firsts.insert(document, line.line)? {
-            return Ok(Some(FormatFault {
-                line: line.line,
-                kind: Kind::Twice { first },
-            }));
-        }
-    }
-    Ok(None)
 }
 
 /// The lines of a qrels text, or its first fault.

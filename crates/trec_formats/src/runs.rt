@@ -3,6 +3,7 @@ ghost use Rattle.std.specs.List.Sorted.{IsStrictlyIncreasing};
 ghost use Rattle.trec_formats.specs.Faults.{IfFault};
 ghost use Rattle.trec_formats.specs.Runs.{count_on, IsRun, IsRunFault};
 
+use crate::documents::DocumentLine;
 use crate::faults::FormatEnd;
 use crate::run_reader::RunReader;
 use decimal_rank::{Decimal, Text};
@@ -16,6 +17,26 @@ pub struct RunLine {
     pub topic: Text,
     pub doc: Text,
     pub score: Decimal,
+}
+
+impl DocumentLine for RunLine {
+    ghost topic_of = { λ line. line.topic };
+
+    ghost doc_of = { λ line. line.doc };
+
+    ghost number_of = { λ line. line.line };
+
+    fn topic(&self) -> &[u8] {
+        self.topic.bytes()
+    }
+
+    fn doc(&self) -> &[u8] {
+        self.doc.bytes()
+    }
+
+    fn number(&self) -> u32 {
+        self.line
+    }
 }
 
 /// The lines of a run's text, or its first fault.

@@ -6,19 +6,19 @@ use Rattle.measures.specs.Grades.{is_relevant, is_non_relevant}
 use Rattle.campaign_cli.specs.declared.judgements.Tally.{Tally}
 use Rattle.campaign_cli.specs.Evaluations.{level}
 use Rattle.campaign_cli.specs.Tables.{shown, grade_in}
-use Rattle.campaign_cli.proofs.Judged.{graded_docs, judged_le}
+use Rattle.campaign_cli.proofs.Judged.{judged_le}
 use Rattle.campaign_cli.proofs.cells.topic_cell.Goals as goal
 
 pub scratch-requires-clause-length : goal.scratch-requires-clause-length
 scratch-requires-clause-length c =
     let lines = shown c.args.judged.now in
-    let graded = graded_docs c.in_ok-grades.grades lines c.args.docs.now _ _ c.in_ok-grades.ensures c.in_ok-graded.ensures c.deref.ensures.value in
+    let graded = c.deref.ensures.value ∙ c.in_ok-graded.ensures in
     omega (arith, ap length graded, length-map c.args.docs.now (grade_in lines), c.requires.short)
 
 pub scratch-requires-clause-relevant : goal.scratch-requires-clause-relevant
 scratch-requires-clause-relevant c =
     let lines = shown c.args.judged.now in
-    let graded = graded_docs c.in_ok-grades.grades lines c.args.docs.now _ _ c.in_ok-grades.ensures c.in_ok-graded.ensures c.deref.ensures.value in
+    let graded = c.deref.ensures.value ∙ c.in_ok-graded.ensures in
     omega (
       arith,
       ap (count_by (is_relevant level)) graded,
@@ -29,7 +29,7 @@ scratch-requires-clause-relevant c =
 pub scratch-requires-clause-non_relevant : goal.scratch-requires-clause-non_relevant
 scratch-requires-clause-non_relevant c =
     let lines = shown c.args.judged.now in
-    let graded = graded_docs c.in_ok-grades.grades lines c.args.docs.now _ _ c.in_ok-grades.ensures c.in_ok-graded.ensures c.deref.ensures.value in
+    let graded = c.deref.ensures.value ∙ c.in_ok-graded.ensures in
     omega (
       arith,
       ap (count_by (is_non_relevant level)) graded,
@@ -40,7 +40,7 @@ scratch-requires-clause-non_relevant c =
 pub returns-clause-cell : goal.returns-clause-cell
 returns-clause-cell c =
     let lines = shown c.args.judged.now in
-    let graded = graded_docs c.in_ok-grades.grades lines c.args.docs.now _ _ c.in_ok-grades.ensures c.in_ok-graded.ensures c.deref.ensures.value in
+    let graded = c.deref.ensures.value ∙ c.in_ok-graded.ensures in
     c.scratch.ensures.cell
     ∙ ap (λ grades. cell_of grades c.tally_of-tally.result.relevant c.tally_of-tally.result.others level) graded
     ∙ ap (λ (tally : Tally). cell_of (map (grade_in lines) c.args.docs.now) tally.relevant tally.others level) c.tally_of-tally.ensures

@@ -1,0 +1,10 @@
+use Rattle.std.proofs.Common.{◌≡◌, take}
+use Rattle.decimal_rank.specs.TextKeys.{text_key}
+use Rattle.trec_formats.proofs.Repeats.{HaveSeen}
+use Rattle.trec_formats.proofs.documents.first_repeat.Given as goal
+
+abbrev pub invariant-loop-i : goal.invariant-loop-i
+invariant-loop-i g l = record {
+  seen : HaveSeen g.L.DocumentLine.topic_of g.L.DocumentLine.doc_of g.L.DocumentLine.number_of l.secret l.chains (take l.i l.lines);
+  key : l.newest_key ≡ text_key l.secret l.newest;
+}

@@ -1,0 +1,10 @@
+use Rattle.std.proofs.Common.{suc}
+use Rattle.std.specs.Option.{option_map, option_map_or}
+use Rattle.trec_formats.proofs.Walks.{IsWalked}
+use Rattle.trec_formats.proofs.searches.first_found.Given as goal
+
+abbrev pub invariant-loop-next : goal.invariant-loop-next
+invariant-loop-next g l = IsWalked (g.S.Sought.finds l.sought) l.chains l.items l.key l.next (option_map (λ item. item.now) l.found)
+
+abbrev pub decreases-loop-next : goal.decreases-loop-next
+decreases-loop-next g l = option_map_or suc l.next 0
