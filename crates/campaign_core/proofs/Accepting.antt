@@ -1,6 +1,6 @@
 -- What is so where the rules accept a command on leases.
 use Rattle.std.proofs.Common.{◌≡◌, ◌||◌, ◌<◌, ◌≤◌, ◌+◌, ◌-◌, ℕ, suc, zero, Bool, true, false, not, List, [], ◌∷◌, ◌++◌, Option, None, Some, Ok, length, map, refl, sym, ap, ◌∙◌, arith}
-use Rattle.std.specs.Prelude.{◌&&◌, if◌then◌else◌, nat_le, nat_lt, slice_get}
+use Rattle.std.specs.Prelude.{◌&&◌, ◌^◌, if◌then◌else◌, nat_le, nat_lt, slice_get}
 use Rattle.std.specs.List.{list_all, list_any}
 use Rattle.std.proofs.lemmas.Bool.{ltb-false, ltb-true}
 use Rattle.std.specs.Option.{option_map}
@@ -163,7 +163,7 @@ topics-few H ts answer is =
     ltb-false MAX_TOPICS (length ts) c.0
 
 pub topics-plain : (ts : List Topic) → is_plain (command.Topics ts) ≡ true → differ (map (λ (t : Topic). t.id) ts) ≡ true
-topics-plain ts is = (both_true (list_all is_plain_topic ts) (differ (map (λ (t : Topic). t.id) ts)) is).1
+topics-plain ts is = (both_true (nat_lt (length ts) (2 ^ 32) && list_all is_plain_topic ts) (differ (map (λ (t : Topic). t.id) ts)) is).1
 
 abbrev submit_tests : History → Text → List TopicList → List (Option Refusal)
 submit_tests H name lists =

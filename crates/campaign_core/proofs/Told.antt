@@ -1,7 +1,7 @@
 -- What is so where the rules accept a command.
 use Rattle.std.proofs.Common.{◌≡◌, ◌||◌, ◌<◌, ◌≤◌, ◌==◌, ℕ, Bool, true, false, not, cond, List, [], ◌∷◌, length, map, find, refl, ap, arith, Option, None, Some, Ok, Err, leb-true, subst}
-use Rattle.std.proofs.lemmas.Bool.{leb-false, ltb-true}
-use Rattle.std.specs.Prelude.{◌&&◌, if◌then◌else◌, nat_le, nat_lt, min, slice_get, unwrap_or}
+use Rattle.std.proofs.lemmas.Bool.{leb-false}
+use Rattle.std.specs.Prelude.{◌&&◌, ◌-◌, ◌^◌, if◌then◌else◌, nat_le, nat_lt, min, slice_get, unwrap_or}
 use Rattle.std.specs.List.{filter_map, list_all, list_any, filter, reduce}
 use Rattle.std.specs.Option.{is_some, option_map, option_map_or}
 use Rattle.std.specs.Str.{bytes_eq}
@@ -137,15 +137,19 @@ moment-of who number c moment is =
     let f = both_true (is_name who.name && is_number number) (nat_le moment MAX_MOMENT) d.0 in
     leb-true _ _ f.1
 
+abbrev some_few : List TopicList → Bool
+some_few lists = is_between 1 (2 ^ 32 - 1) (length lists)
+
 abbrev plain_run : Text → List TopicList → Bool
-plain_run name lists = is_name name && nat_lt 0 (length lists) && list_all is_plain_list lists
+plain_run name lists = is_name name && some_few lists && list_all is_plain_list lists
 
 pub some_lists : (name : Text) (lists : List TopicList) → is_plain (command.Submit name lists) ≡ true → 0 < length lists
 some_lists name lists is =
     let a = both_true (plain_run name lists) (is_ascending (map (λ l. l.topic) lists)) is in
-    let b = both_true (is_name name && nat_lt 0 (length lists)) (list_all is_plain_list lists) a.0 in
-    let c = both_true (is_name name) (nat_lt 0 (length lists)) b.0 in
-    ltb-true _ _ c.1
+    let b = both_true (is_name name && some_few lists) (list_all is_plain_list lists) a.0 in
+    let c = both_true (is_name name) (some_few lists) b.0 in
+    let d = both_true (nat_le 1 (length lists)) (nat_le (length lists) (2 ^ 32 - 1)) c.1 in
+    omega (arith, leb-true 1 (length lists) d.0)
 
 plain_docs : (lists : List TopicList) (topic : Text) → list_all is_plain_list lists ≡ true → (length (docs_on lists topic) ≤ 1000) × (differ (docs_on lists topic) ≡ true)
 plain_docs [] topic all = (omega arith, refl)
@@ -156,9 +160,10 @@ plain_docs (l ∷ lists) topic all = step (bytes_eq l.topic topic) (plain_docs l
 
     here : Plain l.docs
     here =
-        let a = both_true (is_name l.topic && is_between 1 1000 (length l.docs) && list_all is_docno l.docs) (differ l.docs) (all_head is_plain_list l lists all) in
-        let b = both_true (is_name l.topic && is_between 1 1000 (length l.docs)) (list_all is_docno l.docs) a.0 in
-        let c = both_true (is_name l.topic) (is_between 1 1000 (length l.docs)) b.0 in
+        let front = is_name l.topic && nat_lt l.line (2 ^ 32) in
+        let a = both_true (front && is_between 1 1000 (length l.docs) && list_all is_docno l.docs) (differ l.docs) (all_head is_plain_list l lists all) in
+        let b = both_true (front && is_between 1 1000 (length l.docs)) (list_all is_docno l.docs) a.0 in
+        let c = both_true front (is_between 1 1000 (length l.docs)) b.0 in
         let d = both_true (nat_le 1 (length l.docs)) (nat_le (length l.docs) 1000) c.1 in
         (leb-true _ _ d.1, a.1)
 
@@ -170,7 +175,7 @@ plain_docs (l ∷ lists) topic all = step (bytes_eq l.topic topic) (plain_docs l
 pub docs-plain : (c : Command) (topic : Text) → is_plain c ≡ true → (length (docs_on (lists_in c) topic) ≤ 1000) × (differ (docs_on (lists_in c) topic) ≡ true)
 docs-plain (command.Submit name lists) topic is =
     let a = both_true (plain_run name lists) (is_ascending (map (λ l. l.topic) lists)) is in
-    let b = both_true (is_name name && nat_lt 0 (length lists)) (list_all is_plain_list lists) a.0 in
+    let b = both_true (is_name name && some_few lists) (list_all is_plain_list lists) a.0 in
     plain_docs lists topic b.1
 docs-plain (command.Found rules) topic is = (omega arith, refl)
 docs-plain (command.Topics topics) topic is = (omega arith, refl)

@@ -13,11 +13,20 @@ pub struct Note {
     pub number: u32,
 }
 
-/// What came of a note.
+/// What a worker asks.
+#[derive(Clone, Copy, Debug)]
+pub enum Asked {
+    Write(Note),
+    /// How many notes there are.
+    Count,
+}
+
+/// What a worker is told.
 #[derive(Clone, Copy, Debug, PartialEq, Eq)]
-pub enum Written {
-    /// It stands at this place, from 1.
+pub enum Told {
+    /// The note stands at this place, from 1.
     At(u64),
+    Counted(u64),
     Memory,
 }
 
@@ -39,11 +48,11 @@ impl Storied for Tally {
     ghost use Rattle.std.specs.Prelude.{List};
     ghost use Rattle.hall_tally.specs.Tallies.{Tells, story_of};
 
-    type Ask = Note;
+    type Ask = Asked;
 
     type Entry = Note;
 
-    type Answer = Written;
+    type Answer = Told;
 
     ghost story = { λ tally. story_of tally.notes.items };
 
@@ -55,10 +64,13 @@ impl Storied for Tally {
         self.notes.len() as u64
     }
 
-    fn act(&mut self, ask: Note) -> Written {
-        match self.notes.push(ask) {
-            Ok(()) => Written::At(self.notes.len() as u64),
-            Err(_) => Written::Memory,
+    fn act(&mut self, ask: Asked) -> Told {
+        match ask {
+            Asked::Write(note) => match self.notes.push(note) {
+                Ok(()) => Told::At(self.notes.len() as u64),
+                Err(_) => Told::Memory,
+            },
+            Asked::Count => Told::Counted(self.notes.len() as u64),
         }
     }
 }

@@ -2,7 +2,7 @@
 ghost use Rattle.std.specs.Prelude.{◌≡◌};
 ghost use Rattle.std.specs.Thread.{IsSync};
 
-use crate::tallies::{Note, Tally};
+use crate::tallies::{Asked, Note, Tally, Told};
 use hall::{Hall, Pass};
 use std::sync::Wait;
 use std::thread;
@@ -26,7 +26,16 @@ impl Crowd {
     }
 }
 
-// One worker writes its notes, in order.
+// Whether a count has the note that was written before it.
+fn is_among(written: Told, counted: Told) -> bool {
+    match (written, counted) {
+        (Told::At(place), Told::Counted(notes)) => place <= notes,
+        _ => false,
+    }
+}
+
+// One worker writes its notes, in order, and asks for the count behind each. It stops where a count
+// hasn't the note, so that the list then lacks some.
 fn work<R: Wait>(
     rt: &R,
     hall: &Hall<Tally>,
@@ -38,7 +47,11 @@ fn work<R: Wait>(
     ensures { result.hall ≡ hall.now }
 {
     for number in 0..notes {
-        let _ = hall.act(rt, &mut pass, Note { worker, number });
+        let written = hall.act(rt, &mut pass, Asked::Write(Note { worker, number }));
+        let counted = hall.act(rt, &mut pass, Asked::Count);
+        if !is_among(written, counted) {
+            break;
+        }
     }
     pass
 }

@@ -1,11 +1,13 @@
 -- What is read of a request may be answered.
-use Rattle.std.proofs.Common.{◌≡◌, ◌≢◌, ℕ, ◌+◌, ◌≤◌, ◌&&◌, List, [], ◌∷◌, Option, Some, None, Ok, Err, true, length, map, refl, sym, ap, arith, subst, length-append, le-leb}
-use Rattle.std.specs.Prelude.{Result, IsTrue, nat_le, option_and_then}
-use Rattle.std.specs.List.{list_all}
+use Rattle.std.proofs.Common.{◌≡◌, ◌≢◌, ℕ, ◌+◌, ◌<◌, ◌≤◌, ◌^◌, ◌&&◌, List, [], ◌∷◌, Option, Some, None, Ok, Err, true, length, map, refl, sym, ap, arith, subst, length-append, le-leb}
+use Rattle.std.specs.Prelude.{Result, IsTrue, codes, nat_le, nat_lt, option_and_then}
+use Rattle.std.specs.List.{list_all, flat_map}
 use Rattle.std.specs.Option.{option_map}
 use Rattle.std.specs.Int.{to_le_bytes, w32, w64}
 use Rattle.std.specs.Str.Parse.{digits_value}
-use Rattle.std.proofs.lemmas.Bool.{and_parts, and_from, cond_both, leb-true}
+use Rattle.std.proofs.lemmas.Bool.{and_parts, and_from, cond_both, leb-true, lt-ltb}
+use Rattle.decimal_rank.specs.DecimalText.{are_digits}
+use Rattle.trec_formats.specs.Lists.{IsRankedRun}
 use Rattle.trec_formats.specs.Names.{is_name, is_docno, is_between, is_name_byte}
 use Rattle.trec_formats.specs.SoundTopics.{AreSoundTopics}
 use Rattle.trec_formats.specs.Topics.{IsTopics}
@@ -21,18 +23,20 @@ use Rattle.rulebook.specs.declared.ask.Query.TheVariants as query
 use Rattle.rulebook.specs.declared.rules.Caller.{Caller}
 use Rattle.rulebook.specs.Legal.{is_well_addressed, is_built, is_named, core_of}
 use Rattle.rulebook.specs.Roles.{may_give, may_see}
-use Rattle.rulebook.specs.Spelling.{entry_bytes, command_bytes, number_bytes, is_number, is_plain, is_plain_topic, has_spelling, differ, listed, list_bytes}
+use Rattle.rulebook.specs.Spelling.{entry_bytes, command_bytes, number_bytes, is_number, is_plain, is_plain_topic, has_spelling, differ, listed, list_bytes, topic_bytes}
+use Rattle.serde_json.specs.Data.{Data}
+use Rattle.serde_json.specs.Find.{as_number, as_u64, get}
 use Rattle.routes.specs.declared.faults.RouteFault.{RouteFault}
 use Rattle.routes.specs.declared.faults.RouteFault.TheVariants as faults
 use Rattle.routes.specs.declared.keys.KeyRow.{KeyRow}
 use Rattle.routes.specs.declared.places.Place.{Place}
 use Rattle.routes.specs.declared.places.Place.TheVariants as places
 use Rattle.routes.specs.Asks.{Asks, HasSoundTopics, with_nothing}
-use Rattle.routes.specs.Bodies.{json_of, Judgement, a_docno, doc_at, grade_at, grade_in, has_members, judged, judgement_in, IsRankedRun}
+use Rattle.routes.specs.Bodies.{json_of, Judgement, a_docno, doc_at, grade_at, grade_in, has_members, judged, judgement_in, up_to}
 use Rattle.routes.specs.Faults.{or_fault}
 use Rattle.routes.specs.Keys.{caller}
-use Rattle.routes.specs.Places.{fits, may_ask}
-use Rattle.routes.proofs.RunRequests.{lists_are_plain, pairs_map, differ_once}
+use Rattle.routes.specs.Places.{fits, is_lease, may_ask}
+use Rattle.routes.proofs.RunRequests.{lists_are_plain, few_items, pairs_map, differ_once}
 use Rattle.routes.proofs.TopicSizes.{topics_short}
 
 -- Sizes
@@ -118,6 +122,38 @@ judged_doc (Some doc) (Some grade) j is = let same : record { doc = doc; grade =
 judged_doc (Some doc) None j is = absurd (none_not_some is)
 judged_doc None grade j is = absurd (none_not_some is)
 
+judged_grade : (doc : Option (List ℕ)) (grade : Option ℕ) (j : Judgement) → judged doc grade ≡ Some j → grade ≡ Some j.grade
+judged_grade (Some doc) (Some grade) j is = let same : record { doc = doc; grade = grade } ≡ j = cc in ap (λ (given : Judgement). Some given.grade) same
+judged_grade (Some doc) None j is = absurd (none_not_some is)
+judged_grade None grade j is = absurd (none_not_some is)
+
+below_256 : (n grade : ℕ) → up_to 255 n ≡ Some grade → nat_lt grade 256 ≡ true
+below_256 n grade is =
+    cond_both (nat_le n 255) (Some n) None (λ (found : Option ℕ). found ≡ Some grade → nat_lt grade 256 ≡ true)
+    (λ few same. let equal : n ≡ grade = cc in subst (λ g. nat_lt g 256 ≡ true) equal (lt-ltb n 256 (omega (arith, leb-true n 255 few))))
+    (λ other wrong. absurd (none_not_some wrong)) is
+
+grade_given : (value : Data) (grade : ℕ) → grade_at value ≡ Some grade → nat_lt grade 256 ≡ true
+grade_given value grade is = let found = then_some (up_to 255) (option_and_then (λ v. option_and_then as_u64 (as_number v)) (get (codes "grade") value)) grade is in below_256 found.0 grade found.1
+
+grade_alone : (body : List ℕ) (grade : ℕ) → option_and_then grade_in (json_of body) ≡ Some grade → nat_lt grade 256 ≡ true
+grade_alone body grade is =
+    let found = then_some grade_in (json_of body) grade is in
+    cond_both (has_members 1 found.0) (grade_at found.0) None (λ (o : Option ℕ). o ≡ Some grade → nat_lt grade 256 ≡ true)
+    (λ one given. grade_given found.0 grade given) (λ other wrong. absurd (none_not_some wrong)) found.1
+
+judgement_grade : (body : List ℕ) (j : Judgement) → option_and_then judgement_in (json_of body) ≡ Some j → nat_lt j.grade 256 ≡ true
+judgement_grade body j is =
+    let found = then_some judgement_in (json_of body) j is in
+    cond_both (has_members 2 found.0) (judged (doc_at found.0) (grade_at found.0)) None (λ (o : Option Judgement). o ≡ Some j → nat_lt j.grade 256 ≡ true)
+    (λ two given. grade_given found.0 j.grade (judged_grade (doc_at found.0) (grade_at found.0) j given))
+    (λ other wrong. absurd (none_not_some wrong)) found.1
+
+lease_given : (text : List ℕ) → is_lease text ≡ true → nat_lt (digits_value 10 text) (2 ^ 32) ≡ true
+lease_given text is =
+    let most = and_parts (are_digits text && nat_le (length text) 10) (nat_le (digits_value 10 text) 4294967295) is in
+    lt-ltb (digits_value 10 text) (2 ^ 32) (omega (arith, leb-true (digits_value 10 text) 4294967295 most.1))
+
 docno_given : (text doc : List ℕ) → a_docno text ≡ Some doc → is_docno doc ≡ true
 docno_given text doc is =
     cond_both (is_docno text) (Some text) None (λ (found : Option (List ℕ)). found ≡ Some doc → is_docno doc ≡ true)
@@ -140,16 +176,22 @@ topics_given : (row : KeyRow) (body : List ℕ) (topics : List Topic) → may_as
 topics_given row body topics role is sound few = record {
   built = refl;
   role = role;
-  plain = and_from (list_all is_plain_topic topics) (differ (map (λ t. t.id) topics)) sound.each (differ_once (map (λ (t : Topic). t.id) topics) (pairs_map (λ (t : Topic). t.id) (λ a b. a ≢ b) topics sound.differ));
+  plain = rw (counted, sound.each, differ_once (map (λ (t : Topic). t.id) topics) (pairs_map (λ (t : Topic). t.id) (λ a b. a ≢ b) topics sound.differ)) refl;
   few = omega (arith, few, topics_short body topics is);
 }
+  where
+    counted : nat_lt (length topics) (2 ^ 32) ≡ true
+    counted =
+        let items = few_items topic_bytes topics (λ topic. omega arith) in
+        let bytes = length-append (to_le_bytes w32 (length topics)) (flat_map topic_bytes topics) in
+        lt-ltb (length topics) (2 ^ 32) (omega (arith, few, items, bytes, topics_short body topics is))
 
 doc_command_short : (topic doc : List ℕ) (grade : ℕ) → length topic ≤ 32 → length doc ≤ 64 → length (command_bytes (command.Amend topic doc grade)) ≤ 33000000
 doc_command_short topic doc grade short_topic short_doc = simp length-append (omega (arith, short_topic, short_doc))
 
 submit_given : (row : KeyRow) (run body : List ℕ) (lists : List TopicList) → may_ask row.role places.Submit ≡ true → is_name run ≡ true → IsRankedRun body lists → length body ≤ 16777216 → IsGiven row (command.Submit run lists)
 submit_given row run body lists role name ranked few =
-    let plain = lists_are_plain body lists ranked in
+    let plain = lists_are_plain body lists few ranked in
     record {
       built = refl;
       role = role;
@@ -174,20 +216,20 @@ addressed_at places.Lease row number topic body ask moment name numbered role fi
 addressed_at places.Grade row number lease body ask moment name numbered role fitting asks sound few latest =
     let found = some_given (option_and_then grade_in (json_of body)) (λ grade. Act (command.Grade (digits_value 10 lease) grade)) ask asks in
     subst (λ a. IsTrue (is_well_addressed (caller row) number a moment)) found.2
-    (given row number (command.Grade (digits_value 10 lease) found.0) moment name numbered latest (record { built = refl; role = role; plain = refl; few = omega (arith, four_bytes (digits_value 10 lease)) }))
+    (given row number (command.Grade (digits_value 10 lease) found.0) moment name numbered latest (record { built = refl; role = role; plain = and_from (nat_lt (digits_value 10 lease) (2 ^ 32)) (nat_lt found.0 256) (lease_given lease fitting) (grade_alone body found.0 found.1); few = omega (arith, four_bytes (digits_value 10 lease)) }))
 addressed_at places.Release row number lease body ask moment name numbered role fitting asks sound few latest =
     subst (λ a. IsTrue (is_well_addressed (caller row) number a moment)) (nothing_given body (Act (command.Release (digits_value 10 lease))) ask asks)
-    (given row number (command.Release (digits_value 10 lease)) moment name numbered latest (record { built = refl; role = role; plain = refl; few = omega (arith, four_bytes (digits_value 10 lease)) }))
+    (given row number (command.Release (digits_value 10 lease)) moment name numbered latest (record { built = refl; role = role; plain = lease_given lease fitting; few = omega (arith, four_bytes (digits_value 10 lease)) }))
 addressed_at places.Amend row number topic body ask moment name numbered role fitting asks sound few latest =
     let found = some_given (option_and_then judgement_in (json_of body)) (λ (j : Judgement). Act (command.Amend topic j.doc j.grade)) ask asks in
     let doc = judgement_doc body found.0 found.1 in
     subst (λ a. IsTrue (is_well_addressed (caller row) number a moment)) found.2
-    (given row number (command.Amend topic found.0.doc found.0.grade) moment name numbered latest (record { built = refl; role = role; plain = and_from (is_name topic) (is_docno found.0.doc) fitting doc; few = doc_command_short topic found.0.doc found.0.grade (name_short topic fitting) (docno_short found.0.doc doc) }))
+    (given row number (command.Amend topic found.0.doc found.0.grade) moment name numbered latest (record { built = refl; role = role; plain = rw (fitting, doc, judgement_grade body found.0 found.1) refl; few = doc_command_short topic found.0.doc found.0.grade (name_short topic fitting) (docno_short found.0.doc doc) }))
 addressed_at places.Rule row number topic body ask moment name numbered role fitting asks sound few latest =
     let found = some_given (option_and_then judgement_in (json_of body)) (λ (j : Judgement). Act (command.Rule topic j.doc j.grade)) ask asks in
     let doc = judgement_doc body found.0 found.1 in
     subst (λ a. IsTrue (is_well_addressed (caller row) number a moment)) found.2
-    (given row number (command.Rule topic found.0.doc found.0.grade) moment name numbered latest (record { built = refl; role = role; plain = and_from (is_name topic) (is_docno found.0.doc) fitting doc; few = doc_command_short topic found.0.doc found.0.grade (name_short topic fitting) (docno_short found.0.doc doc) }))
+    (given row number (command.Rule topic found.0.doc found.0.grade) moment name numbered latest (record { built = refl; role = role; plain = rw (fitting, doc, judgement_grade body found.0 found.1) refl; few = doc_command_short topic found.0.doc found.0.grade (name_short topic fitting) (docno_short found.0.doc doc) }))
 addressed_at places.Pool row number topic body ask moment name numbered role fitting asks sound few latest =
     let same : See (query.Pool topic) ≡ ask = cc in
     subst (λ a. IsTrue (is_well_addressed (caller row) number a moment)) same (seen row number (query.Pool topic) moment name latest (record { built = refl; role = role; plain = fitting }))

@@ -1,6 +1,6 @@
 -- The lines of a run: their topics are names, their documents docnos, and they are no longer than the text.
-use Rattle.std.proofs.Common.{◌≡◌, ◌≢◌, ℕ, suc, ◌+◌, ◌<◌, ◌≤◌, ◌&&◌, List, [], ◌∷◌, Ok, Err, Bool, true, false, length, map, refl, sym, ap, arith}
-use Rattle.std.specs.Prelude.{Result, ◌==◌, cond, if◌then◌else◌}
+use Rattle.std.proofs.Common.{◌≡◌, ◌≢◌, ℕ, suc, ◌+◌, ◌<◌, ◌≤◌, ◌&&◌, List, [], ◌∷◌, Ok, Err, Bool, true, false, length, map, refl, sym, ap, ◌∙◌, arith, le-leb}
+use Rattle.std.specs.Prelude.{Result, ◌==◌, cond, if◌then◌else◌, nat_le}
 use Rattle.std.specs.List.{list_all, filter, sum_by, slice_split, onto_first, enumerate_from}
 use Rattle.std.proofs.lemmas.Bool.{and_parts, and_from, cond_both}
 use Rattle.std.proofs.lemmas.List.Sums.{sum_by-cons}
@@ -29,9 +29,14 @@ line_size line = length line.topic + length line.doc + 10
 abbrev pub is_good : RunLine → Bool
 is_good line = is_name line.topic && is_docno line.doc
 
+-- whether a line's number is one of the first
+abbrev pub is_up_to : ℕ → RunLine → Bool
+is_up_to most line = nat_le line.line most
+
 pub record AreGood (text : List ℕ) (lines : List RunLine) : Type 0 where
   pub some : 0 < length lines
   pub each : list_all is_good lines ≡ true
+  pub numbered : list_all (is_up_to (length text + 1)) lines ≡ true
   pub short : sum_by line_size lines ≤ length text + 1
 
 -- the sum over what passes a test is no greater
@@ -119,9 +124,28 @@ rows_filled : (text : List ℕ) → list_all is_filled_row (rows_of text) ≡ tr
 unfolding rows_from
 rows_filled text = all_kept is_filled_row (λ row. is_filled row.1) (enumerate_from 1 (map fields_of (lines_of text))) (numbered_filled 1 (lines_of text))
 
+abbrev is_row_up_to : ℕ → Row → Bool
+is_row_up_to most row = nat_le row.0 most
+
+numbered_up_to : (most number : ℕ) (lines : List (List ℕ)) → number + length lines ≤ most + 1 → list_all (is_row_up_to most) (enumerate_from number (map fields_of lines)) ≡ true
+numbered_up_to most number [] few = refl
+numbered_up_to most number (line ∷ lines) few =
+    and_from (nat_le number most) (list_all (is_row_up_to most) (enumerate_from (number + 1) (map fields_of lines))) (le-leb number most (omega (arith, few))) (numbered_up_to most (number + 1) lines (omega (arith, few)))
+
+lines_few : (lines : List (List ℕ)) → length lines ≤ sizes lines
+lines_few [] = omega arith
+lines_few (line ∷ lines) = omega (arith, lines_few lines, sum_by-cons size_of line lines)
+
+rows_numbered : (text : List ℕ) → list_all (is_row_up_to (length text + 1)) (rows_of text) ≡ true
+unfolding rows_from
+rows_numbered text =
+    all_kept (is_row_up_to (length text + 1)) (λ row. is_filled row.1) (enumerate_from 1 (map fields_of (lines_of text)))
+    (numbered_up_to (length text + 1) 1 (lines_of text) (omega (arith, lines_few (lines_of text), lines_sizes text)))
+
 -- One line
 
-record IsGoodLine (fields : List (List ℕ)) (line : RunLine) : Type 0 where
+record IsGoodLine (number : ℕ) (fields : List (List ℕ)) (line : RunLine) : Type 0 where
+  numbered : line.line ≡ number
   good : is_good line ≡ true
   short : line_size line ≤ sizes fields
 
@@ -139,26 +163,27 @@ six_sizes a b c d e f filled =
     let at_f = and_parts (is_filled f) true at_e.1 in
     omega (arith, filled_some b at_b.0, filled_some d at_d.0, filled_some e at_e.0, filled_some f at_f.0)
 
-line_of_scored : (number : ℕ) (topic doc : List ℕ) (score : Result DecimalValue DecimalFault) (line : RunLine) → scored number topic doc score ≡ Ok line → (line.topic ≡ topic) × (line.doc ≡ doc)
+line_of_scored : (number : ℕ) (topic doc : List ℕ) (score : Result DecimalValue DecimalFault) (line : RunLine) → scored number topic doc score ≡ Ok line → (line.topic ≡ topic) × (line.doc ≡ doc) × (line.line ≡ number)
 line_of_scored number topic doc (Ok score) line is =
     let same : record { line = number; topic = topic; doc = doc; score = score } ≡ line = cc in
-    (ap (λ (l : RunLine). l.topic) (sym same), ap (λ (l : RunLine). l.doc) (sym same))
+    (ap (λ (l : RunLine). l.topic) (sym same), ap (λ (l : RunLine). l.doc) (sym same), ap (λ (l : RunLine). l.line) (sym same))
 line_of_scored number topic doc (Err cause) line is = cc
 
 err_not_ok : {kind : Kind} {line : RunLine} → ◌≡◌ {A = Result RunLine Kind} (Err kind) (Ok line) → ⊥
 err_not_ok is = cc
 
-good_line : (number : ℕ) (fields : List (List ℕ)) (line : RunLine) → run_of (number, fields) ≡ Ok line → list_all is_filled fields ≡ true → IsGoodLine fields line
+good_line : (number : ℕ) (fields : List (List ℕ)) (line : RunLine) → run_of (number, fields) ≡ Ok line → list_all is_filled fields ≡ true → IsGoodLine number fields line
 unfolding run_of
 good_line number (topic ∷ a ∷ doc ∷ b ∷ score ∷ c ∷ []) line is filled =
     cond_both (is_name topic) (if is_docno doc then scored number topic doc (decimal_of score) else Err Docno) (Err Topic)
-    (λ (r : Result RunLine Kind). r ≡ Ok line → IsGoodLine (topic ∷ a ∷ doc ∷ b ∷ score ∷ c ∷ []) line)
+    (λ (r : Result RunLine Kind). r ≡ Ok line → IsGoodLine number (topic ∷ a ∷ doc ∷ b ∷ score ∷ c ∷ []) line)
     (λ named rest.
     cond_both (is_docno doc) (scored number topic doc (decimal_of score)) (Err Docno)
-    (λ (r : Result RunLine Kind). r ≡ Ok line → IsGoodLine (topic ∷ a ∷ doc ∷ b ∷ score ∷ c ∷ []) line)
+    (λ (r : Result RunLine Kind). r ≡ Ok line → IsGoodLine number (topic ∷ a ∷ doc ∷ b ∷ score ∷ c ∷ []) line)
     (λ docno ends.
     let parts = line_of_scored number topic doc (decimal_of score) line ends in
     record {
+      numbered = parts.2;
       good = rw (parts.0, parts.1) (and_from (is_name topic) (is_docno doc) named docno);
       short = rw (parts.0, parts.1) (six_sizes topic a doc b score c filled);
     })
@@ -168,34 +193,37 @@ good_line number _ line is filled = absurd (err_not_ok is)
 
 -- All lines
 
-record AreLinesOf (rows : List Row) (lines : List RunLine) : Type 0 where
+record AreLinesOf (most : ℕ) (rows : List Row) (lines : List RunLine) : Type 0 where
   same : length lines ≡ length rows
   each : list_all is_good lines ≡ true
+  numbered : list_all (is_up_to most) lines ≡ true
   short : sum_by line_size lines ≤ sum_by row_size rows
 
 nil_not_cons : {X : Type 0} {x : X} {xs : List X} → ◌≡◌ {A = List X} [] (x ∷ xs) → ⊥
 nil_not_cons is = cc
 
-lines_of_rows : (rows : List Row) (lines : List RunLine) → Stand run_of rows lines → list_all is_filled_row rows ≡ true → AreLinesOf rows lines
-lines_of_rows [] [] stand filled = record { same = refl; each = refl; short = omega arith }
-lines_of_rows [] (line ∷ lines) stand filled = absurd (nil_not_cons stand)
-lines_of_rows (row ∷ rows) [] stand filled = absurd (nil_not_cons (sym stand))
-lines_of_rows ((number, fields) ∷ rows) (line ∷ lines) stand filled =
+lines_of_rows : (most : ℕ) (rows : List Row) (lines : List RunLine) → Stand run_of rows lines → list_all is_filled_row rows ≡ true → list_all (is_row_up_to most) rows ≡ true → AreLinesOf most rows lines
+lines_of_rows most [] [] stand filled numbered = record { same = refl; each = refl; numbered = refl; short = omega arith }
+lines_of_rows most [] (line ∷ lines) stand filled numbered = absurd (nil_not_cons stand)
+lines_of_rows most (row ∷ rows) [] stand filled numbered = absurd (nil_not_cons (sym stand))
+lines_of_rows most ((number, fields) ∷ rows) (line ∷ lines) stand filled numbered =
     let first : run_of (number, fields) ≡ Ok line = cc in
     let later : map run_of rows ≡ map (λ line. Ok line) lines = cc in
     let parts = and_parts (list_all is_filled fields) (list_all is_filled_row rows) filled in
+    let numbers = and_parts (nat_le number most) (list_all (is_row_up_to most) rows) numbered in
     let one = good_line number fields line first parts.0 in
-    let rest = lines_of_rows rows lines later parts.1 in
+    let rest = lines_of_rows most rows lines later parts.1 numbers.1 in
     record {
       same = ap suc rest.same;
       each = and_from (is_good line) (list_all is_good lines) one.good rest.each;
+      numbered = and_from (is_up_to most line) (list_all (is_up_to most) lines) (ap (λ n. nat_le n most) one.numbered ∙ numbers.0) rest.numbered;
       short = omega (arith, one.short, rest.short, sum_by-cons line_size line lines, sum_by-cons row_size (number, fields) rows);
     }
 
 pub good_lines : (text : List ℕ) (lines : List RunLine) → IsRun text lines → AreGood text lines
 good_lines text lines (some, are) =
-    let w = lines_of_rows (rows_of text) lines are.each (rows_filled text) in
-    record { some = omega (arith, w.same, filled_rows (rows_of text) some); each = w.each; short = omega (arith, w.short, rows_sizes text) }
+    let w = lines_of_rows (length text + 1) (rows_of text) lines are.each (rows_filled text) (rows_numbered text) in
+    record { some = omega (arith, w.same, filled_rows (rows_of text) some); each = w.each; numbered = w.numbered; short = omega (arith, w.short, rows_sizes text) }
   where
     filled_rows : (rows : List Row) → rows ≢ [] → 0 < length rows
     filled_rows [] some = absurd (some refl)

@@ -1,12 +1,12 @@
 -- A run's request may be answered: its lists are plain, and its entry isn't too long.
-use Rattle.std.proofs.Common.{◌≡◌, ◌≢◌, ℕ, zero, suc, ◌+◌, ◌-◌, ◌<◌, ◌≤◌, List, [], ◌∷◌, Some, None, Option, Bool, true, false, length, map, get_or, refl, sym, ap, ◌∙◌, arith, subst, length-append, le-leb}
+use Rattle.std.proofs.Common.{◌≡◌, ◌≢◌, ℕ, zero, suc, ◌+◌, ◌-◌, ◌<◌, ◌≤◌, ◌^◌, List, [], ◌∷◌, Some, None, Option, Bool, true, false, length, map, get_or, refl, sym, ap, ◌∙◌, arith, subst, length-append, le-leb}
 use Rattle.std.specs.Prelude.{All, AllPairs, Any, Contains, IsPermutation, nat_lt, nat_le, not, bytes_eq, slice_get, cond}
 use Rattle.std.specs.List.{list_all, list_any, filter, sum_by, flat_map}
 use Rattle.std.specs.Option.{option_map}
 use Rattle.std.specs.Int.{to_le_bytes, w32}
 use Rattle.std.specs.Cmp.Lexicographic.{slice_cmp}
 use Rattle.std.specs.Ordering.{nat_cmp, is_lt}
-use Rattle.std.proofs.lemmas.Bool.{and_parts, and_from, lt-ltb, not_from_false, or_from, false_from_ne_true}
+use Rattle.std.proofs.lemmas.Bool.{and_parts, and_from, leb-true, lt-ltb, not_from_false, or_from, false_from_ne_true}
 use Rattle.std.proofs.lemmas.List.{length-map}
 use Rattle.std.proofs.lemmas.List.Concat.{length-flat_map}
 use Rattle.std.proofs.lemmas.List.Filters.{sum_by-filter_both}
@@ -15,7 +15,7 @@ use Rattle.std.proofs.lemmas.List.Sums.{sum_by-cons, length-filter, AllPass-from
 use Rattle.std.proofs.lemmas.Option.{slice_get_within, get_or_from_slice_get}
 use Rattle.std.proofs.lemmas.Slice.Eq.{bytes_eq-Decides}
 use Rattle.decimal_rank.specs.Ranks.{rank_in}
-use Rattle.trec_formats.specs.Lists.{lines_on, standing, AreRanked, IsListOf}
+use Rattle.trec_formats.specs.Lists.{lines_on, standing, AreRanked, IsListOf, IsRankedRun}
 use Rattle.trec_formats.specs.Names.{is_name, is_docno, is_between}
 use Rattle.trec_formats.specs.Runs.{count_on}
 use Rattle.trec_formats.specs.declared.lists.TopicList.{TopicList}
@@ -24,13 +24,12 @@ use Rattle.trec_formats.proofs.Differing.{differ_from_distinct, pairs_cons}
 use Rattle.trec_formats.proofs.TopicOrder.{never_below_itself}
 use Rattle.rulebook.specs.Spelling.{is_plain_list, is_ascending, differ, short, listed, list_bytes}
 use Rattle.rulebook.specs.Words.{contains_text}
-use Rattle.routes.specs.Bodies.{IsRankedRun}
 use Rattle.routes.proofs.Permuted.{permuted, pairs_head, pairs_tail, all_tail}
-use Rattle.routes.proofs.RunLines.{good_lines, is_good, line_size, all_kept, all_pass}
+use Rattle.routes.proofs.RunLines.{good_lines, is_good, is_up_to, line_size, all_kept, all_pass}
 
 -- what is so of the lists of a run's text
 pub record ArePlain (text : List ℕ) (lists : List TopicList) : Type 0 where
-  pub some : nat_lt 0 (length lists) ≡ true
+  pub some : is_between 1 (2 ^ 32 - 1) (length lists) ≡ true
   pub each : list_all is_plain_list lists ≡ true
   pub ascending : is_ascending (map (λ list. list.topic) lists) ≡ true
   pub short : length (listed list_bytes lists) ≤ length text + 10
@@ -94,7 +93,8 @@ docs_fit (line ∷ lines) =
     omega (arith, docs_fit lines, sum_by-cons line_size line lines, sum_by-cons (λ doc. length (short doc)) line.doc (map (λ line. line.doc) lines))
 
 -- what the lines of a topic say of it
-record IsTopicOf (lines : List RunLine) (topic : List ℕ) : Type 0 where
+record IsTopicOf (most : ℕ) (lines : List RunLine) (topic : List ℕ) (number : ℕ) : Type 0 where
+  first : number ≤ most
   named : is_name topic ≡ true
   some : 1 ≤ length lines
   size : length topic + 9 + docs_size lines ≤ sum_by line_size lines
@@ -102,13 +102,15 @@ record IsTopicOf (lines : List RunLine) (topic : List ℕ) : Type 0 where
 none_not_some : {n : ℕ} → ◌≡◌ {A = Option ℕ} None (Some n) → ⊥
 none_not_some is = cc
 
-topic_of : (lines : List RunLine) (topic : List ℕ) (number : ℕ) → option_map (λ (line : RunLine). line.line) (slice_get lines 0) ≡ Some number → list_all is_good lines ≡ true → list_all (λ line. bytes_eq line.topic topic) lines ≡ true
-    → IsTopicOf lines topic
-topic_of [] topic number first good same = absurd (none_not_some first)
-topic_of (line ∷ lines) topic number first good same =
+topic_of : (most : ℕ) (lines : List RunLine) (topic : List ℕ) (number : ℕ) → option_map (λ (line : RunLine). line.line) (slice_get lines 0) ≡ Some number → list_all is_good lines ≡ true → list_all (is_up_to most) lines ≡ true
+    → list_all (λ line. bytes_eq line.topic topic) lines ≡ true → IsTopicOf most lines topic number
+topic_of most [] topic number first good numbered same = absurd (none_not_some first)
+topic_of most (line ∷ lines) topic number first good numbered same =
+    let is : line.line ≡ number = cc in
     let here = (bytes_eq-Decides line.topic topic).0 (and_parts (bytes_eq line.topic topic) (list_all (λ line. bytes_eq line.topic topic) lines) same).0 in
     let parts = and_parts (is_name line.topic) (is_docno line.doc) (and_parts (is_good line) (list_all is_good lines) good).0 in
     record {
+      first = subst (λ n. n ≤ most) is (leb-true line.line most (and_parts (is_up_to most line) (list_all (is_up_to most) lines) numbered).0);
       named = subst (λ t. is_name t ≡ true) here parts.0;
       some = omega arith;
       size = omega (arith, ap length here, docs_fit lines, sum_by-cons line_size line lines, sum_by-cons (λ doc. length (short doc)) line.doc (map (λ line. line.doc) lines));
@@ -120,19 +122,21 @@ four_bytes n = refl
 list_size : (list : TopicList) → length (list_bytes list) ≡ length list.topic + 9 + sum_by (λ doc. length (short doc)) list.docs
 list_size list = simp (length-append, four_bytes, length-flat_map) (omega arith)
 
-plain_list : (lines : List RunLine) (list : TopicList) → list_all is_good lines ≡ true → ((topic : List ℕ) → count_on topic lines ≤ 1000) → AllPairs (λ a b. a.doc ≢ b.doc) (lines_on list.topic lines) → IsListOf lines list
+plain_list : (most : ℕ) (lines : List RunLine) (list : TopicList) → most < 2 ^ 32 → list_all is_good lines ≡ true → list_all (is_up_to most) lines ≡ true → ((topic : List ℕ) → count_on topic lines ≤ 1000) → AllPairs (λ a b. a.doc ≢ b.doc) (lines_on list.topic lines) → IsListOf lines list
     → IsPlainListOf lines list
-plain_list lines list good few apart is =
+plain_list most lines list least good numbered few apart is =
     let own = lines_on list.topic lines in
     let good_own = all_kept is_good (λ line. bytes_eq line.topic list.topic) lines good in
-    let topic = topic_of own list.topic list.line is.first good_own (all_pass (λ line. bytes_eq line.topic list.topic) lines) in
+    let numbered_own = all_kept (is_up_to most) (λ line. bytes_eq line.topic list.topic) lines numbered in
+    let topic = topic_of most own list.topic list.line is.first good_own numbered_own (all_pass (λ line. bytes_eq line.topic list.topic) lines) in
     let same = docs_permuted own list.docs apart is.docs in
-    let most : length own ≤ 1000 = omega (arith, few list.topic, length-filter (λ line. bytes_eq line.topic list.topic) lines) in
-    let counted : is_between 1 1000 (length list.docs) ≡ true = and_from (nat_le 1 (length list.docs)) (nat_le (length list.docs) 1000) (le-leb 1 (length list.docs) (omega (arith, is.docs.size, topic.some))) (le-leb (length list.docs) 1000 (omega (arith, is.docs.size, most))) in
+    let short_own : length own ≤ 1000 = omega (arith, few list.topic, length-filter (λ line. bytes_eq line.topic list.topic) lines) in
+    let counted : is_between 1 1000 (length list.docs) ≡ true = and_from (nat_le 1 (length list.docs)) (nat_le (length list.docs) 1000) (le-leb 1 (length list.docs) (omega (arith, is.docs.size, topic.some))) (le-leb (length list.docs) 1000 (omega (arith, is.docs.size, short_own))) in
+    let line : nat_lt list.line (2 ^ 32) ≡ true = lt-ltb list.line (2 ^ 32) (omega (arith, topic.first, least)) in
     let docnos = docnos_kept (map (λ line. line.doc) own) list.docs same (docs_good own good_own) in
     let once = differ_once list.docs is.docs.once in
     record {
-      plain = rw (topic.named, counted, docnos, once) refl;
+      plain = rw (topic.named, line, counted, docnos, once) refl;
       size = omega (arith, list_size list, topic.size, sum_by-IsPermutation (λ doc. length (short doc)) (map (λ line. line.doc) own) list.docs same);
     }
 
@@ -142,12 +146,12 @@ record ArePlainListsOf (lines : List RunLine) (lists : List TopicList) : Type 0 
   plain : list_all is_plain_list lists ≡ true
   size : length (flat_map list_bytes lists) ≤ sum_by (λ list. sum_by line_size (lines_on list.topic lines)) lists
 
-plain_lists : (lines : List RunLine) (lists : List TopicList) → list_all is_good lines ≡ true → ((topic : List ℕ) → count_on topic lines ≤ 1000) → ((topic : List ℕ) → AllPairs (λ a b. a.doc ≢ b.doc) (lines_on topic lines))
+plain_lists : (most : ℕ) (lines : List RunLine) (lists : List TopicList) → most < 2 ^ 32 → list_all is_good lines ≡ true → list_all (is_up_to most) lines ≡ true → ((topic : List ℕ) → count_on topic lines ≤ 1000) → ((topic : List ℕ) → AllPairs (λ a b. a.doc ≢ b.doc) (lines_on topic lines))
     → All (IsListOf lines) lists → ArePlainListsOf lines lists
-plain_lists lines [] good few apart are = record { plain = refl; size = omega arith }
-plain_lists lines (list ∷ lists) good few apart are =
-    let one = plain_list lines list good few (apart list.topic) (are zero list (omega arith)) in
-    let rest = plain_lists lines lists good few apart (all_tail (IsListOf lines) list lists are) in
+plain_lists most lines [] least good numbered few apart are = record { plain = refl; size = omega arith }
+plain_lists most lines (list ∷ lists) least good numbered few apart are =
+    let one = plain_list most lines list least good numbered few (apart list.topic) (are zero list (omega arith)) in
+    let rest = plain_lists most lines lists least good numbered few apart (all_tail (IsListOf lines) list lists are) in
     record {
       plain = and_from (is_plain_list list) (list_all is_plain_list lists) one.plain rest.plain;
       size = omega (arith, one.size, rest.size, length-append (list_bytes list) (flat_map list_bytes lists), sum_by-cons (λ list. sum_by line_size (lines_on list.topic lines)) list lists);
@@ -189,18 +193,25 @@ ascends (list ∷ next ∷ lists) pairs =
     and_from (is_lt (slice_cmp nat_cmp list.topic next.topic)) (is_ascending (map (λ list. list.topic) (next ∷ lists))) (pairs zero (suc zero) list (omega arith) (omega arith))
     (ascends (next ∷ lists) (pairs_tail (λ a b. is_lt (slice_cmp nat_cmp a.topic b.topic) ≡ true) list (next ∷ lists) pairs))
 
-pub lists_are_plain : (text : List ℕ) (lists : List TopicList) → IsRankedRun text lists → ArePlain text lists
-lists_are_plain text lists (lines, run, are) =
+-- no more items than bytes, where each item has some
+pub few_items : {X : Type 0} (spell : X → List ℕ) (xs : List X) → ((x : X) → 1 ≤ length (spell x)) → length xs ≤ length (flat_map spell xs)
+few_items spell [] some = omega arith
+few_items spell (x ∷ xs) some = omega (arith, some x, few_items spell xs some, length-append (spell x) (flat_map spell xs))
+
+pub lists_are_plain : (text : List ℕ) (lists : List TopicList) → length text ≤ 16777216 → IsRankedRun text lists → ArePlain text lists
+lists_are_plain text lists fits (lines, (run, distinct), are) =
     let good = good_lines text lines run in
-    let plain = plain_lists lines lists good.each run.1.short (λ topic. differ_from_distinct topic lines are.distinct) are.each in
+    let plain = plain_lists (length text + 1) lines lists (omega (arith, fits)) good.each good.numbered run.1.short (λ topic. differ_from_distinct topic lines are.distinct) are.each in
     let apart : AllPairs (λ a b. a.topic ≢ b.topic) lists = λ i j d below within same.
     never_below_itself (get_or lists j d).topic (subst (λ t. is_lt (slice_cmp nat_cmp t (get_or lists j d).topic) ≡ true) same (are.ascending i j d below within)) in
     let some : 0 < length lists = some_list lines lists good.some are.whole in
+    let bytes : length (flat_map list_bytes lists) ≤ length text + 1 = omega (arith, good.short, plain.size, groups_fit lists lines apart) in
+    let few : length lists ≤ 2 ^ 32 - 1 = omega (arith, fits, bytes, few_items list_bytes lists (λ list. omega (arith, list_size list))) in
     record {
-      some = lt-ltb 0 (length lists) some;
+      some = and_from (nat_le 1 (length lists)) (nat_le (length lists) (2 ^ 32 - 1)) (le-leb 1 (length lists) some) (le-leb (length lists) (2 ^ 32 - 1) few);
       each = plain.plain;
       ascending = ascends lists are.ascending;
-      short = omega (arith, good.short, plain.size, groups_fit lists lines apart, length-append (to_le_bytes w32 (length lists)) (flat_map list_bytes lists), four_bytes (length lists));
+      short = omega (arith, bytes, length-append (to_le_bytes w32 (length lists)) (flat_map list_bytes lists), four_bytes (length lists));
     }
   where
     some_list : (lines : List RunLine) (lists : List TopicList) → 0 < length lines → All (λ line. Any (λ list. list.topic ≡ line.topic) lists) lines → 0 < length lists

@@ -4,6 +4,7 @@ use Rattle.std.specs.Option.{option_map}
 use Rattle.std.specs.Str.Parse.{digits_value}
 use Rattle.http_wire.specs.declared.messages.HttpRequest.{HttpRequest}
 use Rattle.http_wire.specs.Heads.{is_filled}
+use Rattle.trec_formats.specs.Lists.{IsRankedRun, IsRankedRunFault}
 use Rattle.trec_formats.specs.declared.faults.FormatFault.{FormatFault}
 use Rattle.trec_formats.specs.declared.faults.FormatEnd.{FormatEnd}
 use Rattle.trec_formats.specs.declared.faults.FormatEnd.TheVariants as ends
@@ -21,7 +22,7 @@ use Rattle.routes.specs.declared.faults.RouteFault.TheVariants as faults
 use Rattle.routes.specs.declared.keys.KeyRow.{KeyRow}
 use Rattle.routes.specs.declared.places.Place.{Place}
 use Rattle.routes.specs.declared.places.Place.TheVariants as places
-use Rattle.routes.specs.Bodies.{json_of, Judgement, grade_in, judgement_in, IsRankedRun, IsRankedRunFault}
+use Rattle.routes.specs.Bodies.{json_of, Judgement, grade_in, judgement_in}
 use Rattle.routes.specs.Faults.{or_fault}
 use Rattle.routes.specs.Keys.{caller}
 use Rattle.routes.specs.Openings.{Opening, opening_of}

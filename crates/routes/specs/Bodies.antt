@@ -1,16 +1,11 @@
--- What a body says: JSON objects (RFC 8259), runs and topics.
-use Rattle.std.specs.Prelude.{◌⊎◌, ℕ, suc, Bool, false, ◌==◌, List, Option, Some, None, codes, nat_le, option_and_then, if◌then◌else◌}
+-- What a body says that is a JSON object (RFC 8259).
+use Rattle.std.specs.Prelude.{ℕ, suc, Bool, false, ◌==◌, List, Option, Some, None, codes, nat_le, option_and_then, if◌then◌else◌}
 use Rattle.std.specs.Option.{option_map_or}
 use Rattle.std.specs.Str.{is_utf8}
 use Rattle.serde_json.specs.Data.{Data, Members, no_members, member}
 use Rattle.serde_json.specs.Find.{get, as_number, as_u64, as_str, as_object}
 use Rattle.serde_json.specs.Read.{read}
-use Rattle.trec_formats.specs.declared.faults.FormatFault.{FormatFault}
-use Rattle.trec_formats.specs.declared.lists.TopicList.{TopicList}
-use Rattle.trec_formats.specs.declared.runs.RunLine.{RunLine}
-use Rattle.trec_formats.specs.Lists.{AreLists, IsListsFault}
 use Rattle.trec_formats.specs.Names.{is_docno}
-use Rattle.trec_formats.specs.Runs.{IsRun, IsRunFault}
 
 -- the value of a JSON text, as `serde_json` reads it
 abbrev pub json_of : List ℕ → Option Data
@@ -55,11 +50,3 @@ judged None grade = None
 -- the document and the grade of an object with these alone
 abbrev pub judgement_in : Data → Option Judgement
 judgement_in value = if has_members 2 value then judged (doc_at value) (grade_at value) else None
-
--- the text is a run with these ranked lists
-abbrev pub IsRankedRun : List ℕ → List TopicList → Type 0
-IsRankedRun text lists = (lines : List RunLine) × IsRun text lines × AreLists lines lists
-
--- The fault of a run's text. A document that stands twice on a topic is one where there is no other.
-abbrev pub IsRankedRunFault : List ℕ → FormatFault → Type 0
-IsRankedRunFault text at = IsRunFault text at ⊎ ((lines : List RunLine) × IsRun text lines × IsListsFault lines at)

@@ -2,8 +2,9 @@ ghost use Rattle.std.specs.Prelude.{◌≡◌, ◌≤◌, IfOk, length, option_a
 ghost use Rattle.std.specs.List.{list_all};
 ghost use Rattle.serde_json.specs.View.{view};
 ghost use Rattle.trec_formats.specs.Faults.{IfFault};
+ghost use Rattle.trec_formats.specs.Lists.{IsRankedRun, IsRankedRunFault};
 ghost use Rattle.trec_formats.specs.Names.{is_between, is_docno};
-ghost use Rattle.routes.specs.Bodies.{doc_at, grade_at, grade_in, has_members, json_of, judgement_in, IsRankedRun, IsRankedRunFault};
+ghost use Rattle.routes.specs.Bodies.{doc_at, grade_at, grade_in, has_members, json_of, judgement_in};
 ghost use Rattle.routes.specs.BodyParts.{judgement_shown};
 
 use decimal_rank::{Memory, Text};
@@ -129,5 +130,6 @@ pub(crate) fn read_ranked_run(alloc: Global, body: &[u8]) -> Result<Vec<TopicLis
     ensures fault { IfFault result (IsRankedRunFault body.now) }
 {
     let lines = read_run(alloc, body)?;
-    rank_run(alloc, &lines)
+    let lists = rank_run(alloc, &lines)?;
+    Ok(lists)
 }

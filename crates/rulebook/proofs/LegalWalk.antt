@@ -13,16 +13,17 @@ use Rattle.rulebook.specs.Campaign.{History}
 use Rattle.rulebook.specs.Legal.{AreAccepted, IsAccepted, IsFounding, IsLegal, core_of}
 use Rattle.rulebook.specs.Refusals.{Ruling}
 
-module _ (P : History → Type 0) (step : (before : History) (e : Entry) → IsLegal before → P before → IsAccepted before e → P (before ++ e ∷ [])) where
-  legal_more : (before : History) (e : Entry) → IsLegal before → IsAccepted before e → IsLegal (before ++ e ∷ [])
-  legal_more [] e legal accepted = absurd legal
-  legal_more (first ∷ later) e legal accepted = (legal.0, accepted_more (first ∷ []) later e legal.1 accepted)
-    where
-      accepted_more : (front later : History) (e : Entry) → AreAccepted front later → IsAccepted (front ++ later) e → AreAccepted front (later ++ e ∷ [])
-      accepted_more front [] e all accepted = (subst (λ H. IsAccepted H e) (append-nil front) accepted, tt)
-      accepted_more front (x ∷ later) e all accepted =
-          (all.0, accepted_more (front ++ x ∷ []) later e all.1 (subst (λ H. IsAccepted H e) (sym (append_assoc front (x ∷ []) later)) accepted))
+accepted_more : (front later : History) (e : Entry) → AreAccepted front later → IsAccepted (front ++ later) e → AreAccepted front (later ++ e ∷ [])
+accepted_more front [] e all accepted = (subst (λ H. IsAccepted H e) (append-nil front) accepted, tt)
+accepted_more front (x ∷ later) e all accepted =
+    (all.0, accepted_more (front ++ x ∷ []) later e all.1 (subst (λ H. IsAccepted H e) (sym (append_assoc front (x ∷ []) later)) accepted))
 
+-- a legal history with an accepted entry is legal
+pub legal_more : (before : History) (e : Entry) → IsLegal before → IsAccepted before e → IsLegal (before ++ e ∷ [])
+legal_more [] e legal accepted = absurd legal
+legal_more (first ∷ later) e legal accepted = (legal.0, accepted_more (first ∷ []) later e legal.1 accepted)
+
+module _ (P : History → Type 0) (step : (before : History) (e : Entry) → IsLegal before → P before → IsAccepted before e → P (before ++ e ∷ [])) where
   along : (before later : History) → IsLegal before → P before → AreAccepted before later → P (before ++ later)
   along before [] legal holds accepted = subst P (sym (append-nil before)) holds
   along before (e ∷ later) legal holds accepted =

@@ -1,8 +1,10 @@
 pub mod SmallCampaign
+pub mod JournalSizes
 pub mod JudgedCampaign
 pub mod Entering
 pub mod Listing
 pub mod RuledDocuments
+pub mod Added
 pub mod AllPass
 pub mod LegalWalk
 pub mod PlainReplies

@@ -13,3 +13,4 @@ pub mod Entries
 pub mod Scores
 pub mod Plain
 pub mod Stories
+pub mod Additions

@@ -1,3 +1,4 @@
+ghost use Rattle.rulebook.specs.Additions.{AddedAreAccepted, EntriesAreFew, FoundingFits, LegalFit, MomentsAreInTime, RunsAreFew};
 ghost use Rattle.rulebook.specs.Entries.{GradedAreOnTrail, GradedAreThere, LabelledAreListed, LabelsJoin, QuietEntriesKeepGrades, RulingsJoin};
 ghost use Rattle.rulebook.specs.Plain.{CommandsAreAnsweredShort, EntriesArePlain, RepliesArePlain};
 
@@ -46,4 +47,31 @@ pub fn replies_are_plain()
 /// A well addressed command to a legal history has a short reply.
 pub fn commands_are_answered_short()
     ensures { CommandsAreAnsweredShort }
+{}
+
+/// The entry that a request adds is accepted by its own core alone, and keeps the list legal.
+pub fn added_are_accepted()
+    ensures { AddedAreAccepted }
+{}
+
+pub fn entries_are_few()
+    ensures { EntriesAreFew }
+{}
+
+pub fn runs_are_few()
+    ensures { RunsAreFew }
+{}
+
+pub fn moments_are_in_time()
+    ensures { MomentsAreInTime }
+{}
+
+/// The first entry has room in a record.
+pub fn founding_fits()
+    ensures { FoundingFits }
+{}
+
+/// A journal of a legal list has room in 2^40 bytes.
+pub fn legal_fit()
+    ensures { LegalFit }
 {}

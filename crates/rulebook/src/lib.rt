@@ -16,8 +16,10 @@ pub use answer::Answer;
 pub use ask::{Addressed, Ask, Command, Query};
 pub use entry::{Entry, EntryCore};
 pub use laws::{
-    commands_are_answered_short, entries_are_plain, graded_are_on_trail, graded_are_there,
-    labelled_are_listed, labels_join, quiet_entries_keep_grades, replies_are_plain, rulings_join,
+    added_are_accepted, commands_are_answered_short, entries_are_few, entries_are_plain,
+    founding_fits, graded_are_on_trail, graded_are_there, labelled_are_listed, labels_join,
+    legal_fit, moments_are_in_time, quiet_entries_keep_grades, replies_are_plain, rulings_join,
+    runs_are_few,
 };
 pub use limits::{
     MAX_DOCNOS, MAX_ENTRIES, MAX_ENTRY_BYTES, MAX_LINES, MAX_MOMENT, MAX_RUNS, MAX_TOPICS,

@@ -1,5 +1,0 @@
-use Rattle.std.proofs.Common.{◌≡◌, ◌∷◌, [], map, take}
-use Rattle.campaign_core.proofs.tests.docnos.Given as goal
-
-abbrev pub invariant-loop-doc : goal.invariant-loop-doc
-invariant-loop-doc l = l.texts.items ≡ map (λ doc. doc ∷ []) (take l.doc-index l.docs)

@@ -1,0 +1,20 @@
+//! Tests of a campaign's state: what each request is told, the limits, and random courses against a
+//! plain walk over the history.
+#![tactic(auto)]
+
+#[cfg(test)]
+mod amendments;
+#[cfg(test)]
+mod collecting;
+#[cfg(test)]
+mod courses;
+#[cfg(test)]
+mod leases;
+#[cfg(test)]
+mod pages;
+#[cfg(test)]
+mod plain_walk;
+#[cfg(test)]
+mod requests;
+#[cfg(test)]
+mod scores;

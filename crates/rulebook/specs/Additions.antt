@@ -1,0 +1,42 @@
+-- What a journal of the accepted entries rests on: what an answer adds may be read back, and all of it has room.
+use Rattle.std.specs.Prelude.{◌≡◌, ℕ, ◌+◌, ◌≤◌, ◌^◌, [], ◌∷◌, ◌++◌, Option, IsTrue, length, sum_by}
+use Rattle.rulebook.specs.declared.limits.TheConstants.{MAX_ENTRIES, MAX_ENTRY_BYTES, MAX_MOMENT, MAX_RUNS}
+use Rattle.rulebook.specs.declared.rules.Caller.{Caller}
+use Rattle.rulebook.specs.declared.rules.Rules.{Rules}
+use Rattle.rulebook.specs.declared.ask.Ask.{Ask}
+use Rattle.rulebook.specs.declared.ask.Ask.TheVariants.{Act}
+use Rattle.rulebook.specs.declared.ask.Command.{Command}
+use Rattle.rulebook.specs.declared.entry.Entry.{Entry}
+use Rattle.rulebook.specs.Answers.{answer, moment_after}
+use Rattle.rulebook.specs.Campaign.{History, runs}
+use Rattle.rulebook.specs.Legal.{IsAccepted, IsLegal, core_of, founding, is_well_addressed}
+use Rattle.rulebook.specs.Spelling.{are_rules, entry_bytes}
+
+-- The entry that a request adds is accepted by its own core alone, keeps the list legal, and has the answer's reply.
+pub record IsAdded (H : History) (who : Caller) (number : Option ℕ) (ask : Ask) (moment : ℕ) (e : Entry) : Type 0 where
+  pub accepted : IsAccepted H e
+  pub legal : IsLegal (H ++ e ∷ [])
+  pub reply : (answer H who number ask moment).reply ≡ e.reply
+  pub core : (c : Command) → ask ≡ Act c → e.core ≡ core_of who number e.core.moment c
+
+abbrev pub AddedAreAccepted : Type 0
+AddedAreAccepted =
+    (H : History) (who : Caller) (number : Option ℕ) (ask : Ask) (moment : ℕ) (e : Entry) → IsLegal H
+    → IsTrue (is_well_addressed who number ask moment) → (answer H who number ask moment).added ≡ e ∷ [] → IsAdded H who number ask moment e
+
+abbrev pub EntriesAreFew : Type 0
+EntriesAreFew = (H : History) → IsLegal H → length H ≤ MAX_ENTRIES
+
+abbrev pub RunsAreFew : Type 0
+RunsAreFew = (H : History) → IsLegal H → length (runs H) ≤ MAX_RUNS
+
+abbrev pub MomentsAreInTime : Type 0
+MomentsAreInTime = (H : History) → IsLegal H → moment_after H 0 ≤ MAX_MOMENT
+
+-- the first entry has room in a record
+abbrev pub FoundingFits : Type 0
+FoundingFits = (rules : Rules) → IsTrue (are_rules rules) → length (entry_bytes (founding rules).core) ≤ MAX_ENTRY_BYTES
+
+-- A journal's head and the records of a legal list, each of five bytes and its entry's, have room in 2^40 bytes.
+abbrev pub LegalFit : Type 0
+LegalFit = (H : History) → IsLegal H → 17 + sum_by (λ e. length (entry_bytes e.core) + 5) H ≤ 2 ^ 40
