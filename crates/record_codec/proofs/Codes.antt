@@ -26,15 +26,18 @@ IsBytes-take n bytes fits i =
 -- what stands behind a text is bytes
 pub IsBytes-behind : (bytes text rest : Text) → IsBytes bytes → bytes ≡ text ++ rest → IsBytes rest
 IsBytes-behind bytes text rest fits is i =
-    subst (λ (n : ℕ). n < 256) (ap (λ (b : Text). get_or b (length text + i) 0) is ∙ get_or-append-add text rest i 0) (fits (length text + i))
+    subst (λ (n : ℕ). n < 256) (ap (λ (b : Text). get_or b (length text + i) 0) is ∙ get_or-append-add text rest i 0)
+    (fits (length text + i))
 
 -- Options
 
-pub bind_some : {A B : Type 0} (r : Option A) (f : A → Option B) (y : B) → option_and_then f r ≡ Some y → (x : A) × (r ≡ Some x) × (f x ≡ Some y)
+pub bind_some : {A B : Type 0} (r : Option A) (f : A → Option B) (y : B) → option_and_then f r ≡ Some y
+    → (x : A) × (r ≡ Some x) × (f x ≡ Some y)
 bind_some (Some x) f y is = (x, refl, is)
 bind_some None f y is = absurd cc
 
-pub map_some : {A B : Type 0} (r : Option A) (f : A → B) (y : B) → option_map f r ≡ Some y → (x : A) × (r ≡ Some x) × (f x ≡ y)
+pub map_some : {A B : Type 0} (r : Option A) (f : A → B) (y : B) → option_map f r ≡ Some y
+    → (x : A) × (r ≡ Some x) × (f x ≡ y)
 map_some (Some x) f y is = (x, refl, cc)
 map_some None f y is = absurd cc
 
@@ -59,7 +62,8 @@ pub record Codes {X : Type 0} (spell : X → Text) (Fits : X → Type 0) (at : T
 
 -- Numbers
 
-byte_takes : (bytes : Text) (p : ℕ × Text) → IsBytes bytes → byte_at bytes ≡ Some p → (p.0 < 256) × (bytes ≡ (p.0 ∷ []) ++ p.1)
+byte_takes : (bytes : Text) (p : ℕ × Text) → IsBytes bytes → byte_at bytes ≡ Some p
+    → (p.0 < 256) × (bytes ≡ (p.0 ∷ []) ++ p.1)
 byte_takes [] p fits is = absurd cc
 byte_takes (b ∷ rest) p fits is =
     let read : ℕ × Text = (b, rest) in
@@ -99,24 +103,35 @@ wide64 = record {
 }
 
 module _ (w : Width) (limit : ℕ) (wide : IsWide w limit) where
-  number_takes : (bytes : Text) (p : ℕ × Text) → IsBytes bytes → number_at w bytes ≡ Some p → (p.0 < limit) × (bytes ≡ to_le_bytes w p.0 ++ p.1)
+  number_takes : (bytes : Text) (p : ℕ × Text) → IsBytes bytes → number_at w bytes ≡ Some p
+      → (p.0 < limit) × (bytes ≡ to_le_bytes w p.0 ++ p.1)
   unfolding number_at
   number_takes bytes p fits is =
-      let g = guard_some (ltb (length bytes) (byte_len w)) (from_le_bytes w (take (byte_len w) bytes), drop (byte_len w) bytes) p is in
+      let g = guard_some (ltb (length bytes) (byte_len w))
+      (from_le_bytes w (take (byte_len w) bytes), drop (byte_len w) bytes) p is in
       let long : byte_len w ≤ length bytes = ltb-false _ _ g.0 in
       let n : ℕ = from_le_bytes w (take (byte_len w) bytes) in
       let below = wide.below (take (byte_len w) bytes) (IsBytes-take (byte_len w) bytes fits) in
       let len : length (take (byte_len w) bytes) ≡ byte_len w = omega (arith, length-take (byte_len w) bytes) in
-      let front : to_le_bytes w n ≡ take (byte_len w) bytes = wide.back (take (byte_len w) bytes) len (IsBytes-take (byte_len w) bytes fits) in
-      let parts : bytes ≡ to_le_bytes w n ++ drop (byte_len w) bytes = sym (take-append-drop (byte_len w) bytes) ∙ ap (λ (t : Text). t ++ drop (byte_len w) bytes) (sym front) in
+      let front : to_le_bytes w n ≡ take (byte_len w) bytes =
+      wide.back (take (byte_len w) bytes) len (IsBytes-take (byte_len w) bytes fits) in
+      let parts : bytes ≡ to_le_bytes w n ++ drop (byte_len w) bytes =
+      sym (take-append-drop (byte_len w) bytes) ∙ ap (λ (t : Text). t ++ drop (byte_len w) bytes) (sym front) in
       subst (λ (q : ℕ × Text). (q.0 < limit) × (bytes ≡ to_le_bytes w q.0 ++ q.1)) g.1 (below, parts)
 
   number_again : (n : ℕ) (rest : Text) → n < limit → number_at w (to_le_bytes w n ++ rest) ≡ Some (n, rest)
   unfolding number_at
   number_again n rest lt =
       let len = wide.len n in
-      let long : ltb (length (to_le_bytes w n ++ rest)) (byte_len w) ≡ false = le-ltb _ _ (omega (arith, length-append (to_le_bytes w n) rest)) in
-      rw (long, take_at (to_le_bytes w n) rest (byte_len w) len, drop_at (to_le_bytes w n) rest (byte_len w) len, wide.again n lt) refl
+      let long : ltb (length (to_le_bytes w n ++ rest)) (byte_len w) ≡ false =
+      le-ltb _ _ (omega (arith, length-append (to_le_bytes w n) rest)) in
+      rw (
+        long,
+        take_at (to_le_bytes w n) rest (byte_len w) len,
+        drop_at (to_le_bytes w n) rest
+            (byte_len w) len,
+        wide.again n lt,
+      ) refl
 
   pub number_codes : Codes (to_le_bytes w) (λ n. n < limit) (number_at w)
   number_codes = record { takes = number_takes; again = number_again }
@@ -127,7 +142,8 @@ module _ (count : ℕ → Text) (Fits : ℕ → Type 0) (at : Text → Read ℕ)
   abbrev text_at : Text → Read Text
   text_at bytes = option_and_then (λ n. bytes_at n.0 n.1) (at bytes)
 
-  text_takes : (bytes : Text) (p : Text × Text) → IsBytes bytes → text_at bytes ≡ Some p → Fits (length p.0) × (bytes ≡ (count (length p.0) ++ p.0) ++ p.1)
+  text_takes : (bytes : Text) (p : Text × Text) → IsBytes bytes → text_at bytes ≡ Some p
+      → Fits (length p.0) × (bytes ≡ (count (length p.0) ++ p.0) ++ p.1)
   unfolding bytes_at
   text_takes bytes p fits is =
       let a = bind_some (at bytes) (λ n. bytes_at n.0 n.1) p is in
@@ -138,30 +154,42 @@ module _ (count : ℕ → Text) (Fits : ℕ → Type 0) (at : Text → Read ℕ)
       let first = c.takes bytes a.0 fits a.1 in
       let len : n ≡ length (take n left) = omega (arith, length-take n left) in
       let parts : bytes ≡ (count n ++ take n left) ++ drop n left =
-      first.1 ∙ ap (λ (t : Text). count n ++ t) (sym (take-append-drop n left)) ∙ sym (append_assoc (count n) (take n left) (drop n left)) in
+      first.1 ∙ ap (λ (t : Text). count n ++ t) (sym (take-append-drop n left))
+      ∙ sym (append_assoc (count n) (take n left) (drop n left)) in
       let both : Fits (length (take n left)) × (bytes ≡ (count (length (take n left)) ++ take n left) ++ drop n left) =
       subst (λ (k : ℕ). Fits k × (bytes ≡ (count k ++ take n left) ++ drop n left)) len (first.0, parts) in
       subst (λ (q : Text × Text). Fits (length q.0) × (bytes ≡ (count (length q.0) ++ q.0) ++ q.1)) g.1 both
 
-  text_again : (text rest : Text) → Fits (length text) → text_at ((count (length text) ++ text) ++ rest) ≡ Some (text, rest)
+  text_again : (text rest : Text) → Fits (length text)
+      → text_at ((count (length text) ++ text) ++ rest) ≡ Some (text, rest)
   unfolding bytes_at
   text_again text rest fits =
-      let long : ltb (length (text ++ rest)) (length text) ≡ false = le-ltb _ _ (omega (arith, length-append text rest)) in
+      let long : ltb (length (text ++ rest)) (length text) ≡ false =
+      le-ltb _ _ (omega (arith, length-append text rest)) in
       ap text_at (append_assoc (count (length text)) text rest)
-      ∙ rw (c.again (length text) (text ++ rest) fits, long, take_at text rest (length text) refl, drop_at text rest (length text) refl) refl
+      ∙ rw (
+        c.again (length text) (text ++ rest) fits,
+        long,
+        take_at text rest (length text) refl,
+        drop_at text rest
+            (length text) refl,
+      ) refl
 
   pub text_codes : Codes (λ text. count (length text) ++ text) (λ text. Fits (length text)) text_at
   text_codes = record { takes = text_takes; again = text_again }
 
 -- A value that passes a test
 
-module _ {X : Type 0} {spell : X → Text} {Fits : X → Type 0} {at : Text → Read X} (c : Codes spell Fits at) (test : X → Bool) where
-  tested_takes : (bytes : Text) (p : X × Text) → IsBytes bytes → kept test (at bytes) ≡ Some p → (Fits p.0 × IsTrue (test p.0)) × (bytes ≡ spell p.0 ++ p.1)
+module _ {X : Type 0} {spell : X → Text} {Fits : X → Type 0} {at : Text → Read X} (c : Codes spell Fits at)
+    (test : X → Bool) where
+  tested_takes : (bytes : Text) (p : X × Text) → IsBytes bytes → kept test (at bytes) ≡ Some p
+      → (Fits p.0 × IsTrue (test p.0)) × (bytes ≡ spell p.0 ++ p.1)
   tested_takes bytes p fits is =
       let a = bind_some (at bytes) (λ x. cond (test x.0) (Some x) None) p is in
       let g = test_some (test a.0.0) a.0 p a.2 in
       let first = c.takes bytes a.0 fits a.1 in
-      subst (λ (q : X × Text). (Fits q.0 × IsTrue (test q.0)) × (bytes ≡ spell q.0 ++ q.1)) g.1 ((first.0, g.0), first.1)
+      subst (λ (q : X × Text). (Fits q.0 × IsTrue (test q.0)) × (bytes ≡ spell q.0 ++ q.1)) g.1
+      ((first.0, g.0), first.1)
 
   tested_again : (x : X) (rest : Text) → Fits x × IsTrue (test x) → kept test (at (spell x ++ rest)) ≡ Some (x, rest)
   tested_again x rest fits = rw (c.again x rest fits.0, fits.1) refl
@@ -171,13 +199,16 @@ module _ {X : Type 0} {spell : X → Text} {Fits : X → Type 0} {at : Text → 
 
 -- What is made of a value, there and back
 
-module _ {X Y : Type 0} {spell : X → Text} {Fits : X → Type 0} {at : Text → Read X} (c : Codes spell Fits at) (f : X → Y) (g : Y → X)
+module _ {X Y : Type 0} {spell : X → Text} {Fits : X → Type 0} {at : Text → Read X} (c : Codes spell Fits at)
+    (f : X → Y) (g : Y → X)
     (there : (y : Y) → f (g y) ≡ y) (back : (x : X) → g (f x) ≡ x) where
-  changed_takes : (bytes : Text) (p : Y × Text) → IsBytes bytes → made f (at bytes) ≡ Some p → Fits (g p.0) × (bytes ≡ spell (g p.0) ++ p.1)
+  changed_takes : (bytes : Text) (p : Y × Text) → IsBytes bytes → made f (at bytes) ≡ Some p
+      → Fits (g p.0) × (bytes ≡ spell (g p.0) ++ p.1)
   changed_takes bytes p fits is =
       let a = map_some (at bytes) (λ x. (f x.0, x.1)) p is in
       let first = c.takes bytes a.0 fits a.1 in
-      let moved : Fits (g (f a.0.0)) × (bytes ≡ spell (g (f a.0.0)) ++ a.0.1) = subst (λ (x : X). Fits x × (bytes ≡ spell x ++ a.0.1)) (sym (back a.0.0)) first in
+      let moved : Fits (g (f a.0.0)) × (bytes ≡ spell (g (f a.0.0)) ++ a.0.1) =
+      subst (λ (x : X). Fits x × (bytes ≡ spell x ++ a.0.1)) (sym (back a.0.0)) first in
       subst (λ (q : Y × Text). Fits (g q.0) × (bytes ≡ spell (g q.0) ++ q.1)) a.2 moved
 
   changed_again : (y : Y) (rest : Text) → Fits (g y) → made f (at (spell (g y) ++ rest)) ≡ Some (y, rest)
@@ -188,8 +219,10 @@ module _ {X Y : Type 0} {spell : X → Text} {Fits : X → Type 0} {at : Text �
 
 -- Two values, one behind the other
 
-module _ {X Y : Type 0} {s : X → Text} {F : X → Type 0} {a : Text → Read X} {t : Y → Text} {G : Y → Type 0} {b : Text → Read Y} (c : Codes s F a) (d : Codes t G b) where
-  both_takes : (bytes : Text) (p : (X × Y) × Text) → IsBytes bytes → before a b bytes ≡ Some p → (F p.0.0 × G p.0.1) × (bytes ≡ (s p.0.0 ++ t p.0.1) ++ p.1)
+module _ {X Y : Type 0} {s : X → Text} {F : X → Type 0} {a : Text → Read X} {t : Y → Text} {G : Y → Type 0} {b : Text
+    → Read Y} (c : Codes s F a) (d : Codes t G b) where
+  both_takes : (bytes : Text) (p : (X × Y) × Text) → IsBytes bytes → before a b bytes ≡ Some p
+      → (F p.0.0 × G p.0.1) × (bytes ≡ (s p.0.0 ++ t p.0.1) ++ p.1)
   both_takes bytes p fits is =
       let u = bind_some (a bytes) (λ x. option_and_then (λ y. Some ((x.0, y.0), y.1)) (b x.1)) p is in
       let x : X = u.0.0 in
@@ -199,13 +232,16 @@ module _ {X Y : Type 0} {s : X → Text} {F : X → Type 0} {a : Text → Read X
       let rest : Text = v.0.1 in
       let first = c.takes bytes u.0 fits u.1 in
       let second = d.takes left v.0 (IsBytes-behind bytes (s x) left fits first.1) v.1 in
-      let parts : bytes ≡ (s x ++ t y) ++ rest = first.1 ∙ ap (λ (z : Text). s x ++ z) second.1 ∙ sym (append_assoc (s x) (t y) rest) in
+      let parts : bytes ≡ (s x ++ t y) ++ rest =
+      first.1 ∙ ap (λ (z : Text). s x ++ z) second.1 ∙ sym (append_assoc (s x) (t y) rest) in
       let read : (X × Y) × Text = ((x, y), rest) in
-      subst (λ (q : (X × Y) × Text). (F q.0.0 × G q.0.1) × (bytes ≡ (s q.0.0 ++ t q.0.1) ++ q.1)) (same_Some read p v.2) ((first.0, second.0), parts)
+      subst (λ (q : (X × Y) × Text). (F q.0.0 × G q.0.1) × (bytes ≡ (s q.0.0 ++ t q.0.1) ++ q.1))
+      (same_Some read p v.2) ((first.0, second.0), parts)
 
   both_again : (p : X × Y) (rest : Text) → F p.0 × G p.1 → before a b ((s p.0 ++ t p.1) ++ rest) ≡ Some (p, rest)
   both_again p rest fits =
-      ap (before a b) (append_assoc (s p.0) (t p.1) rest) ∙ rw (c.again p.0 (t p.1 ++ rest) fits.0, d.again p.1 rest fits.1) refl
+      ap (before a b) (append_assoc (s p.0) (t p.1) rest)
+      ∙ rw (c.again p.0 (t p.1 ++ rest) fits.0, d.again p.1 rest fits.1) refl
 
   pub both : Codes (λ p. s p.0 ++ t p.1) (λ p. F p.0 × G p.1) (before a b)
   both = record { takes = both_takes; again = both_again }
@@ -218,7 +254,8 @@ module _ {X : Type 0} {spell : X → Text} {Fits : X → Type 0} {at : Text → 
   unfolding items_at
   items_take zero bytes p fits is =
       let read : List X × Text = ([], bytes) in
-      subst (λ (q : List X × Text). (length q.0 ≡ 0) × (AllByRecursion Fits q.0 × (bytes ≡ flat_map spell q.0 ++ q.1))) (same_Some read p is) (refl, (tt, refl))
+      subst (λ (q : List X × Text). (length q.0 ≡ 0)
+      × (AllByRecursion Fits q.0 × (bytes ≡ flat_map spell q.0 ++ q.1))) (same_Some read p is) (refl, (tt, refl))
   items_take (suc n) bytes p fits is =
       let u = bind_some (at bytes) (λ x. option_and_then (λ xs. Some (x.0 ∷ xs.0, xs.1)) (items_at at n x.1)) p is in
       let x : X = u.0.0 in
@@ -227,12 +264,15 @@ module _ {X : Type 0} {spell : X → Text} {Fits : X → Type 0} {at : Text → 
       let first = c.takes bytes u.0 fits u.1 in
       let others = items_take n left v.0 (IsBytes-behind bytes (spell x) left fits first.1) v.1 in
       let parts : bytes ≡ flat_map spell (x ∷ v.0.0) ++ v.0.1 =
-      first.1 ∙ ap (λ (z : Text). spell x ++ z) others.1.1 ∙ sym (append_assoc (spell x) (flat_map spell v.0.0) v.0.1) in
+      first.1 ∙ ap (λ (z : Text). spell x ++ z) others.1.1
+      ∙ sym (append_assoc (spell x) (flat_map spell v.0.0) v.0.1) in
       let read : List X × Text = (x ∷ v.0.0, v.0.1) in
-      subst (λ (q : List X × Text). (length q.0 ≡ suc n) × (AllByRecursion Fits q.0 × (bytes ≡ flat_map spell q.0 ++ q.1))) (same_Some read p v.2)
+      subst (λ (q : List X × Text). (length q.0 ≡ suc n)
+      × (AllByRecursion Fits q.0 × (bytes ≡ flat_map spell q.0 ++ q.1))) (same_Some read p v.2)
       (ap suc others.0, ((first.0, others.1.0), parts))
 
-  items_again : (xs : List X) (rest : Text) → AllByRecursion Fits xs → items_at at (length xs) (flat_map spell xs ++ rest) ≡ Some (xs, rest)
+  items_again : (xs : List X) (rest : Text) → AllByRecursion Fits xs
+      → items_at at (length xs) (flat_map spell xs ++ rest) ≡ Some (xs, rest)
   unfolding items_at
   items_again [] rest fits = refl
   items_again (x ∷ xs) rest fits =
@@ -252,7 +292,8 @@ module _ {X : Type 0} {spell : X → Text} {Fits : X → Type 0} {at : Text → 
     count_codes : Codes (to_le_bytes w32) Counts (λ bytes. kept test (number_at w32 bytes))
     count_codes = tested (number_codes w32 (2 ^ 32) wide32) test
 
-    listed_takes : (bytes : Text) (p : List X × Text) → IsBytes bytes → counted_at test at bytes ≡ Some p → IsListed p.0 × (bytes ≡ spelled p.0 ++ p.1)
+    listed_takes : (bytes : Text) (p : List X × Text) → IsBytes bytes → counted_at test at bytes ≡ Some p
+        → IsListed p.0 × (bytes ≡ spelled p.0 ++ p.1)
     unfolding counted_at
     listed_takes bytes p fits is =
         let u = bind_some (kept test (number_at w32 bytes)) (λ n. items_at at n.0 n.1) p is in
@@ -261,8 +302,10 @@ module _ {X : Type 0} {spell : X → Text} {Fits : X → Type 0} {at : Text → 
         let first = count_codes.takes bytes u.0 fits u.1 in
         let others = items_take n left p (IsBytes-behind bytes (to_le_bytes w32 n) left fits first.1) u.2 in
         let parts : bytes ≡ (to_le_bytes w32 n ++ flat_map spell p.0) ++ p.1 =
-        first.1 ∙ ap (λ (z : Text). to_le_bytes w32 n ++ z) others.1.1 ∙ sym (append_assoc (to_le_bytes w32 n) (flat_map spell p.0) p.1) in
-        subst (λ (k : ℕ). (Counts k × AllByRecursion Fits p.0) × (bytes ≡ (to_le_bytes w32 k ++ flat_map spell p.0) ++ p.1)) (sym others.0)
+        first.1 ∙ ap (λ (z : Text). to_le_bytes w32 n ++ z) others.1.1
+        ∙ sym (append_assoc (to_le_bytes w32 n) (flat_map spell p.0) p.1) in
+        subst (λ (k : ℕ). (Counts k × AllByRecursion Fits p.0)
+        × (bytes ≡ (to_le_bytes w32 k ++ flat_map spell p.0) ++ p.1)) (sym others.0)
         ((first.0, others.1.0), parts)
 
     listed_again : (xs : List X) (rest : Text) → IsListed xs → counted_at test at (spelled xs ++ rest) ≡ Some (xs, rest)
@@ -276,9 +319,11 @@ module _ {X : Type 0} {spell : X → Text} {Fits : X → Type 0} {at : Text → 
 
 -- Another spelling that is the same, and another condition that says the same
 
-module _ {X : Type 0} {spell : X → Text} {Fits : X → Type 0} {at : Text → Read X} (c : Codes spell Fits at) (other : X → Text) (Holds : X → Type 0)
+module _ {X : Type 0} {spell : X → Text} {Fits : X → Type 0} {at : Text → Read X} (c : Codes spell Fits at)
+    (other : X → Text) (Holds : X → Type 0)
     (same : (x : X) → spell x ≡ other x) (from : (x : X) → Fits x → Holds x) (to : (x : X) → Holds x → Fits x) where
-  like_takes : (bytes : Text) (p : X × Text) → IsBytes bytes → at bytes ≡ Some p → Holds p.0 × (bytes ≡ other p.0 ++ p.1)
+  like_takes : (bytes : Text) (p : X × Text) → IsBytes bytes → at bytes ≡ Some p
+      → Holds p.0 × (bytes ≡ other p.0 ++ p.1)
   like_takes bytes p fits is =
       let first = c.takes bytes p fits is in
       (from p.0 first.0, first.1 ∙ ap (λ (t : Text). t ++ p.1) (same p.0))

@@ -25,17 +25,20 @@ pub record AreSeen (seen : Seen) (texts : List Text) : Type 0 where
   pub seen_are : (text : Text) → is_seen seen text ≡ contains_text texts text
   pub differing : differ texts ≡ true
 
-contains_push : (texts : List Text) (t other : Text) → contains_text (texts ++ t ∷ []) other ≡ (bytes_eq other t || contains_text texts other)
+contains_push : (texts : List Text) (t other : Text)
+    → contains_text (texts ++ t ∷ []) other ≡ (bytes_eq other t || contains_text texts other)
 contains_push [] t other = refl
 contains_push (first ∷ texts) t other = step (bytes_eq other first) (bytes_eq other t) (contains_push texts t other)
   where
-    step : (a b : Bool) → contains_text (texts ++ t ∷ []) other ≡ (b || contains_text texts other) → (a || contains_text (texts ++ t ∷ []) other) ≡ (b || (a || contains_text texts other))
+    step : (a b : Bool) → contains_text (texts ++ t ∷ []) other ≡ (b || contains_text texts other)
+        → (a || contains_text (texts ++ t ∷ []) other) ≡ (b || (a || contains_text texts other))
     step true true is = refl
     step true false is = refl
     step false b is = is
 
 -- one more text that isn't there
-differ_push : (texts : List Text) (t : Text) → differ texts ≡ true → contains_text texts t ≡ false → differ (texts ++ t ∷ []) ≡ true
+differ_push : (texts : List Text) (t : Text) → differ texts ≡ true → contains_text texts t ≡ false
+    → differ (texts ++ t ∷ []) ≡ true
 differ_push [] t apart absent = refl
 differ_push (first ∷ texts) t apart absent =
     let a = and_parts (not (contains_text texts first)) (differ texts) apart in
@@ -52,12 +55,17 @@ differ_again (first ∷ texts) more t there = step (bytes_eq t first) refl there
   where
     found : (others : List Text) → bytes_eq t first ≡ true → contains_text (others ++ t ∷ more) first ≡ true
     found [] same = ap (λ (s : Bool). s || contains_text more first) (nat_list_eq_equiv.symm first t ∙ same)
-    found (other ∷ others) same = or_right (bytes_eq first other) (contains_text (others ++ t ∷ more) first) (found others same)
+    found (other ∷ others) same =
+        or_right (bytes_eq first other) (contains_text (others ++ t ∷ more) first) (found others same)
 
-    step : (s : Bool) → bytes_eq t first ≡ s → (s || contains_text texts t) ≡ true → (contains_text texts t ≡ true → differ (texts ++ t ∷ more) ≡ false)
+    step : (s : Bool) → bytes_eq t first ≡ s → (s || contains_text texts t) ≡ true
+        → (contains_text texts t ≡ true → differ (texts ++ t ∷ more) ≡ false)
         → differ (first ∷ (texts ++ t ∷ more)) ≡ false
-    step true same is later = and_left (not (contains_text (texts ++ t ∷ more) first)) (differ (texts ++ t ∷ more)) (ap not (found texts same))
-    step false same is later = and_right (not (contains_text (texts ++ t ∷ more) first)) (differ (texts ++ t ∷ more)) (later is)
+    step true same is later =
+        and_left (not (contains_text (texts ++ t ∷ more) first)) (differ (texts ++ t ∷ more))
+        (ap not (found texts same))
+    step false same is later =
+        and_right (not (contains_text (texts ++ t ∷ more) first)) (differ (texts ++ t ∷ more)) (later is)
 
 -- the text at a place, as a loop over lent texts has it
 abbrev pub text_at : List (Bor (List ℕ)) → ℕ → Bor (List ℕ)
@@ -68,7 +76,8 @@ module _ (seen : Seen) (texts : List (Bor (List ℕ))) (i : ℕ) where
   text = text_at texts i
 
   pub seen_next : (more : Seen) → i < length texts → AreSeen seen (shown (take i texts))
-      → ((other : Text) → get_by (λ key. bytes_eq other key.now) more ≡ cond (bytes_eq text.now other) (Some tt) (get_by (λ key. bytes_eq other key.now) seen))
+      → ((other : Text) → get_by (λ key. bytes_eq other key.now) more ≡ cond (bytes_eq text.now other) (Some tt)
+      (get_by (λ key. bytes_eq other key.now) seen))
       → is_seen seen text.now ≡ false → AreSeen more (shown (take (i + 1) texts))
   seen_next more within w changes absent =
       let before : List Text = shown (take i texts) in
@@ -76,26 +85,33 @@ module _ (seen : Seen) (texts : List (Bor (List ℕ))) (i : ℕ) where
       map_more (λ (t : Bor (List ℕ)). t.now) texts i (record { ref_ptr = (0, 0); now = [] }) within in
       rw now record {
         seen_are = λ other.
-            ap is_some (changes other) ∙ step other (bytes_eq text.now other) (get_by (λ key. bytes_eq other key.now) seen) (w.seen_are other)
-            ∙ ap (λ (s : Bool). s || contains_text before other) (nat_list_eq_equiv.symm text.now other) ∙ sym (contains_push before text.now other);
+            ap is_some (changes other) ∙ step other (bytes_eq text.now other)
+            (get_by (λ key. bytes_eq other key.now) seen) (w.seen_are other)
+            ∙ ap (λ (s : Bool). s || contains_text before other) (nat_list_eq_equiv.symm text.now other)
+            ∙ sym (contains_push before text.now other);
         differing = differ_push before text.now w.differing (sym (w.seen_are text.now) ∙ absent);
       }
     where
-      step : (other : Text) (same : Bool) (o : Option (Unit {0})) → is_some o ≡ contains_text (shown (take i texts)) other
+      step : (other : Text) (same : Bool) (o : Option (Unit {0}))
+          → is_some o ≡ contains_text (shown (take i texts)) other
           → is_some (cond same (Some tt) o) ≡ (same || contains_text (shown (take i texts)) other)
       step other true o is = refl
       step other false o is = is
 
-  pub seen_twice : i < length texts → AreSeen seen (shown (take i texts)) → is_seen seen text.now ≡ true → differ (shown texts) ≡ false
+  pub seen_twice : i < length texts → AreSeen seen (shown (take i texts)) → is_seen seen text.now ≡ true
+      → differ (shown texts) ≡ false
   seen_twice within w there =
-      let behind : drop i texts ≡ text ∷ drop (i + 1) texts = drop_more texts i (record { ref_ptr = (0, 0); now = [] }) within in
+      let behind : drop i texts ≡ text ∷ drop (i + 1) texts =
+      drop_more texts i (record { ref_ptr = (0, 0); now = [] }) within in
       let parts : shown texts ≡ shown (take i texts) ++ text.now ∷ shown (drop (i + 1) texts) =
       ap shown (sym (take-append-drop i texts)) ∙ map-append (λ (t : Bor (List ℕ)). t.now) (take i texts) (drop i texts)
       ∙ ap (λ (rest : List (Bor (List ℕ))). shown (take i texts) ++ shown rest) behind in
-      ap differ parts ∙ differ_again (shown (take i texts)) (shown (drop (i + 1) texts)) text.now (sym (w.seen_are text.now) ∙ there)
+      ap differ parts ∙ differ_again (shown (take i texts)) (shown (drop (i + 1) texts)) text.now
+      (sym (w.seen_are text.now) ∙ there)
 
 pub seen_none : (seen : Seen) → ((text : Text) → get_by (λ key. bytes_eq text key.now) seen ≡ None) → AreSeen seen []
 seen_none seen empty = record { seen_are = λ text. ap is_some (empty text); differing = refl }
 
-pub seen_all : (seen : Seen) (texts : List (Bor (List ℕ))) (i : ℕ) → length texts ≤ i → AreSeen seen (shown (take i texts)) → differ (shown texts) ≡ true
+pub seen_all : (seen : Seen) (texts : List (Bor (List ℕ))) (i : ℕ) → length texts ≤ i
+    → AreSeen seen (shown (take i texts)) → differ (shown texts) ≡ true
 seen_all seen texts i all w = rw (← take_all i texts all) w.differing

@@ -6,4 +6,5 @@ use Rattle.rulebook.specs.Words.{Text}
 
 -- no entry has two spellings, and no two entries share one
 abbrev pub OneSpelling : Type 0
-OneSpelling = (bytes other : Text) (core more : EntryCore) → IsSpelling bytes core → IsSpelling other more → (bytes ≡ other) ↔ (core ≡ more)
+OneSpelling = (bytes other : Text) (core more : EntryCore) → IsSpelling bytes core → IsSpelling other more
+    → (bytes ≡ other) ↔ (core ≡ more)

@@ -28,7 +28,8 @@ kept test read = option_and_then (λ x. if test x.0 then Some x else None) read
 
 -- a value and one behind it
 abbrev pub before : {X Y : Type 0} → (Text → Read X) → (Text → Read Y) → Text → Read (X × Y)
-before first second bytes = option_and_then (λ x. option_and_then (λ y. Some ((x.0, y.0), y.1)) (second x.1)) (first bytes)
+before first second bytes =
+    option_and_then (λ x. option_and_then (λ y. Some ((x.0, y.0), y.1)) (second x.1)) (first bytes)
 
 -- what is made of a value
 abbrev pub made : {X Y : Type 0} → (X → Y) → Read X → Read Y
@@ -37,7 +38,8 @@ made f read = option_map (λ x. (f x.0, x.1)) read
 -- so many items
 unfoldable pub items_at : {X : Type 0} → (Text → Read X) → ℕ → Text → Read (List X)
 items_at item zero bytes = Some ([], bytes)
-items_at item (suc n) bytes = option_and_then (λ x. option_and_then (λ xs. Some (x.0 ∷ xs.0, xs.1)) (items_at item n x.1)) (item bytes)
+items_at item (suc n) bytes =
+    option_and_then (λ x. option_and_then (λ xs. Some (x.0 ∷ xs.0, xs.1)) (items_at item n x.1)) (item bytes)
 
 -- a value that is all of the bytes
 abbrev pub whole : {X : Type 0} → Read X → Option X
@@ -53,7 +55,8 @@ unfoldable pub bytes_at : ℕ → Text → Read Text
 bytes_at n bytes = if nat_lt (length bytes) n then None else Some (take n bytes, drop n bytes)
 
 unfoldable pub number_at : Width → Text → Read ℕ
-number_at w bytes = if nat_lt (length bytes) (byte_len w) then None else Some (from_le_bytes w (take (byte_len w) bytes), drop (byte_len w) bytes)
+number_at w bytes = if nat_lt (length bytes) (byte_len w) then None else Some
+    (from_le_bytes w (take (byte_len w) bytes), drop (byte_len w) bytes)
 
 unfoldable pub short_at : Text → Read Text
 short_at bytes = option_and_then (λ n. bytes_at n.0 n.1) (byte_at bytes)
@@ -77,7 +80,8 @@ counted_at test item bytes = option_and_then (λ n. items_at item n.0 n.1) (kept
 -- The head of an entry
 
 unfoldable pub role_of : ℕ → Option Role
-role_of b = if b == ORGANISER then Some Organiser else (if b == GROUP then Some Group else (if b == ASSESSOR then Some Assessor else None))
+role_of b = if b == ORGANISER then Some Organiser else
+    (if b == GROUP then Some Group else (if b == ASSESSOR then Some Assessor else None))
 
 unfoldable pub role_at : Text → Read Role
 role_at bytes = option_and_then (λ b. option_map (λ role. (role, b.1)) (role_of b.0)) (byte_at bytes)
@@ -93,7 +97,8 @@ is_below_bound n = nat_lt n NUMBER_BOUND
 
 abbrev pub numbered_of : ℕ → Text → Read (Option ℕ)
 numbered_of b rest =
-    if b == UNNUMBERED then Some (None, rest) else (if b == NUMBERED then made Some (kept is_below_bound (number_at w64 rest)) else None)
+    if b == UNNUMBERED then Some (None, rest) else
+    (if b == NUMBERED then made Some (kept is_below_bound (number_at w64 rest)) else None)
 
 -- the number of a request, if it has one
 unfoldable pub request_at : Text → Read (Option ℕ)
@@ -118,7 +123,8 @@ rules_of p = record { depth = p.0; term = p.1.0; hold = p.1.1.0; level = p.1.1.1
 
 -- the rules as they stand, whatever their numbers
 unfoldable pub settings_at : Text → Read Rules
-settings_at bytes = made rules_of (before (number_at w16) (before (number_at w64) (before byte_at (before byte_at (before byte_at doubles_at)))) bytes)
+settings_at bytes = made rules_of (before (number_at w16)
+    (before (number_at w64) (before byte_at (before byte_at (before byte_at doubles_at)))) bytes)
 
 -- the numbers are in their ranges
 abbrev pub are_in_range : Rules → Bool
@@ -133,7 +139,8 @@ abbrev pub topic_of : Text × (Text × (Text × Text)) → Topic
 topic_of p = record { id = p.0; title = p.1.0; desc = p.1.1.0; narr = p.1.1.1 }
 
 unfoldable pub topic_at : Text → Read Topic
-topic_at bytes = made topic_of (before name_at (before (printable_at MOST_TITLE) (before (printable_at MOST_DESC) (printable_at MOST_NARR))) bytes)
+topic_at bytes = made topic_of (before name_at
+    (before (printable_at MOST_TITLE) (before (printable_at MOST_DESC) (printable_at MOST_NARR))) bytes)
 
 abbrev pub any_count : ℕ → Bool
 any_count n = true

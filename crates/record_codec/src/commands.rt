@@ -7,7 +7,8 @@ ghost use Rattle.record_codec.specs.Readings.{amend_of, are_in_range, command_at
 use crate::faults::CodecFault;
 use crate::fields::{docno, name};
 use crate::layout::{
-    AMEND, FOUND, GRADE, LEASE, OPEN, PUBLISH, RELEASE, RULE, SUBMIT, TOPICS, WITHDRAW,
+    AMEND, FOUND, GRADE, LEASE, MOST_DEPTH, MOST_HOLD, MOST_TERM, OPEN, PUBLISH, RELEASE, RULE,
+    SUBMIT, TOPICS, WITHDRAW,
 };
 use crate::lists::{campaign_topics, doubles, run_lists};
 use crate::unread::Unread;
@@ -41,11 +42,11 @@ fn are_in_range(rules: &Rules) -> bool
     ensures { result ≡ are_in_range rules.now }
 {
     1 <= rules.depth
-        && rules.depth <= 1000
+        && rules.depth <= MOST_DEPTH
         && 1 <= rules.term
-        && rules.term <= 1 << 40
+        && rules.term <= MOST_TERM
         && 1 <= rules.hold
-        && rules.hold <= 50
+        && rules.hold <= MOST_HOLD
         && 1 <= rules.top_grade
         && 1 <= rules.level
         && rules.level <= rules.top_grade

@@ -7,7 +7,9 @@ ghost use Rattle.record_codec.specs.Outcomes.{Gives, GivesBy};
 ghost use Rattle.record_codec.specs.Readings.{caller_at, docno_at, long_at, moment_at, name_at, printable_at, request_at, role_at, short_at};
 
 use crate::faults::CodecFault;
-use crate::layout::{ASSESSOR, GROUP, NUMBER_BOUND, NUMBERED, ORGANISER, UNNUMBERED};
+use crate::layout::{
+    ASSESSOR, FIRST_PRINTABLE, GROUP, LAST_PRINTABLE, NUMBER_BOUND, NUMBERED, ORGANISER, UNNUMBERED,
+};
 use crate::unread::Unread;
 use decimal_rank::Text;
 use rulebook::{Caller, MAX_MOMENT, Role};
@@ -58,7 +60,8 @@ pub(crate) fn docno(alloc: Global, left: &mut Unread) -> Result<Text, CodecFault
 fn are_printable(text: &[u8]) -> bool
     ensures { result ≡ list_all (is_between 32 126) text.now }
 {
-    text.iter().all(|byte| 32 <= *byte && *byte <= 126)
+    text.iter()
+        .all(|byte| FIRST_PRINTABLE <= *byte && *byte <= LAST_PRINTABLE)
 }
 
 fn is_printable(most: usize, text: &[u8]) -> bool

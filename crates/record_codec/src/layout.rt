@@ -39,6 +39,18 @@ pub(crate) const NUMBERED: u8 = 1;
 /// Numbers of requests are below this.
 pub(crate) const NUMBER_BOUND: u64 = 1 << 63;
 
+/// Printable ASCII, the space included.
+pub(crate) const FIRST_PRINTABLE: u8 = 0x20;
+
+pub(crate) const LAST_PRINTABLE: u8 = 0x7E;
+
+/// The greatest numbers of rules.
+pub(crate) const MOST_DEPTH: u16 = 1000;
+
+pub(crate) const MOST_TERM: u64 = 1 << 40;
+
+pub(crate) const MOST_HOLD: u8 = 50;
+
 /// The most bytes of a topic's texts.
 pub(crate) const MOST_TITLE: usize = 1000;
 

@@ -203,6 +203,7 @@ pub fn write_entry(core: &EntryCore, out: &mut Vec<u8>) -> Result<(), Memory>
     ensures text_added { OnOk result (out.new.items ≡ out.old.items ++ entry_bytes core.now) }
     ensures unchanged { OnErr result (out.new.items ≡ out.old.items) }
 {
+    // spelled apart first, so that nothing is appended where memory runs out
     let mut bytes = Vec::new(*out.allocator());
     put_entry(core, &mut bytes)?;
     append(out, bytes.as_slice())
