@@ -1,0 +1,138 @@
+//! Commands, by their kinds.
+ghost use Rattle.std.specs.Prelude.{◌≡◌, ◌&&◌, ◌^◌};
+ghost use Rattle.std.specs.Int.{w32};
+ghost use Rattle.record_codec.specs.Outcomes.{Gives, GivesBy};
+ghost use Rattle.record_codec.specs.Readings.{amend_of, are_in_range, command_at, grade_of, graded_doc_at, graded_lease_at, made, name_at, number_at, rule_of, rules_at, run_at, settings_at, submit_of, topics_at};
+
+use crate::faults::CodecFault;
+use crate::fields::{docno, name};
+use crate::layout::{
+    AMEND, FOUND, GRADE, LEASE, MOST_DEPTH, MOST_HOLD, MOST_TERM, OPEN, PUBLISH, RELEASE, RULE,
+    SUBMIT, TOPICS, WITHDRAW,
+};
+use crate::lists::{campaign_topics, doubles, run_lists};
+use crate::unread::Unread;
+use decimal_rank::Text;
+use rulebook::{Command, Rules};
+use std::alloc::Global;
+
+/// The rules as they stand, whatever their numbers.
+#[tactic(auto, unfolding(crate::specs::Readings::settings_at))]
+fn settings(alloc: Global, left: &mut Unread) -> Result<Rules, CodecFault>
+    ensures { Gives result left.new.bytes.now (settings_at left.old.bytes.now) }
+{
+    let depth = left.number16()?;
+    let term = left.number64()?;
+    let hold = left.byte()?;
+    let level = left.byte()?;
+    let top_grade = left.byte()?;
+    let doubles = doubles(alloc, left)?;
+    Ok(Rules {
+        depth,
+        term,
+        hold,
+        level,
+        top_grade,
+        doubles,
+    })
+}
+
+/// Whether the numbers of rules are in their ranges.
+fn are_in_range(rules: &Rules) -> bool
+    ensures { result ≡ are_in_range rules.now }
+{
+    1 <= rules.depth
+        && rules.depth <= MOST_DEPTH
+        && 1 <= rules.term
+        && rules.term <= MOST_TERM
+        && 1 <= rules.hold
+        && rules.hold <= MOST_HOLD
+        && 1 <= rules.top_grade
+        && 1 <= rules.level
+        && rules.level <= rules.top_grade
+}
+
+#[tactic(auto, unfolding(crate::specs::Readings::rules_at))]
+fn found(alloc: Global, left: &mut Unread) -> Result<Rules, CodecFault>
+    ensures { Gives result left.new.bytes.now (rules_at left.old.bytes.now) }
+{
+    let rules = settings(alloc, left)?;
+    if !are_in_range(&rules) {
+        return Err(CodecFault::NoEntry);
+    }
+    Ok(rules)
+}
+
+#[tactic(auto, unfolding(crate::specs::Readings::run_at))]
+fn submit(alloc: Global, left: &mut Unread) -> Result<Command, CodecFault>
+    ensures { Gives result left.new.bytes.now (made submit_of (run_at left.old.bytes.now)) }
+{
+    let run = name(alloc, left)?;
+    let lists = run_lists(alloc, left)?;
+    Ok(Command::Submit { run, lists })
+}
+
+#[tactic(auto, unfolding(crate::specs::Readings::graded_lease_at))]
+fn grade(left: &mut Unread) -> Result<Command, CodecFault>
+    ensures { Gives result left.new.bytes.now (made grade_of (graded_lease_at left.old.bytes.now)) }
+{
+    let lease = left.number32()?;
+    let grade = left.byte()?;
+    Ok(Command::Grade { lease, grade })
+}
+
+/// A topic, a document and its grade.
+#[tactic(auto, unfolding(crate::specs::Readings::graded_doc_at))]
+fn graded_doc(alloc: Global, left: &mut Unread) -> Result<(Text, Text, u8), CodecFault>
+    ensures { GivesBy (λ graded. (graded.0, (graded.1, graded.2))) result left.new.bytes.now (graded_doc_at left.old.bytes.now) }
+{
+    let topic = name(alloc, left)?;
+    let doc = docno(alloc, left)?;
+    let grade = left.byte()?;
+    Ok((topic, doc, grade))
+}
+
+fn amend(alloc: Global, left: &mut Unread) -> Result<Command, CodecFault>
+    ensures { Gives result left.new.bytes.now (made amend_of (graded_doc_at left.old.bytes.now)) }
+{
+    let (topic, doc, grade) = graded_doc(alloc, left)?;
+    Ok(Command::Amend { topic, doc, grade })
+}
+
+fn rule(alloc: Global, left: &mut Unread) -> Result<Command, CodecFault>
+    ensures { Gives result left.new.bytes.now (made rule_of (graded_doc_at left.old.bytes.now)) }
+{
+    let (topic, doc, grade) = graded_doc(alloc, left)?;
+    Ok(Command::Rule { topic, doc, grade })
+}
+
+/// The kind of a command, and its fields.
+#[tactic(auto, unfolding(crate::specs::Readings::command_at, crate::specs::Readings::command_of))]
+pub(crate) fn command(alloc: Global, left: &mut Unread) -> Result<Command, CodecFault>
+    ensures { Gives result left.new.bytes.now (command_at left.old.bytes.now) }
+{
+    match left.byte()? {
+        FOUND => Ok(Command::Found {
+            rules: found(alloc, left)?,
+        }),
+        TOPICS => Ok(Command::Topics {
+            topics: campaign_topics(alloc, left)?,
+        }),
+        SUBMIT => submit(alloc, left),
+        OPEN => Ok(Command::Open),
+        LEASE => Ok(Command::Lease {
+            topic: name(alloc, left)?,
+        }),
+        GRADE => grade(left),
+        RELEASE => Ok(Command::Release {
+            lease: left.number32()?,
+        }),
+        AMEND => amend(alloc, left),
+        RULE => rule(alloc, left),
+        WITHDRAW => Ok(Command::Withdraw {
+            run: name(alloc, left)?,
+        }),
+        PUBLISH => Ok(Command::Publish),
+        _ => Err(CodecFault::NoEntry),
+    }
+}

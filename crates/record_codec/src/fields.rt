@@ -1,0 +1,133 @@
+//! The fields of an entry: texts, the caller, the number and the moment.
+ghost use Rattle.std.specs.Prelude.{◌≡◌};
+ghost use Rattle.std.specs.List.{list_all};
+ghost use Rattle.rulebook.specs.Spelling.{is_printable};
+ghost use Rattle.trec_formats.specs.Names.{is_between};
+ghost use Rattle.record_codec.specs.Outcomes.{Gives, GivesBy};
+ghost use Rattle.record_codec.specs.Readings.{caller_at, docno_at, long_at, moment_at, name_at, printable_at, request_at, role_at, short_at};
+
+use crate::faults::CodecFault;
+use crate::layout::{
+    ASSESSOR, FIRST_PRINTABLE, GROUP, LAST_PRINTABLE, NUMBER_BOUND, NUMBERED, ORGANISER, UNNUMBERED,
+};
+use crate::unread::Unread;
+use decimal_rank::Text;
+use rulebook::{Caller, MAX_MOMENT, Role};
+use std::alloc::Global;
+use trec_formats::{is_docno, is_name};
+
+/// A byte for the length of a text, and the text.
+#[tactic(auto, unfolding(crate::specs::Readings::short_at))]
+fn short<'a>(left: &mut Unread<'a>) -> Result<&'a [u8], CodecFault>
+    ensures { GivesBy (λ text. text.now) result left.new.bytes.now (short_at left.old.bytes.now) }
+{
+    let len = left.byte()?;
+    left.run(len as usize)
+}
+
+/// Two bytes for the length of a text, and the text.
+#[tactic(auto, unfolding(crate::specs::Readings::long_at))]
+fn long<'a>(left: &mut Unread<'a>) -> Result<&'a [u8], CodecFault>
+    ensures { GivesBy (λ text. text.now) result left.new.bytes.now (long_at left.old.bytes.now) }
+{
+    let len = left.number16()?;
+    left.run(len as usize)
+}
+
+#[tactic(auto, unfolding(crate::specs::Readings::name_at))]
+pub(crate) fn name(alloc: Global, left: &mut Unread) -> Result<Text, CodecFault>
+    ensures { Gives result left.new.bytes.now (name_at left.old.bytes.now) }
+{
+    let text = short(left)?;
+    if !is_name(text) {
+        return Err(CodecFault::NoEntry);
+    }
+    Ok(Text::from_slice(alloc, text)?)
+}
+
+#[tactic(auto, unfolding(crate::specs::Readings::docno_at))]
+pub(crate) fn docno(alloc: Global, left: &mut Unread) -> Result<Text, CodecFault>
+    ensures { Gives result left.new.bytes.now (docno_at left.old.bytes.now) }
+{
+    let text = short(left)?;
+    if !is_docno(text) {
+        return Err(CodecFault::NoEntry);
+    }
+    Ok(Text::from_slice(alloc, text)?)
+}
+
+/// Whether each byte is printable ASCII, the space included.
+fn are_printable(text: &[u8]) -> bool
+    ensures { result ≡ list_all (is_between 32 126) text.now }
+{
+    text.iter()
+        .all(|byte| FIRST_PRINTABLE <= *byte && *byte <= LAST_PRINTABLE)
+}
+
+fn is_printable(most: usize, text: &[u8]) -> bool
+    ensures { result ≡ is_printable most text.now }
+{
+    text.len() <= most && are_printable(text)
+}
+
+/// A long text of so many bytes of printable ASCII at most.
+#[tactic(auto, unfolding(crate::specs::Readings::printable_at))]
+pub(crate) fn printable(alloc: Global, left: &mut Unread, most: usize) -> Result<Text, CodecFault>
+    ensures { Gives result left.new.bytes.now (printable_at most left.old.bytes.now) }
+{
+    let text = long(left)?;
+    if !is_printable(most, text) {
+        return Err(CodecFault::NoEntry);
+    }
+    Ok(Text::from_slice(alloc, text)?)
+}
+
+#[tactic(auto, unfolding(crate::specs::Readings::role_at, crate::specs::Readings::role_of))]
+fn role(left: &mut Unread) -> Result<Role, CodecFault>
+    ensures { Gives result left.new.bytes.now (role_at left.old.bytes.now) }
+{
+    match left.byte()? {
+        ORGANISER => Ok(Role::Organiser),
+        GROUP => Ok(Role::Group),
+        ASSESSOR => Ok(Role::Assessor),
+        _ => Err(CodecFault::NoEntry),
+    }
+}
+
+#[tactic(auto, unfolding(crate::specs::Readings::caller_at))]
+pub(crate) fn caller(alloc: Global, left: &mut Unread) -> Result<Caller, CodecFault>
+    ensures { Gives result left.new.bytes.now (caller_at left.old.bytes.now) }
+{
+    let name = name(alloc, left)?;
+    let role = role(left)?;
+    Ok(Caller { name, role })
+}
+
+/// The number that a request may have.
+#[tactic(auto, unfolding(crate::specs::Readings::request_at))]
+pub(crate) fn request(left: &mut Unread) -> Result<Option<u64>, CodecFault>
+    ensures { Gives result left.new.bytes.now (request_at left.old.bytes.now) }
+{
+    match left.byte()? {
+        UNNUMBERED => Ok(None),
+        NUMBERED => {
+            let number = left.number64()?;
+            if number >= NUMBER_BOUND {
+                return Err(CodecFault::NoEntry);
+            }
+            Ok(Some(number))
+        }
+        _ => Err(CodecFault::NoEntry),
+    }
+}
+
+#[tactic(auto, unfolding(crate::specs::Readings::moment_at))]
+pub(crate) fn moment(left: &mut Unread) -> Result<u64, CodecFault>
+    ensures { Gives result left.new.bytes.now (moment_at left.old.bytes.now) }
+{
+    let moment = left.number64()?;
+    if moment > MAX_MOMENT {
+        return Err(CodecFault::NoEntry);
+    }
+    Ok(moment)
+}

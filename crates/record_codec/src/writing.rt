@@ -1,0 +1,210 @@
+//! Entries to bytes.
+ghost use Rattle.std.specs.Prelude.{◌≡◌, ◌++◌, ◌∷◌, ◌≤◌, ◌<◌, ◌^◌, IsTrue, OnOk, OnErr, [], length, true};
+ghost use Rattle.std.specs.List.{All, list_all};
+ghost use Rattle.std.specs.Int.{to_le_bytes, w16, w32, w64};
+ghost use Rattle.rulebook.specs.Spelling.{command_bytes, entry_bytes, has_spelling, is_plain, is_plain_list, is_plain_topic, are_rules, list_bytes, listed, long, number_bytes, role_byte, rules_bytes, short, topic_bytes};
+ghost use Rattle.trec_formats.specs.Names.{is_docno, is_name};
+
+use crate::layout::{
+    AMEND, ASSESSOR, FOUND, GRADE, GROUP, LEASE, NUMBERED, OPEN, ORGANISER, PUBLISH, RELEASE, RULE,
+    SUBMIT, TOPICS, UNNUMBERED, WITHDRAW,
+};
+use decimal_rank::{Memory, Rows, Text, append};
+use rulebook::{Caller, Command, EntryCore, Role, Rules};
+use trec_formats::{Topic, TopicList};
+
+/// A byte for the length of a text, and the text.
+fn put_short(text: &Text, out: &mut Vec<u8>) -> Result<(), Memory>
+    requires { length text.now < 256 }
+    ensures { OnOk result (out.new.items ≡ out.old.items ++ short text.now) }
+{
+    out.push(text.bytes().len() as u8)?;
+    append(out, text.bytes())
+}
+
+/// Two bytes for the length of a text, and the text.
+fn put_long(text: &Text, out: &mut Vec<u8>) -> Result<(), Memory>
+    requires { length text.now < 2 ^ 16 }
+    ensures { OnOk result (out.new.items ≡ out.old.items ++ long text.now) }
+{
+    append(out, &(text.bytes().len() as u16).to_le_bytes())?;
+    append(out, text.bytes())
+}
+
+/// A list of short texts.
+fn put_texts(texts: &Rows<Text>, out: &mut Vec<u8>) -> Result<(), Memory>
+    requires few { length texts.now < 2 ^ 32 }
+    requires short { All (λ text. length text < 256) texts.now }
+    ensures { OnOk result (out.new.items ≡ out.old.items ++ listed short texts.now) }
+{
+    append(out, &(texts.items().len() as u32).to_le_bytes())?;
+    for text in texts.items() {
+        put_short(text, out)?;
+    }
+    Ok(())
+}
+
+#[tactic(auto, using(crate::proofs::ShortTexts::name_short))]
+fn put_caller(caller: &Caller, out: &mut Vec<u8>) -> Result<(), Memory>
+    requires { IsTrue (is_name caller.now.name) }
+    ensures { OnOk result (out.new.items ≡ out.old.items ++ short caller.now.name ++ role_byte caller.now.role ∷ []) }
+{
+    put_short(&caller.name, out)?;
+    let role = match caller.role {
+        Role::Organiser => ORGANISER,
+        Role::Group => GROUP,
+        Role::Assessor => ASSESSOR,
+    };
+    Ok(out.push(role)?)
+}
+
+fn put_number(number: Option<u64>, out: &mut Vec<u8>) -> Result<(), Memory>
+    ensures { OnOk result (out.new.items ≡ out.old.items ++ number_bytes number) }
+{
+    match number {
+        None => Ok(out.push(UNNUMBERED)?),
+        Some(number) => {
+            out.push(NUMBERED)?;
+            append(out, &number.to_le_bytes())
+        }
+    }
+}
+
+fn put_rules(rules: &Rules, out: &mut Vec<u8>) -> Result<(), Memory>
+    requires { IsTrue (are_rules rules.now) }
+    ensures { OnOk result (out.new.items ≡ out.old.items ++ rules_bytes rules.now) }
+{
+    append(out, &rules.depth.to_le_bytes())?;
+    append(out, &rules.term.to_le_bytes())?;
+    append(out, &[rules.hold, rules.level, rules.top_grade])?;
+    put_texts(&rules.doubles, out)
+}
+
+#[tactic(auto, using(crate::proofs::ShortTexts::name_short))]
+fn put_topic(topic: &Topic, out: &mut Vec<u8>) -> Result<(), Memory>
+    requires { IsTrue (is_plain_topic topic.now) }
+    ensures { OnOk result (out.new.items ≡ out.old.items ++ topic_bytes topic.now) }
+{
+    put_short(&topic.id, out)?;
+    put_long(&topic.title, out)?;
+    put_long(&topic.desc, out)?;
+    put_long(&topic.narr, out)
+}
+
+fn put_topics(topics: &Rows<Topic>, out: &mut Vec<u8>) -> Result<(), Memory>
+    requires few { length topics.now < 2 ^ 32 }
+    requires plain { IsTrue (list_all is_plain_topic topics.now) }
+    ensures { OnOk result (out.new.items ≡ out.old.items ++ listed topic_bytes topics.now) }
+{
+    append(out, &(topics.items().len() as u32).to_le_bytes())?;
+    for topic in topics.items() {
+        put_topic(topic, out)?;
+    }
+    Ok(())
+}
+
+#[tactic(auto, using(crate::proofs::ShortTexts::name_short))]
+fn put_list(list: &TopicList, out: &mut Vec<u8>) -> Result<(), Memory>
+    requires { IsTrue (is_plain_list list.now) }
+    ensures { OnOk result (out.new.items ≡ out.old.items ++ list_bytes list.now) }
+{
+    put_short(&list.topic, out)?;
+    append(out, &list.line.to_le_bytes())?;
+    put_texts(&list.docs, out)
+}
+
+fn put_lists(lists: &Rows<TopicList>, out: &mut Vec<u8>) -> Result<(), Memory>
+    requires few { length lists.now < 2 ^ 32 }
+    requires plain { IsTrue (list_all is_plain_list lists.now) }
+    ensures { OnOk result (out.new.items ≡ out.old.items ++ listed list_bytes lists.now) }
+{
+    append(out, &(lists.items().len() as u32).to_le_bytes())?;
+    for list in lists.items() {
+        put_list(list, out)?;
+    }
+    Ok(())
+}
+
+/// A kind, a topic, a document and its grade.
+#[tactic(auto, using(crate::proofs::ShortTexts::name_short, crate::proofs::ShortTexts::docno_short))]
+fn put_graded_doc(
+    kind: u8,
+    topic: &Text,
+    doc: &Text,
+    grade: u8,
+    out: &mut Vec<u8>,
+) -> Result<(), Memory>
+    requires topic { IsTrue (is_name topic.now) }
+    requires doc { IsTrue (is_docno doc.now) }
+    ensures { OnOk result (out.new.items ≡ out.old.items ++ (kind ∷ short topic.now ++ short doc.now ++ grade ∷ [])) }
+{
+    out.push(kind)?;
+    put_short(topic, out)?;
+    put_short(doc, out)?;
+    Ok(out.push(grade)?)
+}
+
+#[tactic(auto, using(crate::proofs::ShortTexts::name_short))]
+fn put_command(command: &Command, out: &mut Vec<u8>) -> Result<(), Memory>
+    requires { IsTrue (is_plain command.now) }
+    ensures { OnOk result (out.new.items ≡ out.old.items ++ command_bytes command.now) }
+{
+    match command {
+        Command::Found { rules } => {
+            out.push(FOUND)?;
+            put_rules(rules, out)
+        }
+        Command::Topics { topics } => {
+            out.push(TOPICS)?;
+            put_topics(topics, out)
+        }
+        Command::Submit { run, lists } => {
+            out.push(SUBMIT)?;
+            put_short(run, out)?;
+            put_lists(lists, out)
+        }
+        Command::Open => Ok(out.push(OPEN)?),
+        Command::Lease { topic } => {
+            out.push(LEASE)?;
+            put_short(topic, out)
+        }
+        Command::Grade { lease, grade } => {
+            out.push(GRADE)?;
+            append(out, &lease.to_le_bytes())?;
+            Ok(out.push(*grade)?)
+        }
+        Command::Release { lease } => {
+            out.push(RELEASE)?;
+            append(out, &lease.to_le_bytes())
+        }
+        Command::Amend { topic, doc, grade } => put_graded_doc(AMEND, topic, doc, *grade, out),
+        Command::Rule { topic, doc, grade } => put_graded_doc(RULE, topic, doc, *grade, out),
+        Command::Withdraw { run } => {
+            out.push(WITHDRAW)?;
+            put_short(run, out)
+        }
+        Command::Publish => Ok(out.push(PUBLISH)?),
+    }
+}
+
+fn put_entry(core: &EntryCore, out: &mut Vec<u8>) -> Result<(), Memory>
+    requires { IsTrue (has_spelling core.now) }
+    ensures { OnOk result (out.new.items ≡ out.old.items ++ entry_bytes core.now) }
+{
+    put_caller(&core.caller, out)?;
+    put_number(core.number, out)?;
+    append(out, &core.moment.to_le_bytes())?;
+    put_command(&core.command, out)
+}
+
+/// Appends the spelling of an entry, or leaves the bytes as they were.
+pub fn write_entry(core: &EntryCore, out: &mut Vec<u8>) -> Result<(), Memory>
+    requires { IsTrue (has_spelling core.now) }
+    ensures text_added { OnOk result (out.new.items ≡ out.old.items ++ entry_bytes core.now) }
+    ensures unchanged { OnErr result (out.new.items ≡ out.old.items) }
+{
+    // spelled apart first, so that nothing is appended where memory runs out
+    let mut bytes = Vec::new(*out.allocator());
+    put_entry(core, &mut bytes)?;
+    append(out, bytes.as_slice())
+}

@@ -1,0 +1,7 @@
+//! Tests of the codec's public calls.
+#![tactic(auto)]
+
+#[cfg(test)]
+mod spellings;
+#[cfg(test)]
+mod tests;
