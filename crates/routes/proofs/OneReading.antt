@@ -15,12 +15,10 @@ use Rattle.http_wire.specs.declared.messages.HttpRequest.{HttpRequest}
 use Rattle.trec_formats.specs.declared.faults.FormatFault.{FormatFault}
 use Rattle.trec_formats.specs.declared.lists.TopicList.{TopicList}
 use Rattle.trec_formats.specs.declared.runs.RunLine.{RunLine}
-use Rattle.trec_formats.specs.Faults.{ExactlyOne, IsReadOnce}
-use Rattle.trec_formats.specs.Lists.{AreLists, AreRanked, IsListOf, lines_on, same_document, standing}
-use Rattle.trec_formats.specs.Runs.{IsRunReading}
+use Rattle.trec_formats.specs.Faults.{ExactlyOne}
+use Rattle.trec_formats.specs.Lists.{AreLists, AreRanked, IsListOf, IsRankableReading, lines_on, standing}
 use Rattle.trec_formats.specs.Topics.{IsTopicsReading, Numbered}
 use Rattle.trec_formats.proofs.Differing.{differ_from_distinct}
-use Rattle.trec_formats.proofs.Readings.{read_once}
 use Rattle.trec_formats.proofs.TopicOrder.{never_below_itself}
 use Rattle.rulebook.specs.declared.ask.Ask.{Ask}
 use Rattle.rulebook.specs.declared.ask.Ask.TheVariants.{Act}
@@ -153,20 +151,20 @@ lists_same lines a b x y =
 
 -- What is asked
 
-module _ (runs : (text : List ℕ) → ExactlyOne (IsRunReading text)) (topics_read : (text : List ℕ) → ExactlyOne (IsTopicsReading text)) where
-  run_same : (text : List ℕ) (a b : Result (List RunLine) FormatFault) → IsReadOnce (IsRunReading text) same_document (λ (line : RunLine). line.line) a → IsReadOnce (IsRunReading text) same_document (λ (line : RunLine). line.line) b → a ≡ b
-  run_same text a b x y = let one = read_once (IsRunReading text) same_document (λ (line : RunLine). line.line) (runs text) in one.2 a x ∙ sym (one.2 b y)
+module _ (runs : (text : List ℕ) → ExactlyOne (IsRankableReading text)) (topics_read : (text : List ℕ) → ExactlyOne (IsTopicsReading text)) where
+  run_same : (text : List ℕ) (a b : Result (List RunLine) FormatFault) → IsRankableReading text a → IsRankableReading text b → a ≡ b
+  run_same text a b x y = let one = runs text in one.2 a x ∙ sym (one.2 b y)
 
   submit_same : (run body : List ℕ) (a b : Result Ask RouteFault) → AsksSubmit run body a → AsksSubmit run body b → a ≡ b
   submit_same run body (Ok a) (Ok b) (lists, (lines, read, are), is) (others, (also, again, they), so) =
-      let same : ◌≡◌ {A = Result (List RunLine) FormatFault} (Ok lines) (Ok also) = run_same body (Ok lines) (Ok also) (read, are.distinct) (again, they.distinct) in
+      let same : ◌≡◌ {A = Result (List RunLine) FormatFault} (Ok lines) (Ok also) = run_same body (Ok lines) (Ok also) read again in
       let equal : lines ≡ also = cc in
       let all : lists ≡ others = lists_same also lists others (subst (λ ls. AreLists ls lists) equal are) they in
       ap (λ ask. Ok ask) (is ∙ ap (λ ls. Act (command.Submit run ls)) all ∙ sym so)
   submit_same run body (Ok a) (Err b) (lists, (lines, read, are), is) (at, so, fault) =
-      let same : ◌≡◌ {A = Result (List RunLine) FormatFault} (Ok lines) (Err at) = run_same body (Ok lines) (Err at) (read, are.distinct) fault in cc same
+      let same : ◌≡◌ {A = Result (List RunLine) FormatFault} (Ok lines) (Err at) = run_same body (Ok lines) (Err at) read fault in cc same
   submit_same run body (Err a) (Ok b) (at, so, fault) (lists, (lines, read, are), is) =
-      let same : ◌≡◌ {A = Result (List RunLine) FormatFault} (Ok lines) (Err at) = run_same body (Ok lines) (Err at) (read, are.distinct) fault in cc same
+      let same : ◌≡◌ {A = Result (List RunLine) FormatFault} (Ok lines) (Err at) = run_same body (Ok lines) (Err at) read fault in cc same
   submit_same run body (Err a) (Err b) (at, is, fault) (other, so, also) =
       let same : ◌≡◌ {A = Result (List RunLine) FormatFault} (Err at) (Err other) = run_same body (Err at) (Err other) fault also in
       let equal : at ≡ other = cc in

@@ -5,7 +5,7 @@ ghost use Rattle.routes.specs.declared.keys.KeyRow.{KeyRow};
 ghost use Rattle.routes.specs.Asks.{Asked, Reads};
 ghost use Rattle.routes.specs.RoleRules.{RolesAreTheRules};
 
-use trec_formats::{one_run_reading, one_topics_reading};
+use trec_formats::{one_rankable_reading, one_topics_reading};
 
 /// A role may ask what is asked at a row of the table exactly where the rules say so.
 pub fn roles_are_the_rules()
@@ -17,6 +17,6 @@ pub fn one_request_reading()
     ensures { (request : HttpRequest) (keys : List KeyRow) (a b : Result Asked RouteFault)
         → Reads request keys a → Reads request keys b → a ≡ b }
 {
-    one_run_reading();
+    one_rankable_reading();
     one_topics_reading();
 }

@@ -2,4 +2,4 @@ use Rattle.routes.proofs.OneReading.{request_same}
 use Rattle.routes.proofs.laws.one_request_reading.Goals as goal
 
 pub returns : goal.returns
-returns c = request_same c.one_run_reading.ensures c.one_topics_reading.ensures
+returns c = request_same c.one_rankable_reading.ensures c.one_topics_reading.ensures
