@@ -3,8 +3,9 @@
 //! of so many bytes it has now.
 #![tactic(auto)]
 
-ghost use Rattle.std.specs.Prelude.{◌≤◌};
+ghost use Rattle.std.specs.Prelude.{◌≤◌, ◌^◌, IfSome};
 
+use decimal_rank::Memory;
 use disk_model::{Disk, FileDisk, MemoryDisk};
 use journal::{Frame, Journal, MOST_PAYLOAD, OpenFault};
 use std::alloc::Global;
@@ -18,7 +19,9 @@ enum Logged {
 }
 
 // What the words ask for: the file, how many records, and of how many bytes.
-fn asked(words: &[String]) -> Option<(&str, u32, usize)> {
+fn asked(words: &[String]) -> Option<(&str, u32, usize)>
+    ensures { IfSome result (λ asked. asked.2 ≤ 2 ^ 25) }
+{
     let [_, file, records, bytes] = words else {
         return None;
     };
@@ -36,6 +39,13 @@ fn words_of(rt: &HostRuntime, alloc: Global) -> Option<Vec<String>> {
         words.push(word).ok()?;
     }
     Some(words)
+}
+
+fn frame_of(alloc: Global, bytes: usize) -> Result<Frame, Memory>
+    requires { bytes ≤ 2 ^ 25 }
+{
+    let payload = vec![in alloc; b'r'; bytes]?;
+    Frame::of(alloc, &payload)
 }
 
 // Adds records up to the first that isn't acknowledged. How many were.
@@ -67,11 +77,7 @@ fn main(rt: HostRuntime) -> io::Result<ExitCode> {
         println!(rt; "usage: journal_log FILE RECORDS BYTES")?;
         return Ok(ExitCode::from(2));
     };
-    let payload = vec![in alloc; b'r'; bytes];
-    let Ok(payload) = payload else {
-        return Ok(ExitCode::from(7));
-    };
-    let Ok(frame) = Frame::of(alloc, &payload) else {
+    let Ok(frame) = frame_of(alloc, bytes) else {
         return Ok(ExitCode::from(7));
     };
     let logged = if file == "-" {
