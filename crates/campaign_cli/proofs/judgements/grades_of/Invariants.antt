@@ -1,6 +1,0 @@
-use Rattle.std.proofs.Common.{◌≡◌, ℕ, List, take}
-use Rattle.campaign_cli.specs.Tables.{shown, grade_at, grade_in}
-use Rattle.campaign_cli.proofs.judgements.grades_of.Given as goal
-
-abbrev pub invariant-loop-line : goal.invariant-loop-line
-invariant-loop-line l = (doc : List ℕ) → grade_at l.grades doc ≡ grade_in (shown (take l.line-index l.lines)) doc
