@@ -11,3 +11,5 @@ mod links;
 mod requests;
 #[cfg(test)]
 mod session;
+#[cfg(test)]
+mod settings;

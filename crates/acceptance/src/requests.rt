@@ -1,5 +1,6 @@
 use crate::links::link_of;
-use campaign_cli::{MemoryShelf, MemorySink, campaign};
+use crate::settings::{SETTINGS, settings_shelf};
+use campaign_cli::{MemorySink, campaign};
 use std::alloc::Global;
 use std::test::Fail;
 
@@ -7,6 +8,7 @@ use std::test::Fail;
 // status with its reason, and the body. A `|` stands for a line feed.
 const REQUESTS: &str = "\
 GET /table;ORGANISERORGAN01; => 200 OK;
+POST /topics;ORGANISERORGAN01;<top>|<num> 1|<title> pooling|</top>| => 201 Created;{\"topics\":1}|
 POST /topics;ORGANISERORGAN01;<top>|<num> 2|<title> t|</top>| => 409 Conflict;{\"refusal\":\"topics-fixed\"}|
 POST /runs/X;GROUPGROUPGROUP1;1 Q0 a 1 3 X|1 Q0 b 2 2 X|1 Q0 e 3 1 X| => 201 Created;{\"lines\":3,\"run\":\"X\",\"topics\":1}|
 POST /runs/X;none;1 Q0 a 1 3 X| => 401 Unauthorized;{\"fault\":\"key\"}|
@@ -75,7 +77,7 @@ fn each_path_of_the_table_is_answered(rt: HostRuntime) -> Result<(), Fail> {
     }
     let mut words = Vec::new(alloc);
     words.push(String::from_str(alloc, "session")?)?;
-    let mut shelf = MemoryShelf::new(Vec::new(alloc), Vec::new(alloc));
+    let mut shelf = settings_shelf(alloc, SETTINGS)?;
     let mut out = MemorySink::new(Vec::new(alloc));
     let mut link = link_of(alloc, &requests, b"", Vec::new(alloc), Vec::new(alloc))?;
     let status = campaign(&rt, alloc, &words, &mut shelf, &mut out, &mut link);

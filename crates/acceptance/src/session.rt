@@ -1,8 +1,16 @@
 use crate::links::{AnsweredFirst, link_of};
-use campaign_cli::{MemoryShelf, MemorySink, campaign};
+use crate::settings::{SETTINGS, settings_shelf};
+use campaign_cli::{MemorySink, campaign};
 use campaign_server::{Link, MemoryLink};
 use std::alloc::Global;
 use std::test::Fail;
+
+/// Each session begins with this request.
+const TOPICS: &[u8] =
+    b"POST /topics HTTP/1.1\r\nX-Campaign-Key: ORGANISERORGAN01\r\nContent-Length: 37\r\n\r\n<top>\n<num> 1\n<title> pooling\n</top>\n";
+
+const TOPICS_TAKEN: &[u8] =
+    b"HTTP/1.1 201 Created\r\nContent-Type: application/json\r\nContent-Length: 13\r\n\r\n{\"topics\":1}\n";
 
 const SUBMIT: &[u8] =
     b"POST /runs/X HTTP/1.1\r\nX-Campaign-Key: GROUPGROUPGROUP1\r\nContent-Length: 39\r\n\r\n1 Q0 a 1 3 X\n1 Q0 b 2 2 X\n1 Q0 e 3 1 X\n";
@@ -61,8 +69,8 @@ fn places(alloc: Global, place: u64) -> Result<Vec<u64>, Fail> {
     Ok(places)
 }
 
-// The status of a session over two pieces, the output and the link. One read and one write fail, those at the
-// given places; none where the place is 0.
+// The status of a session over two pieces, of which the first begins with the topics, the output and the link.
+// One read and one write fail, those at the given places; none where the place is 0.
 fn held(
     rt: &HostRuntime,
     first: &[u8],
@@ -73,11 +81,11 @@ fn held(
     let alloc = rt.alloc();
     let mut words = Vec::new(alloc);
     words.push(String::from_str(alloc, "session")?)?;
-    let mut shelf = MemoryShelf::new(Vec::new(alloc), Vec::new(alloc));
+    let mut shelf = settings_shelf(alloc, SETTINGS)?;
     let mut out = MemorySink::new(Vec::new(alloc));
     let mut link = link_of(
         alloc,
-        first,
+        &both(alloc, TOPICS, first)?,
         second,
         places(alloc, read)?,
         places(alloc, write)?,
@@ -91,7 +99,7 @@ fn end_of<I: Link>(rt: &HostRuntime, link: &mut I) -> Result<u8, Fail> {
     let alloc = rt.alloc();
     let mut words = Vec::new(alloc);
     words.push(String::from_str(alloc, "session")?)?;
-    let mut shelf = MemoryShelf::new(Vec::new(alloc), Vec::new(alloc));
+    let mut shelf = settings_shelf(alloc, SETTINGS)?;
     let mut out = MemorySink::new(Vec::new(alloc));
     Ok(campaign(rt, alloc, &words, &mut shelf, &mut out, link).0)
 }
@@ -99,6 +107,13 @@ fn end_of<I: Link>(rt: &HostRuntime, link: &mut I) -> Result<u8, Fail> {
 fn both(alloc: Global, first: &[u8], second: &[u8]) -> Result<Vec<u8>, Fail> {
     let mut text = Vec::from_slice(alloc, first)?;
     text.extend_from_slice(second)?;
+    Ok(text)
+}
+
+// The answer to the topics, and these behind it.
+fn told(alloc: Global, one: &[u8], other: &[u8]) -> Result<Vec<u8>, Fail> {
+    let mut text = both(alloc, TOPICS_TAKEN, one)?;
+    text.extend_from_slice(other)?;
     Ok(text)
 }
 
@@ -119,7 +134,7 @@ fn messages_are_answered_in_order(rt: HostRuntime) -> Result<(), Fail> {
         let (ended, out, link) = held(&rt, first, second, 0, 0)?;
         assert_eq!(rt; ended, status);
         assert!(rt; out.written().is_empty());
-        assert_eq!(rt; link.written(), both(rt.alloc(), one, other)?.as_slice());
+        assert_eq!(rt; link.written(), told(rt.alloc(), one, other)?.as_slice());
     }
     Ok(())
 }
@@ -127,15 +142,14 @@ fn messages_are_answered_in_order(rt: HostRuntime) -> Result<(), Fail> {
 #[test]
 fn a_failing_read_ends_the_session(rt: HostRuntime) -> Result<(), Fail> {
     // what was read before it is answered; the third read finds the end
-    let cases: [(u64, &[u8], &[u8]); 3] = [
-        (1, b"", b""),
-        (2, SUBMITTED, b""),
-        (3, SUBMITTED, POOL_SHOWN),
-    ];
+    let (ended, _, link) = held(&rt, SUBMIT, POOL, 1, 0)?;
+    assert_eq!(rt; ended, 10);
+    assert!(rt; link.written().is_empty());
+    let cases: [(u64, &[u8], &[u8]); 2] = [(2, SUBMITTED, b""), (3, SUBMITTED, POOL_SHOWN)];
     for (place, one, other) in cases {
         let (ended, _, link) = held(&rt, SUBMIT, POOL, place, 0)?;
         assert_eq!(rt; ended, 10);
-        assert_eq!(rt; link.written(), both(rt.alloc(), one, other)?.as_slice());
+        assert_eq!(rt; link.written(), told(rt.alloc(), one, other)?.as_slice());
     }
     Ok(())
 }
@@ -145,19 +159,22 @@ fn a_failing_write_ends_the_session(rt: HostRuntime) -> Result<(), Fail> {
     let (ended, _, link) = held(&rt, SUBMIT, POOL, 0, 1)?;
     assert_eq!(rt; ended, 8);
     assert!(rt; link.written().is_empty());
-    let (ended, _, link) = held(&rt, SUBMIT, POOL, 0, 2)?;
+    let (ended, _, link) = held(&rt, SUBMIT, POOL, 0, 3)?;
     assert_eq!(rt; ended, 8);
-    assert_eq!(rt; link.written(), SUBMITTED);
+    assert_eq!(rt;
+        link.written(),
+        told(rt.alloc(), SUBMITTED, b"")?.as_slice()
+    );
     Ok(())
 }
 
 #[test]
 fn nothing_is_read_behind_a_closing_request(rt: HostRuntime) -> Result<(), Fail> {
     // the second read would fail
-    for (first, status, told) in [(LAST_POOL, 0u8, NO_POOL), (NO_HEAD, 11, NO_HEAD_TOLD)] {
+    for (first, status, answer) in [(LAST_POOL, 0u8, NO_POOL), (NO_HEAD, 11, NO_HEAD_TOLD)] {
         let (ended, _, link) = held(&rt, first, POOL, 2, 0)?;
         assert_eq!(rt; ended, status);
-        assert_eq!(rt; link.written(), told);
+        assert_eq!(rt; link.written(), told(rt.alloc(), answer, b"")?.as_slice());
     }
     Ok(())
 }
@@ -166,7 +183,7 @@ fn nothing_is_read_behind_a_closing_request(rt: HostRuntime) -> Result<(), Fail>
 fn two_requests_are_answered_however_they_are_cut(rt: HostRuntime) -> Result<(), Fail> {
     let alloc = rt.alloc();
     let requests = both(alloc, SUBMIT, POOL)?;
-    let answers = both(alloc, SUBMITTED, POOL_SHOWN)?;
+    let answers = told(alloc, SUBMITTED, POOL_SHOWN)?;
     for cut in 0..requests.len() + 1 {
         let (ended, _, link) = held(&rt, &requests[..cut], &requests[cut..], 0, 0)?;
         assert_eq!(rt; ended, 0);
@@ -179,7 +196,10 @@ fn two_requests_are_answered_however_they_are_cut(rt: HostRuntime) -> Result<(),
 fn input_may_end_inside_the_second_body(rt: HostRuntime) -> Result<(), Fail> {
     let (ended, _, link) = held(&rt, SUBMIT, &SUBMIT[..SUBMIT.len() - 1], 0, 0)?;
     assert_eq!(rt; ended, 11);
-    assert_eq!(rt; link.written(), SUBMITTED);
+    assert_eq!(rt;
+        link.written(),
+        told(rt.alloc(), SUBMITTED, b"")?.as_slice()
+    );
     Ok(())
 }
 
@@ -192,16 +212,22 @@ fn the_longest_body_is_taken(rt: HostRuntime) -> Result<(), Fail> {
     body.resize(MOST_BODY, b' ')?;
     let (ended, _, link) = held(&rt, LONGEST, &body, 0, 0)?;
     assert_eq!(rt; ended, 0);
-    assert_eq!(rt; link.written(), SUBMITTED);
+    assert_eq!(rt;
+        link.written(),
+        told(rt.alloc(), SUBMITTED, b"")?.as_slice()
+    );
     let (ended, _, link) = held(&rt, TOO_LONG, b"", 0, 0)?;
     assert_eq!(rt; ended, 11);
-    assert_eq!(rt; link.written(), TOO_LONG_TOLD);
+    assert_eq!(rt;
+        link.written(),
+        told(rt.alloc(), TOO_LONG_TOLD, b"")?.as_slice()
+    );
     Ok(())
 }
 
 #[test]
 fn an_answer_is_written_before_more_is_read(rt: HostRuntime) -> Result<(), Fail> {
-    let mut link = AnsweredFirst::new(SUBMIT, POOL);
+    let mut link = AnsweredFirst::new(TOPICS, POOL);
     let status = end_of(&rt, &mut link)?;
     assert_eq!(rt; status, 0);
     Ok(())

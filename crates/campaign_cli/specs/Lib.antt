@@ -1,9 +1,11 @@
 pub mod Endings
-pub mod Evaluations
-pub mod Findings
+pub mod EvalEnds
+pub mod Outside
 pub mod Requests
-pub mod Sessions
+pub mod SessionEnds
 pub mod Settings
 pub mod Shelves
 pub mod Sinks
-pub mod Tables
+pub mod Statuses
+pub mod TomlTables
+pub mod UsageEnds

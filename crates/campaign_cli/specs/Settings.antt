@@ -1,33 +1,102 @@
--- The campaign of a session, until a file and a journal give it.
-use Rattle.std.specs.Prelude.{List, [], ◌∷◌, None, codes}
-use Rattle.trec_formats.specs.declared.topics.Topic.{Topic}
-use Rattle.rulebook.specs.declared.ask.Ask.TheVariants.{Act}
-use Rattle.rulebook.specs.declared.ask.Command.TheVariants.{Topics}
-use Rattle.rulebook.specs.declared.rules.Caller.{Caller}
+-- The settings that the bytes of `campaign.toml` give.
+use Rattle.std.specs.Prelude.{◌≡◌, ◌==◌, ◌^◌, ℕ, Bool, ◌&&◌, ◌||◌, List, [], ◌∷◌, Option, Some, None, Result, Ok, Err, length, bytes_eq, nat_le, codes, option_and_then, if◌then◌else◌}
+use Rattle.std.specs.List.{list_all}
+use Rattle.toml.specs.Data.{Data, as_str}
+use Rattle.trec_formats.specs.Names.{is_between, is_name}
+use Rattle.rulebook.specs.declared.rules.Role.{Role}
 use Rattle.rulebook.specs.declared.rules.Role.TheVariants.{Organiser, Group, Assessor}
 use Rattle.rulebook.specs.declared.rules.Rules.{Rules}
-use Rattle.rulebook.specs.Answers.{answer}
-use Rattle.rulebook.specs.Campaign.{History}
-use Rattle.rulebook.specs.Legal.{founding}
+use Rattle.rulebook.specs.Spelling.{is_ascending}
 use Rattle.routes.specs.declared.keys.KeyRow.{KeyRow}
+use Rattle.routes.specs.Keys.{are_rows}
+use Rattle.campaign_cli.specs.declared.faults.SettingsEnd.{SettingsEnd}
+use Rattle.campaign_cli.specs.declared.faults.SettingsEnd.TheVariants as end
+use Rattle.campaign_cli.specs.declared.settings.Settings.{Settings}
+use Rattle.campaign_cli.specs.TomlTables.{data_of, number_at, text_at, items_at, has_members, has_known_keys, each_of}
 
-abbrev pub first_rules : Rules
-first_rules = record { depth = 3; term = 600; hold = 2; level = 1; top_grade = 3; doubles = [] }
+infixl 10 ◌>>=◌
+-- what is read of what was read, where both can be
+abbrev pub ◌>>=◌ : {A B : Type 0} → Option A → (A → Option B) → Option B
+found >>= read = option_and_then read found
 
-abbrev pub callers : List KeyRow
-callers =
-    record { name = codes "org"; role = Organiser; key = codes "ORGANISERORGAN01" }
-    ∷ record { name = codes "grp"; role = Group; key = codes "GROUPGROUPGROUP1" }
-    ∷ record { name = codes "p"; role = Assessor; key = codes "ASSESSORASSESS01" }
-    ∷ record { name = codes "q"; role = Assessor; key = codes "ASSESSORASSESS02" }
-    ∷ []
+-- a text that the test takes
+abbrev pub taken : (List ℕ → Bool) → List ℕ → Option (List ℕ)
+taken test text = if test text then Some text else None
 
-abbrev pub organiser : Caller
-organiser = record { name = codes "org"; role = Organiser }
+abbrev pub name_of : Data → Option (List ℕ)
+name_of d = as_str d >>= taken is_name
 
-abbrev pub first_topics : List Topic
-first_topics = record { id = codes "1"; title = codes "pooling"; desc = []; narr = [] } ∷ []
+-- the names of the topics whose documents need two labels: at most 250, strictly ascending
+abbrev pub doubles_of : List (List ℕ) → Option (List (List ℕ))
+doubles_of names = if nat_le (length names) 250 && is_ascending names then Some names else None
 
--- the founding entry, and that of the topics
-abbrev pub first_entries : History
-first_entries = founding first_rules ∷ (answer (founding first_rules ∷ []) organiser None (Act (Topics first_topics)) 0).added
+abbrev pub doubles_at : Data → Option (List (List ℕ))
+doubles_at d = items_at (codes "doubles") d >>= each_of name_of >>= doubles_of
+
+-- the rules, each within its bounds
+unfoldable pub rules_in : Data → Option Rules
+rules_in d = do
+  depth ← number_at (codes "depth") 1 1000 d
+  term ← number_at (codes "term") 1 (2 ^ 40) d
+  hold ← number_at (codes "hold") 1 50 d
+  top_grade ← number_at (codes "top_grade") 1 255 d
+  level ← number_at (codes "level") 1 top_grade d
+  doubles ← doubles_at d
+  Some (record { depth = depth; term = term; hold = hold; level = level; top_grade = top_grade; doubles = doubles })
+
+abbrev pub role_of : List ℕ → Option Role
+role_of text = if bytes_eq text (codes "organiser") then Some Organiser
+    else (if bytes_eq text (codes "group") then Some Group
+    else (if bytes_eq text (codes "assessor") then Some Assessor else None))
+
+-- a letter or a digit
+abbrev pub is_key_byte : ℕ → Bool
+is_key_byte b = is_between 48 57 b || is_between 65 90 b || is_between 97 122 b
+
+-- 16 to 64 letters and digits
+abbrev pub is_key : List ℕ → Bool
+is_key text = is_between 16 64 (length text) && list_all is_key_byte text
+
+abbrev pub name_in : Data → Option (List ℕ)
+name_in d = text_at (codes "name") d >>= taken is_name
+
+abbrev pub role_in : Data → Option Role
+role_in d = text_at (codes "role") d >>= role_of
+
+abbrev pub key_in : Data → Option (List ℕ)
+key_in d = text_at (codes "key") d >>= taken is_key
+
+-- a caller: a table with a name, a role and a key, and nothing else
+unfoldable pub caller_of : Data → Option KeyRow
+caller_of d = do
+  name ← name_in d
+  role ← role_in d
+  key ← key_in d
+  (if has_members 3 d then Some (record { name = name; role = role; key = key }) else None)
+
+-- at most 500 callers, of which no two have one name or one key
+abbrev pub callers_of : List KeyRow → Option (List KeyRow)
+callers_of rows = if nat_le (length rows) 500 && are_rows rows then Some rows else None
+
+abbrev pub callers_at : Data → Option (List KeyRow)
+callers_at d = items_at (codes "caller") d >>= each_of caller_of >>= callers_of
+
+-- the keys that settings may have
+abbrev pub setting_names : List (List ℕ)
+setting_names = codes "depth" ∷ codes "term" ∷ codes "hold" ∷ codes "level" ∷ codes "top_grade" ∷ codes "doubles" ∷ codes "caller" ∷ []
+
+unfoldable pub settings_in : Data → Option Settings
+settings_in d = do
+  rules ← rules_in d
+  callers ← callers_at d
+  (if has_known_keys setting_names d then Some (record { rules = rules; callers = callers }) else None)
+
+-- The settings that a text gives, or none where it is refused.
+abbrev pub settings_of : List ℕ → Option Settings
+settings_of text = data_of text >>= settings_in
+
+-- What a call gave, seen by the view, is what is read, or nothing is. Nothing is said of want of memory.
+abbrev pub Gives : {X A : Type 0} → (X → A) → Result X SettingsEnd → Option A → Type 0
+Gives view (Ok x) read = read ≡ Some (view x)
+Gives view (Err end.Refused) read = read ≡ None
+Gives view (Err end.Memory) read = Unit {0}

@@ -1,111 +1,263 @@
-ghost use Rattle.std.specs.Prelude.{◌≡◌, ◌<◌, [], ◌∷◌, ◌++◌, Some, IfOk};
-ghost use Rattle.rulebook.specs.Answers.{Answer};
-ghost use Rattle.campaign_core.specs.State.{IsVerdict};
-ghost use Rattle.campaign_cli.specs.Settings.{callers as first_callers, first_rules as first, first_entries, organiser as first_organiser, first_topics as topics_of_first};
+//! The settings of a campaign, as `campaign.toml` gives them.
+ghost use Rattle.std.specs.Prelude.{◌≡◌, ◌≤◌, IfOk, IsTrue, map};
+ghost use Rattle.std.specs.List.{list_all};
+ghost use Rattle.toml.specs.View.{view};
+ghost use Rattle.rulebook.specs.Spelling.{are_rules, is_ascending};
+ghost use Rattle.campaign_cli.specs.Settings.{Gives, is_key, is_key_byte, name_in, name_of, key_in, role_in, doubles_at, rules_in, role_of, caller_of, callers_at, settings_in, settings_of};
+ghost use Rattle.campaign_cli.specs.TomlTables.{number_at, each_of};
 
-use campaign_core::{Prepared, State, Verdict};
-use decimal_rank::{Memory, Rows, Steps, Text};
-use routes::{KeyRow, Keys};
-use rulebook::{Ask, Caller, Command, Role, Rules};
+use crate::faults::SettingsEnd;
+use crate::toml_tables::{has_known_keys, has_members, items_at, number_at, read_data, text_at};
+use decimal_rank::{Rows, Text};
+use routes::{KeyRow, Keys, are_rows};
+use rulebook::{Role, Rules};
 use std::alloc::Global;
-use std::marker::Brand;
-use std::sync::ledger::{Blank, Ledger};
-use trec_formats::Topic;
+use toml::Value;
+use trec_formats::is_name;
 
-fn text(alloc: Global, bytes: &[u8]) -> Result<Text, Memory>
-    ensures { IfOk result (λ text. text ≡ bytes.now) }
-{
-    Ok(Text::from_slice(alloc, bytes)?)
+/// The greatest term of a lease, in seconds.
+const MOST_TERM: u64 = 1 << 40;
+
+/// The most topics whose documents need two labels.
+const MOST_DOUBLES: usize = 250;
+
+const MOST_CALLERS: usize = 500;
+
+/// The keys that settings may have.
+const NAMES: [&str; 7] = [
+    "depth",
+    "term",
+    "hold",
+    "level",
+    "top_grade",
+    "doubles",
+    "caller",
+];
+
+/// The settings of a campaign: its rules, and its callers with their keys.
+#[derive(Drop)]
+pub struct Settings {
+    pub rules: Rules,
+    pub callers: Keys,
 }
 
-fn row(alloc: Global, name: &[u8], role: Role, key: &[u8]) -> Result<KeyRow, Memory>
-    ensures { IfOk result (λ row. row ≡ record { name = name.now; role = role; key = key.now }) }
+/// Reads the settings that the bytes of `campaign.toml` give.
+pub fn read_settings(alloc: Global, text: &[u8]) -> Result<Settings, SettingsEnd>
+    ensures settings { Gives (λ settings. settings) result (settings_of text.now) }
+    ensures rules { IfOk result (λ settings. IsTrue (are_rules settings.rules)) }
 {
+    match read_data(alloc, text)? {
+        Some(tree) => settings_in(alloc, &tree),
+        None => Err(SettingsEnd::Refused),
+    }
+}
+
+#[tactic(auto, unfolding(crate::specs::Settings::settings_in))]
+fn settings_in(alloc: Global, tree: &Value) -> Result<Settings, SettingsEnd>
+    ensures { Gives (λ settings. settings) result (settings_in (view tree.now)) }
+{
+    let rules = rules_in(alloc, tree)?;
+    let callers = callers_at(alloc, tree)?;
+    if has_known_keys(tree, &NAMES) {
+        Ok(Settings { rules, callers })
+    } else {
+        Err(SettingsEnd::Refused)
+    }
+}
+
+/// The number at a key, within these bounds.
+fn number_in(tree: &Value, key: &str, low: u64, high: u64) -> Result<u64, SettingsEnd>
+    ensures number { Gives (λ n. n) result (number_at key.now low high (view tree.now)) }
+    ensures bounds { IfOk result (λ found. (low ≤ found) × (found ≤ high)) }
+{
+    match number_at(tree, key, low, high) {
+        Some(number) => Ok(number),
+        None => Err(SettingsEnd::Refused),
+    }
+}
+
+#[tactic(auto, unfolding(crate::specs::Settings::rules_in))]
+fn rules_in(alloc: Global, tree: &Value) -> Result<Rules, SettingsEnd>
+    ensures { Gives (λ rules. rules) result (rules_in (view tree.now)) }
+{
+    let depth = number_in(tree, "depth", 1, 1000)?;
+    let term = number_in(tree, "term", 1, MOST_TERM)?;
+    let hold = number_in(tree, "hold", 1, 50)?;
+    let top_grade = number_in(tree, "top_grade", 1, 255)?;
+    let level = number_in(tree, "level", 1, top_grade)?;
+    let doubles = doubles_at(alloc, tree)?;
+    Ok(Rules {
+        depth: depth as u16,
+        term,
+        hold: hold as u8,
+        level: level as u8,
+        top_grade: top_grade as u8,
+        doubles,
+    })
+}
+
+/// The names of the topics whose documents need two labels.
+fn doubles_at(alloc: Global, tree: &Value) -> Result<Rows<Text>, SettingsEnd>
+    ensures { Gives (λ names. names) result (doubles_at (view tree.now)) }
+{
+    let Some(items) = items_at(tree, "doubles") else {
+        return Err(SettingsEnd::Refused);
+    };
+    let names = names_of(alloc, items)?;
+    if names.len() <= MOST_DOUBLES && is_ascending(&names) {
+        Ok(Rows::new(names))
+    } else {
+        Err(SettingsEnd::Refused)
+    }
+}
+
+/// The name that each of these is.
+#[tactic(auto, using(crate::proofs::Each::begun, crate::proofs::Each::more, crate::proofs::Each::failed, crate::proofs::Each::whole))]
+fn names_of(alloc: Global, items: &[Value]) -> Result<Vec<Text>, SettingsEnd>
+    ensures { Gives (λ names. names.items) result (each_of name_of (map view items.now)) }
+{
+    let mut names = Vec::new(alloc);
+    let mut left = items;
+    while let [first, rest @ ..] = left {
+        names.push(name_of(alloc, first)?)?;
+        left = rest;
+    }
+    Ok(names)
+}
+
+fn name_of(alloc: Global, value: &Value) -> Result<Text, SettingsEnd>
+    ensures { Gives (λ name. name) result (name_of (view value.now)) }
+{
+    match value.as_str() {
+        Some(text) if is_name(text.as_bytes()) => Ok(Text::from_slice(alloc, text.as_bytes())?),
+        _ => Err(SettingsEnd::Refused),
+    }
+}
+
+/// Whether each name is before the next in byte order.
+fn is_ascending(names: &[Text]) -> bool
+    ensures { result ≡ is_ascending names.now }
+{
+    let [first, rest @ ..] = names else {
+        return true;
+    };
+    let mut before = first;
+    let mut left = rest;
+    while let [next, rest @ ..] = left {
+        if !before.bytes().cmp(next.bytes()).is_lt() {
+            return false;
+        }
+        before = next;
+        left = rest;
+    }
+    true
+}
+
+/// The callers, and their keys.
+fn callers_at(alloc: Global, tree: &Value) -> Result<Keys, SettingsEnd>
+    ensures { Gives (λ rows. rows) result (callers_at (view tree.now)) }
+{
+    let Some(items) = items_at(tree, "caller") else {
+        return Err(SettingsEnd::Refused);
+    };
+    let rows = rows_of(alloc, items)?;
+    if rows.len() <= MOST_CALLERS && are_rows(&rows) {
+        Ok(Keys::new(rows))
+    } else {
+        Err(SettingsEnd::Refused)
+    }
+}
+
+/// The caller that each of these is.
+#[tactic(auto, using(crate::proofs::Each::begun, crate::proofs::Each::more, crate::proofs::Each::failed, crate::proofs::Each::whole))]
+fn rows_of(alloc: Global, items: &[Value]) -> Result<Vec<KeyRow>, SettingsEnd>
+    ensures { Gives (λ rows. rows.items) result (each_of caller_of (map view items.now)) }
+{
+    let mut rows = Vec::new(alloc);
+    let mut left = items;
+    while let [first, rest @ ..] = left {
+        rows.push(caller_of(alloc, first)?)?;
+        left = rest;
+    }
+    Ok(rows)
+}
+
+#[tactic(auto, unfolding(crate::specs::Settings::caller_of))]
+fn caller_of(alloc: Global, value: &Value) -> Result<KeyRow, SettingsEnd>
+    ensures { Gives (λ row. row) result (caller_of (view value.now)) }
+{
+    let name = name_in(value)?;
+    let role = role_in(value)?;
+    let key = key_in(value)?;
+    if !has_members(value, 3) {
+        return Err(SettingsEnd::Refused);
+    }
     Ok(KeyRow {
-        name: text(alloc, name)?,
+        name: Text::from_slice(alloc, name)?,
         role,
-        key: text(alloc, key)?,
+        key: Text::from_slice(alloc, key)?,
     })
 }
 
-/// The callers of a session.
-pub(crate) fn callers(alloc: Global) -> Result<Keys, Memory>
-    ensures { IfOk result (λ keys. keys ≡ first_callers) }
+fn name_in(caller: &Value) -> Result<&[u8], SettingsEnd>
+    ensures { Gives (λ name. name.now) result (name_in (view caller.now)) }
 {
-    let mut rows = Vec::with_capacity(alloc, 4)?;
-    rows.push(row(alloc, b"org", Role::Organiser, b"ORGANISERORGAN01")?)?;
-    rows.push(row(alloc, b"grp", Role::Group, b"GROUPGROUPGROUP1")?)?;
-    rows.push(row(alloc, b"p", Role::Assessor, b"ASSESSORASSESS01")?)?;
-    rows.push(row(alloc, b"q", Role::Assessor, b"ASSESSORASSESS02")?)?;
-    Ok(Keys::new(rows))
-}
-
-fn first_rules(alloc: Global) -> Rules
-    ensures { result ≡ first }
-{
-    Rules {
-        depth: 3,
-        term: 600,
-        hold: 2,
-        level: 1,
-        top_grade: 3,
-        doubles: Rows::new(Vec::new(alloc)),
+    match text_at(caller, "name") {
+        Some(name) if is_name(name) => Ok(name),
+        _ => Err(SettingsEnd::Refused),
     }
 }
 
-fn organiser(alloc: Global) -> Result<Caller, Memory>
-    ensures { IfOk result (λ caller. caller ≡ first_organiser) }
+fn role_in(caller: &Value) -> Result<Role, SettingsEnd>
+    ensures { Gives (λ role. role) result (role_in (view caller.now)) }
 {
-    Ok(Caller {
-        name: text(alloc, b"org")?,
-        role: Role::Organiser,
-    })
-}
-
-fn first_topics(alloc: Global) -> Result<Rows<Topic>, Memory>
-    ensures { IfOk result (λ topics. topics ≡ topics_of_first) }
-{
-    let mut topics = Vec::with_capacity(alloc, 1)?;
-    topics.push(Topic {
-        id: text(alloc, b"1")?,
-        title: text(alloc, b"pooling")?,
-        desc: text(alloc, b"")?,
-        narr: text(alloc, b"")?,
-    })?;
-    Ok(Rows::new(topics))
-}
-
-/// The campaign that a session opens on: the rules, and the topics.
-pub(crate) fn opening(alloc: Global) -> Result<State, Memory>
-    ensures { IfOk result (λ state. state.history ≡ first_entries) }
-{
-    let mut state = State::found(alloc, first_rules(alloc))?;
-    let who = organiser(alloc)?;
-    let topics = first_topics(alloc)?;
-    let ask = Ask::Act(Command::Topics { topics });
-    let verdict = state.prepare(&who, None, ask, 0)?;
-    settle(&mut state, verdict);
-    Ok(state)
-}
-
-/// Commits the entry that was prepared, where one was.
-fn settle(state: &mut State, verdict: Verdict)
-    requires { (answer : Answer) × IsVerdict answer verdict state.old.prepared }
-    ensures { (answer : Answer) → IsVerdict answer verdict state.old.prepared → state.new.history ≡ state.old.history ++ answer.added }
-{
-    match verdict {
-        Verdict::Ready(prepared) => commit::<Brand>(state, prepared, Blank::new(1)),
-        Verdict::Told(_) => {}
+    let Some(text) = text_at(caller, "role") else {
+        return Err(SettingsEnd::Refused);
+    };
+    match role_of(text) {
+        Some(role) => Ok(role),
+        None => Err(SettingsEnd::Refused),
     }
 }
 
-fn commit<L: Ledger>(state: &mut State, prepared: Prepared, blank: Blank)
-    requires prepared { state.old.prepared ≡ Some prepared }
-    requires name { blank.name ≡ L.name }
-    requires parts { blank.parts ≡ L.parts }
-    requires some { 0 < L.parts }
-    ensures { state.new.history ≡ state.old.history ++ prepared ∷ [] }
+fn role_of(text: &[u8]) -> Option<Role>
+    ensures { result ≡ role_of text.now }
 {
-    let mut steps: Steps<L> = Steps::new(blank);
-    state.commit(prepared, &mut steps);
+    if text == b"organiser".as_slice() {
+        Some(Role::Organiser)
+    } else if text == b"group".as_slice() {
+        Some(Role::Group)
+    } else if text == b"assessor".as_slice() {
+        Some(Role::Assessor)
+    } else {
+        None
+    }
+}
+
+fn key_in(caller: &Value) -> Result<&[u8], SettingsEnd>
+    ensures { Gives (λ key. key.now) result (key_in (view caller.now)) }
+{
+    match text_at(caller, "key") {
+        Some(key) if is_key(key) => Ok(key),
+        _ => Err(SettingsEnd::Refused),
+    }
+}
+
+/// Whether a text may be a key: 16 to 64 letters and digits.
+fn is_key(text: &[u8]) -> bool
+    ensures { result ≡ is_key text.now }
+{
+    16 <= text.len() && text.len() <= 64 && are_key_bytes(text)
+}
+
+fn are_key_bytes(text: &[u8]) -> bool
+    ensures { result ≡ list_all is_key_byte text.now }
+{
+    text.iter().all(|byte| is_key_byte(*byte))
+}
+
+fn is_key_byte(byte: u8) -> bool
+    ensures { result ≡ is_key_byte byte }
+{
+    matches!(byte, b'0'..=b'9' | b'A'..=b'Z' | b'a'..=b'z')
 }

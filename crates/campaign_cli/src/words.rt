@@ -1,10 +1,6 @@
 ghost use Rattle.std.specs.Prelude.{◌≡◌};
 ghost use Rattle.campaign_cli.specs.Requests.{asked, meant};
 
-/// What is printed where the words are no command.
-pub const USAGE_LINE: &[u8] =
-    b"usage: campaign eval RUN QRELS | session | serve --port P --workers W --connections N | drill SEED RUNS TOPICS DOCS | check\n";
-
 /// A command of the program. `Eval` scores the run in one file against the qrels in another, by the
 /// files' names. `Session` answers the messages of one connection.
 #[derive(Clone, Copy, Debug, PartialEq, Eq)]

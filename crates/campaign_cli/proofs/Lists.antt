@@ -1,0 +1,15 @@
+-- The items of arrays.
+use Rattle.std.proofs.Common.{◌≡◌, List, [], ◌∷◌, Some, None, map, refl, ap, sym, ◌∙◌, Option, option_map}
+use Rattle.std.specs.Option.{option_map_or}
+use Rattle.toml.specs.Data.{Data, Items, as_array}
+use Rattle.toml.specs.View.{view, items_view}
+use Rattle.toml.specs.declared.value.Value.{Value}
+use Rattle.campaign_cli.specs.TomlTables.{list_of, items_at}
+
+pub list_is : (values : List Value) → map view values ≡ list_of (items_view values)
+list_is [] = refl
+list_is (value ∷ values) = ap (λ ds. view value ∷ ds) (list_is values)
+
+-- the items of an array
+pub listed : (values : List Value) (found : Data) → Some (items_view values) ≡ as_array found → Some (map view values) ≡ option_map list_of (as_array found)
+listed values found is = ap Some (list_is values) ∙ ap (option_map list_of) is

@@ -1,0 +1,9 @@
+use Rattle.std.proofs.Common.{◌≡◌, ◌∷◌, length}
+use Rattle.rulebook.specs.Spelling.{is_ascending}
+use Rattle.campaign_cli.proofs.settings.is_ascending.Given as goal
+
+abbrev pub invariant-loop-left : goal.invariant-loop-left
+invariant-loop-left l = is_ascending l.names ≡ is_ascending (l.before ∷ l.left)
+
+abbrev pub decreases-loop-left : goal.decreases-loop-left
+decreases-loop-left l = length l.left

@@ -1,0 +1,11 @@
+use Rattle.std.proofs.Common.{◌≡◌, map, take}
+use Rattle.std.specs.Prelude.{All}
+use Rattle.measures.specs.Cells.{IsSound}
+use Rattle.eval.specs.Evaluations.{cell_on}
+use Rattle.eval.proofs.cells.cells_on.Given as goal
+
+abbrev pub invariant-loop-number : goal.invariant-loop-number
+invariant-loop-number l = record {
+  cells : l.cells.items ≡ map (cell_on l.lists l.qrels) (take l.number l.topics);
+  sound : All IsSound l.cells.items;
+}

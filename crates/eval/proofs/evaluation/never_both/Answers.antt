@@ -1,0 +1,5 @@
+use Rattle.eval.proofs.Exclusive.{exclusive}
+use Rattle.eval.proofs.evaluation.never_both.Goals as goal
+
+pub returns : goal.returns
+returns c = exclusive c.one_run_reading.ensures c.one_qrels_reading.ensures
