@@ -1,0 +1,7 @@
+mod ListFacts
+mod Marking
+mod Queueing
+mod Regrading
+mod RoomCounts
+mod RunSteps
+mod Standing

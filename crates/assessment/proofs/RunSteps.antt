@@ -1,0 +1,95 @@
+-- A run's lists, one topic after another.
+use Rattle.std.proofs.Common.{◌≡◌, ◌<◌, ℕ, zero, suc, Bool, true, false, List, [], ◌∷◌, ◌++◌, Option, None, length, map, set, get_or, refl, sym, ap, ◌∙◌, arith}
+use Rattle.std.specs.Prelude.{◌==◌, ◌&&◌, if◌then◌else◌, slice_get, slice_index_or}
+use Rattle.std.specs.Option.{option_map_or}
+use Rattle.std.proofs.Math.Dec.{eqb-suc-suc, eqb-suc-zero, eqb-zero-suc}
+use Rattle.std.proofs.lemmas.List.{length-append}
+use Rattle.decimal_rank.specs.declared.naming.DocId.{DocId}
+use Rattle.depth_pool.specs.declared.runs.RunId.{RunId}
+use Rattle.qrels_view.specs.declared.grades.Graded.{Graded}
+use Rattle.score_index.specs.Scores.{Scores, TopicScores, docs_at, docs_in, new_topic as new_scores}
+use Rattle.assessment.specs.RunLists.{RankedLists, each_with_list, unless_empty, with_lists}
+use Rattle.assessment.specs.TopicFacts.{TopicFacts, TopicView, facts_of, graded_of, with_list, without_list}
+use Rattle.assessment.specs.TopicsFacts.{TopicsFacts, told_by}
+use Rattle.assessment.proofs.ListFacts.{get-behind}
+
+-- what topics and a board tell, from its parts
+pub told-is : (topics : List TopicView) (board : Scores) (all : TopicsFacts) → map facts_of topics ≡ all.topics → ((run : RunId) (on : ℕ) → docs_at board run on ≡ all.lists run on) → board.level ≡ all.level → told_by topics board ≡ all
+told-is topics board all same_topics same_lists same_level = λ i. record { topics = same_topics i; lists = λ run on. same_lists run on i; level = same_level i }
+
+-- topics and a board that tell the same
+pub told-same : (topics others : List TopicView) (board other : Scores) → map facts_of topics ≡ map facts_of others → board.topics ≡ other.topics → board.level ≡ other.level → told_by topics board ≡ told_by others other
+told-same topics others board other same_facts same_topics same_level =
+    told-is topics board (told_by others other) same_facts (λ run on. ap (λ (ts : List TopicScores). docs_in run (slice_index_or ts on new_scores)) same_topics) same_level
+
+-- the list that comes next
+pub next-list : (done left lists rest : List (List DocId)) (docs : List DocId) (number : ℕ) → done ++ left ≡ lists → left ≡ docs ∷ rest → number ≡ length done → (number < length lists) × ((d : List DocId) → get_or lists number d ≡ docs)
+next-list done left lists rest docs number whole steps at =
+    let all : done ++ docs ∷ rest ≡ lists = ap (λ (ls : List (List DocId)). done ++ ls) (sym steps) ∙ whole in (
+      omega (arith, at, ap length all, length-append done (docs ∷ rest)),
+      λ d. ap (λ (ls : List (List DocId)). get_or ls number d) (sym all) ∙ ap (λ n. get_or (done ++ docs ∷ rest) n d) at ∙ get-behind done docs rest d,
+    )
+
+-- one more topic gets its list
+pub each-more : (run : RunId) (lists : List (List DocId)) (docs : List DocId) (topics : List TopicFacts) (d : TopicFacts) → length lists < length topics
+    → each_with_list run (lists ++ docs ∷ []) topics ≡ set (each_with_list run lists topics) (length lists) (with_list run docs (get_or topics (length lists) d))
+each-more run lists docs [] d within = absurd (omega (arith, within))
+each-more run [] docs (topic ∷ topics) d within = refl
+each-more run (first ∷ lists) docs (topic ∷ topics) d within = ap (λ ts. with_list run first topic ∷ ts) (each-more run lists docs topics d (omega (arith, within)))
+
+-- one more list of the run on the board
+pub lists-more : (run : RunId) (lists : List (List DocId)) (docs : List DocId) (before : RankedLists) (other : RunId) (on : ℕ)
+    → (if (run.0 == other.0) && (length lists == on) then unless_empty docs else with_lists run lists before other on) ≡ with_lists run (lists ++ docs ∷ []) before other on
+lists-more run lists docs before other on = step (run.0 == other.0)
+  where
+    at : (lists : List (List DocId)) (on : ℕ) (rest : Option (List DocId)) → (if length lists == on then unless_empty docs else option_map_or unless_empty (slice_get lists on) rest) ≡ option_map_or unless_empty (slice_get (lists ++ docs ∷ []) on) rest
+    at [] zero rest = refl
+    at [] (suc on) rest = ap (λ t. if t then unless_empty docs else rest) (eqb-zero-suc on)
+    at (first ∷ lists) zero rest = ap (λ t. if t then unless_empty docs else unless_empty first) (eqb-suc-zero (length lists))
+    at (first ∷ lists) (suc on) rest = ap (λ t. if t then unless_empty docs else option_map_or unless_empty (slice_get lists on) rest) (eqb-suc-suc (length lists) on) ∙ at lists on rest
+
+    step : (t : Bool) → (if t && (length lists == on) then unless_empty docs else (if t then option_map_or unless_empty (slice_get lists on) (before other on) else before other on))
+        ≡ (if t then option_map_or unless_empty (slice_get (lists ++ docs ∷ []) on) (before other on) else before other on)
+    step true = at lists on (before other on)
+    step false = refl
+
+-- behind a run's lists there is none of it
+pub none-behind : {X : Type 0} (xs : List X) → slice_get xs (length xs) ≡ None
+none-behind [] = refl
+none-behind (x ∷ xs) = none-behind xs
+
+pub no-list-yet : (run : RunId) (lists : List (List DocId)) (before : RankedLists) → before run (length lists) ≡ None → with_lists run lists before run (length lists) ≡ None
+no-list-yet run lists before none = step (run.0 == run.0)
+  where
+    step : (t : Bool) → (if t then option_map_or unless_empty (slice_get lists (length lists)) (before run (length lists)) else before run (length lists)) ≡ None
+    step true = ap (λ (o : Option (List DocId)). option_map_or unless_empty o (before run (length lists))) (none-behind lists) ∙ none
+    step false = none
+
+-- topics keep their grades where a run enters
+abbrev pub grades : TopicFacts → List Graded
+grades topic = topic.graded
+
+pub through : (topics : List TopicView) → map graded_of topics ≡ map grades (map facts_of topics)
+through [] = refl
+through (t ∷ topics) = ap (λ gs. graded_of t ∷ gs) (through topics)
+
+pub grades-by : (topics others : List TopicView) → map grades (map facts_of topics) ≡ map grades (map facts_of others) → map graded_of topics ≡ map graded_of others
+grades-by topics others same = through topics ∙ same ∙ sym (through others)
+
+pub each-keeps : (run : RunId) (lists : List (List DocId)) (topics : List TopicFacts) → map grades (each_with_list run lists topics) ≡ map grades topics
+each-keeps run [] topics = refl
+each-keeps run (docs ∷ lists) [] = refl
+each-keeps run (docs ∷ lists) (topic ∷ topics) = ap (λ gs. topic.graded ∷ gs) (each-keeps run lists topics)
+
+-- topics keep their grades where a run leaves
+pub without-keeps : (run : RunId) (topics : List TopicFacts) → map grades (map (without_list run) topics) ≡ map grades topics
+without-keeps run [] = refl
+without-keeps run (topic ∷ topics) = ap (λ gs. topic.graded ∷ gs) (without-keeps run topics)
+
+-- no list of a run yet
+pub no-lists : (run : RunId) (before : RankedLists) (other : RunId) (on : ℕ) → before other on ≡ with_lists run [] before other on
+no-lists run before other on = step (run.0 == other.0)
+  where
+    step : (t : Bool) → before other on ≡ (if t then before other on else before other on)
+    step true = refl
+    step false = refl

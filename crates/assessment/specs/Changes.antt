@@ -1,0 +1,80 @@
+-- What an assessment knows, and what each change makes of it.
+use Rattle.std.specs.Prelude.{◌≡◌, ◌-◌, ◌<◌, ◌≤◌, ◌^◌, ℕ, List, [], None, Option, Some, length, slice_get}
+use Rattle.std.specs.Option.{IsSomeAnd}
+use Rattle.lease_desk.specs.DeskView.{DeskView}
+use Rattle.lease_desk.specs.Leases.{granted, lease_numbered, with_end}
+use Rattle.lease_desk.specs.declared.leases.Lease.{Lease}
+use Rattle.lease_desk.specs.declared.leases.LeaseEnd.TheVariants.{Graded, Released}
+use Rattle.assessment.specs.RunLists.{HasRooms}
+use Rattle.assessment.specs.TopicFacts.{AwaitsGrade, AwaitsLabel, MayLabel, MayRule}
+use Rattle.assessment.specs.TopicsFacts.{IsEntered, IsNewRun, TopicsFacts, TopicsView, after_label, after_ruling, after_run, after_withdrawal, told}
+use Rattle.assessment.specs.declared.change.Change.{Change}
+use Rattle.assessment.specs.declared.change.Change.TheVariants as change
+
+-- an assessment: what is known of the topics and the runs' lists, and the leases in the order of their numbers
+pub record Facts : Type 0 where
+  pub topics : TopicsFacts
+  pub leases : List Lease
+
+-- an assessment as contracts see it, with the change for which there is room
+pub record AssessmentView : Type 0 where
+  pub topics : TopicsView
+  pub leases : List Lease
+  pub pending : Option Change
+
+abbrev pub facts_in : TopicsView → List Lease → Facts
+facts_in topics leases = record { topics = told topics; leases = leases }
+
+-- what an assessment knows
+abbrev pub facts : AssessmentView → Facts
+facts view = facts_in view.topics view.leases
+
+-- a lease that has no end
+abbrev pub IsUnended : ℕ → List Lease → Type 0
+IsUnended number leases = IsSomeAnd (lease_numbered leases number) (λ lease. lease.end ≡ None)
+
+-- what a change makes of what is known
+abbrev pub after : Change → Facts → Facts
+after change.Nothing facts = facts
+after (change.Topics given) facts = record facts { topics = told given }
+after (change.Run run lists) facts = record facts { topics = after_run run lists.items facts.topics }
+after (change.Withdraw run) facts = record facts { topics = after_withdrawal run facts.topics }
+after (change.Lease grant) facts = record facts { leases = granted facts.leases grant.assessor grant.topic grant.doc grant.until }
+after (change.Grade number label) facts = record { topics = after_label label facts.topics; leases = with_end facts.leases number Graded }
+after (change.Release number) facts = record facts { leases = with_end facts.leases number Released }
+after (change.Amend label) facts = record facts { topics = after_label label facts.topics }
+after (change.Rule ruling) facts = record facts { topics = after_ruling ruling facts.topics }
+
+-- a change that may be made of what is known
+abbrev pub Fits : Change → Facts → Type 0
+Fits change.Nothing facts = Unit {0}
+Fits (change.Topics given) facts = given.board.rooms ≡ []
+Fits (change.Run run lists) facts = IsNewRun run facts.topics × (length lists.items ≡ length facts.topics.topics)
+Fits (change.Withdraw run) facts = IsEntered run facts.topics
+Fits (change.Lease grant) facts = length facts.leases < 2 ^ 32 - 1
+Fits (change.Grade number label) facts = IsUnended number facts.leases × IsSomeAnd (slice_get facts.topics.topics label.topic) (MayLabel label.doc)
+Fits (change.Release number) facts = IsUnended number facts.leases
+Fits (change.Amend label) facts = IsSomeAnd (slice_get facts.topics.topics label.topic) (MayLabel label.doc)
+Fits (change.Rule ruling) facts = IsSomeAnd (slice_get facts.topics.topics ruling.topic) (MayRule ruling.doc)
+
+-- there is room for a change, and on the board for no other lists than its own
+abbrev pub HasRoom : Change → TopicsView → DeskView → Type 0
+HasRoom change.Nothing all desk = all.board.rooms ≡ []
+HasRoom (change.Topics given) all desk = all.board.rooms ≡ []
+HasRoom (change.Run run lists) all desk = HasRooms lists.items all.topics all.board
+HasRoom (change.Withdraw run) all desk = all.board.rooms ≡ []
+HasRoom (change.Lease grant) all desk = (1 ≤ desk.spare) × (all.board.rooms ≡ [])
+HasRoom (change.Grade number label) all desk = IsSomeAnd (slice_get all.topics label.topic) (AwaitsLabel label.doc) × (all.board.rooms ≡ [])
+HasRoom (change.Release number) all desk = all.board.rooms ≡ []
+HasRoom (change.Amend label) all desk = IsSomeAnd (slice_get all.topics label.topic) (AwaitsLabel label.doc) × (all.board.rooms ≡ [])
+HasRoom (change.Rule ruling) all desk = IsSomeAnd (slice_get all.topics ruling.topic) AwaitsGrade × (all.board.rooms ≡ [])
+
+-- a change that may be made, and for which there is room
+pub record IsReady (change : Change) (all : TopicsView) (desk : DeskView) : Type 0 where
+  pub fits : Fits change (facts_in all desk.leases)
+  pub room : HasRoom change all desk
+
+-- there is room for the change that is pending, and on the board for no lists where none is
+abbrev pub IsKept : Option Change → TopicsView → DeskView → Type 0
+IsKept None all desk = all.board.rooms ≡ []
+IsKept (Some change) all desk = IsReady change all desk

@@ -1,0 +1,4 @@
+pub mod TopicFacts
+pub mod RunLists
+pub mod TopicsFacts
+pub mod Changes

@@ -1,0 +1,96 @@
+-- What is known of one topic, and how it changes.
+use Rattle.std.specs.Prelude.{◌≡◌, ◌-◌, ◌<◌, ◌≤◌, ◌^◌, ℕ, nat_le, IsTrue, List, [], Option, Some, IsPermutation, length, map, take}
+use Rattle.std.specs.Option.{option_map}
+use Rattle.decimal_rank.specs.declared.naming.DocId.{DocId}
+use Rattle.depth_pool.specs.declared.runs.RunId.{RunId}
+use Rattle.depth_pool.specs.Holdings.{Held, with_run, without_run}
+use Rattle.labels.specs.Marked.{Marked, effective_at, given_at, is_marked, with_label_at, with_ruling_at}
+use Rattle.mtf_queue.specs.QueueView.{QueueView}
+use Rattle.mtf_queue.specs.Rule.{IsInOrder}
+use Rattle.mtf_queue.specs.declared.rule.Judged.{Judged}
+use Rattle.qrels_view.specs.Grades.{with_grade}
+use Rattle.qrels_view.specs.declared.grades.Graded.{Graded}
+use Rattle.assessment.specs.declared.topic.TopicRules.{TopicRules}
+
+-- a topic: its id, how many labels a document needs, the grade from which on a document is relevant, the depth of the pool, the runs with what they hold, the labels and rulings, and the effective grades by the first ones
+pub record TopicFacts : Type 0 where
+  pub id : List ℕ
+  pub need : ℕ
+  pub level : ℕ
+  pub depth : ℕ
+  pub pool : List Held
+  pub marked : List Marked
+  pub graded : List Graded
+
+-- a topic as contracts see it: the documents of the run for which the pool has room, the document for whose label there is room, and the room for more grades and for more runs and judged documents
+pub record TopicView : Type 0 where
+  pub facts : TopicFacts
+  pub pool_room : Option (List DocId)
+  pub label_room : Option DocId
+  pub grade_room : ℕ
+  pub queue_room : ℕ
+
+-- a topic before any run
+abbrev pub new_topic : TopicRules → TopicFacts
+new_topic rules = record { id = rules.id; need = rules.need; level = rules.level; depth = rules.depth; pool = []; marked = []; graded = [] }
+
+abbrev pub facts_of : TopicView → TopicFacts
+facts_of topic = topic.facts
+
+abbrev pub graded_of : TopicView → List Graded
+graded_of topic = topic.facts.graded
+
+-- a topic with one more run, which holds the first documents of its list
+abbrev pub with_list : RunId → List DocId → TopicFacts → TopicFacts
+with_list run docs topic = record topic { pool = with_run (record { run = run; docs = take topic.depth docs }) topic.pool }
+
+-- a topic without a run
+abbrev pub without_list : RunId → TopicFacts → TopicFacts
+without_list run topic = record topic { pool = without_run run topic.pool }
+
+-- a topic with the grade that its labels and rulings give a document
+abbrev pub with_effective : DocId → TopicFacts → TopicFacts
+with_effective doc topic = record topic { graded = with_grade doc (effective_at topic.need topic.marked doc) topic.graded }
+
+-- a topic after an assessor gives a document a grade
+abbrev pub with_label : DocId → List ℕ → ℕ → TopicFacts → TopicFacts
+with_label doc assessor grade topic = with_effective doc (record topic { marked = with_label_at doc assessor grade topic.marked })
+
+-- a topic after a ruling on a document
+abbrev pub with_ruling : DocId → ℕ → TopicFacts → TopicFacts
+with_ruling doc grade topic = with_effective doc (record topic { marked = with_ruling_at doc grade topic.marked })
+
+-- there is room for a run with this list
+pub record AwaitsRun (docs : List DocId) (topic : TopicView) : Type 0 where
+  pub pool : topic.pool_room ≡ Some (take topic.facts.depth docs)
+  pub place : 1 ≤ topic.queue_room
+
+-- there is room for one more grade
+pub record AwaitsGrade (topic : TopicView) : Type 0 where
+  pub grade : 1 ≤ topic.grade_room
+  pub place : 1 ≤ topic.queue_room
+
+-- there is room for a label of this document
+pub record AwaitsLabel (doc : DocId) (topic : TopicView) : Type 0 where
+  pub label : topic.label_room ≡ Some doc
+  pub grade : AwaitsGrade topic
+
+-- a document of the trail, and whether it is relevant
+abbrev pub judged_of : ℕ → Graded → Judged
+judged_of level one = record { doc = one.doc; relevant = option_map (nat_le level) one.grade }
+
+-- The queue has the runs of the pool in the judging order, by the grades.
+pub record IsQueued (level : ℕ) (pool : List Held) (graded : List Graded) (queue : QueueView) : Type 0 where
+  pub runs : IsPermutation (map (λ held. held.run) pool) queue.order
+  pub in_order : IsInOrder pool queue.trail queue.order
+  pub trail_is : queue.trail ≡ map (judged_of level) graded
+
+-- a document may get a label: it has few, and the topic has few grades
+pub record MayLabel (doc : DocId) (topic : TopicFacts) : Type 0 where
+  pub few_labels : length (given_at topic.marked doc) < 2 ^ 32 - 1
+  pub few_grades : length topic.graded < 268435456
+
+-- a document may be ruled on: it has a label, and the topic has few grades
+pub record MayRule (doc : DocId) (topic : TopicFacts) : Type 0 where
+  pub labelled : IsTrue (is_marked topic.marked doc)
+  pub few_grades : length topic.graded < 268435456

@@ -1,0 +1,115 @@
+//! The assessment of a campaign: a change is reserved, and then committed or cancelled.
+//!
+//! ```text
+//! at rest     nothing is pending, and the board has no room for a list
+//! reserve     room is made for one change, which then is pending; on want of memory at rest again
+//! commit      the pending change is made, without memory; at rest again
+//! cancel      the room of the pending change is given back; at rest again
+//! ```
+ghost use Rattle.std.specs.Prelude.{◌≡◌, [], IfOk, IfSome, IsSome, None, OnErr, OnOk, Some};
+ghost use Rattle.assessment.specs.Changes.{Fits, after, facts};
+ghost use Rattle.assessment.specs.TopicsFacts.{new_topics};
+
+use crate::change::Change;
+use crate::effects::{give_back, make, make_room};
+use crate::topics::Topics;
+use decimal_rank::{Memory, Steps};
+use lease_desk::Desk;
+use std::alloc::Global;
+use std::marker::Model;
+use std::sync::ledger::Ledger;
+
+/// What a campaign knows by numbers. Contracts see the topics with the board, the leases, and the
+/// change for which there is room.
+#[derive(Drop)]
+pub struct Assessment {
+    topics: Topics,
+    desk: Desk,
+    pending: Option<Change>,
+}
+
+impl Model for Assessment {
+    ghost use Rattle.assessment.specs.Changes.{AssessmentView, IsKept};
+
+    ghost Value = { AssessmentView };
+
+    ghost view = { λ all. record { topics = all.topics; leases = all.desk.leases; pending = all.pending } };
+
+    ghost invariant = { λ all. IsKept all.pending all.topics all.desk };
+}
+
+impl Assessment {
+    /// No topic and no lease yet, on a board of this level.
+    pub fn new(alloc: Global, level: u8) -> Result<Assessment, Memory>
+        ensures facts { IfOk result (λ all. facts all ≡ record { topics = new_topics [] level; leases = [] }) }
+        ensures pending { IfOk result (λ all. all.pending ≡ None) }
+    {
+        let topics = Topics::new(alloc, Vec::new(alloc), level)?;
+        Ok(Assessment {
+            topics,
+            desk: Desk::new(alloc),
+            pending: None,
+        })
+    }
+
+    /// Makes room for a change, in place of the one that was pending. On want of memory none is
+    /// pending.
+    pub fn reserve(&mut self, change: Change) -> Result<(), Memory>
+        requires { Fits change (facts self.old) }
+        ensures ok { OnOk result (self.new.pending ≡ Some change) }
+        ensures err { OnErr result (self.new.pending ≡ None) }
+        ensures unreserved { OnErr result (self.new.topics.board.rooms ≡ []) }
+        ensures facts { facts self.new ≡ facts self.old }
+    {
+        self.cancel();
+        match make_room(&mut self.topics, &mut self.desk, &change) {
+            Ok(()) => {
+                self.pending = Some(change);
+                Ok(())
+            }
+            Err(memory) => {
+                drop(change);
+                Err(memory)
+            }
+        }
+    }
+
+    /// Makes the change that is pending.
+    pub fn commit<L: Ledger>(&mut self, steps: &mut Steps<L>)
+        requires { IsSome self.old.pending }
+        ensures facts { IfSome self.old.pending (λ change. facts self.new ≡ after change (facts self.old)) }
+        ensures pending { self.new.pending ≡ None }
+        ensures unreserved { self.new.topics.board.rooms ≡ [] }
+    {
+        if let Some(change) = self.pending.take() {
+            make(&mut self.topics, &mut self.desk, change, steps);
+        }
+    }
+
+    /// Gives the room of the change that is pending back.
+    pub fn cancel(&mut self)
+        ensures facts { facts self.new ≡ facts self.old }
+        ensures pending { self.new.pending ≡ None }
+        ensures unreserved { self.new.topics.board.rooms ≡ [] }
+    {
+        if let Some(change) = self.pending.take() {
+            give_back(&mut self.topics, &self.desk, &change);
+            drop(change);
+        }
+    }
+
+    /// The topics, with the board. Where nothing is pending the board has no room for a list.
+    pub fn topics(&self) -> &Topics
+        ensures topics { result.now ≡ self.now.topics }
+        ensures unreserved { self.now.pending ≡ None → (result.now.board.rooms ≡ []) }
+    {
+        &self.topics
+    }
+
+    /// The leases in the order of their numbers.
+    pub fn desk(&self) -> &Desk
+        ensures { result.now.leases ≡ self.now.leases }
+    {
+        &self.desk
+    }
+}
