@@ -11,7 +11,7 @@ pub const MOST_BYTES: u64 = 1 << 40;
 
 /// Bytes that outlast a crash once they are synced. A call that fails may have done its work whole, in
 /// part or not at all.
-pub trait Disk: Send {
+pub trait Disk {
     /// What a read gives, where the disk tells it.
     ghost content: { Self → Option (List ℕ) };
 

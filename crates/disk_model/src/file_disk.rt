@@ -135,7 +135,7 @@ fn counted<T: Drop>(outcome: io::Result<T>, faults: &mut u64) -> Result<T, Faile
     }
 }
 
-impl<'a, R: Files<File = File> + Send + Drop> Disk for FileDisk<'a, R> {
+impl<'a, R: Files<File = File> + Drop> Disk for FileDisk<'a, R> {
     ghost use Rattle.std.specs.Prelude.{None};
 
     ghost content = { λ _. None };

@@ -14,7 +14,7 @@ fn path_of(rt: &HostRuntime, name: &str) -> Result<String, Fail> {
 }
 
 // What a disk gives from its front, and how many bytes it has.
-fn front_of<R: std::rt::Files<File = fs::File> + Send + Drop>(
+fn front_of<R: std::rt::Files<File = fs::File> + Drop>(
     disk: &mut FileDisk<'_, R>,
 ) -> Result<([u8; 3], u64), Failed> {
     let mut front = [0; 3];

@@ -11,7 +11,7 @@ use Rattle.journal.proofs.appending.put.Goals as goal
 pub open_gate-requires-clause-within : goal.open_gate-requires-clause-within
 open_gate-requires-clause-within g c =
     let kept = c.requires.settled in
-    λ _ _. staged_reaches (g.D.Disk.images c.stage.new.disk) c.args.place.now kept.0 c.args.bytes.now (c.in_ok-stage.ensures.done kept.0 kept.1)
+    staged_reaches (g.D.Disk.images c.stage.new.disk) c.args.place.now kept.0 c.args.bytes.now (c.in_ok-stage.ensures.done kept.0 kept.1)
 
 pub returns-in_err-open_gate-clause-kept : goal.returns-in_err-open_gate-clause-kept
 returns-in_err-open_gate-clause-kept g c =

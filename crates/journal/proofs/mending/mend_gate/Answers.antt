@@ -5,7 +5,7 @@ use Rattle.journal.specs.Moments.{joined}
 use Rattle.journal.proofs.mending.mend_gate.Goals as goal
 
 pub mend_cut-requires-clause-cut : goal.mend_cut-requires-clause-cut
-mend_cut-requires-clause-cut g c = let kept = c.requires.gate in λ _ _. (kept.0, c.in_ok-close_gate.ensures.done kept.0 kept.1 kept.2)
+mend_cut-requires-clause-cut g c = let kept = c.requires.gate in (kept.0, c.in_ok-close_gate.ensures.done kept.0 kept.1 kept.2)
 
 pub returns-in_err-mend_cut-clause-kept : goal.returns-in_err-mend_cut-clause-kept
 returns-in_err-mend_cut-clause-kept g c all pending kept = inl (c.mend_cut.ensures.kept all (c.in_ok-close_gate.ensures.done all pending kept))

@@ -12,7 +12,7 @@ mend_due-requires-clause-kept g c =
     let read = c.in_ok-records.ensures in
     let place = c.in_ok-records.records.place in
     let all = payloads c.in_ok-records.records.payloads.items in
-    λ _ _. (all, [], due_keeps c.args.bytes.now place all read.front read.all (g.D.Disk.images c.args.disk.now) c.requires.alone c.due_at-due.result c.due_at-due.ensures)
+    (all, [], due_keeps c.args.bytes.now place all read.front read.all (g.D.Disk.images c.args.disk.now) c.requires.alone c.due_at-due.result c.due_at-due.ensures)
 
 pub returns-clause-settled : goal.returns-clause-settled
 returns-clause-settled g c =

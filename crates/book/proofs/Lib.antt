@@ -1,0 +1,6 @@
+mod Keeping
+mod Acting
+mod Following
+mod Storied
+mod Founders
+mod TakenUps

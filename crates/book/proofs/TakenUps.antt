@@ -1,0 +1,185 @@
+-- An open journal as a book, by what its records are.
+use Rattle.std.proofs.Common.{◌≡◌, ◌≢◌, ◌⊎◌, inl, inr, ℕ, ◌+◌, ◌-◌, ◌<◌, ◌≤◌, ◌^◌, List, [], ◌∷◌, ◌++◌, Option, None, Some, Vec, length, take, drop, get_or, refl, sym, ap, subst, ◌∙◌, arith}
+use Rattle.std.specs.Prelude.{IfErr, IfOk, IfSome, Result, Ok, Err}
+use Rattle.std.specs.declared.alloc.Global.{Global}
+use Rattle.std.proofs.lemmas.List.{take_all}
+use Rattle.decimal_rank.specs.Causes.{Rose}
+use Rattle.disk_model.specs.Disks.{EachMoment, NoFurther}
+use Rattle.journal.specs.declared.dues.Due.TheVariants.{Nothing}
+use Rattle.journal.specs.declared.opening.OpenFault.{OpenFault}
+use Rattle.journal.specs.declared.opening.OpenFault.TheVariants as open_fault
+use Rattle.journal.specs.Format.{decode}
+use Rattle.journal.specs.Journals.{JournalState}
+use Rattle.journal.specs.Kept.{Settled, StandsForOneOf, payloads as payloads_of}
+use Rattle.journal.specs.Moments.{DecodesAs, Turned, Turns, joined, started, weaker}
+use Rattle.rulebook.specs.declared.entry.Entry.{Entry}
+use Rattle.rulebook.specs.declared.rules.Rules.{Rules}
+use Rattle.rulebook.specs.Campaign.{History}
+use Rattle.rulebook.specs.Legal.{IsAccepted, IsLegal, founding}
+use Rattle.rulebook.specs.Words.{Text}
+use Rattle.book.specs.declared.faults.BookFault.{BookFault}
+use Rattle.book.specs.declared.faults.BookFault.TheVariants as fault
+use Rattle.book.specs.Books.{IsSound, Seen}
+use Rattle.book.specs.Journaling.{IsKept, Parts}
+use Rattle.book.specs.Openings.{Causes, Establishes, Opened, OpensTo, OpensWith, Reads, Refused}
+use Rattle.book.specs.Replays.{Stops}
+use Rattle.book.specs.Stories.{spellings}
+use Rattle.book.specs.Taking.{GivenUp, TakenUp, TakesUp, WhyNot, told_as}
+use Rattle.book.proofs.Keeping.{settled_keeps}
+
+-- the records by their first
+pub no_records : (records : List (Vec ℕ Global)) → length records < 1 → [] ≡ payloads_of records
+no_records [] few = refl
+no_records (x ∷ records) few = absurd (omega (arith, few))
+
+pub first_and_others : (records : List (Vec ℕ Global)) (first : Vec ℕ Global) → 1 ≤ length records → first ≡ get_or records 0 first
+    → first.items ∷ payloads_of (take (length records - 1) (drop 1 records)) ≡ payloads_of records
+first_and_others [] first some is = absurd (omega (arith, some))
+first_and_others (x ∷ records) first some is =
+    ap (λ (p : Vec ℕ Global). p.items ∷ payloads_of (take (length (x ∷ records) - 1) records)) is
+    ∙ ap (λ (rest : List (Vec ℕ Global)). x.items ∷ payloads_of rest) (take_all (length (x ∷ records) - 1) records (omega arith))
+
+-- an image while the founding entry is added
+pub establishes : (rules : Rules) (frame : Text) (H : History) → frame ∷ [] ≡ spellings H → H ≡ founding rules ∷ [] → (image : List ℕ) → StandsForOneOf [] [] frame image → Establishes rules [] image
+establishes rules frame H frame_is is image (inl (inl none)) = inl none
+establishes rules frame H frame_is is image (inl (inr none)) = inl none
+establishes rules frame H frame_is is image (inr (inl none)) = inl none
+establishes rules frame H frame_is is image (inr (inr one)) = inr (refl, one ∙ ap Some (frame_is ∙ ap spellings is))
+
+module _ {D : Type 0} (images : D → List ℕ → Type 0) (clock : D → ℕ) (since : D → ℕ → List ℕ → Type 0) (faults : D → ℕ) where
+  -- a book of a journal and its entries
+  pub reopened : (journal : JournalState D) (H : History) (opening : ℕ) → IsLegal H → Settled (images journal.disk) journal.place (spellings H) → journal.due ≡ Nothing → opening ≤ faults journal.disk
+      → IsKept images clock since faults (record { journal = journal; history = H; pending = None }) opening
+  reopened journal H opening legal settled nothing later = record {
+    legal = legal;
+    keeps = settled_keeps images journal H None nothing settled;
+    accepted = λ e is. absurd (cc is);
+    rose = λ some. absurd (cc some);
+    opened = later;
+  }
+
+  -- no call was made on the disk, each of whose images gives the records
+  module _ (only_now : (disk : D) (image : List ℕ) → since disk (clock disk) image → images disk image) (rules : Rules) (payloads : List Text) (opening : ℕ) (disk : D)
+      (alone : (image : List ℕ) → images disk image → decode image ≡ Some payloads) where
+    pub records_stay : EachMoment clock since disk disk (Establishes rules payloads)
+    records_stay = started clock since disk (Establishes rules payloads) (λ image left. inl (alone image (only_now disk image left)))
+
+    why_not : (why : BookFault) → Stops rules payloads why → WhyNot images clock since faults rules payloads opening disk disk why
+    why_not fault.Disk stops = absurd stops
+    why_not fault.Header stops = absurd stops
+    why_not (fault.Damaged entry) stops = stops
+    why_not fault.RulesDiffer stops = stops
+    why_not fault.Memory stops = tt
+
+    pub given_up : (why : BookFault) → Stops rules payloads why → GivenUp images clock since faults rules payloads opening disk disk why
+    given_up why stops = record { causes = why_not why stops; later = omega arith; moments = records_stay }
+
+    pub taken_up : (book : Seen D) (H : History) → book ≡ record { disk = disk; history = H; pending = None; opening = opening } → IsSound images clock since faults book → OpensWith rules payloads H
+        → TakenUp images clock since faults rules payloads opening disk book
+    taken_up book H is sound opens =
+        subst (λ (book : Seen D). TakenUp images clock since faults rules payloads opening disk book) (sym is)
+        (record { opens = opens; alone = refl; opening_is = refl; sound = subst (IsSound images clock since faults) is sound; later = omega arith; moments = records_stay })
+
+  -- the founding entry was to be added
+  module _ (rules : Rules) (opening : ℕ) (old new : D) (moments : EachMoment clock since old new (Establishes rules [])) (later : faults old ≤ faults new) where
+    pub established : (book : Seen D) (H : History) → book ≡ record { disk = new; history = H; pending = None; opening = opening } → IsSound images clock since faults book → H ≡ founding rules ∷ []
+        → TakenUp images clock since faults rules [] opening old book
+    established book H is sound founded =
+        subst (λ (book : Seen D). TakenUp images clock since faults rules [] opening old book) (sym is)
+        (record { opens = founded; alone = refl; opening_is = refl; sound = subst (IsSound images clock since faults) is sound; later = later; moments = moments })
+
+    pub not_established : (why : BookFault) → why ≡ fault.Disk → Rose (faults old) (faults new) → GivenUp images clock since faults rules [] opening old new why
+    not_established why is rose =
+        subst (λ (why : BookFault). GivenUp images clock since faults rules [] opening old new why) (sym is) (record { causes = rose; later = later; moments = moments })
+
+-- From the disk that is handed in to the open journal, and on to the book.
+module _ {D : Type 0} (content : D → Option (List ℕ)) (images : D → List ℕ → Type 0) (clock : D → ℕ) (since : D → ℕ → List ℕ → Type 0) (faults : D → ℕ) (rules : Rules) (disk mid : D) where
+  -- what the content gives
+  opens_to : (payloads : List Text) → Reads (content disk) payloads → (image : List ℕ) → Establishes rules payloads image → OpensTo (content disk) rules image
+  opens_to payloads reads image here = by (content disk) reads here
+    where
+      by : (told : Option (List ℕ)) → Reads told payloads → Establishes rules payloads image → OpensTo told rules image
+      by None reads here = tt
+      by (Some bytes) reads (inl same) = inl (same ∙ sym reads)
+      by (Some bytes) reads (inr (none, founded)) = inr (reads ∙ ap Some none, founded)
+
+  pub decodes_to : (image : List ℕ) → DecodesAs (content disk) image → OpensTo (content disk) rules image
+  decodes_to image here = by (content disk) here
+    where
+      by : (told : Option (List ℕ)) → DecodesAs told image → OpensTo told rules image
+      by None here = tt
+      by (Some bytes) here = inl here
+
+  turned_on : (payloads : List Text) (after : D) → Reads (content disk) payloads → Turned clock images since disk mid (DecodesAs (content disk)) → EachMoment clock since mid after (Establishes rules payloads)
+      → Turned clock images since disk after (OpensTo (content disk) rules)
+  turned_on payloads after reads turned moments = record {
+    synced = turned.synced;
+    at_entry = turned.at_entry;
+    turned = joined clock since turned.synced mid after (OpensTo (content disk) rules)
+        (weaker clock since turned.synced mid (DecodesAs (content disk)) (OpensTo (content disk) rules) decodes_to turned.turned)
+        (weaker clock since mid after (Establishes rules payloads) (OpensTo (content disk) rules) (opens_to payloads reads) moments);
+  }
+
+  opened : (payloads : List Text) (opening : ℕ) (book : Seen D) → opening ≡ faults disk → faults disk ≤ faults mid → Reads (content disk) payloads → Turned clock images since disk mid (DecodesAs (content disk))
+      → TakenUp images clock since faults rules payloads opening mid book → Opened content images clock since faults rules disk book
+  opened payloads opening book opening_is later reads turned taken = record {
+    payloads = payloads;
+    reads = reads;
+    opens = taken.opens;
+    alone = taken.alone;
+    opening_is = taken.opening_is ∙ opening_is;
+    sound = taken.sound;
+    later = omega (arith, later, taken.later);
+    moments = turned_on payloads book.disk reads turned taken.moments;
+  }
+
+  causes : (payloads : List Text) (opening : ℕ) (after : D) (why : BookFault) → faults disk ≤ faults mid → Reads (content disk) payloads → WhyNot images clock since faults rules payloads opening mid after why
+      → Causes content images clock since faults rules disk after why
+  causes payloads opening after fault.Disk later reads why = omega (arith, later, why)
+  causes payloads opening after fault.Header later reads why = absurd why
+  causes payloads opening after (fault.Damaged entry) later reads why = (payloads, reads, why)
+  causes payloads opening after fault.RulesDiffer later reads why = (payloads, reads, why)
+  causes payloads opening after fault.Memory later reads why = tt
+
+  refused : (payloads : List Text) (opening : ℕ) (after : D) (why : BookFault) → faults disk ≤ faults mid → Reads (content disk) payloads → Turned clock images since disk mid (DecodesAs (content disk))
+      → GivenUp images clock since faults rules payloads opening mid after why → Refused content images clock since faults rules disk after why
+  refused payloads opening after why later reads turned given = record {
+    causes = causes payloads opening after why later reads given.causes;
+    later = omega (arith, later, given.later);
+    moments = inr (turned_on payloads after reads turned given.moments);
+  }
+
+  pub opened_result : (payloads : List Text) (opening : ℕ) → opening ≡ faults disk → faults disk ≤ faults mid → Reads (content disk) payloads → Turned clock images since disk mid (DecodesAs (content disk))
+      → (result : Result (Seen D) (D × BookFault)) → TakesUp images clock since faults rules payloads opening mid result → IfOk result (Opened content images clock since faults rules disk)
+  opened_result payloads opening opening_is later reads turned (Ok book) taken = opened payloads opening book opening_is later reads turned taken
+  opened_result payloads opening opening_is later reads turned (Err given) taken = tt
+
+  pub refused_result : (payloads : List Text) (opening : ℕ) → faults disk ≤ faults mid → Reads (content disk) payloads → Turned clock images since disk mid (DecodesAs (content disk))
+      → (result : Result (Seen D) (D × BookFault)) → TakesUp images clock since faults rules payloads opening mid result → IfErr result (λ given. Refused content images clock since faults rules disk given.0 given.1)
+  refused_result payloads opening later reads turned (Ok book) taken = tt
+  refused_result payloads opening later reads turned (Err given) taken = refused payloads opening given.0 given.1 later reads turned taken
+
+-- a journal that wasn't opened
+module _ {D : Type 0} (content : D → Option (List ℕ)) (images : D → List ℕ → Type 0) (clock : D → ℕ) (since : D → ℕ → List ℕ → Type 0) (faults : D → ℕ) (rules : Rules) (disk after : D) where
+  turns_on : Turns clock images since disk after (DecodesAs (content disk)) → Turns clock images since disk after (OpensTo (content disk) rules)
+  turns_on (inl entry) = inl entry
+  turns_on (inr turned) = inr (record {
+    synced = turned.synced;
+    at_entry = turned.at_entry;
+    turned = weaker clock since turned.synced after (DecodesAs (content disk)) (OpensTo (content disk) rules) (decodes_to content images clock since faults rules disk after) turned.turned;
+  })
+
+  pub not_opened : (why : OpenFault) → (why ≡ open_fault.Header → IfSome (content disk) (λ bytes. decode bytes ≡ None))
+      → (why ≢ open_fault.Disk → (content after ≡ content disk) × NoFurther (images disk) (images after)) → (why ≡ open_fault.Disk → Rose (faults disk) (faults after))
+      → faults disk ≤ faults after → Turns clock images since disk after (DecodesAs (content disk)) → (told : BookFault) → told ≡ told_as why → Refused content images clock since faults rules disk after told
+  not_opened why header untouched rose later turns told is =
+      subst (λ (told : BookFault). Refused content images clock since faults rules disk after told) (sym is) (by why header untouched rose)
+    where
+      by : (why : OpenFault) → (why ≡ open_fault.Header → IfSome (content disk) (λ bytes. decode bytes ≡ None))
+          → (why ≢ open_fault.Disk → (content after ≡ content disk) × NoFurther (images disk) (images after)) → (why ≡ open_fault.Disk → Rose (faults disk) (faults after))
+          → Refused content images clock since faults rules disk after (told_as why)
+      by open_fault.Disk header untouched rose = record { causes = rose refl; later = later; moments = turns_on turns }
+      by open_fault.Header header untouched rose =
+          let same = untouched (λ is. cc) in
+          record { causes = (header refl, same.0, same.1); later = later; moments = turns_on turns }
+      by open_fault.Memory header untouched rose = record { causes = tt; later = later; moments = turns_on turns }

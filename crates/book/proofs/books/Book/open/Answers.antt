@@ -1,0 +1,31 @@
+-- A disk as a book.
+use Rattle.std.proofs.Common.{List, Vec, ℕ, sym, subst, ap}
+use Rattle.std.specs.declared.alloc.Global.{Global}
+use Rattle.journal.specs.Kept.{payloads as payloads_of}
+use Rattle.rulebook.specs.Words.{Text}
+use Rattle.book.specs.Openings.{Refused}
+use Rattle.book.specs.Taking.{TakesUp}
+use Rattle.book.proofs.TakenUps.{not_opened, opened_result, refused_result}
+use Rattle.book.proofs.books.Book.open.Goals as goal
+
+pub returns-in-Ok-clause-opened : goal.returns-in-Ok-clause-opened
+returns-in-Ok-clause-opened g c =
+    let D = g.D.Disk in
+    let mid = c.in-Ok.journal.disk in
+    let payloads = payloads_of c.in-Ok.records.items in
+    let takes = subst (λ (records : List (Vec ℕ Global)). TakesUp D.images D.clock D.images_since D.fault_count c.args.rules (payloads_of records) c.faults-opening.result mid c.take_up.result) c.deref.ensures.value c.take_up.ensures in
+    opened_result D.content D.images D.clock D.images_since D.fault_count c.args.rules c.args.disk mid payloads c.faults-opening.result c.faults-opening.ensures c.in-Ok.ensures.later c.in-Ok.ensures.read c.in-Ok.ensures.any_moment c.take_up.result takes
+
+pub returns-in-Ok-clause-refused : goal.returns-in-Ok-clause-refused
+returns-in-Ok-clause-refused g c =
+    let D = g.D.Disk in
+    let mid = c.in-Ok.journal.disk in
+    let payloads = payloads_of c.in-Ok.records.items in
+    let takes = subst (λ (records : List (Vec ℕ Global)). TakesUp D.images D.clock D.images_since D.fault_count c.args.rules (payloads_of records) c.faults-opening.result mid c.take_up.result) c.deref.ensures.value c.take_up.ensures in
+    refused_result D.content D.images D.clock D.images_since D.fault_count c.args.rules c.args.disk mid payloads c.faults-opening.result c.in-Ok.ensures.later c.in-Ok.ensures.read c.in-Ok.ensures.any_moment c.take_up.result takes
+
+pub returns-in-Err-clause-refused : goal.returns-in-Err-clause-refused
+returns-in-Err-clause-refused g c =
+    let D = g.D.Disk in
+    let why = c.in-Err.ensures in
+    not_opened D.content D.images D.clock D.images_since D.fault_count c.args.rules c.args.disk c.in-Err.disk c.in-Err.fault why.header why.untouched why.fault why.later_err why.any_moment_err c.fault_of.result c.fault_of.ensures

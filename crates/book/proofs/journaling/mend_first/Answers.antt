@@ -1,0 +1,25 @@
+-- What a mend leaves, done or failed, or where none is due.
+use Rattle.std.proofs.Common.{Option, subst, sym}
+use Rattle.rulebook.specs.declared.entry.Entry.{Entry}
+use Rattle.book.specs.Journaling.{KeepsBook}
+use Rattle.book.proofs.Keeping.{book_holds, mend_moments, nothing_due, still_keeps, still_moments}
+use Rattle.book.proofs.journaling.mend_first.Goals as goal
+
+pub returns-then-not-is_due-clause-keeps : goal.returns-then-not-is_due-clause-keeps
+returns-then-not-is_due-clause-keeps g c H keeps =
+    subst (λ (pending : Option Entry). KeepsBook g.D.Disk.images c.args.journal.now H pending) (sym c.settle.ensures)
+    (still_keeps g.D.Disk.images g.D.Disk.clock g.D.Disk.images_since c.args.journal.now H c.args.pending.now keeps
+    (nothing_due c.args.journal.now.due c.is_due.result c.is_due.ensures.1 c.if-not-is_due.true))
+
+pub returns-then-not-is_due-clause-any_moment : goal.returns-then-not-is_due-clause-any_moment
+returns-then-not-is_due-clause-any_moment g c H keeps =
+    still_moments g.D.Disk.images g.D.Disk.clock g.D.Disk.images_since c.args.journal.now H c.args.pending.now keeps
+    (book_holds g.D.Disk.images g.D.Disk.clock g.D.Disk.images_since c.args.journal.now H c.args.pending.now keeps c.stands.ensures.stands) (g.met.D.Disk.only_now c.args.journal.now.disk)
+
+pub returns-in-Ok-clause-any_moment : goal.returns-in-Ok-clause-any_moment
+returns-in-Ok-clause-any_moment g c H keeps =
+    mend_moments g.D.Disk.images g.D.Disk.clock g.D.Disk.images_since c.args.journal.now H c.args.pending.now keeps c.mend.new.self c.mend.ensures.any_moment
+
+pub returns-in-Err-clause-any_moment : goal.returns-in-Err-clause-any_moment
+returns-in-Err-clause-any_moment g c H keeps =
+    mend_moments g.D.Disk.images g.D.Disk.clock g.D.Disk.images_since c.args.journal.now H c.args.pending.now keeps c.mend.new.self c.mend.ensures.any_moment

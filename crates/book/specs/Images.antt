@@ -1,0 +1,32 @@
+-- What the images of a disk hold: these entries, or these and one that is being added.
+use Rattle.std.specs.Prelude.{◌≡◌, ◌⊎◌, ℕ, List, [], ◌∷◌, ◌++◌, Option, None, Some}
+use Rattle.journal.specs.Format.{decode}
+use Rattle.rulebook.specs.Campaign.{History}
+use Rattle.rulebook.specs.declared.entry.Entry.{Entry}
+use Rattle.rulebook.specs.Legal.{IsAccepted}
+use Rattle.rulebook.specs.Stories.{StartsWith}
+use Rattle.book.specs.Stories.{spellings}
+
+-- the image's records are the spellings of these entries
+abbrev pub Holds : History → List ℕ → Type 0
+Holds H image = decode image ≡ Some (spellings H)
+
+-- of these entries, or of these and the one that is pending
+abbrev pub HoldsWith : History → Option Entry → List ℕ → Type 0
+HoldsWith H None image = Holds H image
+HoldsWith H (Some e) image = Holds H image ⊎ Holds (H ++ e ∷ []) image
+
+-- each image holds these entries, or these and the one that is pending
+abbrev pub StandsFor : (List ℕ → Type 0) → History → Option Entry → Type 0
+StandsFor images H pending = (image : List ℕ) → images image → HoldsWith H pending image
+
+-- these entries, with the one that was pending or with the one that is added, never with both
+abbrev pub HoldsOneOf : History → Option Entry → History → List ℕ → Type 0
+HoldsOneOf H pending added image = HoldsWith H pending image ⊎ ((e : Entry) × (added ≡ e ∷ []) × Holds (H ++ e ∷ []) image)
+
+-- A part of the later entries from their start, no shorter than the earlier ones; or it and one entry that the rules accept after it.
+pub record IsBetween (earlier later : History) (image : List ℕ) : Type 0 where
+  pub part : History
+  pub no_shorter : StartsWith part earlier
+  pub no_longer : StartsWith later part
+  pub held : Holds part image ⊎ ((e : Entry) × IsAccepted part e × Holds (part ++ e ∷ []) image)

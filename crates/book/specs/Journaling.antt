@@ -1,0 +1,60 @@
+-- What a journal keeps for a book, and what the journaling of an entry comes to.
+use Rattle.std.specs.Prelude.{◌≡◌, ◌⊎◌, ℕ, ◌+◌, ◌≤◌, ◌^◌, List, [], ◌∷◌, ◌++◌, Option, None, Some, IsTrue, is_some, length}
+use Rattle.decimal_rank.specs.Causes.{Rose}
+use Rattle.disk_model.specs.Disks.{EachMoment}
+use Rattle.journal.specs.Format.{place_behind}
+use Rattle.journal.specs.Journals.{JournalState}
+use Rattle.journal.specs.Kept.{KeepsSome}
+use Rattle.rulebook.specs.declared.answer.Answer.{Answer}
+use Rattle.rulebook.specs.declared.answer.Answer.TheVariants as answered
+use Rattle.rulebook.specs.declared.entry.Entry.{Entry}
+use Rattle.rulebook.specs.Campaign.{History}
+use Rattle.rulebook.specs.Legal.{IsAccepted, IsLegal}
+use Rattle.rulebook.specs.Spelling.{entry_bytes, has_spelling}
+use Rattle.rulebook.specs.Words.{Text}
+use Rattle.book.specs.Images.{HoldsOneOf}
+use Rattle.book.specs.Stories.{spellings}
+
+-- the spelling of the pending entry, if one is
+abbrev pub spelled : Option Entry → List Text
+spelled None = []
+spelled (Some e) = entry_bytes e.core ∷ []
+
+-- the journal keeps these entries, and perhaps the pending one
+abbrev pub KeepsBook : {D : Type 0} → (D → List ℕ → Type 0) → JournalState D → History → Option Entry → Type 0
+KeepsBook images journal H pending = KeepsSome (images journal.disk) journal.place journal.due (spellings H) (spelled pending)
+
+-- an entry that has a spelling, for whose record there is room behind these entries
+pub record HasRoom (H : History) (e : Entry) : Type 0 where
+  pub spells : IsTrue (has_spelling e.core)
+  pub short : length (entry_bytes e.core) ≤ 2 ^ 25
+  pub room : place_behind (spellings H) + 6 + length (entry_bytes e.core) ≤ 2 ^ 40
+
+-- the parts of a book that an entry changes
+pub record Parts (D : Type 0) : Type 0 where
+  pub journal : JournalState D
+  pub history : History
+  pub pending : Option Entry
+
+module _ {D : Type 0} (images : D → List ℕ → Type 0) (clock : D → ℕ) (images_since : D → ℕ → List ℕ → Type 0) (faults : D → ℕ) where
+  -- what a book keeps true of its parts
+  pub record IsKept (parts : Parts D) (opening : ℕ) : Type 0 where
+    pub legal : IsLegal parts.history
+    pub keeps : KeepsBook images parts.journal parts.history parts.pending
+    pub accepted : (e : Entry) → parts.pending ≡ Some e → IsAccepted parts.history e
+    pub rose : IsTrue (is_some parts.pending) → Rose opening (faults parts.journal.disk)
+    pub opened : opening ≤ faults parts.journal.disk
+
+  -- the entry was added; or the disk failed, and what was pending is so still or the entry is; or there was no memory
+  abbrev pub Comes : Parts D → Entry → Answer → Parts D → Type 0
+  Comes old e (answered.Reply reply) new = (reply ≡ e.reply) × (new.history ≡ old.history ++ e ∷ []) × (new.pending ≡ None)
+  Comes old e answered.DiskFault new =
+      (new.history ≡ old.history) × ((new.pending ≡ old.pending) ⊎ (new.pending ≡ Some e)) × Rose (faults old.journal.disk) (faults new.journal.disk)
+  Comes old e answered.Memory new = (new.journal ≡ old.journal) × (new.history ≡ old.history) × (new.pending ≡ old.pending)
+
+  -- an entry that the rules add was journaled, or not
+  pub record Accepts (old : Parts D) (e : Entry) (answer : Answer) (new : Parts D) : Type 0 where
+    pub comes : Comes old e answer new
+    pub keeps : KeepsBook images new.journal new.history new.pending
+    pub moments : EachMoment clock images_since old.journal.disk new.journal.disk (HoldsOneOf old.history old.pending (e ∷ []))
+    pub later : faults old.journal.disk ≤ faults new.journal.disk

@@ -1,0 +1,9 @@
+pub mod Stories
+pub mod Images
+pub mod Books
+pub mod RunLaws
+pub mod Journaling
+pub mod Laws
+pub mod Openings
+pub mod Replays
+pub mod Taking

@@ -1,0 +1,145 @@
+//! A book: the accepted entries, and the journal that keeps them. A request is answered by the entries;
+//! the entry that it adds joins them once it is journaled.
+ghost use Rattle.std.specs.Prelude.{◌≡◌, length, None, Some};
+ghost use Rattle.rulebook.specs.Campaign.{phase as phase_of};
+ghost use Rattle.rulebook.specs.Stories.{IsAddressed};
+ghost use Rattle.book.specs.Books.{Acts, IsSound};
+ghost use Rattle.book.specs.Journaling.{Accepts, HasRoom, KeepsBook};
+
+use crate::commits::commit;
+use crate::journaling::{frame_of, keep};
+use crate::laws::rule_laws;
+use crate::pending::Pending;
+use campaign_core::{Prepared, State, Verdict};
+use decimal_rank::Memory;
+use journal::{Disk, Failed, Journal};
+use rulebook::{Addressed, Answer, Phase};
+use std::alloc::Global;
+use std::marker::{Brand, Model};
+use std::sync::ledger::Blank;
+
+/// A campaign on a disk. Contracts see the disk, the accepted entries, the entry that may be on the disk
+/// though its journaling failed, and the count of the disk's faults when it was opened.
+#[derive(Drop)]
+pub struct Book<D: Disk> {
+    pub(crate) alloc: Global,
+    pub(crate) state: State,
+    pub(crate) journal: Journal<D>,
+    pub(crate) pending: Pending,
+    pub(crate) opening: u64,
+}
+
+impl<D: Disk> Model for Book<D> {
+    ghost use Rattle.book.specs.Books.{Seen};
+    ghost use Rattle.book.specs.Journaling.{IsKept};
+
+    ghost Value = { Seen D };
+
+    ghost view = { λ book. record {
+      disk = book.journal.disk;
+      history = book.state.history;
+      pending = book.pending;
+      opening = book.opening;
+    } };
+
+    ghost invariant = { λ book. IsKept D.images D.clock D.images_since D.fault_count
+        (record { journal = book.journal; history = book.state.history; pending = book.pending }) book.opening };
+}
+
+impl<D: Disk> Book<D> {
+    /// How many entries were accepted.
+    pub fn entries(&self) -> u32
+        ensures { result ≡ length self.now.history }
+    {
+        self.state.entries()
+    }
+
+    pub fn phase(&self) -> Phase
+        ensures { result ≡ phase_of self.now.history }
+    {
+        self.state.phase()
+    }
+
+    /// What a book keeps true.
+    pub fn stands(&self)
+        ensures { IsSound D.images D.clock D.images_since D.fault_count self.now }
+    {
+        self.journal.stands();
+    }
+
+    /// Answers a request. An entry is accepted once it is journaled; what a failed journaling left is
+    /// mended first. All memory is taken before the first call on the disk.
+    pub fn act(&mut self, asked: Addressed) -> Answer
+        requires addressed { IsAddressed asked }
+        requires unnumbered { asked.number ≡ None }
+        ensures { Acts D.images D.clock D.images_since D.fault_count self.old asked result self.new }
+    {
+        rule_laws();
+        self.journal.stands();
+        let _legal = self.state.entries();
+        let Addressed {
+            who,
+            number,
+            ask,
+            moment,
+        } = asked;
+        match self.state.prepare(&who, number, ask, moment) {
+            Ok(Verdict::Told(reply)) => Answer::Reply(reply),
+            Ok(Verdict::Ready(prepared)) => {
+                let answer = accept(
+                    self.alloc,
+                    &mut self.state,
+                    &mut self.journal,
+                    &mut self.pending,
+                    prepared,
+                );
+                self.journal.stands();
+                answer
+            }
+            Err(Memory) => Answer::Memory,
+        }
+    }
+
+    /// The disk, on which no call is made.
+    pub fn close(self) -> D
+        ensures { result ≡ self.disk }
+    {
+        let Book {
+            alloc: _,
+            state: _,
+            journal,
+            pending: _,
+            opening: _,
+        } = self;
+        journal.close()
+    }
+}
+
+// Journals the prepared entry, and adds it once that is done.
+fn accept<D: Disk>(
+    alloc: Global,
+    state: &mut State,
+    journal: &mut Journal<D>,
+    pending: &mut Pending,
+    prepared: Prepared,
+) -> Answer
+    requires prepared { state.old.prepared ≡ Some prepared }
+    requires keeps { KeepsBook D.images journal.old state.old.history pending.old }
+    requires room { HasRoom state.old.history prepared }
+    ensures { Accepts D.images D.clock D.images_since D.fault_count
+        (record { journal = journal.old; history = state.old.history; pending = pending.old }) prepared result
+        (record { journal = journal.new; history = state.new.history; pending = pending.new }) }
+{
+    journal.stands();
+    let Ok(frame) = frame_of(alloc, prepared.core()) else {
+        state.cancel(prepared);
+        return Answer::Memory;
+    };
+    match keep(journal, pending, &prepared, &frame) {
+        Ok(()) => Answer::Reply(commit::<Brand>(state, prepared, Blank::new(1))),
+        Err(Failed) => {
+            state.cancel(prepared);
+            Answer::DiskFault
+        }
+    }
+}

@@ -1,0 +1,122 @@
+//! The first entry of a campaign: made of its rules, and known among records.
+ghost use Rattle.std.specs.Prelude.{◌≡◌, ◌∷◌, [], IfOk, IfSome, IsTrue, MatchOption, map, take};
+ghost use Rattle.record_codec.specs.Laws.{OneSpelling};
+ghost use Rattle.rulebook.specs.declared.rules.Rules.{Rules as CampaignRules};
+ghost use Rattle.rulebook.specs.Legal.{founding};
+ghost use Rattle.rulebook.specs.Spelling.{are_rules, entry_bytes};
+ghost use Rattle.book.specs.Laws.{Laws};
+ghost use Rattle.book.specs.Stories.{HasStory, IsOnlyStory};
+
+use campaign_core::State;
+use decimal_rank::{Memory, Rows, Text};
+use journal::Frame;
+use record_codec::{CodecFault, read_entry, write_entry};
+use rulebook::{Caller, Command, EntryCore, Role, Rules};
+use std::alloc::Global;
+
+/// The name of the caller of the first entry.
+const FOUNDER: &[u8] = b"campaign";
+
+fn copy_of_names(alloc: Global, names: &[Text]) -> Result<Vec<Text>, Memory>
+    ensures { IfOk result (λ copy. copy.items ≡ names.now) }
+{
+    let mut copies = Vec::with_capacity(alloc, names.len())?;
+    for name in names {
+        copies.push(name.copy()?)?;
+    }
+    Ok(copies)
+}
+
+fn copy_of_rules(alloc: Global, rules: &Rules) -> Result<Rules, Memory>
+    ensures { IfOk result (λ copy. copy ≡ rules.now) }
+{
+    let doubles = Rows::new(copy_of_names(alloc, rules.doubles.items())?);
+    Ok(Rules {
+        depth: rules.depth,
+        term: rules.term,
+        hold: rules.hold,
+        level: rules.level,
+        top_grade: rules.top_grade,
+        doubles,
+    })
+}
+
+// What the first entry of a campaign of these rules keeps.
+fn founding_core(alloc: Global, rules: Rules) -> Result<EntryCore, Memory>
+    ensures { IfOk result (λ core. core ≡ (founding rules).core) }
+{
+    let name = Text::from_slice(alloc, FOUNDER)?;
+    Ok(EntryCore {
+        caller: Caller {
+            name,
+            role: Role::Organiser,
+        },
+        number: None,
+        moment: 0,
+        command: Command::Found { rules },
+    })
+}
+
+/// The spelling of the first entry of a campaign of these rules.
+pub(crate) fn founding_bytes(alloc: Global, rules: Rules) -> Result<Vec<u8>, Memory>
+    requires { IsTrue (are_rules rules) }
+    ensures { IfOk result (λ bytes. bytes.items ≡ entry_bytes (founding rules).core) }
+{
+    let core = founding_core(alloc, rules)?;
+    let mut bytes = Vec::new(alloc);
+    write_entry(&core, &mut bytes)?;
+    Ok(bytes)
+}
+
+/// A new campaign of these rules, and the record of its first entry.
+pub(crate) fn founded(alloc: Global, rules: Rules) -> Result<(State, Frame), Memory>
+    requires laws { Laws }
+    requires rules { IsTrue (are_rules rules) }
+    ensures history { IfOk result (λ made. made.0.history ≡ founding rules ∷ []) }
+    ensures frame { IfOk result (λ made. made.1 ≡ entry_bytes (founding rules).core) }
+{
+    let copy = copy_of_rules(alloc, &rules)?;
+    let bytes = founding_bytes(alloc, copy)?;
+    let frame = Frame::of(alloc, &bytes)?;
+    let state = State::found(alloc, rules)?;
+    Ok((state, frame))
+}
+
+// The rules of a campaign that this entry founds.
+fn rules_founded(core: EntryCore) -> Option<Rules>
+    ensures { MatchOption result ((rules : CampaignRules) → core ≡ (founding rules).core → ⊥) (λ rules. core ≡ (founding rules).core) }
+{
+    let EntryCore {
+        caller,
+        number,
+        moment,
+        command,
+    } = core;
+    if caller.name.bytes() != FOUNDER
+        || caller.role != Role::Organiser
+        || number.is_some()
+        || moment != 0
+    {
+        return None;
+    }
+    let Command::Found { rules } = command else {
+        return None;
+    };
+    Some(rules)
+}
+
+/// The campaign that a first record founds. None is that it founds none.
+pub(crate) fn begin(alloc: Global, first: &[u8]) -> Result<Option<State>, Memory>
+    requires spelling { OneSpelling }
+    ensures { IfOk result (λ begun. MatchOption begun (HasStory (first.now ∷ []) → ⊥) (λ state. IsOnlyStory (first.now ∷ []) state.history)) }
+{
+    let core = match read_entry(alloc, first) {
+        Ok(core) => core,
+        Err(CodecFault::NoEntry) => return Ok(None),
+        Err(CodecFault::Memory) => return Err(Memory),
+    };
+    let Some(rules) = rules_founded(core) else {
+        return Ok(None);
+    };
+    Ok(Some(State::found(alloc, rules)?))
+}

@@ -1,0 +1,105 @@
+//! The journaling of an entry: what is due is mended, and then its record is added.
+ghost use Rattle.std.specs.Prelude.{◌≡◌, ◌⊎◌, ◌+◌, ◌≤◌, ◌^◌, [], ◌∷◌, ◌++◌, None, Some, IfOk, IsTrue, OnErr, OnOk, length};
+ghost use Rattle.decimal_rank.specs.Causes.{HasCause};
+ghost use Rattle.disk_model.specs.Disks.{EachMoment};
+ghost use Rattle.rulebook.specs.Campaign.{History};
+ghost use Rattle.rulebook.specs.Spelling.{entry_bytes, has_spelling};
+ghost use Rattle.book.specs.Images.{HoldsOneOf, HoldsWith};
+ghost use Rattle.book.specs.Journaling.{KeepsBook};
+
+use crate::pending::Pending;
+use campaign_core::Prepared;
+use decimal_rank::Memory;
+use journal::{Disk, Failed, Frame, Journal};
+use record_codec::write_entry;
+use rulebook::EntryCore;
+use std::alloc::Global;
+
+/// The record of an entry.
+pub(crate) fn frame_of(alloc: Global, core: &EntryCore) -> Result<Frame, Memory>
+    requires spelled { IsTrue (has_spelling core.now) }
+    requires short { length (entry_bytes core.now) ≤ 2 ^ 25 }
+    ensures { IfOk result (λ frame. frame ≡ entry_bytes core.now) }
+{
+    let mut bytes = Vec::new(alloc);
+    write_entry(core, &mut bytes)?;
+    Frame::of(alloc, &bytes)
+}
+
+// Mends where something is due. Then nothing is pending.
+fn mend_first<D: Disk>(journal: &mut Journal<D>, pending: &mut Pending) -> Result<(), Failed>
+    ensures keeps { (H : History) → KeepsBook D.images journal.old H pending.old → KeepsBook D.images journal.new H pending.new }
+    ensures none { OnOk result (pending.new ≡ None) }
+    ensures same { OnErr result (pending.new ≡ pending.old) }
+    ensures place { journal.new.place ≡ journal.old.place }
+    ensures any_moment { (H : History) → KeepsBook D.images journal.old H pending.old
+        → EachMoment D.clock D.images_since journal.old.disk journal.new.disk (HoldsWith H pending.old) }
+    ensures cause { HasCause (D.fault_count journal.old.disk) (D.fault_count journal.new.disk) result }
+{
+    journal.stands();
+    if !journal.is_due() {
+        pending.settle();
+        return Ok(());
+    }
+    match journal.mend() {
+        Ok(()) => {
+            pending.settle();
+            Ok(())
+        }
+        Err(Failed) => Err(Failed),
+    }
+}
+
+// Adds an entry's record where nothing is pending.
+fn add<D: Disk>(
+    journal: &mut Journal<D>,
+    pending: &mut Pending,
+    prepared: &Prepared,
+    frame: &Frame,
+) -> Result<(), Failed>
+    requires frame { frame.now ≡ entry_bytes prepared.now.core }
+    requires room { journal.old.place + 6 + length (entry_bytes prepared.now.core) ≤ 2 ^ 40 }
+    requires none { pending.old ≡ None }
+    ensures added { OnOk result ((H : History) → KeepsBook D.images journal.old H None → KeepsBook D.images journal.new (H ++ prepared.now ∷ []) None) }
+    ensures none { OnOk result (pending.new ≡ None) }
+    ensures kept { OnErr result ((H : History) → KeepsBook D.images journal.old H None → KeepsBook D.images journal.new H (Some prepared.now)) }
+    ensures pending { OnErr result (pending.new ≡ Some prepared.now) }
+    ensures any_moment { (H : History) → KeepsBook D.images journal.old H None
+        → EachMoment D.clock D.images_since journal.old.disk journal.new.disk (HoldsWith H (Some prepared.now)) }
+    ensures cause { HasCause (D.fault_count journal.old.disk) (D.fault_count journal.new.disk) result }
+{
+    match journal.append(frame) {
+        Ok(()) => Ok(()),
+        Err(Failed) => {
+            pending.leave(prepared);
+            Err(Failed)
+        }
+    }
+}
+
+/// Journals an entry: what is due is mended, and its record is added. It takes no memory.
+pub(crate) fn keep<D: Disk>(
+    journal: &mut Journal<D>,
+    pending: &mut Pending,
+    prepared: &Prepared,
+    frame: &Frame,
+) -> Result<(), Failed>
+    requires frame { frame.now ≡ entry_bytes prepared.now.core }
+    requires room { journal.old.place + 6 + length (entry_bytes prepared.now.core) ≤ 2 ^ 40 }
+    ensures added { OnOk result ((H : History) → KeepsBook D.images journal.old H pending.old → KeepsBook D.images journal.new (H ++ prepared.now ∷ []) None) }
+    ensures none { OnOk result (pending.new ≡ None) }
+    ensures kept { OnErr result ((H : History) → KeepsBook D.images journal.old H pending.old → KeepsBook D.images journal.new H pending.new) }
+    ensures pending { OnErr result ((pending.new ≡ pending.old) ⊎ (pending.new ≡ Some prepared.now)) }
+    ensures any_moment { (H : History) → KeepsBook D.images journal.old H pending.old
+        → EachMoment D.clock D.images_since journal.old.disk journal.new.disk (HoldsOneOf H pending.old (prepared.now ∷ [])) }
+    ensures cause { HasCause (D.fault_count journal.old.disk) (D.fault_count journal.new.disk) result }
+{
+    match mend_first(journal, pending) {
+        Ok(()) => {}
+        Err(Failed) => return Err(Failed),
+    }
+    match add(journal, pending, prepared, frame) {
+        Ok(()) => Ok(()),
+        Err(Failed) => Err(Failed),
+    }
+}

@@ -1,0 +1,24 @@
+//! A campaign that is kept on a disk: a command is accepted once its entry is journaled, so that a crash
+//! loses no accepted one.
+//!
+//! - `books`: a book, and one request to it. `journaling`: an entry's record, what is due before it, and
+//!   the entry that may be on the disk though its journaling failed (`pending`).
+//! - `opening`: a book from what a disk holds. `replaying`: its records as entries. `entering`: an entry
+//!   from a record. `founding`: the first entry. `commits`: the last step of an accepted one.
+//! - `faults`: why a disk isn't opened. `laws`: what the rules promise of the entries that they add.
+#![tactic(auto)]
+
+mod books;
+mod commits;
+mod entering;
+mod faults;
+mod founding;
+mod journaling;
+mod laws;
+mod opening;
+mod pending;
+mod replaying;
+
+pub use books::Book;
+pub use disk_model::Disk;
+pub use faults::BookFault;

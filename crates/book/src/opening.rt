@@ -1,0 +1,129 @@
+//! Opening a book. The journal is opened, and each of its records is entered; a journal without records
+//! gets the founding entry.
+ghost use Rattle.std.specs.Prelude.{◌≡◌, ◌≤◌, ◌^◌, [], ◌∷◌, None, IfErr, IfOk, IsTrue, length};
+ghost use Rattle.journal.specs.declared.dues.Due.TheVariants.{Nothing};
+ghost use Rattle.journal.specs.Kept.{Settled, payloads as payloads_of};
+ghost use Rattle.record_codec.specs.Laws.{OneSpelling};
+ghost use Rattle.rulebook.specs.declared.rules.Rules.{Rules as CampaignRules};
+ghost use Rattle.rulebook.specs.Legal.{founding};
+ghost use Rattle.rulebook.specs.Spelling.{are_rules};
+ghost use Rattle.book.specs.Laws.{Laws};
+ghost use Rattle.book.specs.Books.{IsSound};
+ghost use Rattle.book.specs.Openings.{Opened, Refused};
+ghost use Rattle.book.specs.Stories.{spellings};
+ghost use Rattle.book.specs.Taking.{TakesUp, told_as};
+
+use crate::books::Book;
+use crate::faults::BookFault;
+use crate::founding::founded;
+use crate::laws::rule_laws;
+use crate::pending::Pending;
+use crate::replaying::{give_up, replay};
+use campaign_core::State;
+use decimal_rank::Memory;
+use journal::{Disk, Failed, Frame, Journal, OpenFault};
+use record_codec::one_spelling;
+use rulebook::Rules;
+use std::alloc::Global;
+
+impl<D: Disk> Book<D> {
+    /// Opens a disk as the book of a campaign with these rules. A disk without records gets the founding
+    /// entry. One that isn't a journal, or isn't a campaign's, is not opened; all its records are entries
+    /// or none is taken.
+    pub fn open(alloc: Global, disk: D, rules: Rules) -> Result<Book<D>, (D, BookFault)>
+        requires rules { IsTrue (are_rules rules) }
+        ensures opened { IfOk result (λ book. Opened D.content D.images D.clock D.images_since D.fault_count rules disk book) }
+        ensures refused { IfErr result (λ fault. Refused D.content D.images D.clock D.images_since D.fault_count rules disk fault.0 fault.1) }
+    {
+        rule_laws();
+        one_spelling();
+        let opening = disk.faults();
+        match Journal::open(alloc, disk) {
+            Ok((journal, records)) => take_up(alloc, opening, journal, &records, rules),
+            Err((disk, fault)) => Err((disk, fault_of(fault))),
+        }
+    }
+}
+
+fn fault_of(fault: OpenFault) -> BookFault
+    ensures { result ≡ told_as fault }
+{
+    match fault {
+        OpenFault::Disk => BookFault::Disk,
+        OpenFault::Header => BookFault::Header,
+        OpenFault::Memory => BookFault::Memory,
+    }
+}
+
+// Makes a book of an open journal, whose records these are.
+fn take_up<D: Disk>(
+    alloc: Global,
+    opening: u64,
+    journal: Journal<D>,
+    records: &[Vec<u8>],
+    rules: Rules,
+) -> Result<Book<D>, (D, BookFault)>
+    requires laws { Laws }
+    requires spelling { OneSpelling }
+    requires rules { IsTrue (are_rules rules) }
+    requires settled { Settled (D.images journal.disk) journal.place (payloads_of records.now) }
+    requires nothing_due { journal.due ≡ Nothing }
+    requires later { opening ≤ D.fault_count journal.disk }
+    ensures { TakesUp D.images D.clock D.images_since D.fault_count rules (payloads_of records.now) opening journal.disk result }
+{
+    journal.stands();
+    match records {
+        [] => match founded(alloc, rules) {
+            Ok((state, frame)) => establish(alloc, opening, journal, state, &frame),
+            Err(Memory) => Err((journal.close(), BookFault::Memory)),
+        },
+        [first, others @ ..] => match replay(alloc, first, others, rules) {
+            Ok(state) => Ok(reopen(alloc, opening, journal, state)),
+            Err(fault) => Err((journal.close(), fault)),
+        },
+    }
+}
+
+// Adds the founding entry to a journal without records.
+fn establish<D: Disk>(
+    alloc: Global,
+    opening: u64,
+    journal: Journal<D>,
+    state: State,
+    frame: &Frame,
+) -> Result<Book<D>, (D, BookFault)>
+    requires short { length frame.now ≤ 2 ^ 25 }
+    requires settled { Settled (D.images journal.disk) journal.place [] }
+    requires nothing_due { journal.due ≡ Nothing }
+    requires later { opening ≤ D.fault_count journal.disk }
+    requires founded { frame.now ∷ [] ≡ spellings state.history }
+    ensures { (rules : CampaignRules) → state.history ≡ founding rules ∷ []
+        → TakesUp D.images D.clock D.images_since D.fault_count rules [] opening journal.disk result }
+{
+    let mut journal = journal;
+    journal.stands();
+    match journal.append(frame) {
+        Ok(()) => Ok(reopen(alloc, opening, journal, state)),
+        Err(Failed) => Err((journal.close(), give_up(state, BookFault::Disk))),
+    }
+}
+
+// The book of a journal and of the entries that it keeps.
+fn reopen<D: Disk>(alloc: Global, opening: u64, journal: Journal<D>, state: State) -> Book<D>
+    requires settled { Settled (D.images journal.disk) journal.place (spellings state.history) }
+    requires nothing_due { journal.due ≡ Nothing }
+    requires later { opening ≤ D.fault_count journal.disk }
+    ensures view { result ≡ record { disk = journal.disk; history = state.history; pending = None; opening = opening } }
+    ensures sound { IsSound D.images D.clock D.images_since D.fault_count result }
+{
+    let _legal = state.entries();
+    let book = Book {
+        alloc,
+        state,
+        journal,
+        pending: Pending::none(),
+        opening,
+    };
+    book.stands();
+    book
+}
