@@ -1,8 +1,11 @@
 -- What the words of a call ask for.
 use Rattle.std.specs.Prelude.{ℕ, List, [], ◌∷◌, String, string_bytes, map, codes, bytes_eq, if◌then◌else◌}
+use Rattle.std.specs.Option.{option_map_or}
 use Rattle.std.specs.declared.alloc.Global.{Global}
+use Rattle.command_words.specs.Words.{Form, given_by}
 use Rattle.campaign_cli.specs.declared.words.Command.{Command}
 use Rattle.campaign_cli.specs.declared.words.Command.TheVariants as command
+use Rattle.campaign_cli.specs.declared.words.TheConstants.{FORMS}
 
 -- the request, with the words that name its files; nothing, where the words are no command
 pub data Request : Type 0 where
@@ -10,10 +13,22 @@ pub data Request : Type 0 where
   Session : Request
   Nothing : Request
 
+-- the forms of the commands: their names, and the names of their positional words and of their options
+abbrev pub forms : List Form
+forms = map (λ row. record { name = row.0.now; positionals = map (λ name. name.now) row.1.now; options = map (λ name. name.now) row.2.now }) FORMS
+
+abbrev pub eval_of : List (List ℕ) → Request
+eval_of (run ∷ qrels ∷ []) = Eval run qrels
+eval_of values = Nothing
+
+-- the request of a command, by its name and its values in the order of its form
+abbrev pub request_at : List ℕ × List (List ℕ) → Request
+request_at found = if bytes_eq found.0 (codes "eval") then eval_of found.1
+    else (if bytes_eq found.0 (codes "session") then Session else Nothing)
+
+-- the request that words give by the forms
 abbrev pub request_of : List (List ℕ) → Request
-request_of (word ∷ run ∷ qrels ∷ []) = if bytes_eq word (codes "eval") then Eval run qrels else Nothing
-request_of (word ∷ []) = if bytes_eq word (codes "session") then Session else Nothing
-request_of words = Nothing
+request_of words = option_map_or request_at (given_by forms words) Nothing
 
 -- the request that the words after the program's name are
 abbrev pub asked : List (String Global) → Request

@@ -8,7 +8,7 @@ use crate::statuses::Status;
 use crate::usage::tell_usage;
 use crate::words::{Command, read_words};
 use campaign_server::Link;
-use decimal_rank::Output as Sink;
+use decimal_rank::{Memory, Output as Sink};
 use std::alloc::Global;
 
 /// Runs the program with the words after its name: reads files from the shelf, writes to the sink,
@@ -25,9 +25,10 @@ pub fn campaign<R, F: Shelf, O: Sink, I: Link>(
     ensures { Ends (asked words.now) (record { shelf = F.seen shelf.old; out = O.writing out.old; own = I.seen own.old })
         (record { shelf = F.seen shelf.new; out = O.writing out.new; own = I.seen own.new }) result.0 }
 {
-    match read_words(words) {
-        Command::Eval { run, qrels } => score_files(alloc, run, qrels, shelf, out),
-        Command::Session => hold_session(rt, alloc, shelf, out, own),
-        Command::Usage => tell_usage(out),
+    match read_words(alloc, words) {
+        Ok(Command::Eval { run, qrels }) => score_files(alloc, run, qrels, shelf, out),
+        Ok(Command::Session) => hold_session(rt, alloc, shelf, out, own),
+        Ok(Command::Usage) => tell_usage(out),
+        Err(Memory) => Status(7),
     }
 }

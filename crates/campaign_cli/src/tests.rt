@@ -2,8 +2,7 @@ ghost use Rattle.std.specs.Prelude.{◌≡◌, IfOk};
 ghost use Rattle.campaign_cli.specs.Sinks.{told_by};
 
 use crate::{
-    Command, Failed, FileShelf, MemoryShelf, MemorySink, OutputSink, Shelf, ShelfFault, Sink,
-    read_words, write_all,
+    Failed, FileShelf, MemoryShelf, MemorySink, OutputSink, Shelf, ShelfFault, Sink, write_all,
 };
 use decimal_rank::Text;
 use std::alloc::{AllocError, Global};
@@ -30,40 +29,6 @@ impl Sink for ByteSink {
     fn write(&mut self, piece: &[u8]) -> Result<usize, Failed> {
         self.0.write(&piece[..piece.len().min(1)])
     }
-}
-
-#[test]
-fn words_of_a_call(rt: HostRuntime) -> Result<(), Fail> {
-    let rows: [(&[&str], Command); 8] = [
-        (
-            &["eval", "r.txt", "q.txt"],
-            Command::Eval {
-                run: b"r.txt",
-                qrels: b"q.txt",
-            },
-        ),
-        (
-            &["eval", "-r", ""],
-            Command::Eval {
-                run: b"-r",
-                qrels: b"",
-            },
-        ),
-        (&["eval", "r.txt"], Command::Usage),
-        (&["eval", "r.txt", "q.txt", "x"], Command::Usage),
-        (&["Eval", "r.txt", "q.txt"], Command::Usage),
-        (&["session"], Command::Session),
-        (&["session", "x"], Command::Usage),
-        (&[], Command::Usage),
-    ];
-    for (row, expected) in rows {
-        let mut words = Vec::new(rt.alloc());
-        for word in row {
-            words.push(String::from_str(rt.alloc(), word)?)?;
-        }
-        assert_eq!(rt; read_words(&words), expected);
-    }
-    Ok(())
 }
 
 #[test]

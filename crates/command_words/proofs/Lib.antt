@@ -1,0 +1,11 @@
+pub mod Agreements
+pub mod Flags
+pub mod MatchedRows
+pub mod Programs
+pub mod Refusals
+pub mod Slots
+pub mod Stands
+pub mod Subcommands
+pub mod Turns
+pub mod Uses
+pub mod ValueLists

@@ -1,0 +1,29 @@
+//! A number that a word writes.
+ghost use Rattle.std.specs.Prelude.{◌≡◌};
+ghost use Rattle.command_words.specs.Numbers.{is_short_number, number_in};
+
+use decimal_rank::{capped_number, is_number};
+
+const MOST_DIGITS: usize = 10;
+
+/// The number from `low` to `high` that a word writes in 1 to 10 decimal digits; zeros may lead.
+pub fn number_in(low: u32, high: u32, word: &str) -> Option<u32>
+    ensures { result ≡ number_in low high word.now }
+{
+    let digits = word.as_bytes();
+    if !is_short_number(digits) {
+        return None;
+    }
+    let number = capped_number(digits, u64::from(high) + 1);
+    if u64::from(low) <= number && number <= u64::from(high) {
+        Some(number as u32)
+    } else {
+        None
+    }
+}
+
+fn is_short_number(digits: &[u8]) -> bool
+    ensures { result ≡ is_short_number digits.now }
+{
+    digits.len() <= MOST_DIGITS && is_number(digits)
+}
