@@ -5,28 +5,22 @@ use Rattle.trec_formats.specs.declared.qrels.QrelLine.{QrelLine}
 use Rattle.trec_formats.specs.declared.faults.FormatFault.{FormatFault}
 use Rattle.trec_formats.specs.Faults.{ExactlyOne}
 use Rattle.trec_formats.specs.Qrels.{IsQrels, IsQrelsFault, IsQrelsReading}
-use Rattle.trec_formats.specs.Runs.{IsRunReading}
+use Rattle.trec_formats.specs.Lists.{IsRankableReading, IsRankedRun, IsRankedRunFault}
 use Rattle.eval.specs.declared.evaluation.Finding.{Finding}
 use Rattle.eval.specs.declared.evaluation.Finding.TheVariants as finding
-use Rattle.eval.specs.Evaluations.{HasLists, HasRunFault, IsInputFault}
+use Rattle.eval.specs.Evaluations.{IsInputFault}
 use Rattle.eval.specs.Findings.{Finds, IsRefusal, AreExclusive}
 
 -- two readings of one text are one
 same_reading : {X : Type 0} (P : X → Type 0) → ExactlyOne P → (x y : X) → P x → P y → x ≡ y
 same_reading P one x y px py = one.2 x px ∙ sym (one.2 y py)
 
-same_lines : {L E : Type 0} (xs ys : List L) → (let a : Result (List L) E = Ok xs in a) ≡ Ok ys → xs ≡ ys
-same_lines xs ys e = cc e
-
 not_both : {L E : Type 0} (xs : List L) (fault : E) → (let a : Result (List L) E = Ok xs in a) ≡ Err fault → ⊥
 not_both xs fault e = cc e
 
-module _ (one_run : (text : List ℕ) → ExactlyOne (IsRunReading text)) (one_qrels : (text : List ℕ) → ExactlyOne (IsQrelsReading text)) where
-  run_has_no_fault : (run : List ℕ) (lists : List TopicList) (fault : FormatFault) → HasLists run lists → HasRunFault run fault → ⊥
-  run_has_no_fault run lists fault w (inl at) = not_both w.0 fault (same_reading (IsRunReading run) (one_run run) (Ok w.0) (Err fault) w.1 at)
-  run_has_no_fault run lists fault w (inr at) =
-      let same : w.0 ≡ at.0 = same_lines w.0 at.0 (same_reading (IsRunReading run) (one_run run) (Ok w.0) (Ok at.0) w.1 at.1) in
-      w.2.distinct at.2.first at.2.again (record { before = at.2.before; after = at.2.after; cut = same ∙ at.2.cut; earlier = at.2.earlier })
+module _ (one_run : (text : List ℕ) → ExactlyOne (IsRankableReading text)) (one_qrels : (text : List ℕ) → ExactlyOne (IsQrelsReading text)) where
+  run_has_no_fault : (run : List ℕ) (lists : List TopicList) (fault : FormatFault) → IsRankedRun run lists → IsRankedRunFault run fault → ⊥
+  run_has_no_fault run lists fault w at = not_both w.0 fault (same_reading (IsRankableReading run) (one_run run) (Ok w.0) (Err fault) w.1 at)
 
   qrels_have_no_fault : (qrels : List ℕ) (lines : List QrelLine) (fault : FormatFault) → IsQrels qrels lines → IsQrelsFault qrels fault → ⊥
   qrels_have_no_fault qrels lines fault w at = not_both lines fault (same_reading (IsQrelsReading qrels) (one_qrels qrels) (Ok lines) (Err fault) w at)
@@ -36,13 +30,13 @@ module _ (one_run : (text : List ℕ) → ExactlyOne (IsRunReading text)) (one_q
   exclusive run_name qrels_name run qrels text line w (inr at) = qrels_have_no_fault qrels w.1 at.1 w.3 at.3
 
 -- the run's file is named for its fault
-pub run_refused : (run_name qrels_name run qrels : List ℕ) (fault : FormatFault) → HasRunFault run fault → (found : Finding) → IsRefusal run_name fault found
+pub run_refused : (run_name qrels_name run qrels : List ℕ) (fault : FormatFault) → IsRankedRunFault run fault → (found : Finding) → IsRefusal run_name fault found
     → Finds run_name qrels_name run qrels found
 run_refused run_name qrels_name run qrels fault at (finding.Report t) w = absurd w
 run_refused run_name qrels_name run qrels fault at (finding.Input l) w = inl (fault, at, w)
 
 -- the file of the qrels is named for its fault
-pub qrels_refused : (run_name qrels_name run qrels : List ℕ) (lists : List TopicList) (fault : FormatFault) → HasLists run lists → IsQrelsFault qrels fault
+pub qrels_refused : (run_name qrels_name run qrels : List ℕ) (lists : List TopicList) (fault : FormatFault) → IsRankedRun run lists → IsQrelsFault qrels fault
     → (found : Finding) → IsRefusal qrels_name fault found → Finds run_name qrels_name run qrels found
 qrels_refused run_name qrels_name run qrels lists fault r at (finding.Report t) w = absurd w
 qrels_refused run_name qrels_name run qrels lists fault r at (finding.Input l) w = inr (lists, fault, r, at, w)

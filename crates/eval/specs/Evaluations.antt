@@ -9,15 +9,12 @@ use Rattle.measures.specs.Means.{summary_of}
 use Rattle.measures.specs.ScoreLines.{summary_text}
 use Rattle.trec_formats.specs.declared.lists.TopicList.{TopicList}
 use Rattle.trec_formats.specs.declared.qrels.QrelLine.{QrelLine}
-use Rattle.trec_formats.specs.declared.runs.RunLine.{RunLine}
 use Rattle.trec_formats.specs.declared.faults.FormatFault.{FormatFault}
 use Rattle.trec_formats.specs.declared.faults.Kind.{Kind}
 use Rattle.trec_formats.specs.declared.faults.Kind.TheVariants as kind
 use Rattle.trec_formats.specs.FaultNames.{cause_name, kind_name}
-use Rattle.trec_formats.specs.Faults.{IsTwice}
-use Rattle.trec_formats.specs.Lists.{AreLists, same_document}
+use Rattle.trec_formats.specs.Lists.{IsRankedRun, IsRankedRunFault}
 use Rattle.trec_formats.specs.Qrels.{IsQrels, IsQrelsFault}
-use Rattle.trec_formats.specs.Runs.{IsRun, IsRunFault}
 
 -- the grade from which on a document is relevant
 abbrev pub level : ℕ
@@ -49,15 +46,6 @@ cell_on lists qrels topic =
 abbrev pub topics_of : List QrelLine → List (List ℕ)
 topics_of qrels = fold with_name [] (map (λ line. line.topic) qrels)
 
--- the bytes of a run's file stand for these ranked lists
-abbrev pub HasLists : List ℕ → List TopicList → Type 0
-HasLists bytes lists = (lines : List RunLine) × IsRun bytes lines × AreLists lines lists
-
--- The fault of a run's file. A document that stands twice on a topic is one where there is no other.
-abbrev pub HasRunFault : List ℕ → FormatFault → Type 0
-HasRunFault bytes fault =
-    IsRunFault bytes fault ⊎ ((lines : List RunLine) × IsRun bytes lines × IsTwice same_document (λ line. line.line) lines fault)
-
 -- the summary of the run over the topics of the qrels
 abbrev pub scores_text : List ℕ → List TopicList → List QrelLine → List ℕ
 scores_text name lists lines = summary_text name (summary_of (map (cell_on lists lines) (topics_of lines)))
@@ -65,7 +53,7 @@ scores_text name lists lines = summary_text name (summary_of (map (cell_on lists
 -- The text is the summary of the run over the topics of the qrels. Its first field is the run's name.
 abbrev pub IsReport : List ℕ → List ℕ → List ℕ → List ℕ → Type 0
 IsReport name run qrels text =
-    (lists : List TopicList) × (lines : List QrelLine) × HasLists run lists × IsQrels qrels lines
+    (lists : List TopicList) × (lines : List QrelLine) × IsRankedRun run lists × IsQrels qrels lines
     × (text ≡ scores_text name lists lines)
 
 -- what follows a kind's name: the cause of a score's fault, the line that is repeated
@@ -82,6 +70,6 @@ input_line name fault =
 -- The text names the file that has a fault, and the fault: the run's, or else that of the qrels.
 abbrev pub IsInputFault : List ℕ → List ℕ → List ℕ → List ℕ → List ℕ → Type 0
 IsInputFault run_name qrels_name run qrels text =
-    ((fault : FormatFault) × HasRunFault run fault × (text ≡ input_line run_name fault))
-    ⊎ ((lists : List TopicList) × (fault : FormatFault) × HasLists run lists × IsQrelsFault qrels fault
+    ((fault : FormatFault) × IsRankedRunFault run fault × (text ≡ input_line run_name fault))
+    ⊎ ((lists : List TopicList) × (fault : FormatFault) × IsRankedRun run lists × IsQrelsFault qrels fault
     × (text ≡ input_line qrels_name fault))

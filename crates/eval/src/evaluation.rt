@@ -1,6 +1,7 @@
 ghost use Rattle.std.specs.Prelude.{◌≡◌, ◌≤◌, ◌++◌, length, IfOk, OnOk};
 ghost use Rattle.trec_formats.specs.Faults.{IfFault};
-ghost use Rattle.eval.specs.Evaluations.{HasLists, HasRunFault, scores_text, detail as detail_of, input_line as line_of_input};
+ghost use Rattle.trec_formats.specs.Lists.{IsRankedRun, IsRankedRunFault};
+ghost use Rattle.eval.specs.Evaluations.{scores_text, detail as detail_of, input_line as line_of_input};
 ghost use Rattle.eval.specs.Findings.{Finds, IsRefusal, AreExclusive};
 ghost use Rattle.eval.specs.Tables.{AreRankedLists};
 
@@ -11,7 +12,7 @@ use measures::{mean, write_summary};
 use std::alloc::Global;
 use trec_formats::{
     FormatEnd, FormatFault, Kind, QrelLine, TopicList, cause_name, one_qrels_reading,
-    one_run_reading, rank_run, read_qrels, read_run,
+    one_rankable_reading, rank_run, read_qrels, read_run,
 };
 
 /// What two files come to.
@@ -54,20 +55,21 @@ pub fn evaluate(
 pub fn never_both()
     ensures { AreExclusive }
 {
-    // a file has lines or a fault, and never both
-    one_run_reading();
+    // a file is read or has a fault, and never both
+    one_rankable_reading();
     one_qrels_reading();
 }
 
 /// The ranked lists of a run's text.
 fn lists_of(alloc: Global, bytes: &[u8]) -> Result<Vec<TopicList>, FormatEnd>
     requires { length bytes.now ≤ 268435456 }
-    ensures lists { IfOk result (λ lists. HasLists bytes.now lists.items) }
+    ensures lists { IfOk result (λ lists. IsRankedRun bytes.now lists.items) }
     ensures ranked { IfOk result (λ lists. AreRankedLists lists.items) }
-    ensures fault { IfFault result (HasRunFault bytes.now) }
+    ensures fault { IfFault result (IsRankedRunFault bytes.now) }
 {
     let lines = read_run(alloc, bytes)?;
-    rank_run(alloc, &lines)
+    let lists = rank_run(alloc, &lines)?;
+    Ok(lists)
 }
 
 /// The scores of ranked lists against qrels, under the run's name.

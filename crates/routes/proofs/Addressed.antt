@@ -29,14 +29,15 @@ use Rattle.serde_json.specs.Find.{as_number, as_u64, get}
 use Rattle.routes.specs.declared.faults.RouteFault.{RouteFault}
 use Rattle.routes.specs.declared.faults.RouteFault.TheVariants as faults
 use Rattle.routes.specs.declared.keys.KeyRow.{KeyRow}
-use Rattle.routes.specs.declared.places.Place.{Place}
-use Rattle.routes.specs.declared.places.Place.TheVariants as places
+use Rattle.routes.specs.declared.places.Question.{Question}
+use Rattle.routes.specs.declared.places.Question.TheVariants as question
 use Rattle.routes.specs.Asks.{Asks, HasSoundTopics, with_nothing}
 use Rattle.routes.specs.Bodies.{json_of, Judgement, a_docno, doc_at, grade_at, grade_in, has_members, judged, judgement_in, up_to}
 use Rattle.routes.specs.Faults.{or_fault}
 use Rattle.routes.specs.Keys.{caller}
-use Rattle.routes.specs.Places.{fits, is_lease, may_ask}
+use Rattle.routes.specs.Places.{is_lease}
 use Rattle.routes.proofs.RunRequests.{lists_are_plain, few_items, pairs_map, differ_once}
+use Rattle.routes.proofs.TableRows.{lets, suits}
 use Rattle.routes.proofs.TopicSizes.{topics_short}
 
 -- Sizes
@@ -172,7 +173,7 @@ judgement_doc body j is =
 
 -- Each row
 
-topics_given : (row : KeyRow) (body : List ℕ) (topics : List Topic) → may_ask row.role places.Topics ≡ true → IsTopics body topics → AreSoundTopics topics → length body ≤ 16777216 → IsGiven row (command.Topics topics)
+topics_given : (row : KeyRow) (body : List ℕ) (topics : List Topic) → lets row.role question.Topics ≡ true → IsTopics body topics → AreSoundTopics topics → length body ≤ 16777216 → IsGiven row (command.Topics topics)
 topics_given row body topics role is sound few = record {
   built = refl;
   role = role;
@@ -189,7 +190,7 @@ topics_given row body topics role is sound few = record {
 doc_command_short : (topic doc : List ℕ) (grade : ℕ) → length topic ≤ 32 → length doc ≤ 64 → length (command_bytes (command.Amend topic doc grade)) ≤ 33000000
 doc_command_short topic doc grade short_topic short_doc = simp length-append (omega (arith, short_topic, short_doc))
 
-submit_given : (row : KeyRow) (run body : List ℕ) (lists : List TopicList) → may_ask row.role places.Submit ≡ true → is_name run ≡ true → IsRankedRun body lists → length body ≤ 16777216 → IsGiven row (command.Submit run lists)
+submit_given : (row : KeyRow) (run body : List ℕ) (lists : List TopicList) → lets row.role question.Submit ≡ true → is_name run ≡ true → IsRankedRun body lists → length body ≤ 16777216 → IsGiven row (command.Submit run lists)
 submit_given row run body lists role name ranked few =
     let plain = lists_are_plain body lists few ranked in
     record {
@@ -199,52 +200,52 @@ submit_given row run body lists role name ranked few =
       few = omega (arith, few, name_short run name, plain.short, length-append run (listed list_bytes lists));
     }
 
-pub addressed_at : (place : Place) (row : KeyRow) (number : Option ℕ) (text body : List ℕ) (ask : Ask) (moment : ℕ) → is_name row.name ≡ true → is_number number ≡ true → may_ask row.role place ≡ true → fits place text ≡ true
-    → Asks place text body (Ok ask) → (place ≡ places.Topics → HasSoundTopics ask) → length body ≤ 16777216 → moment ≤ MAX_MOMENT → IsTrue (is_well_addressed (caller row) number ask moment)
-addressed_at places.Topics row number text body ask moment name numbered role fitting (topics, reading, is) sound few latest =
+pub addressed_at : (q : Question) (row : KeyRow) (number : Option ℕ) (text body : List ℕ) (ask : Ask) (moment : ℕ) → is_name row.name ≡ true → is_number number ≡ true → lets row.role q ≡ true → suits q text ≡ true
+    → Asks q text body (Ok ask) → (q ≡ question.Topics → HasSoundTopics ask) → length body ≤ 16777216 → moment ≤ MAX_MOMENT → IsTrue (is_well_addressed (caller row) number ask moment)
+addressed_at question.Topics row number text body ask moment name numbered role fitting (topics, reading, is) sound few latest =
     subst (λ a. IsTrue (is_well_addressed (caller row) number a moment)) (sym is)
     (given row number (command.Topics topics) moment name numbered latest (topics_given row body topics role reading (subst HasSoundTopics is (sound refl)) few))
-addressed_at places.Submit row number run body ask moment name numbered role fitting (lists, ranked, is) sound few latest =
+addressed_at question.Submit row number run body ask moment name numbered role fitting (lists, ranked, is) sound few latest =
     subst (λ a. IsTrue (is_well_addressed (caller row) number a moment)) (sym is)
     (given row number (command.Submit run lists) moment name numbered latest (submit_given row run body lists role fitting ranked few))
-addressed_at places.Open row number text body ask moment name numbered role fitting asks sound few latest =
+addressed_at question.Open row number text body ask moment name numbered role fitting asks sound few latest =
     subst (λ a. IsTrue (is_well_addressed (caller row) number a moment)) (nothing_given body (Act command.Open) ask asks)
     (given row number command.Open moment name numbered latest (record { built = refl; role = role; plain = refl; few = omega arith }))
-addressed_at places.Lease row number topic body ask moment name numbered role fitting asks sound few latest =
+addressed_at question.Lease row number topic body ask moment name numbered role fitting asks sound few latest =
     subst (λ a. IsTrue (is_well_addressed (caller row) number a moment)) (nothing_given body (Act (command.Lease topic)) ask asks)
     (given row number (command.Lease topic) moment name numbered latest (record { built = refl; role = role; plain = fitting; few = omega (arith, name_short topic fitting) }))
-addressed_at places.Grade row number lease body ask moment name numbered role fitting asks sound few latest =
+addressed_at question.Grade row number lease body ask moment name numbered role fitting asks sound few latest =
     let found = some_given (option_and_then grade_in (json_of body)) (λ grade. Act (command.Grade (digits_value 10 lease) grade)) ask asks in
     subst (λ a. IsTrue (is_well_addressed (caller row) number a moment)) found.2
     (given row number (command.Grade (digits_value 10 lease) found.0) moment name numbered latest (record { built = refl; role = role; plain = and_from (nat_lt (digits_value 10 lease) (2 ^ 32)) (nat_lt found.0 256) (lease_given lease fitting) (grade_alone body found.0 found.1); few = omega (arith, four_bytes (digits_value 10 lease)) }))
-addressed_at places.Release row number lease body ask moment name numbered role fitting asks sound few latest =
+addressed_at question.Release row number lease body ask moment name numbered role fitting asks sound few latest =
     subst (λ a. IsTrue (is_well_addressed (caller row) number a moment)) (nothing_given body (Act (command.Release (digits_value 10 lease))) ask asks)
     (given row number (command.Release (digits_value 10 lease)) moment name numbered latest (record { built = refl; role = role; plain = lease_given lease fitting; few = omega (arith, four_bytes (digits_value 10 lease)) }))
-addressed_at places.Amend row number topic body ask moment name numbered role fitting asks sound few latest =
+addressed_at question.Amend row number topic body ask moment name numbered role fitting asks sound few latest =
     let found = some_given (option_and_then judgement_in (json_of body)) (λ (j : Judgement). Act (command.Amend topic j.doc j.grade)) ask asks in
     let doc = judgement_doc body found.0 found.1 in
     subst (λ a. IsTrue (is_well_addressed (caller row) number a moment)) found.2
     (given row number (command.Amend topic found.0.doc found.0.grade) moment name numbered latest (record { built = refl; role = role; plain = rw (fitting, doc, judgement_grade body found.0 found.1) refl; few = doc_command_short topic found.0.doc found.0.grade (name_short topic fitting) (docno_short found.0.doc doc) }))
-addressed_at places.Rule row number topic body ask moment name numbered role fitting asks sound few latest =
+addressed_at question.Rule row number topic body ask moment name numbered role fitting asks sound few latest =
     let found = some_given (option_and_then judgement_in (json_of body)) (λ (j : Judgement). Act (command.Rule topic j.doc j.grade)) ask asks in
     let doc = judgement_doc body found.0 found.1 in
     subst (λ a. IsTrue (is_well_addressed (caller row) number a moment)) found.2
     (given row number (command.Rule topic found.0.doc found.0.grade) moment name numbered latest (record { built = refl; role = role; plain = rw (fitting, doc, judgement_grade body found.0 found.1) refl; few = doc_command_short topic found.0.doc found.0.grade (name_short topic fitting) (docno_short found.0.doc doc) }))
-addressed_at places.Pool row number topic body ask moment name numbered role fitting asks sound few latest =
+addressed_at question.Pool row number topic body ask moment name numbered role fitting asks sound few latest =
     let same : See (query.Pool topic) ≡ ask = cc in
     subst (λ a. IsTrue (is_well_addressed (caller row) number a moment)) same (seen row number (query.Pool topic) moment name latest (record { built = refl; role = role; plain = fitting }))
-addressed_at places.Qrels row number text body ask moment name numbered role fitting asks sound few latest =
+addressed_at question.Qrels row number text body ask moment name numbered role fitting asks sound few latest =
     let same : See query.Qrels ≡ ask = cc in
     subst (λ a. IsTrue (is_well_addressed (caller row) number a moment)) same (seen row number query.Qrels moment name latest (record { built = refl; role = role; plain = refl }))
-addressed_at places.Scores row number run body ask moment name numbered role fitting asks sound few latest =
+addressed_at question.Scores row number run body ask moment name numbered role fitting asks sound few latest =
     let same : See (query.Scores run) ≡ ask = cc in
     subst (λ a. IsTrue (is_well_addressed (caller row) number a moment)) same (seen row number (query.Scores run) moment name latest (record { built = refl; role = role; plain = fitting }))
-addressed_at places.Table row number text body ask moment name numbered role fitting asks sound few latest =
+addressed_at question.Table row number text body ask moment name numbered role fitting asks sound few latest =
     let same : See query.Table ≡ ask = cc in
     subst (λ a. IsTrue (is_well_addressed (caller row) number a moment)) same (seen row number query.Table moment name latest (record { built = refl; role = role; plain = refl }))
-addressed_at places.Disagreements row number text body ask moment name numbered role fitting asks sound few latest =
+addressed_at question.Disagreements row number text body ask moment name numbered role fitting asks sound few latest =
     let same : See query.Disagreements ≡ ask = cc in
     subst (λ a. IsTrue (is_well_addressed (caller row) number a moment)) same (seen row number query.Disagreements moment name latest (record { built = refl; role = role; plain = refl }))
-addressed_at places.Progress row number text body ask moment name numbered role fitting asks sound few latest =
+addressed_at question.Progress row number text body ask moment name numbered role fitting asks sound few latest =
     let same : See query.Progress ≡ ask = cc in
     subst (λ a. IsTrue (is_well_addressed (caller row) number a moment)) same (seen row number query.Progress moment name latest (record { built = refl; role = role; plain = refl }))

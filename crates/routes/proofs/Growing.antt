@@ -1,9 +1,9 @@
 -- Bytes that grow by one part after another.
-use Rattle.std.proofs.Common.{◌≡◌, ℕ, ◌+◌, ◌<◌, ◌≤◌, List, [], ◌∷◌, ◌++◌, Bool, true, false, length, drop, Some, get_or, ◌-◌, ap, sym, ◌∙◌, append_assoc, refl, take, map, arith, length-append, append-nil}
+use Rattle.std.proofs.Common.{◌≡◌, ℕ, ◌+◌, ◌<◌, ◌≤◌, List, [], ◌∷◌, ◌++◌, Bool, true, false, length, drop, Some, get_or, ◌-◌, ap, sym, ◌∙◌, append_assoc, refl, take, map, arith, length-append, append-nil, ap₂, length-drop}
 use Rattle.std.specs.Prelude.{slice_get, not, ◌==◌, ◌||◌, ◌&&◌, if◌then◌else◌}
 use Rattle.std.specs.List.{flat_map, join_with_byte, list_all}
 use Rattle.std.proofs.Math.Seq.{take-append_seam}
-use Rattle.std.proofs.lemmas.List.{take-append-le, take_all}
+use Rattle.std.proofs.lemmas.List.{drop-append-le, drop_at, take-append-le, take_all, take_at}
 use Rattle.routes.specs.Answers.{escaped, escaped_byte, quoted}
 use Rattle.routes.specs.Parts.{is_unmarked_byte}
 use Rattle.std.proofs.lemmas.Bool.{and_parts}
@@ -57,3 +57,26 @@ escaped_same (b ∷ text) is =
 pub first_byte : (bytes : List ℕ) → 0 < length bytes → slice_get bytes 0 ≡ Some (get_or bytes 0 0)
 first_byte [] some = absurd (omega arith)
 first_byte (byte ∷ bytes) some = refl
+
+-- what is put behind a part of some bytes and brought forward stands in front of that part
+pub put_in_front : (old : List ℕ) (count : ℕ) (head : ℕ → List ℕ) (mid new : List ℕ) (before : ℕ) → count ≡ length old → before ≤ count → mid ≡ old ++ head (count - before)
+    → new ≡ take before mid ++ (drop (before + (count - before)) mid ++ take (count - before) (drop before mid))
+    → new ≡ take before old ++ (head (length (drop before old)) ++ drop before old)
+put_in_front old count head mid new before counted within grown turned =
+    let size = count - before in
+    let text = head size in
+    let inside : before ≤ length old = omega arith in
+    let whole : length old ≡ before + size = omega arith in
+    let part : length (drop before old) ≡ size = omega (arith, length-drop before old) in
+    let first : take before mid ≡ take before old = ap (take before) grown ∙ take-append-le before old text inside in
+    let last : drop (before + size) mid ≡ text = ap (drop (before + size)) grown ∙ drop_at old text (before + size) whole in
+    let middle : take size (drop before mid) ≡ drop before old =
+    ap (λ xs. take size (drop before xs)) grown ∙ ap (take size) (drop-append-le before old text inside) ∙ take_at (drop before old) text size part in
+    turned ∙ ap (λ xs. xs ++ (drop (before + size) mid ++ take size (drop before mid))) first ∙ ap (λ xs. take before old ++ (xs ++ take size (drop before mid))) last
+    ∙ ap (λ xs. take before old ++ (text ++ xs)) middle ∙ ap (λ n. take before old ++ (head n ++ drop before old)) (sym part)
+
+-- what is made of the part behind the first bytes stands behind them
+pub behind_first : (old : List ℕ) (count : ℕ) (part mid new : List ℕ) (make : List ℕ → List ℕ) → count ≡ length old → mid ≡ old ++ part
+    → new ≡ take count mid ++ make (drop count mid) → new ≡ old ++ make part
+behind_first old count part mid new make counted grown is =
+    is ∙ ap₂ (λ first last. first ++ make last) (ap (take count) grown ∙ take_at old part count (sym counted)) (ap (drop count) grown ∙ drop_at old part count (sym counted))

@@ -9,4 +9,5 @@ pub mod Permuted
 pub mod RowRoles
 pub mod RunLines
 pub mod RunRequests
+pub mod TableRows
 pub mod TopicSizes

@@ -26,8 +26,8 @@ use Rattle.rulebook.specs.declared.ask.Command.TheVariants as command
 use Rattle.routes.specs.declared.faults.RouteFault.{RouteFault}
 use Rattle.routes.specs.declared.faults.RouteFault.TheVariants as faults
 use Rattle.routes.specs.declared.keys.KeyRow.{KeyRow}
-use Rattle.routes.specs.declared.places.Place.{Place}
-use Rattle.routes.specs.declared.places.Place.TheVariants as places
+use Rattle.routes.specs.declared.places.Question.{Question}
+use Rattle.routes.specs.declared.places.Question.TheVariants as question
 use Rattle.routes.specs.Asks.{Asked, Asks, AsksSubmit, AsksTopics, Reads, ReadsBehind, asking}
 use Rattle.routes.specs.Openings.{Opening, opening_of}
 use Rattle.routes.specs.Places.{parameter}
@@ -188,34 +188,34 @@ module _ (runs : (text : List ℕ) → ExactlyOne (IsRankableReading text)) (top
       let equal : at ≡ other = cc in
       ap (λ cause. Err cause) (is ∙ ap faults.Format equal ∙ sym so)
 
-  asks_same : (place : Place) (text body : List ℕ) (a b : Result Ask RouteFault) → Asks place text body a → Asks place text body b → a ≡ b
-  asks_same places.Topics text body a b x y = topics_same body a b x y
-  asks_same places.Submit text body a b x y = submit_same text body a b x y
-  asks_same places.Open text body a b x y = x ∙ sym y
-  asks_same places.Lease text body a b x y = x ∙ sym y
-  asks_same places.Grade text body a b x y = x ∙ sym y
-  asks_same places.Release text body a b x y = x ∙ sym y
-  asks_same places.Amend text body a b x y = x ∙ sym y
-  asks_same places.Rule text body a b x y = x ∙ sym y
-  asks_same places.Pool text body a b x y = x ∙ sym y
-  asks_same places.Qrels text body a b x y = x ∙ sym y
-  asks_same places.Scores text body a b x y = x ∙ sym y
-  asks_same places.Table text body a b x y = x ∙ sym y
-  asks_same places.Disagreements text body a b x y = x ∙ sym y
-  asks_same places.Progress text body a b x y = x ∙ sym y
+  asks_same : (q : Question) (text body : List ℕ) (a b : Result Ask RouteFault) → Asks q text body a → Asks q text body b → a ≡ b
+  asks_same question.Topics text body a b x y = topics_same body a b x y
+  asks_same question.Submit text body a b x y = submit_same text body a b x y
+  asks_same question.Open text body a b x y = x ∙ sym y
+  asks_same question.Lease text body a b x y = x ∙ sym y
+  asks_same question.Grade text body a b x y = x ∙ sym y
+  asks_same question.Release text body a b x y = x ∙ sym y
+  asks_same question.Amend text body a b x y = x ∙ sym y
+  asks_same question.Rule text body a b x y = x ∙ sym y
+  asks_same question.Pool text body a b x y = x ∙ sym y
+  asks_same question.Qrels text body a b x y = x ∙ sym y
+  asks_same question.Scores text body a b x y = x ∙ sym y
+  asks_same question.Table text body a b x y = x ∙ sym y
+  asks_same question.Disagreements text body a b x y = x ∙ sym y
+  asks_same question.Progress text body a b x y = x ∙ sym y
 
   behind_same : (opened : Result Opening RouteFault) (request : HttpRequest) (a b : Result Asked RouteFault) → ReadsBehind opened request a → ReadsBehind opened request b → a ≡ b
   behind_same (Err cause) request a b x y = x ∙ sym y
   behind_same (Ok opening) request (Ok a) (Ok b) (ask, asks, is) (other, also, so) =
-      let same : ◌≡◌ {A = Result Ask RouteFault} (Ok ask) (Ok other) = asks_same opening.place (parameter request.path) request.body (Ok ask) (Ok other) asks also in
+      let same : ◌≡◌ {A = Result Ask RouteFault} (Ok ask) (Ok other) = asks_same opening.place.question (parameter request.path) request.body (Ok ask) (Ok other) asks also in
       let equal : ask ≡ other = cc in
       ap (λ asked. Ok asked) (is ∙ ap (asking opening) equal ∙ sym so)
   behind_same (Ok opening) request (Ok a) (Err b) (ask, asks, is) y =
-      let same : ◌≡◌ {A = Result Ask RouteFault} (Ok ask) (Err b) = asks_same opening.place (parameter request.path) request.body (Ok ask) (Err b) asks y in cc same
+      let same : ◌≡◌ {A = Result Ask RouteFault} (Ok ask) (Err b) = asks_same opening.place.question (parameter request.path) request.body (Ok ask) (Err b) asks y in cc same
   behind_same (Ok opening) request (Err a) (Ok b) x (ask, asks, is) =
-      let same : ◌≡◌ {A = Result Ask RouteFault} (Ok ask) (Err a) = asks_same opening.place (parameter request.path) request.body (Ok ask) (Err a) asks x in cc same
+      let same : ◌≡◌ {A = Result Ask RouteFault} (Ok ask) (Err a) = asks_same opening.place.question (parameter request.path) request.body (Ok ask) (Err a) asks x in cc same
   behind_same (Ok opening) request (Err a) (Err b) x y =
-      let same : ◌≡◌ {A = Result Ask RouteFault} (Err a) (Err b) = asks_same opening.place (parameter request.path) request.body (Err a) (Err b) x y in
+      let same : ◌≡◌ {A = Result Ask RouteFault} (Err a) (Err b) = asks_same opening.place.question (parameter request.path) request.body (Err a) (Err b) x y in
       let equal : a ≡ b = cc in
       ap (λ cause. Err cause) equal
 

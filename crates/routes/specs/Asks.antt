@@ -20,8 +20,8 @@ use Rattle.rulebook.specs.declared.rules.Caller.{Caller}
 use Rattle.routes.specs.declared.faults.RouteFault.{RouteFault}
 use Rattle.routes.specs.declared.faults.RouteFault.TheVariants as faults
 use Rattle.routes.specs.declared.keys.KeyRow.{KeyRow}
-use Rattle.routes.specs.declared.places.Place.{Place}
-use Rattle.routes.specs.declared.places.Place.TheVariants as places
+use Rattle.routes.specs.declared.places.Question.{Question}
+use Rattle.routes.specs.declared.places.Question.TheVariants as question
 use Rattle.routes.specs.Bodies.{json_of, Judgement, grade_in, judgement_in}
 use Rattle.routes.specs.Faults.{or_fault}
 use Rattle.routes.specs.Keys.{caller}
@@ -56,21 +56,21 @@ AsksSubmit run body (Ok ask) = (lists : List TopicList) × IsRankedRun body list
 AsksSubmit run body (Err cause) = (at : FormatFault) × (cause ≡ faults.Format at) × IsRankedRunFault body at
 
 -- What is asked at a row, with this parameter of its path and this body, or what is wrong with the body. The body of a query isn't looked at.
-abbrev pub Asks : Place → List ℕ → List ℕ → Result Ask RouteFault → Type 0
-Asks places.Topics text body result = AsksTopics body result
-Asks places.Submit run body result = AsksSubmit run body result
-Asks places.Open text body result = result ≡ with_nothing body (Act command.Open)
-Asks places.Lease topic body result = result ≡ with_nothing body (Act (command.Lease topic))
-Asks places.Grade lease body result = result ≡ with_grade body (λ grade. Act (command.Grade (digits_value 10 lease) grade))
-Asks places.Release lease body result = result ≡ with_nothing body (Act (command.Release (digits_value 10 lease)))
-Asks places.Amend topic body result = result ≡ with_judgement body (λ given. Act (command.Amend topic given.doc given.grade))
-Asks places.Rule topic body result = result ≡ with_judgement body (λ given. Act (command.Rule topic given.doc given.grade))
-Asks places.Pool topic body result = result ≡ Ok (See (query.Pool topic))
-Asks places.Qrels text body result = result ≡ Ok (See query.Qrels)
-Asks places.Scores run body result = result ≡ Ok (See (query.Scores run))
-Asks places.Table text body result = result ≡ Ok (See query.Table)
-Asks places.Disagreements text body result = result ≡ Ok (See query.Disagreements)
-Asks places.Progress text body result = result ≡ Ok (See query.Progress)
+abbrev pub Asks : Question → List ℕ → List ℕ → Result Ask RouteFault → Type 0
+Asks question.Topics text body result = AsksTopics body result
+Asks question.Submit run body result = AsksSubmit run body result
+Asks question.Open text body result = result ≡ with_nothing body (Act command.Open)
+Asks question.Lease topic body result = result ≡ with_nothing body (Act (command.Lease topic))
+Asks question.Grade lease body result = result ≡ with_grade body (λ grade. Act (command.Grade (digits_value 10 lease) grade))
+Asks question.Release lease body result = result ≡ with_nothing body (Act (command.Release (digits_value 10 lease)))
+Asks question.Amend topic body result = result ≡ with_judgement body (λ given. Act (command.Amend topic given.doc given.grade))
+Asks question.Rule topic body result = result ≡ with_judgement body (λ given. Act (command.Rule topic given.doc given.grade))
+Asks question.Pool topic body result = result ≡ Ok (See (query.Pool topic))
+Asks question.Qrels text body result = result ≡ Ok (See query.Qrels)
+Asks question.Scores run body result = result ≡ Ok (See (query.Scores run))
+Asks question.Table text body result = result ≡ Ok (See query.Table)
+Asks question.Disagreements text body result = result ≡ Ok (See query.Disagreements)
+Asks question.Progress text body result = result ≡ Ok (See query.Progress)
 
 -- a caller, the number of its request, and what it asks
 abbrev pub Asked : Type 0
@@ -82,8 +82,8 @@ asking opening ask = (caller opening.row, opening.number, ask)
 -- what is read where this opening comes before the body
 abbrev pub ReadsBehind : Result Opening RouteFault → HttpRequest → Result Asked RouteFault → Type 0
 ReadsBehind (Err cause) request result = result ≡ Err cause
-ReadsBehind (Ok opening) request (Ok asked) = (ask : Ask) × Asks opening.place (parameter request.path) request.body (Ok ask) × (asked ≡ asking opening ask)
-ReadsBehind (Ok opening) request (Err cause) = Asks opening.place (parameter request.path) request.body (Err cause)
+ReadsBehind (Ok opening) request (Ok asked) = (ask : Ask) × Asks opening.place.question (parameter request.path) request.body (Ok ask) × (asked ≡ asking opening ask)
+ReadsBehind (Ok opening) request (Err cause) = Asks opening.place.question (parameter request.path) request.body (Err cause)
 
 -- what a request is read as: who asks, with which number, and what; or its first fault
 abbrev pub Reads : HttpRequest → List KeyRow → Result Asked RouteFault → Type 0

@@ -5,10 +5,12 @@ use Rattle.http_wire.specs.Heads.{values_named, is_filled}
 use Rattle.routes.specs.declared.faults.RouteFault.{RouteFault}
 use Rattle.routes.specs.declared.faults.RouteFault.TheVariants as faults
 use Rattle.routes.specs.declared.keys.KeyRow.{KeyRow}
+use Rattle.routes.specs.declared.places.Method.{Method}
+use Rattle.routes.specs.declared.places.Method.TheVariants as methods
 use Rattle.routes.specs.declared.places.Place.{Place}
 use Rattle.routes.specs.Faults.{◌>>=◌, or_fault, demand}
 use Rattle.routes.specs.Keys.{row_of}
-use Rattle.routes.specs.Places.{matched, parameter, fits, is_post, method_of, may_ask}
+use Rattle.routes.specs.Places.{matched, parameter, fits, method_name, may_ask}
 
 -- who asks at which row, and with which number
 pub record Opening : Type 0 where
@@ -19,14 +21,14 @@ pub record Opening : Type 0 where
 -- The faults before the body, in their order: the route, its method, the key, the role of the key's caller, and the number.
 
 abbrev pub with_parameter : List ℕ → Place → Result Place RouteFault
-with_parameter text place = demand faults.Route (fits place text) place
+with_parameter text place = demand faults.Route (fits place.parameter text) place
 
 -- the row of a path
 abbrev pub place_of : List ℕ → Result Place RouteFault
 place_of path = or_fault faults.Route (matched path) >>= with_parameter (parameter path)
 
 abbrev pub with_method : List ℕ → Place → Result Place RouteFault
-with_method method place = demand faults.Method (bytes_eq method (method_of place)) place
+with_method method place = demand faults.Method (bytes_eq method (method_name place.method)) place
 
 -- the row of the one key that is given
 abbrev pub row_at : List KeyRow → List (List ℕ) → Result KeyRow RouteFault
@@ -35,20 +37,21 @@ row_at keys (key ∷ []) = or_fault faults.Key (row_of keys key)
 row_at keys (_ ∷ _ ∷ _) = Err faults.Key
 
 abbrev pub with_role : Place → KeyRow → Result KeyRow RouteFault
-with_role place row = demand faults.Role (may_ask row.role place) row
+with_role place row = demand faults.Role (may_ask row.role place.askers) row
 
 -- No number is read yet.
 abbrev pub number_in : List HttpField → Result (Option ℕ) RouteFault
 number_in fields = if is_filled (values_named (codes "x-request-number") fields) then Err faults.Number else Ok None
 
 -- the number of a command; at a query the field isn't looked at
-abbrev pub number_at : Place → List HttpField → Result (Option ℕ) RouteFault
-number_at place fields = if is_post place then number_in fields else Ok None
+abbrev pub number_at : Method → List HttpField → Result (Option ℕ) RouteFault
+number_at methods.Post fields = number_in fields
+number_at methods.Get fields = Ok None
 
 -- what is read of a request's method, path and fields, or the first fault
 unfoldable pub opening_of : List ℕ → List ℕ → List HttpField → List KeyRow → Result Opening RouteFault
 opening_of method path fields keys = do
   place ← place_of path >>= with_method method
   row ← row_at keys (values_named (codes "x-campaign-key") fields) >>= with_role place
-  number ← number_at place fields
+  number ← number_at place.method fields
   Ok (record { place = place; row = row; number = number })

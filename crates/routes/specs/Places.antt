@@ -1,5 +1,5 @@
 -- The table of the paths.
-use Rattle.std.specs.Prelude.{ℕ, Bool, true, false, ◌||◌, ◌==◌, ◌&&◌, List, [], ◌∷◌, Option, None, Result, Ok, Err, is_none, codes, drop, length, nat_le, if◌then◌else◌}
+use Rattle.std.specs.Prelude.{◌≡◌, ◌⊎◌, ℕ, Bool, true, false, ◌||◌, ◌==◌, ◌&&◌, List, [], ◌∷◌, Option, None, Result, Ok, Err, is_none, codes, drop, length, map, nat_le, if◌then◌else◌}
 use Rattle.std.specs.Option.{option_map}
 use Rattle.std.specs.List.{fold, before_first, after_first}
 use Rattle.std.specs.Str.{is_utf8}
@@ -15,25 +15,30 @@ use Rattle.trec_formats.specs.Names.{is_name}
 use Rattle.rulebook.specs.declared.rules.Role.{Role}
 use Rattle.rulebook.specs.Roles.{is_organiser, is_group, is_assessor}
 use Rattle.routes.specs.declared.places.Place.{Place}
-use Rattle.routes.specs.declared.places.Place.TheVariants.{Topics, Submit, Open, Lease, Grade, Release, Amend, Rule, Pool, Qrels, Scores, Table, Disagreements, Progress}
+use Rattle.routes.specs.declared.places.Method.{Method}
+use Rattle.routes.specs.declared.places.Method.TheVariants as methods
+use Rattle.routes.specs.declared.places.Parameter.{Parameter}
+use Rattle.routes.specs.declared.places.Parameter.TheVariants as parameters
+use Rattle.routes.specs.declared.places.Askers.{Askers}
+use Rattle.routes.specs.declared.places.Askers.TheVariants as askers
+use Rattle.routes.specs.declared.places.Question.{Question}
+use Rattle.routes.specs.declared.places.TheConstants.{ROWS}
+
+abbrev pub place_at : Method → Parameter → Askers → Question → Place
+place_at method parameter askers question = record { method = method; parameter = parameter; askers = askers; question = question }
 
 -- each path of the table, in its order, with its row
 abbrev pub rows : List (List ℕ × Place)
-rows =
-    (codes "/topics", Topics)
-    ∷ (codes "/runs/{run}", Submit)
-    ∷ (codes "/open", Open)
-    ∷ (codes "/topics/{topic}/lease", Lease)
-    ∷ (codes "/leases/{lease}/grade", Grade)
-    ∷ (codes "/leases/{lease}/release", Release)
-    ∷ (codes "/topics/{topic}/amend", Amend)
-    ∷ (codes "/topics/{topic}/rule", Rule)
-    ∷ (codes "/topics/{topic}/pool", Pool)
-    ∷ (codes "/qrels", Qrels)
-    ∷ (codes "/runs/{run}/scores", Scores)
-    ∷ (codes "/table", Table)
-    ∷ (codes "/disagreements", Disagreements)
-    ∷ (codes "/progress", Progress) ∷ []
+rows = map (λ row. (row.0.now, place_at row.1 row.2 row.3 row.4)) ROWS
+
+-- the row is among these
+abbrev pub Among : Place → List (List ℕ × Place) → Type 0
+Among place [] = ⊥
+Among place (row ∷ others) = (row.1 ≡ place) ⊎ Among place others
+
+-- the row is one of the table's
+unfoldable pub IsRow : Place → Type 0
+IsRow place = Among place rows
 
 abbrev pub Routes : Type 0
 Routes = RowsOf (RouteOf Place)
@@ -76,55 +81,19 @@ abbrev pub is_lease : List ℕ → Bool
 is_lease text = are_digits text && nat_le (length text) 10 && nat_le (digits_value 10 text) 4294967295
 
 -- whether a text may be the parameter of a row
-abbrev pub fits : Place → List ℕ → Bool
-fits Submit text = is_name text
-fits Scores text = is_name text
-fits Lease text = is_name text
-fits Amend text = is_name text
-fits Rule text = is_name text
-fits Pool text = is_name text
-fits Grade text = is_lease text
-fits Release text = is_lease text
-fits Topics text = true
-fits Open text = true
-fits Qrels text = true
-fits Table text = true
-fits Disagreements text = true
-fits Progress text = true
+abbrev pub fits : Parameter → List ℕ → Bool
+fits parameters.Nothing text = true
+fits parameters.Name text = is_name text
+fits parameters.Number text = is_lease text
 
--- whether the row's method is POST, and else GET
-abbrev pub is_post : Place → Bool
-is_post Pool = false
-is_post Qrels = false
-is_post Scores = false
-is_post Table = false
-is_post Disagreements = false
-is_post Progress = false
-is_post Topics = true
-is_post Submit = true
-is_post Open = true
-is_post Lease = true
-is_post Grade = true
-is_post Release = true
-is_post Amend = true
-is_post Rule = true
+abbrev pub method_name : Method → List ℕ
+method_name methods.Get = codes "GET"
+method_name methods.Post = codes "POST"
 
-abbrev pub method_of : Place → List ℕ
-method_of place = if is_post place then codes "POST" else codes "GET"
-
--- whether a role may ask what is asked at a row
-abbrev pub may_ask : Role → Place → Bool
-may_ask role Topics = is_organiser role
-may_ask role Submit = is_group role
-may_ask role Open = is_organiser role
-may_ask role Lease = is_assessor role
-may_ask role Grade = is_assessor role
-may_ask role Release = is_assessor role
-may_ask role Amend = is_assessor role
-may_ask role Rule = is_organiser role
-may_ask role Pool = is_organiser role || is_assessor role
-may_ask role Qrels = is_organiser role
-may_ask role Scores = is_group role || is_organiser role
-may_ask role Table = is_organiser role
-may_ask role Disagreements = is_organiser role
-may_ask role Progress = is_organiser role
+-- whether a role is among those that may ask
+abbrev pub may_ask : Role → Askers → Bool
+may_ask role askers.Organisers = is_organiser role
+may_ask role askers.Groups = is_group role
+may_ask role askers.Assessors = is_assessor role
+may_ask role askers.NotGroups = is_organiser role || is_assessor role
+may_ask role askers.NotAssessors = is_group role || is_organiser role

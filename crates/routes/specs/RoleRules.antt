@@ -6,14 +6,15 @@ use Rattle.rulebook.specs.declared.rules.Role.{Role}
 use Rattle.rulebook.specs.Roles.{may_give, may_see}
 use Rattle.routes.specs.declared.places.Place.{Place}
 use Rattle.routes.specs.Asks.{Asks}
-use Rattle.routes.specs.Places.{may_ask}
+use Rattle.routes.specs.Places.{IsRow, may_ask}
 
 -- whether the rules let a role ask this
 abbrev pub rules_let : Role → Ask → Bool
 rules_let role (Act c) = may_give role c
 rules_let role (See q) = may_see role q
 
--- what is asked at a row may be asked there by the roles that the rules let ask it, and by no others
+-- what is asked at a row of the table may be asked there by the roles that the rules let ask it, and by no others
 abbrev pub RolesAreTheRules : Type 0
 RolesAreTheRules =
-    (place : Place) (text body : List ℕ) (ask : Ask) (role : Role) → Asks place text body (Ok ask) → may_ask role place ≡ rules_let role ask
+    (place : Place) (text body : List ℕ) (ask : Ask) (role : Role) → IsRow place → Asks place.question text body (Ok ask)
+    → may_ask role place.askers ≡ rules_let role ask

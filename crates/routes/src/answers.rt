@@ -1,5 +1,5 @@
-ghost use Rattle.std.specs.Prelude.{◌≡◌, ◌+◌, ◌^◌, ◌<◌, ◌≤◌, ◌++◌, IsTrue, IsOk, IfOk, OnOk, OnErr, length, vec_len, vec_capacity};
-ghost use Rattle.http_wire.specs.Answers.{is_status};
+ghost use Rattle.std.specs.Prelude.{◌≡◌, ◌+◌, ◌-◌, ◌^◌, ◌<◌, ◌≤◌, ◌++◌, IsTrue, IsOk, OnOk, OnErr, drop, length, take, vec_len, vec_capacity};
+ghost use Rattle.http_wire.specs.Answers.{answer_text, head_text, is_status};
 ghost use Rattle.routes.specs.Answers.{body_of, detail, field_before, field_behind, format_body, graded_body, is_json, is_plain, is_short, leased_body, phase_name, pool_body, quantity_name, refusal_body, refusal_name, refusal_status, reply_body, reply_status, route_body, route_status, status_of, submitted_body, text_of, topics_body, wire_body, wire_status};
 ghost use Rattle.rulebook.specs.Plain.{is_plain_reply, is_short_reply};
 ghost use Rattle.rulebook.specs.Spelling.{is_printable};
@@ -479,30 +479,39 @@ fn is_json(answer: &Answered) -> bool
     )
 }
 
-// How long the body is: it is written behind the bytes, and taken away again. A page has its length.
-fn size_of_body(out: &mut Vec<u8>, answer: &Answered) -> Result<usize, Memory>
-    ensures size { IfOk result (λ size. size ≡ length (body_of answer.now)) }
-    ensures same { out.new.items ≡ out.old.items }
-    ensures room { vec_len out.old + length (body_of answer.now) ≤ vec_capacity out.old → IsOk result }
-    ensures few { IsTrue (is_plain answer.now) → IsTrue (is_short answer.now) → length (body_of answer.now) ≤ 3000 }
+// Brings what is behind the first `size` of the bytes from this place on to their front.
+fn bring_forward(out: &mut Vec<u8>, before: usize, size: usize)
+    requires { before + size ≤ vec_len out.old }
+    ensures items { out.new.items ≡ take before out.old.items ++ (drop (before + size) out.old.items ++ take size (drop before out.old.items)) }
+    ensures capacity { vec_capacity out.new ≡ vec_capacity out.old }
+{
+    out[before..].rotate_left(size);
+}
+
+// Puts the head of an answer in front of its body, which is what there is from this place on.
+fn put_head(
+    status: u16,
+    json: bool,
+    close: bool,
+    before: usize,
+    out: &mut Vec<u8>,
+) -> Result<(), Memory>
+    requires known { IsTrue (is_status status) }
+    requires within { before ≤ vec_len out.old }
+    ensures ok { OnOk result (out.new.items ≡ take before out.old.items ++ answer_text status json close (drop before out.old.items)) }
+    ensures err { OnErr result (out.new.items ≡ out.old.items) }
+    ensures room { vec_len out.old + length (head_text status json close (vec_len out.old - before)) ≤ vec_capacity out.old → IsOk result }
     ensures capacity { vec_capacity out.old ≤ vec_capacity out.new }
 {
-    if let Answered::Reply {
-        reply: Reply::Page { text },
-        ..
-    } = answer
-    {
-        return Ok(text.bytes().len());
-    }
-    let before = out.len();
-    write_body(out, answer)?;
     let size = out.len() - before;
-    out.truncate(before);
-    Ok(size)
+    write_head(status, json, close, size, out)?;
+    bring_forward(out, before, size);
+    Ok(())
 }
 
 /// Appends the text of an answer; `close` says that the connection ends behind it. It takes no memory
-/// where `out` has room for the text, which is at most 4,096 bytes but for a pool and a page.
+/// where `out` has room for the text, which is at most 4,096 bytes but for a pool and a page. The body
+/// is written once, and the head, which has its length, is put in front of it.
 #[tactic(auto, unfolding(crate::specs::Answers::text_of))]
 pub fn render(answer: &Answered, close: bool, out: &mut Vec<u8>) -> Result<(), Memory>
     ensures ok { OnOk result (out.new.items ≡ out.old.items ++ text_of answer.now close) }
@@ -511,11 +520,10 @@ pub fn render(answer: &Answered, close: bool, out: &mut Vec<u8>) -> Result<(), M
     ensures few { IsTrue (is_plain answer.now) → IsTrue (is_short answer.now) → length (text_of answer.now close) ≤ 4096 }
     ensures capacity { vec_capacity out.old ≤ vec_capacity out.new }
 {
-    let status = status_of(answer);
-    let size = size_of_body(out, answer)?;
     let before = out.len();
-    write_head(status, is_json(answer), close, size, out)?;
-    match write_body(out, answer) {
+    let status = status_of(answer);
+    write_body(out, answer)?;
+    match put_head(status, is_json(answer), close, before, out) {
         Ok(()) => Ok(()),
         Err(memory) => {
             out.truncate(before);

@@ -1,18 +1,18 @@
 ghost use Rattle.std.specs.Prelude.{◌≡◌, ◌≤◌, ℕ, List, IsTrue, IfOk, None, length};
-ghost use Rattle.routes.specs.declared.places.Place.TheVariants as places;
+ghost use Rattle.routes.specs.declared.places.Question.TheVariants as question;
 ghost use Rattle.routes.specs.Asks.{Asks, HasSoundTopics, Reads, fault_of, with_nothing};
 ghost use Rattle.rulebook.specs.declared.ask.Ask.TheVariants.{Act};
 ghost use Rattle.rulebook.specs.declared.limits.TheConstants.{MAX_MOMENT};
 ghost use Rattle.rulebook.specs.Legal.{is_well_addressed};
 ghost use Rattle.routes.specs.Faults.{IsRead};
-ghost use Rattle.routes.specs.Places.{fits, is_lease};
+ghost use Rattle.routes.specs.Places.{IsRow, fits, is_lease};
 
 use crate::bodies::{read_grade, read_judgement, read_ranked_run};
 use crate::faults::RouteFault;
 use crate::keys::Keys;
 use crate::openings::read_opening;
 use crate::paths::{lease_number, parameter};
-use crate::places::{Paths, Place};
+use crate::places::{Paths, Place, Question};
 use decimal_rank::{Memory, Rows, Text};
 use http_wire::HttpRequest;
 use rulebook::{Ask, Caller, Command, Query};
@@ -31,7 +31,7 @@ fn fault_of(end: FormatEnd) -> RouteFault
 
 fn ask_topics(alloc: Global, body: &[u8]) -> Result<Ask, RouteFault>
     requires { length body.now ≤ 16777216 }
-    ensures ask { (text : List ℕ) → IsRead (Asks places.Topics text body.now) result }
+    ensures ask { (text : List ℕ) → IsRead (Asks question.Topics text body.now) result }
     ensures sound { IfOk result HasSoundTopics }
 {
     match read_topics(alloc, body) {
@@ -44,7 +44,7 @@ fn ask_topics(alloc: Global, body: &[u8]) -> Result<Ask, RouteFault>
 
 fn ask_submit(alloc: Global, run: &[u8], body: &[u8]) -> Result<Ask, RouteFault>
     requires { length body.now ≤ 16777216 }
-    ensures { IsRead (Asks places.Submit run.now body.now) result }
+    ensures { IsRead (Asks question.Submit run.now body.now) result }
 {
     match read_ranked_run(alloc, body) {
         Ok(lists) => Ok(Ask::Act(Command::Submit {
@@ -67,7 +67,7 @@ fn with_nothing(body: &[u8], command: Command) -> Result<Ask, RouteFault>
 }
 
 fn ask_lease(alloc: Global, topic: &[u8], body: &[u8]) -> Result<Ask, RouteFault>
-    ensures { IsRead (Asks places.Lease topic.now body.now) result }
+    ensures { IsRead (Asks question.Lease topic.now body.now) result }
 {
     let topic = Text::from_slice(alloc, topic)?;
     with_nothing(body, Command::Lease { topic })
@@ -75,7 +75,7 @@ fn ask_lease(alloc: Global, topic: &[u8], body: &[u8]) -> Result<Ask, RouteFault
 
 fn ask_grade(alloc: Global, text: &[u8], body: &[u8]) -> Result<Ask, RouteFault>
     requires { IsTrue (is_lease text.now) }
-    ensures { IsRead (Asks places.Grade text.now body.now) result }
+    ensures { IsRead (Asks question.Grade text.now body.now) result }
 {
     let lease = lease_number(text);
     match read_grade(alloc, body)? {
@@ -86,14 +86,14 @@ fn ask_grade(alloc: Global, text: &[u8], body: &[u8]) -> Result<Ask, RouteFault>
 
 fn ask_release(text: &[u8], body: &[u8]) -> Result<Ask, RouteFault>
     requires { IsTrue (is_lease text.now) }
-    ensures { IsRead (Asks places.Release text.now body.now) result }
+    ensures { IsRead (Asks question.Release text.now body.now) result }
 {
     let lease = lease_number(text);
     with_nothing(body, Command::Release { lease })
 }
 
 fn ask_amend(alloc: Global, topic: &[u8], body: &[u8]) -> Result<Ask, RouteFault>
-    ensures { IsRead (Asks places.Amend topic.now body.now) result }
+    ensures { IsRead (Asks question.Amend topic.now body.now) result }
 {
     match read_judgement(alloc, body)? {
         Some(given) => Ok(Ask::Act(Command::Amend {
@@ -106,7 +106,7 @@ fn ask_amend(alloc: Global, topic: &[u8], body: &[u8]) -> Result<Ask, RouteFault
 }
 
 fn ask_rule(alloc: Global, topic: &[u8], body: &[u8]) -> Result<Ask, RouteFault>
-    ensures { IsRead (Asks places.Rule topic.now body.now) result }
+    ensures { IsRead (Asks question.Rule topic.now body.now) result }
 {
     match read_judgement(alloc, body)? {
         Some(given) => Ok(Ask::Act(Command::Rule {
@@ -119,14 +119,14 @@ fn ask_rule(alloc: Global, topic: &[u8], body: &[u8]) -> Result<Ask, RouteFault>
 }
 
 fn ask_pool(alloc: Global, topic: &[u8]) -> Result<Ask, RouteFault>
-    ensures { (body : List ℕ) → IsRead (Asks places.Pool topic.now body) result }
+    ensures { (body : List ℕ) → IsRead (Asks question.Pool topic.now body) result }
 {
     let topic = Text::from_slice(alloc, topic)?;
     Ok(Ask::See(Query::Pool { topic }))
 }
 
 fn ask_scores(alloc: Global, run: &[u8]) -> Result<Ask, RouteFault>
-    ensures { (body : List ℕ) → IsRead (Asks places.Scores run.now body) result }
+    ensures { (body : List ℕ) → IsRead (Asks question.Scores run.now body) result }
 {
     let run = Text::from_slice(alloc, run)?;
     Ok(Ask::See(Query::Scores { run }))
@@ -134,26 +134,27 @@ fn ask_scores(alloc: Global, run: &[u8]) -> Result<Ask, RouteFault>
 
 // What is asked at a row, by the parameter of its path and the body.
 fn ask_at(alloc: Global, place: Place, text: &[u8], body: &[u8]) -> Result<Ask, RouteFault>
-    requires fitting { IsTrue (fits place text.now) }
+    requires known { IsRow place }
+    requires fitting { IsTrue (fits place.parameter text.now) }
     requires few { length body.now ≤ 16777216 }
-    ensures ask { IsRead (Asks place text.now body.now) result }
-    ensures sound { place ≡ places.Topics → IfOk result HasSoundTopics }
+    ensures ask { IsRead (Asks place.question text.now body.now) result }
+    ensures sound { place.question ≡ question.Topics → IfOk result HasSoundTopics }
 {
-    match place {
-        Place::Topics => ask_topics(alloc, body),
-        Place::Submit => ask_submit(alloc, text, body),
-        Place::Open => with_nothing(body, Command::Open),
-        Place::Lease => ask_lease(alloc, text, body),
-        Place::Grade => ask_grade(alloc, text, body),
-        Place::Release => ask_release(text, body),
-        Place::Amend => ask_amend(alloc, text, body),
-        Place::Rule => ask_rule(alloc, text, body),
-        Place::Pool => ask_pool(alloc, text),
-        Place::Qrels => Ok(Ask::See(Query::Qrels)),
-        Place::Scores => ask_scores(alloc, text),
-        Place::Table => Ok(Ask::See(Query::Table)),
-        Place::Disagreements => Ok(Ask::See(Query::Disagreements)),
-        Place::Progress => Ok(Ask::See(Query::Progress)),
+    match place.question {
+        Question::Topics => ask_topics(alloc, body),
+        Question::Submit => ask_submit(alloc, text, body),
+        Question::Open => with_nothing(body, Command::Open),
+        Question::Lease => ask_lease(alloc, text, body),
+        Question::Grade => ask_grade(alloc, text, body),
+        Question::Release => ask_release(text, body),
+        Question::Amend => ask_amend(alloc, text, body),
+        Question::Rule => ask_rule(alloc, text, body),
+        Question::Pool => ask_pool(alloc, text),
+        Question::Qrels => Ok(Ask::See(Query::Qrels)),
+        Question::Scores => ask_scores(alloc, text),
+        Question::Table => Ok(Ask::See(Query::Table)),
+        Question::Disagreements => Ok(Ask::See(Query::Disagreements)),
+        Question::Progress => Ok(Ask::See(Query::Progress)),
     }
 }
 

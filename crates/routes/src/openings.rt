@@ -3,14 +3,14 @@ ghost use Rattle.http_wire.specs.Heads.{values_named};
 ghost use Rattle.routes.specs.Faults.{Gives};
 ghost use Rattle.routes.specs.Openings.{number_at, number_in, opening_of, place_of, row_at, with_method, with_parameter, with_role};
 ghost use Rattle.routes.specs.OpeningParts.{opening_shown};
-ghost use Rattle.routes.specs.Places.{fits, may_ask, method_of, parameter};
+ghost use Rattle.routes.specs.Places.{IsRow, fits, may_ask, parameter};
 ghost use Rattle.rulebook.specs.Spelling.{is_number};
 ghost use Rattle.trec_formats.specs.Names.{is_name};
 
 use crate::faults::RouteFault;
 use crate::keys::{KeyRow, Keys};
 use crate::paths::{fits, parameter};
-use crate::places::{Paths, Place, is_post, may_ask};
+use crate::places::{Method, Paths, Place, may_ask, method_name};
 use http_wire::{HttpField, find_named};
 
 /// Who asks at which row, and with which number.
@@ -25,7 +25,8 @@ pub(crate) struct Opening<'a> {
 #[tactic(auto, using(crate::proofs::Matching::is_text, crate::proofs::Matching::is_no_text))]
 fn find_place(paths: &Paths, path: &[u8]) -> Result<Place, RouteFault>
     ensures place { Gives (λ place. place) result (place_of path.now) }
-    ensures fitting { IfOk result (λ place. IsTrue (fits place (parameter path.now))) }
+    ensures fitting { IfOk result (λ place. IsTrue (fits place.parameter (parameter path.now))) }
+    ensures known { IfOk result IsRow }
 {
     let Ok(text) = str::from_utf8(path) else {
         return Err(RouteFault::Route);
@@ -38,26 +39,21 @@ fn find_place(paths: &Paths, path: &[u8]) -> Result<Place, RouteFault>
 
 fn with_parameter(place: Place, text: &[u8]) -> Result<Place, RouteFault>
     ensures place { result ≡ with_parameter text.now place }
-    ensures fitting { IfOk result (λ place. IsTrue (fits place text.now)) }
+    ensures fitting { IfOk result (λ found. IsTrue (fits found.parameter text.now)) }
+    ensures same { IfOk result (λ found. found ≡ place) }
 {
-    if fits(place, text) {
+    if fits(place.parameter, text) {
         Ok(place)
     } else {
         Err(RouteFault::Route)
     }
 }
 
-fn method_of(place: Place) -> &'static [u8]
-    ensures { result.now ≡ method_of place }
-{
-    if is_post(place) { b"POST" } else { b"GET" }
-}
-
 fn with_method(place: Place, method: &[u8]) -> Result<Place, RouteFault>
     ensures place { result ≡ with_method method.now place }
     ensures same { IfOk result (λ found. found ≡ place) }
 {
-    if method == method_of(place) {
+    if method == method_name(place.method) {
         Ok(place)
     } else {
         Err(RouteFault::Method)
@@ -90,9 +86,9 @@ fn find_row<'a>(keys: &'a Keys, fields: &[HttpField]) -> Result<&'a KeyRow, Rout
 
 fn with_role(place: Place, row: &KeyRow) -> Result<&KeyRow, RouteFault>
     ensures row { Gives (λ row. row.now) result (with_role place row.now) }
-    ensures role { IfOk result (λ found. (found.now ≡ row.now) × IsTrue (may_ask found.now.role place)) }
+    ensures role { IfOk result (λ found. (found.now ≡ row.now) × IsTrue (may_ask found.now.role place.askers)) }
 {
-    if may_ask(row.role, place) {
+    if may_ask(row.role, place.askers) {
         Ok(row)
     } else {
         Err(RouteFault::Role)
@@ -111,14 +107,13 @@ fn find_number(fields: &[HttpField]) -> Result<Option<u64>, RouteFault>
 }
 
 fn number_at(place: Place, fields: &[HttpField]) -> Result<Option<u64>, RouteFault>
-    ensures number { result ≡ number_at place fields.now }
+    ensures number { result ≡ number_at place.method fields.now }
     ensures small { IfOk result (λ number. IsTrue (is_number number)) }
     ensures unnumbered { IfOk result (λ number. number ≡ None) }
 {
-    if is_post(place) {
-        find_number(fields)
-    } else {
-        Ok(None)
+    match place.method {
+        Method::Post => find_number(fields),
+        Method::Get => Ok(None),
     }
 }
 
@@ -133,8 +128,9 @@ pub(crate) fn read_opening<'a>(
 ) -> Result<Opening<'a>, RouteFault>
     ensures opening { Gives opening_shown result (opening_of method.now path.now fields.now keys.now) }
     ensures named { IfOk result (λ opening. IsTrue (is_name opening.row.now.name)) }
-    ensures role { IfOk result (λ opening. IsTrue (may_ask opening.row.now.role opening.place)) }
-    ensures fitting { IfOk result (λ opening. IsTrue (fits opening.place (parameter path.now))) }
+    ensures role { IfOk result (λ opening. IsTrue (may_ask opening.row.now.role opening.place.askers)) }
+    ensures fitting { IfOk result (λ opening. IsTrue (fits opening.place.parameter (parameter path.now))) }
+    ensures known { IfOk result (λ opening. IsRow opening.place) }
     ensures number { IfOk result (λ opening. IsTrue (is_number opening.number)) }
     ensures unnumbered { IfOk result (λ opening. opening.number ≡ None) }
 {

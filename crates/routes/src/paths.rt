@@ -5,7 +5,7 @@ ghost use Rattle.decimal_rank.specs.DecimalText.{is_digit, are_digits};
 ghost use Rattle.trec_formats.specs.Names.{is_name, is_name_byte};
 ghost use Rattle.routes.specs.Places.{fits, is_lease, is_slash, parameter};
 
-use crate::places::Place;
+use crate::places::Parameter;
 use decimal_rank::{capped_number, is_number};
 use trec_formats::is_name;
 
@@ -61,18 +61,12 @@ pub(crate) fn lease_number(text: &[u8]) -> u32
 }
 
 /// Whether a text may be the parameter of a row.
-pub(crate) fn fits(place: Place, text: &[u8]) -> bool
-    ensures { result ≡ fits place text.now }
+pub(crate) fn fits(parameter: Parameter, text: &[u8]) -> bool
+    ensures { result ≡ fits parameter text.now }
 {
-    match place {
-        Place::Submit | Place::Scores | Place::Lease | Place::Amend | Place::Rule | Place::Pool =>
-            is_name(text),
-        Place::Grade | Place::Release => is_lease(text),
-        Place::Topics
-        | Place::Open
-        | Place::Qrels
-        | Place::Table
-        | Place::Disagreements
-        | Place::Progress => true,
+    match parameter {
+        Parameter::Nothing => true,
+        Parameter::Name => is_name(text),
+        Parameter::Number => is_lease(text),
     }
 }

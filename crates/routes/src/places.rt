@@ -3,17 +3,49 @@ ghost use Rattle.std.specs.List.{fold};
 ghost use Rattle.std.specs.Option.{option_map};
 ghost use Rattle.matchit.specs.Route.{parse_route};
 ghost use Rattle.matchit.specs.Seek.{first};
-ghost use Rattle.routes.specs.Places.{are_free, is_free_route, is_post, may_ask, table, with_route};
+ghost use Rattle.routes.specs.Places.{are_free, is_free_route, may_ask, method_name, place_at, table, with_route};
 
+use Askers::{Assessors, Groups, NotAssessors, NotGroups, Organisers};
+use Method::{Get, Post};
+use Parameter::{Name, Nothing, Number};
+use Question::{
+    Amend, Disagreements, Grade, Lease, Open, Pool, Progress, Qrels, Release, Rule, Scores, Submit,
+    Table, Topics,
+};
 use decimal_rank::Memory;
 use matchit::{InsertError, Router};
 use rulebook::Role;
 use std::alloc::Global;
 use std::marker::Model;
 
-/// A row of the table of the paths: what is asked there.
-#[derive(Clone, Copy, Debug, PartialEq, Eq)]
-pub(crate) enum Place {
+/// The method of a row.
+#[derive(Clone, Copy, PartialEq, Eq)]
+pub(crate) enum Method {
+    Get,
+    Post,
+}
+
+/// What the second part of a row's path is: a name, the number of a lease, or no parameter.
+#[derive(Clone, Copy)]
+pub(crate) enum Parameter {
+    Nothing,
+    Name,
+    Number,
+}
+
+/// Whose role may ask what is asked at a row; two kinds are named by the third.
+#[derive(Clone, Copy)]
+pub(crate) enum Askers {
+    Organisers,
+    Groups,
+    Assessors,
+    NotGroups,
+    NotAssessors,
+}
+
+/// What is asked at a row.
+#[derive(Clone, Copy)]
+pub(crate) enum Question {
     Topics,
     Submit,
     Open,
@@ -30,21 +62,33 @@ pub(crate) enum Place {
     Progress,
 }
 
-static ROWS: [(&str, Place); 14] = [
-    ("/topics", Place::Topics),
-    ("/runs/{run}", Place::Submit),
-    ("/open", Place::Open),
-    ("/topics/{topic}/lease", Place::Lease),
-    ("/leases/{lease}/grade", Place::Grade),
-    ("/leases/{lease}/release", Place::Release),
-    ("/topics/{topic}/amend", Place::Amend),
-    ("/topics/{topic}/rule", Place::Rule),
-    ("/topics/{topic}/pool", Place::Pool),
-    ("/qrels", Place::Qrels),
-    ("/runs/{run}/scores", Place::Scores),
-    ("/table", Place::Table),
-    ("/disagreements", Place::Disagreements),
-    ("/progress", Place::Progress),
+/// A row of the table of the paths.
+#[derive(Clone, Copy)]
+pub(crate) struct Place {
+    pub(crate) method: Method,
+    pub(crate) parameter: Parameter,
+    pub(crate) askers: Askers,
+    pub(crate) question: Question,
+}
+
+type Row = (&'static str, Method, Parameter, Askers, Question);
+
+/// The table: each path, its method, its parameter, and who may ask what there.
+static ROWS: [Row; 14] = [
+    ("/topics", Post, Nothing, Organisers, Topics),
+    ("/runs/{run}", Post, Name, Groups, Submit),
+    ("/open", Post, Nothing, Organisers, Open),
+    ("/topics/{topic}/lease", Post, Name, Assessors, Lease),
+    ("/leases/{lease}/grade", Post, Number, Assessors, Grade),
+    ("/leases/{lease}/release", Post, Number, Assessors, Release),
+    ("/topics/{topic}/amend", Post, Name, Assessors, Amend),
+    ("/topics/{topic}/rule", Post, Name, Organisers, Rule),
+    ("/topics/{topic}/pool", Get, Name, NotGroups, Pool),
+    ("/qrels", Get, Nothing, Organisers, Qrels),
+    ("/runs/{run}/scores", Get, Name, NotAssessors, Scores),
+    ("/table", Get, Nothing, Organisers, Table),
+    ("/disagreements", Get, Nothing, Organisers, Disagreements),
+    ("/progress", Get, Nothing, Organisers, Progress),
 ];
 
 // Adds a path as a route that conflicts with none.
@@ -63,13 +107,20 @@ fn add_row(router: &mut Router<Place>, path: &str, place: Place) -> Result<(), M
 }
 
 // Adds the paths of some rows as routes, in their order.
-fn add_rows(router: &mut Router<Place>, rows: &[(&str, Place)]) -> Result<(), Memory>
-    requires { IsTrue (are_free router.old (map (λ row. (row.0.now, row.1)) rows.now)) }
-    ensures { OnOk result (router.new ≡ fold with_route router.old (map (λ row. (row.0.now, row.1)) rows.now)) }
+fn add_rows(router: &mut Router<Place>, rows: &[Row]) -> Result<(), Memory>
+    requires { IsTrue (are_free router.old (map (λ row. (row.0.now, place_at row.1 row.2 row.3 row.4)) rows.now)) }
+    ensures { OnOk result (router.new ≡ fold with_route router.old (map (λ row. (row.0.now, place_at row.1 row.2 row.3 row.4)) rows.now)) }
 {
     let mut rest = rows;
     while let [row, others @ ..] = rest {
-        add_row(router, row.0, row.1)?;
+        let (path, method, parameter, askers, question) = *row;
+        let place = Place {
+            method,
+            parameter,
+            askers,
+            question,
+        };
+        add_row(router, path, place)?;
         rest = others;
     }
     Ok(())
@@ -112,45 +163,25 @@ impl Paths {
     }
 }
 
-/// Whether the row has the method POST, and else GET.
-pub(crate) fn is_post(place: Place) -> bool
-    ensures { result ≡ is_post place }
+/// The method as a request has it.
+pub(crate) fn method_name(method: Method) -> &'static [u8]
+    ensures { result.now ≡ method_name method }
 {
-    match place {
-        Place::Pool
-        | Place::Qrels
-        | Place::Scores
-        | Place::Table
-        | Place::Disagreements
-        | Place::Progress => false,
-        Place::Topics
-        | Place::Submit
-        | Place::Open
-        | Place::Lease
-        | Place::Grade
-        | Place::Release
-        | Place::Amend
-        | Place::Rule => true,
+    match method {
+        Method::Get => b"GET",
+        Method::Post => b"POST",
     }
 }
 
-/// Whether a role may ask what is asked at a row.
-pub(crate) fn may_ask(role: Role, place: Place) -> bool
-    ensures { result ≡ may_ask role place }
+/// Whether a role is among those that may ask.
+pub(crate) fn may_ask(role: Role, askers: Askers) -> bool
+    ensures { result ≡ may_ask role askers }
 {
-    match place {
-        Place::Submit => matches!(role, Role::Group),
-        Place::Lease | Place::Grade | Place::Release | Place::Amend => {
-            matches!(role, Role::Assessor)
-        }
-        Place::Pool => matches!(role, Role::Organiser | Role::Assessor),
-        Place::Scores => matches!(role, Role::Organiser | Role::Group),
-        Place::Topics
-        | Place::Open
-        | Place::Rule
-        | Place::Qrels
-        | Place::Table
-        | Place::Disagreements
-        | Place::Progress => matches!(role, Role::Organiser),
+    match askers {
+        Askers::Organisers => matches!(role, Role::Organiser),
+        Askers::Groups => matches!(role, Role::Group),
+        Askers::Assessors => matches!(role, Role::Assessor),
+        Askers::NotGroups => matches!(role, Role::Organiser | Role::Assessor),
+        Askers::NotAssessors => matches!(role, Role::Group | Role::Organiser),
     }
 }

@@ -2,4 +2,4 @@ use Rattle.eval.proofs.Exclusive.{exclusive}
 use Rattle.eval.proofs.evaluation.never_both.Goals as goal
 
 pub returns : goal.returns
-returns c = exclusive c.one_run_reading.ensures c.one_qrels_reading.ensures
+returns c = exclusive c.one_rankable_reading.ensures c.one_qrels_reading.ensures

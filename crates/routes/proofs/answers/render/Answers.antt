@@ -1,23 +1,21 @@
-use Rattle.std.proofs.Common.{◌++◌, length, ap, ◌∙◌, append_assoc}
-use Rattle.http_wire.specs.Answers.{head_text}
+use Rattle.std.proofs.Common.{arith, vec_len}
 use Rattle.routes.specs.Answers.{body_of, is_json, status_of, text_of}
+use Rattle.http_wire.specs.Answers.{answer_text}
 use Rattle.routes.proofs.AnswerSizes.{text_few}
+use Rattle.routes.proofs.Growing.{behind_first}
 use Rattle.routes.proofs.answers.render.Goals as goal
+
+pub returns-in_err-write_body-clause-few : goal.returns-in_err-write_body-clause-few
+returns-in_err-write_body-clause-few c = λ plain short. text_few c.args.answer.now c.args.close c.status_of-status.ensures.small (c.write_body.ensures.few plain short)
 
 pub returns-in-Ok-clause-ok : goal.returns-in-Ok-clause-ok
 unfolding text_of
 returns-in-Ok-clause-ok c =
-    let head = rw (c.status_of-status.ensures.status, c.is_json.ensures, c.in_ok-size.ensures.size, c.size_of_body.ensures.same) at c.in_ok-write_head.ensures.ok in
-    c.in-Ok.ensures.adds.text_added ∙ ap (λ text. text ++ body_of c.args.answer.now) head ∙ append_assoc c.args.out.now.items (head_text (status_of c.args.answer.now) (is_json c.args.answer.now) c.args.close (length (body_of c.args.answer.now))) (body_of c.args.answer.now)
-
-pub returns-in_err-size-clause-few : goal.returns-in_err-size-clause-few
-returns-in_err-size-clause-few c = λ plain short. text_few c.args.answer.now c.args.close c.status_of-status.ensures.small (c.size_of_body.ensures.few plain short)
-
-pub returns-in_err-write_head-clause-few : goal.returns-in_err-write_head-clause-few
-returns-in_err-write_head-clause-few c = λ plain short. text_few c.args.answer.now c.args.close c.status_of-status.ensures.small (c.size_of_body.ensures.few plain short)
+    behind_first c.args.out.now.items (vec_len c.args.out.now) (body_of c.args.answer.now) c.write_body.new.out.items c.put_head.new.out.items (answer_text (status_of c.args.answer.now) (is_json c.args.answer.now) c.args.close)
+    (omega (arith, c.args.out.now.ok.0)) c.in_ok-write_body.ensures.adds.text_added (rw (c.len-before.ensures, c.status_of-status.ensures.status, c.is_json.ensures) at c.in-Ok.ensures.ok)
 
 pub returns-in-Ok-clause-few : goal.returns-in-Ok-clause-few
-returns-in-Ok-clause-few c = λ plain short. text_few c.args.answer.now c.args.close c.status_of-status.ensures.small (c.size_of_body.ensures.few plain short)
+returns-in-Ok-clause-few c = λ plain short. text_few c.args.answer.now c.args.close c.status_of-status.ensures.small (c.write_body.ensures.few plain short)
 
 pub returns-in-Err-clause-few : goal.returns-in-Err-clause-few
-returns-in-Err-clause-few c = λ plain short. text_few c.args.answer.now c.args.close c.status_of-status.ensures.small (c.size_of_body.ensures.few plain short)
+returns-in-Err-clause-few c = λ plain short. text_few c.args.answer.now c.args.close c.status_of-status.ensures.small (c.write_body.ensures.few plain short)

@@ -1,3 +1,5 @@
+use Rattle.std.proofs.Common.{◌∙◌, sym}
+use Rattle.routes.proofs.TableRows.{parameter_is}
 use Rattle.routes.proofs.asks.ask_at.Goals as goal
 
 pub returns-in-Topics-clause-ask : goal.returns-in-Topics-clause-ask
@@ -8,3 +10,9 @@ returns-in-Pool-clause-ask c = rw c.in-Pool.is (c.ask_pool.ensures c.args.body.n
 
 pub returns-in-Scores-clause-ask : goal.returns-in-Scores-clause-ask
 returns-in-Scores-clause-ask c = rw c.in-Scores.is (c.ask_scores.ensures c.args.body.now)
+
+pub ask_grade-requires : goal.ask_grade-requires
+ask_grade-requires c = rw c.in-Grade.is at (sym (parameter_is c.args.place c.requires.known c.args.text.now) ∙ c.requires.fitting)
+
+pub ask_release-requires : goal.ask_release-requires
+ask_release-requires c = rw c.in-Release.is at (sym (parameter_is c.args.place c.requires.known c.args.text.now) ∙ c.requires.fitting)

@@ -1,12 +1,12 @@
 use Rattle.std.proofs.Common.{◌≡◌, map, true, length}
 use Rattle.std.specs.List.{fold}
-use Rattle.routes.specs.Places.{are_free, with_route}
+use Rattle.routes.specs.Places.{are_free, place_at, with_route}
 use Rattle.routes.proofs.places.add_rows.Given as goal
 
 abbrev pub invariant-loop-rest : goal.invariant-loop-rest
 invariant-loop-rest l = record {
-  added : fold with_route l.initial.router (map (λ row. (row.0.now, row.1)) l.rows) ≡ fold with_route l.router (map (λ row. (row.0.now, row.1)) l.rest);
-  free : are_free l.router (map (λ row. (row.0.now, row.1)) l.rest) ≡ true;
+  added : fold with_route l.initial.router (map (λ row. (row.0.now, place_at row.1 row.2 row.3 row.4)) l.rows) ≡ fold with_route l.router (map (λ row. (row.0.now, place_at row.1 row.2 row.3 row.4)) l.rest);
+  free : are_free l.router (map (λ row. (row.0.now, place_at row.1 row.2 row.3 row.4)) l.rest) ≡ true;
 }
 
 abbrev pub decreases-loop-rest : goal.decreases-loop-rest
