@@ -18,7 +18,7 @@ use Rattle.rulebook.specs.Grades.{labels_on}
 use Rattle.campaign_core.specs.Labelling.{IsLabelled}
 use Rattle.campaign_core.specs.Numbers.{doc_in, names_of}
 use Rattle.campaign_core.specs.Topics.{KeptTopic, LabelledTopic, kept, kept_of, labelled_of}
-use Rattle.campaign_core.specs.declared.topics.TopicState.{TopicState}
+use Rattle.assessment.specs.TopicFacts.{TopicFacts}
 use Rattle.campaign_core.specs.Kept.{KnowsAll}
 use Rattle.lease_desk.specs.declared.leases.Lease.{Lease as DeskLease}
 use Rattle.campaign_core.proofs.Accepting.{listed-id}
@@ -93,14 +93,14 @@ module _ (H : History) (topic : Text) (labelled : Bool) (grade : ℕ) (p : Phase
       doc-given within = sym (past-label ∙ ap (λ t. unless ((refusal.GradeRange when t) ∷ []) (Ok reply.Done)) (le-ltb (rules_of H).top_grade grade within))
 
 -- the state of a topic that was found
-pub record FoundTopic (H : History) (names : List Text) (s : TopicState) (topic : Text) : Type 0 where
+pub record FoundTopic (H : History) (names : List Text) (s : TopicFacts) (topic : Text) : Type 0 where
   pub id_is : s.id ≡ topic
   pub kept_is : kept s ≡ kept_of H topic
   pub listed : is_topic H topic ≡ true
   pub labelled : IsLabelled H names (labelled_of s)
 
-pub topic-there : (H : History) (states : List TopicState) (desk : List DeskLease) (names : List Text) (topic : Text) (number : ℕ) (s : TopicState) → KnowsAll H states desk → names ≡ names_of H
-    → Some number ≡ position (λ (s : TopicState). bytes_eq s.id topic) states → s ≡ get_or states number s → FoundTopic H names s topic
+pub topic-there : (H : History) (states : List TopicFacts) (desk : List DeskLease) (names : List Text) (topic : Text) (number : ℕ) (s : TopicFacts) → KnowsAll H states desk → names ≡ names_of H
+    → Some number ≡ position (λ (s : TopicFacts). bytes_eq s.id topic) states → s ≡ get_or states number s → FoundTopic H names s topic
 topic-there H states desk names topic number s knows names_are found is =
     let at = known-topic H states topic number knows.topics_are found in
     let stands = stands-at H states desk knows topic number at.number_is at.listed s is in
@@ -109,5 +109,5 @@ topic-there H states desk names topic number s knows names_are found is =
       id_is = id_is;
       kept_is = stands.kept_is;
       listed = listed-id (topics H) topic ∙ at.listed;
-      labelled = subst (λ ns. IsLabelled H ns (labelled_of s)) (sym names_are) (subst (λ (id : Text). IsLabelled H (names_of H) (record { id = id; marked = s.marks.marked; graded = s.view.graded })) (sym id_is) stands.labelled);
+      labelled = subst (λ ns. IsLabelled H ns (labelled_of s)) (sym names_are) (subst (λ (id : Text). IsLabelled H (names_of H) (record { id = id; marked = s.marked; graded = s.graded })) (sym id_is) stands.labelled);
     }

@@ -22,7 +22,7 @@ use Rattle.campaign_core.specs.Numbers.{are_named, doc_in, docs_in}
 use Rattle.campaign_core.specs.Printed.{IsTopicOf}
 use Rattle.campaign_core.specs.Scoring.{list_on}
 use Rattle.campaign_core.specs.Topics.{KeptTopic}
-use Rattle.campaign_core.specs.declared.topics.TopicState.{TopicState}
+use Rattle.assessment.specs.TopicFacts.{TopicFacts}
 use Rattle.campaign_core.proofs.Desks.{count_by-cons, same-number}
 use Rattle.campaign_core.proofs.ListFacts.{all_back, all_front, all_head, all_tail}
 use Rattle.campaign_core.proofs.Progressing.{non_relevant-count, relevant-count}
@@ -64,18 +64,18 @@ run-named names (r ∷ rs) zero run named is =
     ap (λ (r : Run). are_named names (docnos r.lists)) (sym same) ∙ all_front (contains_text names) (docnos r.lists) (flat_map (λ run. docnos run.lists) rs) named
 run-named names (r ∷ rs) (suc i) run named is = run-named names rs i run (all_back (contains_text names) (docnos r.lists) (flat_map (λ run. docnos run.lists) rs) named) is
 
-module _ (H : History) (names : List Text) (topic : TopicState) (is : IsTopicOf H names topic) (legal : IsLegal H) (on_trail : GradedAreOnTrail) (there : GradedAreThere) where
-  pub cell-same : (run : Run) → are_named names (docs_on run.lists topic.id) ≡ true → cell_from topic.view.level topic.view.graded (list_on names topic.id run) ≡ cell_on H run topic.id
+module _ (H : History) (names : List Text) (topic : TopicFacts) (is : IsTopicOf H names topic) (legal : IsLegal H) (on_trail : GradedAreOnTrail) (there : GradedAreThere) where
+  pub cell-same : (run : Run) → are_named names (docs_on run.lists topic.id) ≡ true → cell_from topic.level topic.graded (list_on names topic.id run) ≡ cell_on H run topic.id
   cell-same run named =
       let id = topic.id in
       let docs = list_on names id run in
-      let level : topic.view.level ≡ (rules_of H).level = ap (λ (k : KeptTopic). k.level) is.kept_is in
-      let grades : ranked_there topic.view.graded docs ≡ grades_by_rank H run id =
+      let level : topic.level ≡ (rules_of H).level = ap (λ (k : KeptTopic). k.level) is.kept_is in
+      let grades : ranked_there topic.graded docs ≡ grades_by_rank H run id =
       ap (λ graded. ranked_there graded docs) is.labelled.graded_are ∙ grades-same H names id (trail H id) (docs_on run.lists id) is.labelled.trail_named (there H legal id) named in
       let Counted : List (Option ℕ) → ℕ → ℕ → ℕ → Cell = cell_of in
-      ap (λ (gs : List (Option ℕ)). Counted gs (count_by (λ g. relevant_there topic.view.level g.grade) topic.view.graded) (count_by (λ g. lower_there topic.view.level g.grade) topic.view.graded) topic.view.level) grades
-      ∙ ap (λ r. Counted (grades_by_rank H run id) r (count_by (λ g. lower_there topic.view.level g.grade) topic.view.graded) topic.view.level) (relevant-count H names topic is on_trail)
-      ∙ ap (λ n. Counted (grades_by_rank H run id) (relevant_count H id) n topic.view.level) (non_relevant-count H names topic is on_trail)
+      ap (λ (gs : List (Option ℕ)). Counted gs (count_by (λ g. relevant_there topic.level g.grade) topic.graded) (count_by (λ g. lower_there topic.level g.grade) topic.graded) topic.level) grades
+      ∙ ap (λ r. Counted (grades_by_rank H run id) r (count_by (λ g. lower_there topic.level g.grade) topic.graded) topic.level) (relevant-count H names topic is on_trail)
+      ∙ ap (λ n. Counted (grades_by_rank H run id) (relevant_count H id) n topic.level) (non_relevant-count H names topic is on_trail)
       ∙ ap (Counted (grades_by_rank H run id) (relevant_count H id) (non_relevant_count H id)) level
 
 -- each document with an effective grade is relevant or judged lower

@@ -17,7 +17,7 @@ use Rattle.rulebook.specs.Grades.{disagrees, is_labelled, labelled, labels_on, r
 use Rattle.campaign_core.specs.Numbers.{doc_in}
 use Rattle.campaign_core.specs.Printed.{IsTopicOf}
 use Rattle.campaign_core.specs.Topics.{KeptTopic}
-use Rattle.campaign_core.specs.declared.topics.TopicState.{TopicState}
+use Rattle.assessment.specs.TopicFacts.{TopicFacts}
 use Rattle.campaign_core.proofs.Numbering.{all-listed, docnos, named-listed, names-differ, passing, unnamed-listed, within}
 use Rattle.campaign_core.proofs.Ordered.{in_order-any, in_order-is, in_order-rises}
 
@@ -37,16 +37,16 @@ no-labels need_ r = nothing (need_ == 2)
     nothing true = refl
     nothing false = refl
 
-module _ (H : History) (names : List Text) (topic : TopicState) (is : IsTopicOf H names topic) where
+module _ (H : History) (names : List Text) (topic : TopicFacts) (is : IsTopicOf H names topic) where
   abbrev differs_there : DocId → Bool
-  differs_there = disagrees_at topic.need topic.marks.marked
+  differs_there = disagrees_at topic.need topic.marked
 
   need-is : topic.need ≡ need H topic.id
   need-is = ap (λ (k : KeptTopic). k.labels_needed) is.kept_is
 
   known-same : (doc : Text) → contains_text names doc ≡ true → differs_there (doc_in names doc) ≡ disagrees H topic.id doc
   known-same doc there =
-      ap (λ (gs : List Given). shows_disagreement topic.need (grades_of gs) (ruling_at topic.marks.marked (doc_in names doc))) (is.labelled.given_are doc there)
+      ap (λ (gs : List Given). shows_disagreement topic.need (grades_of gs) (ruling_at topic.marked (doc_in names doc))) (is.labelled.given_are doc there)
       ∙ ap (shows_disagreement topic.need (grades_of (labels_on H topic.id doc))) (is.labelled.rulings_are doc there)
       ∙ ap (λ n. shows_disagreement n (grades_of (labels_on H topic.id doc)) (ruling H topic.id doc)) need-is
 
@@ -56,8 +56,8 @@ module _ (H : History) (names : List Text) (topic : TopicState) (is : IsTopicOf 
       step : (t : Bool) → nat_lt doc.0 (length names) ≡ t → t ≡ true
       step true less = refl
       step false less =
-          let none : given_at topic.marks.marked doc ≡ [] = is.labelled.given_named doc (ltb-false doc.0 (length names) less) in
-          let no_sign : differs_there doc ≡ false = ap (λ (gs : List Given). shows_disagreement topic.need (grades_of gs) (ruling_at topic.marks.marked doc)) none ∙ no-labels topic.need (ruling_at topic.marks.marked doc) in
+          let none : given_at topic.marked doc ≡ [] = is.labelled.given_named doc (ltb-false doc.0 (length names) less) in
+          let no_sign : differs_there doc ≡ false = ap (λ (gs : List Given). shows_disagreement topic.need (grades_of gs) (ruling_at topic.marked doc)) none ∙ no-labels topic.need (ruling_at topic.marked doc) in
           cc (no_sign, shows)
 
   module _ (docs : List DocId) (each : (doc : DocId) → is_listed docs doc ≡ differs_there doc) where

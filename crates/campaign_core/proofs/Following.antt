@@ -17,7 +17,8 @@ use Rattle.rulebook.specs.Grades.{trail}
 use Rattle.rulebook.specs.JudgingOrder.{comes_before, first_of, relevance}
 use Rattle.campaign_core.specs.Labelling.{graded_in}
 use Rattle.campaign_core.specs.Numbers.{are_named, doc_in, docs_in, names_of}
-use Rattle.campaign_core.specs.Topics.{held_of, judged_of, pool_of}
+use Rattle.campaign_core.specs.Topics.{held_of, pool_of}
+use Rattle.assessment.specs.TopicFacts.{judged_of}
 use Rattle.campaign_core.proofs.Desks.{same-number}
 use Rattle.campaign_core.proofs.LabelSteps.{bytes-swap}
 use Rattle.campaign_core.proofs.ListFacts.{all_back, all_front, all_head, all_tail, and_true}

@@ -32,8 +32,9 @@ use Rattle.campaign_core.specs.Kept.{KnowsAll}
 use Rattle.campaign_core.specs.Labelling.{IsLabelled}
 use Rattle.campaign_core.specs.Leasing.{IsLeased, KnownLease, first_open, first_refusal, is_known, is_open_in, known, refusals_of, seen, topic_in}
 use Rattle.campaign_core.specs.Numbers.{doc_in, names_of}
-use Rattle.campaign_core.specs.Topics.{IsQueued, KeptTopic, judged_of, kept, kept_of, labelled_of, pool_of, topic_ids}
-use Rattle.campaign_core.specs.declared.topics.TopicState.{TopicState}
+use Rattle.campaign_core.specs.Topics.{KeptTopic, kept, kept_of, labelled_of, pool_of, topic_ids}
+use Rattle.assessment.specs.TopicFacts.{IsQueued, TopicFacts, judged_of}
+use Rattle.mtf_queue.specs.QueueView.{QueueView}
 use Rattle.campaign_core.proofs.Accepting.{listed-id}
 use Rattle.campaign_core.proofs.LabelSteps.{bytes-swap}
 use Rattle.campaign_core.proofs.ListFacts.{both_true}
@@ -155,24 +156,24 @@ module _ (H : History) (names : List Text) (desk : List DeskLease) (who : Caller
 -- The topics that are kept.
 
 module _ (H : History) where
-  pub states-long : (states : List TopicState) (ids : List Text) → map kept states ≡ map (kept_of H) ids → length states ≡ length ids
+  pub states-long : (states : List TopicFacts) (ids : List Text) → map kept states ≡ map (kept_of H) ids → length states ≡ length ids
   states-long states ids same = sym (length-map states kept) ∙ ap length same ∙ length-map ids (kept_of H)
 
-  kept-at : (states : List TopicState) (ids : List Text) (i : ℕ) (d : TopicState) (e : Text) → i < length ids → map kept states ≡ map (kept_of H) ids → kept (get_or states i d) ≡ kept_of H (get_or ids i e)
+  kept-at : (states : List TopicFacts) (ids : List Text) (i : ℕ) (d : TopicFacts) (e : Text) → i < length ids → map kept states ≡ map (kept_of H) ids → kept (get_or states i d) ≡ kept_of H (get_or ids i e)
   kept-at [] [] i d e within same = absurd (omega (arith, within))
   kept-at [] (id ∷ ids) i d e within same = cc same
   kept-at (s ∷ states) [] i d e within same = cc same
   kept-at (s ∷ states) (id ∷ ids) zero d e within same = cc same
   kept-at (s ∷ states) (id ∷ ids) (suc i) d e within same = kept-at states ids i d e (omega (arith, within)) (cc same)
 
-  place-same : (topic : Text) (states : List TopicState) (ids : List Text) → map kept states ≡ map (kept_of H) ids → position_or_len (λ (s : TopicState). bytes_eq s.id topic) states ≡ topic_in ids topic
+  place-same : (topic : Text) (states : List TopicFacts) (ids : List Text) → map kept states ≡ map (kept_of H) ids → position_or_len (λ (s : TopicFacts). bytes_eq s.id topic) states ≡ topic_in ids topic
   place-same topic [] [] same = refl
   place-same topic [] (id ∷ ids) same = cc same
   place-same topic (s ∷ states) [] same = cc same
   place-same topic (s ∷ states) (id ∷ ids) same =
       let head : kept s ≡ kept_of H id = cc same in
       let tail : map kept states ≡ map (kept_of H) ids = cc same in
-      ap (λ t. cond (not t) (1 + position_or_len (λ (s : TopicState). bytes_eq s.id topic) states) 0) (ap (λ (k : KeptTopic). bytes_eq k.id topic) head ∙ bytes-swap id topic)
+      ap (λ t. cond (not t) (1 + position_or_len (λ (s : TopicFacts). bytes_eq s.id topic) states) 0) (ap (λ (k : KeptTopic). bytes_eq k.id topic) head ∙ bytes-swap id topic)
       ∙ ap (λ (n : ℕ). cond (not (bytes_eq topic id)) (1 + n) 0) (place-same topic states ids tail)
 
 within-any : {X : Type 0} (p : X → Bool) (xs : List X) → position_or_len p xs < length xs → list_any p xs ≡ true
@@ -187,61 +188,60 @@ pub topic-back : (ids : List Text) (topic e : Text) → contains_text ids topic 
 topic-back ids topic e listed = sym ((bytes_eq-Decides topic _).0 (passes_at_first (bytes_eq topic) ids e (number-within ids topic listed)))
 
 -- the topic of a number: the rules' topic of this id
-pub record Placed (H : History) (states : List TopicState) (topic : Text) (number : ℕ) : Type 0 where
+pub record Placed (H : History) (states : List TopicFacts) (topic : Text) (number : ℕ) : Type 0 where
   pub number_is : number ≡ topic_in (topic_ids H) topic
   pub listed : contains_text (topic_ids H) topic ≡ true
   pub within : number < length states
 
-pub known-topic : (H : History) (states : List TopicState) (topic : Text) (number : ℕ) → map kept states ≡ map (kept_of H) (topic_ids H) → Some number ≡ position (λ (s : TopicState). bytes_eq s.id topic) states → Placed H states topic number
+pub known-topic : (H : History) (states : List TopicFacts) (topic : Text) (number : ℕ) → map kept states ≡ map (kept_of H) (topic_ids H) → Some number ≡ position (λ (s : TopicFacts). bytes_eq s.id topic) states → Placed H states topic number
 known-topic H states topic number same is = step (nat_lt place (length states)) refl is
   where
     place : ℕ
-    place = position_or_len (λ (s : TopicState). bytes_eq s.id topic) states
+    place = position_or_len (λ (s : TopicFacts). bytes_eq s.id topic) states
 
-    step : (t : Bool) → nat_lt (position_or_len (λ (s : TopicState). bytes_eq s.id topic) states) (length states) ≡ t
-        → Some number ≡ cond t (Some (position_or_len (λ (s : TopicState). bytes_eq s.id topic) states)) None → Placed H states topic number
+    step : (t : Bool) → nat_lt (position_or_len (λ (s : TopicFacts). bytes_eq s.id topic) states) (length states) ≡ t
+        → Some number ≡ cond t (Some (position_or_len (λ (s : TopicFacts). bytes_eq s.id topic) states)) None → Placed H states topic number
     step false less none = cc none
     step true less some =
-        let number_is : number ≡ position_or_len (λ (s : TopicState). bytes_eq s.id topic) states = cc some in
+        let number_is : number ≡ position_or_len (λ (s : TopicFacts). bytes_eq s.id topic) states = cc some in
         let at = place-same H topic states (topic_ids H) same in
-        let inside = ltb-true (position_or_len (λ (s : TopicState). bytes_eq s.id topic) states) (length states) less in
+        let inside = ltb-true (position_or_len (λ (s : TopicFacts). bytes_eq s.id topic) states) (length states) less in
         record {
           number_is = number_is ∙ at;
           listed = within-any (bytes_eq topic) (topic_ids H) (omega (arith, inside, at, states-long H states (topic_ids H) same));
           within = omega (arith, inside, number_is);
         }
 
-pub unknown-topic : (H : History) (states : List TopicState) (topic : Text) → map kept states ≡ map (kept_of H) (topic_ids H) → None ≡ position (λ (s : TopicState). bytes_eq s.id topic) states → is_topic H topic ≡ false
+pub unknown-topic : (H : History) (states : List TopicFacts) (topic : Text) → map kept states ≡ map (kept_of H) (topic_ids H) → None ≡ position (λ (s : TopicFacts). bytes_eq s.id topic) states → is_topic H topic ≡ false
 unknown-topic H states topic same is = listed-id (topics H) topic ∙ step (contains_text (topic_ids H) topic) refl
   where
     step : (t : Bool) → contains_text (topic_ids H) topic ≡ t → t ≡ false
     step false absent = refl
     step true listed =
         let at = place-same H topic states (topic_ids H) same in
-        let inside : position_or_len (λ (s : TopicState). bytes_eq s.id topic) states < length states = omega (arith, number-within (topic_ids H) topic listed, at, states-long H states (topic_ids H) same) in
-        let found : position (λ (s : TopicState). bytes_eq s.id topic) states ≡ Some (position_or_len (λ (s : TopicState). bytes_eq s.id topic) states) =
-        ap (λ t. cond t (Some (position_or_len (λ (s : TopicState). bytes_eq s.id topic) states)) None) (lt-ltb (position_or_len (λ (s : TopicState). bytes_eq s.id topic) states) (length states) inside) in
+        let inside : position_or_len (λ (s : TopicFacts). bytes_eq s.id topic) states < length states = omega (arith, number-within (topic_ids H) topic listed, at, states-long H states (topic_ids H) same) in
+        let found : position (λ (s : TopicFacts). bytes_eq s.id topic) states ≡ Some (position_or_len (λ (s : TopicFacts). bytes_eq s.id topic) states) =
+        ap (λ t. cond t (Some (position_or_len (λ (s : TopicFacts). bytes_eq s.id topic) states)) None) (lt-ltb (position_or_len (λ (s : TopicFacts). bytes_eq s.id topic) states) (length states) inside) in
         cc (is, found)
 
 -- what is kept of a topic of the campaign
-pub record Standing (H : History) (s : TopicState) (topic : Text) : Type 0 where
+pub record Standing (H : History) (s : TopicFacts) (topic : Text) : Type 0 where
   pub kept_is : kept s ≡ kept_of H topic
-  pub labelled : IsLabelled H (names_of H) (record { id = topic; marked = s.marks.marked; graded = s.view.graded })
-  pub queued : IsQueued s
+  pub labelled : IsLabelled H (names_of H) (record { id = topic; marked = s.marked; graded = s.graded })
 
 at-map : {X Y : Type 0} (f : X → Y) (xs : List X) (i : ℕ) (d : X) → get_or (map f xs) i (f d) ≡ f (get_or xs i d)
 at-map f [] i d = refl
 at-map f (x ∷ xs) zero d = refl
 at-map f (x ∷ xs) (suc i) d = at-map f xs i d
 
-module _ (H : History) (states : List TopicState) (desk : List DeskLease) (stands : KnowsAll H states desk) (topic : Text) (number : ℕ) (number_is : number ≡ topic_in (topic_ids H) topic) (listed : contains_text (topic_ids H) topic ≡ true) where
+module _ (H : History) (states : List TopicFacts) (desk : List DeskLease) (stands : KnowsAll H states desk) (topic : Text) (number : ℕ) (number_is : number ≡ topic_in (topic_ids H) topic) (listed : contains_text (topic_ids H) topic ≡ true) where
   inside : number < length (topic_ids H)
   inside = omega (arith, number_is, number-within (topic_ids H) topic listed)
 
   pub within-states : number < length states
   within-states = omega (arith, inside, states-long H states (topic_ids H) stands.topics_are)
 
-  pub stands-at : (s : TopicState) → s ≡ get_or states number s → Standing H s topic
+  pub stands-at : (s : TopicFacts) → s ≡ get_or states number s → Standing H s topic
   stands-at s is =
       let id_is : get_or (topic_ids H) number [] ≡ topic = ap (λ n. get_or (topic_ids H) n []) number_is ∙ topic-back (topic_ids H) topic [] listed in
       let kept_is : kept s ≡ kept_of H topic = ap kept is ∙ kept-at H states (topic_ids H) number s [] inside stands.topics_are ∙ ap (kept_of H) id_is in
@@ -250,43 +250,42 @@ module _ (H : History) (states : List TopicState) (desk : List DeskLease) (stand
       (stands.labels_are number (labelled_of s) (omega (arith, within-states, length-map states labelled_of))) in
       record {
         kept_is = kept_is;
-        labelled = subst (λ (id : Text). IsLabelled H (names_of H) (record { id = id; marked = s.marks.marked; graded = s.view.graded })) (ap (λ (k : KeptTopic). k.id) kept_is) labelled_at;
-        queued = subst IsQueued (sym is) (stands.queued number s within-states);
+        labelled = subst (λ (id : Text). IsLabelled H (names_of H) (record { id = id; marked = s.marked; graded = s.graded })) (ap (λ (k : KeptTopic). k.id) kept_is) labelled_at;
       }
 
   -- the document that the desk and the queue name is the one that the rules name
-  module _ (s : TopicState) (at : Standing H s topic) (now : ℕ) (assessor : Text)
+  module _ (s : TopicFacts) (at : Standing H s topic) (queue : QueueView) (queued : IsQueued s.level s.pool s.graded queue) (now : ℕ) (assessor : Text)
       (first_passes : (runs : List Held) (trail : List Judged) (order all : List RunId) (passes : RunId → Bool) → IsInOrder runs trail order
       → IsPermutation all order → find passes order ≡ first_there runs trail (filter passes all)) where
-    pub named-there : first_open (is_open_in s.need s.marks.marked desk number now assessor) s.pool.runs s.queue.order ≡ option_map (doc_in (names_of H)) (named H now assessor topic)
+    pub named-there : first_open (is_open_in s.need s.marked desk number now assessor) s.pool queue.order ≡ option_map (doc_in (names_of H)) (named H now assessor topic)
     named-there =
-        let runs_are : s.pool.runs ≡ pool_of H topic = ap (λ (k : KeptTopic). k.runs) at.kept_is in
+        let runs_are : s.pool ≡ pool_of H topic = ap (λ (k : KeptTopic). k.runs) at.kept_is in
         let need_is : s.need ≡ need H topic = ap (λ (k : KeptTopic). k.labels_needed) at.kept_is in
-        let level_is : s.view.level ≡ (rules_of H).level = ap (λ (k : KeptTopic). k.level) at.kept_is in
-        ap (λ n. first_open (is_open_in n s.marks.marked desk number now assessor) s.pool.runs s.queue.order) need_is
-        ∙ ap (λ n. first_open (is_open_in (need H topic) s.marks.marked desk n now assessor) s.pool.runs s.queue.order) number_is
-        ∙ ap (λ runs. first_open (is_open_in (need H topic) s.marks.marked desk (topic_in (topic_ids H) topic) now assessor) runs s.queue.order) runs_are
-        ∙ named-same H topic s.marks.marked s.view.graded desk now assessor stands.leased at.labelled listed s.queue.trail s.queue.order
-        (at.queued.trail_is ∙ ap (λ level. map (judged_of level) s.view.graded) level_is)
-        (subst (λ runs. IsInOrder runs s.queue.trail s.queue.order) runs_are at.queued.in_order)
-        (subst (λ (runs : List Held). IsPermutation (map (λ (h : Held). h.run) runs) s.queue.order) runs_are at.queued.runs)
+        let level_is : s.level ≡ (rules_of H).level = ap (λ (k : KeptTopic). k.level) at.kept_is in
+        ap (λ n. first_open (is_open_in n s.marked desk number now assessor) s.pool queue.order) need_is
+        ∙ ap (λ n. first_open (is_open_in (need H topic) s.marked desk n now assessor) s.pool queue.order) number_is
+        ∙ ap (λ runs. first_open (is_open_in (need H topic) s.marked desk (topic_in (topic_ids H) topic) now assessor) runs queue.order) runs_are
+        ∙ named-same H topic s.marked s.graded desk now assessor stands.leased at.labelled listed queue.trail queue.order
+        (queued.trail_is ∙ ap (λ level. map (judged_of level) s.graded) level_is)
+        (subst (λ runs. IsInOrder runs queue.trail queue.order) runs_are queued.in_order)
+        (subst (λ (runs : List Held). IsPermutation (map (λ (h : Held). h.run) runs) queue.order) runs_are queued.runs)
         first_passes
 
-    pub none-named : None ≡ first_open (is_open_in s.need s.marks.marked desk number now assessor) s.pool.runs s.queue.order → named H now assessor topic ≡ None
+    pub none-named : None ≡ first_open (is_open_in s.need s.marked desk number now assessor) s.pool queue.order → named H now assessor topic ≡ None
     none-named is = step (named H now assessor topic) (is ∙ named-there)
       where
         step : (o : Option Text) → None ≡ option_map (doc_in (names_of H)) o → o ≡ None
         step None none = refl
         step (Some doc) none = cc none
 
-    pub doc-named : (doc : DocId) → Some doc ≡ first_open (is_open_in s.need s.marks.marked desk number now assessor) s.pool.runs s.queue.order → named H now assessor topic ≡ Some (docno_of (names_of H) doc.0)
+    pub doc-named : (doc : DocId) → Some doc ≡ first_open (is_open_in s.need s.marked desk number now assessor) s.pool queue.order → named H now assessor topic ≡ Some (docno_of (names_of H) doc.0)
     doc-named doc is = step (named H now assessor topic) refl (is ∙ named-there)
       where
         step : (o : Option Text) → named H now assessor topic ≡ o → Some doc ≡ option_map (doc_in (names_of H)) o → o ≡ Some (docno_of (names_of H) doc.0)
         step None found none = cc none
         step (Some text) found some =
             let same : doc ≡ doc_in (names_of H) text = cc some in
-            let known : contains_text (names_of H) text ≡ true = named-known H topic s.marks.marked s.view.graded desk now assessor stands.leased at.labelled listed text found in
+            let known : contains_text (names_of H) text ≡ true = named-known H topic s.marked s.graded desk now assessor stands.leased at.labelled listed text found in
             let back : docno_of (names_of H) doc.0 ≡ text = ap (λ (d : DocId). docno_of (names_of H) d.0) same ∙ docno-back (names_of H) text known in
             ap (λ (t : Text). let o : Option Text = Some t in o) (sym back)
 

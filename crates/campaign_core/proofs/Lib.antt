@@ -6,7 +6,6 @@ pub mod ListFacts
 pub mod Naming
 pub mod Ordered
 pub mod PoolFacts
-pub mod Queues
 pub mod Told
 pub mod Desks
 pub mod Quiet
@@ -15,7 +14,6 @@ pub mod PoolSteps
 pub mod LeaseSteps
 pub mod LabelSteps
 pub mod Accepting
-pub mod Marking
 pub mod Places
 pub mod Planning
 pub mod Following
@@ -30,12 +28,11 @@ mod Disagreeing
 mod QrelsLines
 mod Progressing
 mod Paging
-mod Lists
-mod Regrading
 mod CellFacts
 mod RunFacts
 mod FirstPlaces
 mod Submitted
-mod Boards
 mod ScoresTold
-mod Scored
+mod Listing
+mod Fitting
+mod KnownRuns

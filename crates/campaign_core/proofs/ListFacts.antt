@@ -1,7 +1,10 @@
 -- Facts of lists.
-use Rattle.std.proofs.Common.{◌≡◌, ◌&&◌, ◌||◌, ◌<◌, ℕ, suc, zero, ◌≢◌, ◌≤◌, Bool, true, false, List, [], ◌∷◌, ◌++◌, None, Some, length, map, take, set, get_or, refl, sym, ap, ◌∙◌, arith}
-use Rattle.std.specs.Prelude.{All, AllPairs, slice_get}
-use Rattle.std.specs.List.{list_all, list_any, flat_map}
+use Rattle.std.proofs.Common.{◌≡◌, ◌&&◌, ◌||◌, ◌<◌, ◌+◌, ℕ, cond, not, ltb, suc, zero, ◌≢◌, ◌≤◌, Bool, true, false, List, [], ◌∷◌, ◌++◌, None, Some, length, map, take, set, get_or, refl, sym, ap, ◌∙◌, arith}
+use Rattle.std.specs.Prelude.{All, AllPairs, find, slice_get}
+use Rattle.std.specs.List.{list_all, list_any, flat_map, position, position_or_len}
+use Rattle.std.specs.Option.{IsSomeAnd, option_map}
+use Rattle.std.proofs.lemmas.List.{length-map}
+use Rattle.assessment.specs.TopicsFacts.{at_place}
 use Rattle.std.proofs.lemmas.List.Folds.{list_all-append, list_any-append}
 
 pub both_true : (s t : Bool) → s && t ≡ true → (s ≡ true) × (t ≡ true)
@@ -111,6 +114,49 @@ pub get-past : {X : Type 0} (xs : List X) (i : ℕ) (d : X) → length xs ≤ i 
 get-past [] i d past = refl
 get-past (x ∷ xs) zero d past = absurd (omega (arith, past))
 get-past (x ∷ xs) (suc i) d past = get-past xs i d (omega (arith, past))
+
+-- an element that is there, and what holds of it
+pub at-some : {X : Type 0} (P : X → Type 0) (xs : List X) (i : ℕ) (d : X) → i < length xs → P (get_or xs i d) → IsSomeAnd (slice_get xs i) P
+at-some P [] i d within here = absurd (omega (arith, within))
+at-some P (x ∷ xs) zero d within here = here
+at-some P (x ∷ xs) (suc i) d within here = at-some P xs i d (omega (arith, within)) here
+
+-- an element changed in its place
+pub map-at_place : {X Y : Type 0} (f : X → Y) (change : X → X) (xs : List X) (i : ℕ) (d : X) → map f (at_place i change xs) ≡ set (map f xs) i (f (change (get_or xs i d)))
+map-at_place f change [] i d = refl
+map-at_place f change (x ∷ xs) zero d = refl
+map-at_place f change (x ∷ xs) (suc i) d = ap (λ ys. f x ∷ ys) (map-at_place f change xs i d)
+
+pub map-at_same : {X Y : Type 0} (f : X → Y) (change : X → X) (xs : List X) (i : ℕ) → ((x : X) → f (change x) ≡ f x) → map f (at_place i change xs) ≡ map f xs
+map-at_same f change [] i same = refl
+map-at_same f change (x ∷ xs) zero same = ap (λ y. y ∷ map f xs) (same x)
+map-at_same f change (x ∷ xs) (suc i) same = ap (λ ys. f x ∷ ys) (map-at_same f change xs i same)
+
+pub map-map : {X Y Z : Type 0} (g : Y → Z) (f : X → Y) (xs : List X) → map g (map f xs) ≡ map (λ x. g (f x)) xs
+map-map g f [] = refl
+map-map g f (x ∷ xs) = ap (λ zs. g (f x) ∷ zs) (map-map g f xs)
+
+pub position-map : {X Y : Type 0} (p : Y → Bool) (f : X → Y) (xs : List X) → position (λ x. p (f x)) xs ≡ position p (map f xs)
+position-map {X} {Y} p f xs =
+    ap (λ n. cond (ltb n (length xs)) (Some n) None) (places xs)
+    ∙ ap (λ m. cond (ltb (position_or_len p (map f xs)) m) (Some (position_or_len p (map f xs))) None) (sym (length-map xs f))
+  where
+    places : (xs : List X) → position_or_len (λ x. p (f x)) xs ≡ position_or_len p (map f xs)
+    places [] = refl
+    places (x ∷ xs) = ap (λ n. cond (not (p (f x))) (1 + n) 0) (places xs)
+
+pub find-map : {X Y : Type 0} (p : Y → Bool) (f : X → Y) (xs : List X) → option_map f (find (λ x. p (f x)) xs) ≡ find p (map f xs)
+find-map p f [] = refl
+find-map p f (x ∷ xs) = step (p (f x)) (find-map p f xs)
+  where
+    step : (t : Bool) → option_map f (find (λ x. p (f x)) xs) ≡ find p (map f xs) → option_map f (cond t (Some x) (find (λ x. p (f x)) xs)) ≡ cond t (Some (f x)) (find p (map f xs))
+    step true rest = refl
+    step false rest = rest
+
+pub get_or-of : {X Y : Type 0} (f : X → Y) (xs : List X) (i : ℕ) (d : X) (e : Y) → i < length xs → get_or (map f xs) i e ≡ f (get_or xs i d)
+get_or-of f [] i d e within = absurd (omega (arith, within))
+get_or-of f (x ∷ xs) zero d e within = refl
+get_or-of f (x ∷ xs) (suc i) d e within = get_or-of f xs i d e (omega (arith, within))
 
 -- One more element behind a list.
 

@@ -23,7 +23,8 @@ use Rattle.rulebook.specs.Leases.{has_lease}
 use Rattle.campaign_core.specs.Labelling.{IsLabelled, graded_in}
 use Rattle.campaign_core.specs.Leasing.{IsLeased, first_open, is_open_in, topic_in}
 use Rattle.campaign_core.specs.Numbers.{are_named, doc_in, docs_in, names_of}
-use Rattle.campaign_core.specs.Topics.{judged_of, pool_of, topic_ids}
+use Rattle.campaign_core.specs.Topics.{pool_of, topic_ids}
+use Rattle.assessment.specs.TopicFacts.{judged_of}
 use Rattle.campaign_core.proofs.Desks.{has-lease-same, live-on-same}
 use Rattle.campaign_core.proofs.Following.{Each, IsRunOf, each-filter, each-found, first-same, number_of_run, run-numbers, runs-of-pool}
 use Rattle.campaign_core.proofs.ListFacts.{all_head, all_tail}

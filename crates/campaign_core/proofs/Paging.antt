@@ -13,29 +13,29 @@ use Rattle.campaign_core.specs.Numbers.{names_of}
 use Rattle.campaign_core.specs.Printed.{IsTopicOf}
 use Rattle.campaign_core.specs.Texts.{shown}
 use Rattle.campaign_core.specs.Topics.{KeptTopic, kept, kept_of}
-use Rattle.campaign_core.specs.declared.topics.TopicState.{TopicState}
+use Rattle.assessment.specs.TopicFacts.{TopicFacts}
 use Rattle.campaign_core.proofs.AmendFacts.{topic-there}
 use Rattle.campaign_core.proofs.Desks.{live-on-topic-same}
 use Rattle.campaign_core.proofs.LeaseFacts.{known-topic}
 use Rattle.campaign_core.proofs.Ordered.{in_order-any}
 
-pub ids-kept : (H : History) (topics : List TopicState) (ids : List Text) → map kept topics ≡ map (kept_of H) ids → map (λ (t : TopicState). t.id) topics ≡ ids
+pub ids-kept : (H : History) (topics : List TopicFacts) (ids : List Text) → map kept topics ≡ map (kept_of H) ids → map (λ (t : TopicFacts). t.id) topics ≡ ids
 ids-kept H [] [] same = refl
 ids-kept H [] (id ∷ ids) same = cc same
 ids-kept H (t ∷ topics) [] same = cc same
 ids-kept H (t ∷ topics) (id ∷ ids) same =
     let head : kept t ≡ kept_of H id = cc same in
     let tail : map kept topics ≡ map (kept_of H) ids = cc same in
-    ap (λ (k : KeptTopic). k.id ∷ map (λ (t : TopicState). t.id) topics) head ∙ ap (λ rest. id ∷ rest) (ids-kept H topics ids tail)
+    ap (λ (k : KeptTopic). k.id ∷ map (λ (t : TopicFacts). t.id) topics) head ∙ ap (λ rest. id ∷ rest) (ids-kept H topics ids tail)
 
 -- the topic of a page, and how many leases on it are live
-pub record PageTopic (H : History) (names : List Text) (s : TopicState) (desk : List DeskLease) (id : Text) (number : ℕ) : Type 0 where
+pub record PageTopic (H : History) (names : List Text) (s : TopicFacts) (desk : List DeskLease) (id : Text) (number : ℕ) : Type 0 where
   pub id_is : s.id ≡ id
   pub is_topic : IsTopicOf H names s
   pub live_is : (now : ℕ) → live_on_topic desk number now ≡ live_count H now id
 
-pub page-topic : (H : History) (topics : List TopicState) (desk : List DeskLease) (names : List Text) (id : Text) (number : ℕ) (s : TopicState) → KnowsAll H topics desk → names ≡ names_of H
-    → Some number ≡ position (λ (s : TopicState). bytes_eq s.id id) topics → s ≡ get_or topics number s → PageTopic H names s desk id number
+pub page-topic : (H : History) (topics : List TopicFacts) (desk : List DeskLease) (names : List Text) (id : Text) (number : ℕ) (s : TopicFacts) → KnowsAll H topics desk → names ≡ names_of H
+    → Some number ≡ position (λ (s : TopicFacts). bytes_eq s.id id) topics → s ≡ get_or topics number s → PageTopic H names s desk id number
 page-topic H topics desk names id number s knows names_are found is =
     let there = topic-there H topics desk names id number s knows names_are found is in
     let at = known-topic H topics id number knows.topics_are found in

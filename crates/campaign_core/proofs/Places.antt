@@ -9,22 +9,22 @@ use Rattle.decimal_rank.specs.declared.naming.DocId.{DocId}
 use Rattle.rulebook.specs.Words.{Text, contains_text}
 use Rattle.campaign_core.specs.Leasing.{topic_in}
 use Rattle.campaign_core.specs.Numbers.{doc_in}
-use Rattle.campaign_core.specs.declared.topics.TopicState.{TopicState}
+use Rattle.assessment.specs.TopicFacts.{TopicFacts}
 use Rattle.campaign_core.proofs.LabelSteps.{bytes-swap}
 use Rattle.campaign_core.proofs.Naming.{number-some, number-within}
 
-same-place : (topics : List TopicState) (topic : Text) → position_or_len (λ t. bytes_eq t.id topic) topics ≡ position_or_len (bytes_eq topic) (map (λ (t : TopicState). t.id) topics)
+same-place : (topics : List TopicFacts) (topic : Text) → position_or_len (λ t. bytes_eq t.id topic) topics ≡ position_or_len (bytes_eq topic) (map (λ (t : TopicFacts). t.id) topics)
 same-place [] topic = refl
 same-place (t ∷ topics) topic =
-    ap (λ b. cond (not b) (1 + position_or_len (λ (t : TopicState). bytes_eq t.id topic) topics) 0) (bytes-swap t.id topic)
+    ap (λ b. cond (not b) (1 + position_or_len (λ (t : TopicFacts). bytes_eq t.id topic) topics) 0) (bytes-swap t.id topic)
     ∙ ap (λ n. cond (not (bytes_eq topic t.id)) (1 + n) 0) (same-place topics topic)
 
 -- a topic of the campaign is found at the place of its id
-pub topic-found : (topics : List TopicState) (ids : List Text) (topic : Text) → map (λ (t : TopicState). t.id) topics ≡ ids → contains_text ids topic ≡ true
+pub topic-found : (topics : List TopicFacts) (ids : List Text) (topic : Text) → map (λ (t : TopicFacts). t.id) topics ≡ ids → contains_text ids topic ≡ true
     → position (λ t. bytes_eq t.id topic) topics ≡ Some (topic_in ids topic)
 topic-found topics ids topic ids_are listed =
-    let place : position_or_len (λ (t : TopicState). bytes_eq t.id topic) topics ≡ topic_in ids topic = same-place topics topic ∙ ap (λ is. position_or_len (bytes_eq topic) is) ids_are in
-    let long : length topics ≡ length ids = sym (length-map topics (λ (t : TopicState). t.id)) ∙ ap length ids_are in
+    let place : position_or_len (λ (t : TopicFacts). bytes_eq t.id topic) topics ≡ topic_in ids topic = same-place topics topic ∙ ap (λ is. position_or_len (bytes_eq topic) is) ids_are in
+    let long : length topics ≡ length ids = sym (length-map topics (λ (t : TopicFacts). t.id)) ∙ ap length ids_are in
     ap (λ n. cond (ltb n (length topics)) (Some n) None) place
     ∙ ap (λ m. cond (ltb (topic_in ids topic) m) (Some (topic_in ids topic)) None) long
     ∙ ap (λ t. cond t (Some (topic_in ids topic)) None) (lt-ltb _ _ (number-within ids topic listed))

@@ -4,7 +4,6 @@ use Rattle.std.specs.Prelude.{if◌then◌else◌, nat_lt, slice_get}
 use Rattle.std.specs.Option.{IsSomeAnd}
 use Rattle.std.proofs.lemmas.Bool.{lt-ltb}
 use Rattle.std.proofs.lemmas.List.{append-nil, length-map}
-use Rattle.lease_desk.specs.DeskView.{DeskView}
 use Rattle.lease_desk.specs.Leases.{lease_numbered as desk_lease}
 use Rattle.lease_desk.specs.declared.leases.Lease.{Lease as DeskLease}
 use Rattle.lease_desk.specs.declared.leases.LeaseEnd.{LeaseEnd}
@@ -24,9 +23,9 @@ use Rattle.campaign_core.specs.Growth.{lists_in}
 use Rattle.campaign_core.specs.Kept.{KnowsAll}
 use Rattle.campaign_core.specs.Leasing.{IsLeased, KnownLease, is_known, known, seen, topic_in}
 use Rattle.campaign_core.specs.Numbers.{doc_in, names_of}
-use Rattle.campaign_core.specs.Plans.{IsPlace, ToldGrade, ToldLease}
+use Rattle.campaign_core.specs.Changes.{IsPlace, ToldGrade, ToldLease}
 use Rattle.campaign_core.specs.Topics.{KeptTopic, kept, kept_of, topic_ids}
-use Rattle.campaign_core.specs.declared.topics.TopicState.{TopicState}
+use Rattle.assessment.specs.TopicFacts.{TopicFacts}
 use Rattle.campaign_core.proofs.Accepting.{amend-told, grade-told, lease-told, listed-id, numbered-all, numbered-at, release-told, rule-told}
 use Rattle.campaign_core.proofs.LeaseFacts.{Standing, stands-at, within-states}
 use Rattle.campaign_core.proofs.ListFacts.{both_true, get_or_default}
@@ -36,19 +35,19 @@ use Rattle.campaign_core.proofs.Naming.{number-within}
 abbrev pub NamedKnown : Type 0
 NamedKnown = (H : History) (now : ℕ) (assessor topic doc : Text) → named H now assessor topic ≡ Some doc → contains_text (names_of H) doc ≡ true
 
-state-ids : (H : History) (ts : List TopicState) (ids : List Text) → map kept ts ≡ map (kept_of H) ids → map (λ (t : TopicState). t.id) ts ≡ ids
+pub state-ids : (H : History) (ts : List TopicFacts) (ids : List Text) → map kept ts ≡ map (kept_of H) ids → map (λ (t : TopicFacts). t.id) ts ≡ ids
 state-ids H [] [] same = refl
 state-ids H [] (id ∷ ids) same = cc same
 state-ids H (t ∷ ts) [] same = cc same
 state-ids H (t ∷ ts) (id ∷ ids) same =
     let head : kept t ≡ kept_of H id = cc same in
     let tail : map kept ts ≡ map (kept_of H) ids = cc same in
-    ap (λ i. i ∷ map (λ (t : TopicState). t.id) ts) (ap (λ (k : KeptTopic). k.id) head) ∙ ap (λ is. id ∷ is) (state-ids H ts ids tail)
+    ap (λ i. i ∷ map (λ (t : TopicFacts). t.id) ts) (ap (λ (k : KeptTopic). k.id) head) ∙ ap (λ is. id ∷ is) (state-ids H ts ids tail)
 
-same-names : (H : History) (names : List Text) (core : EntryCore) → lists_in core.command ≡ [] → names ≡ docnos_with H (lists_in core.command) → names ≡ names_of H
+pub same-names : (H : History) (names : List Text) (core : EntryCore) → lists_in core.command ≡ [] → names ≡ docnos_with H (lists_in core.command) → names ≡ names_of H
 same-names H names core none is = is ∙ ap (docnos_with H) none ∙ ap each_once (append-nil (submitted_docnos H))
 
-pub told-lease : (H : History) (names : List Text) (topics_kept : List TopicState) (desk : List DeskLease) (core : EntryCore) (topic : Text) (told : Reply) → NamedKnown
+pub told-lease : (H : History) (names : List Text) (topics_kept : List TopicFacts) (desk : List DeskLease) (core : EntryCore) (topic : Text) (told : Reply) → NamedKnown
     → core.command ≡ command.Lease topic → ruled H core.caller core.moment core.command ≡ Ok told → KnowsAll H topics_kept desk → names ≡ docnos_with H (lists_in core.command) → ToldLease H topics_kept names core topic told
 told-lease H names topics_kept desk core topic told named_known is accepted knows names_are =
     let w = lease-told H core.caller core.moment topic told (rw is at accepted) in
@@ -105,16 +104,14 @@ on-desk H desk number l leased found =
       listed = both.1;
     }
 
-pub told-grade : (H : History) (names : List Text) (topics_kept : List TopicState) (desk : DeskView) (core : EntryCore) (number grade : ℕ) (told : Reply)
-    → core.command ≡ command.Grade number grade → ruled H core.caller core.moment core.command ≡ Ok told → KnowsAll H topics_kept desk.leases → names ≡ docnos_with H (lists_in core.command) → ToldGrade H names topics_kept desk core number grade
+pub told-grade : (H : History) (names : List Text) (topics_kept : List TopicFacts) (desk : List DeskLease) (core : EntryCore) (number grade : ℕ) (told : Reply)
+    → core.command ≡ command.Grade number grade → ruled H core.caller core.moment core.command ≡ Ok told → KnowsAll H topics_kept desk → names ≡ docnos_with H (lists_in core.command) → ToldGrade H names desk core number grade
 told-grade H names topics_kept desk core number grade told is accepted knows names_are =
     let w = grade-told H core.caller core.moment number grade told (rw is at accepted) in
     let l : Lease = w.0.lease in
-    let on = on-desk H desk.leases number l knows.leased w.0.found in
+    let on = on-desk H desk number l knows.leased w.0.found in
     let N : names ≡ names_of H = same-names H names core (ap lists_in is) names_are in
-    let ids = state-ids H topics_kept (topic_ids H) knows.topics_are in
     let topic_is : on.there.topic ≡ topic_in (topic_ids H) l.topic = ap (λ (k : KnownLease). k.topic) on.same in
-    let inside : topic_in (topic_ids H) l.topic < length (topic_ids H) = number-within (topic_ids H) l.topic on.listed in
     record {
       command_is = is;
       there = on.there;
@@ -124,10 +121,9 @@ told-grade H names topics_kept desk core number grade told is accepted knows nam
       found = w.0.found;
       topic_is = topic_is;
       doc_is = ap (λ (k : KnownLease). k.doc) on.same ∙ ap (λ ns. doc_in ns l.doc) (sym N);
-      within = omega (arith, topic_is, inside, ap length ids, length-map topics_kept (λ (t : TopicState). t.id));
     }
 
-pub told-release : (H : History) (topics_kept : List TopicState) (desk : List DeskLease) (core : EntryCore) (number : ℕ) (told : Reply)
+pub told-release : (H : History) (topics_kept : List TopicFacts) (desk : List DeskLease) (core : EntryCore) (number : ℕ) (told : Reply)
     → core.command ≡ command.Release number → ruled H core.caller core.moment core.command ≡ Ok told → KnowsAll H topics_kept desk → IsSomeAnd (desk_lease desk number) (λ lease. lease.end ≡ None)
 told-release H topics_kept desk core number told is accepted knows =
     let w = release-told H core.caller core.moment number told (rw is at accepted) in
@@ -135,12 +131,12 @@ told-release H topics_kept desk core number told is accepted knows =
     let on = on-desk H desk number l knows.leased w.0.found in
     subst (λ (o : Option DeskLease). IsSomeAnd o (λ lease. lease.end ≡ None)) (sym on.found) (no-end on.there.end (ap (λ (k : KnownLease). k.ended) on.same ∙ w.0.unended))
 
-some-state : (states : List TopicState) (i : ℕ) → i < length states → TopicState
+some-state : (states : List TopicFacts) (i : ℕ) → i < length states → TopicFacts
 some-state [] i within = absurd (omega (arith, within))
 some-state (s ∷ states) i within = s
 
 -- a document with a label is among the names
-labels-known : (H : History) (states : List TopicState) (desk : List DeskLease) (topic doc : Text) (has : List Given → Bool) → KnowsAll H states desk → contains_text (topic_ids H) topic ≡ true
+labels-known : (H : History) (states : List TopicFacts) (desk : List DeskLease) (topic doc : Text) (has : List Given → Bool) → KnowsAll H states desk → contains_text (topic_ids H) topic ≡ true
     → has [] ≡ false → has (labels_on H topic doc) ≡ true → contains_text (names_of H) doc ≡ true
 labels-known H states desk topic doc has knows listed none some = step (contains_text (names_of H) doc) refl
   where
@@ -150,7 +146,7 @@ labels-known H states desk topic doc has knows listed none some = step (contains
     within : number < length states
     within = within-states H states desk knows topic number refl listed
 
-    d : TopicState
+    d : TopicFacts
     d = some-state states number within
 
     stands : Standing H (get_or states number d) topic
@@ -161,7 +157,7 @@ labels-known H states desk topic doc has knows listed none some = step (contains
     step false is = let both : has (labels_on H topic doc) ≡ false = ap has (stands.labelled.labels_named doc is) ∙ none in cc (both, some)
 
 -- the place of an amendment or of a ruling
-told-place : (H : History) (names : List Text) (states : List TopicState) (desk : List DeskLease) (topic doc : Text) (has : List Given → Bool) → KnowsAll H states desk → names ≡ names_of H → is_topic H topic ≡ true
+told-place : (H : History) (names : List Text) (states : List TopicFacts) (desk : List DeskLease) (topic doc : Text) (has : List Given → Bool) → KnowsAll H states desk → names ≡ names_of H → is_topic H topic ≡ true
     → has [] ≡ false → has (labels_on H topic doc) ≡ true → IsPlace (topic_ids H) names states topic doc
 told-place H names states desk topic doc has knows names_are listed none some =
     let among : contains_text (topic_ids H) topic ≡ true = sym (listed-id (topics H) topic) ∙ listed in
@@ -172,13 +168,13 @@ told-place H names states desk topic doc has knows names_are listed none some =
       doc_named = ap (λ ns. contains_text ns doc) names_are ∙ labels-known H states desk topic doc has knows among none some;
     }
 
-pub told-amendment : (H : History) (names : List Text) (states : List TopicState) (desk : List DeskLease) (core : EntryCore) (topic doc : Text) (grade : ℕ) (told : Reply)
+pub told-amendment : (H : History) (names : List Text) (states : List TopicFacts) (desk : List DeskLease) (core : EntryCore) (topic doc : Text) (grade : ℕ) (told : Reply)
     → core.command ≡ command.Amend topic doc grade → ruled H core.caller core.moment core.command ≡ Ok told → KnowsAll H states desk → names ≡ docnos_with H (lists_in core.command) → IsPlace (topic_ids H) names states topic doc
 told-amendment H names states desk core topic doc grade told is accepted knows names_are =
     let w = amend-told H core.caller topic doc grade told (rw is at accepted) in
     told-place H names states desk topic doc (has_label core.caller.name) knows (same-names H names core (ap lists_in is) names_are) w.listed refl w.has_label
 
-pub told-ruling : (H : History) (names : List Text) (states : List TopicState) (desk : List DeskLease) (core : EntryCore) (topic doc : Text) (grade : ℕ) (told : Reply)
+pub told-ruling : (H : History) (names : List Text) (states : List TopicFacts) (desk : List DeskLease) (core : EntryCore) (topic doc : Text) (grade : ℕ) (told : Reply)
     → core.command ≡ command.Rule topic doc grade → ruled H core.caller core.moment core.command ≡ Ok told → KnowsAll H states desk → names ≡ docnos_with H (lists_in core.command) → IsPlace (topic_ids H) names states topic doc
 told-ruling H names states desk core topic doc grade told is accepted knows names_are =
     let w = rule-told H topic doc grade told (rw is at accepted) in

@@ -20,7 +20,7 @@ use Rattle.rulebook.specs.Campaign.{History, Run, docnos, docs_on, held, is_topi
 use Rattle.rulebook.specs.Words.{Text, contains_text}
 use Rattle.campaign_core.specs.Numbers.{are_named, doc_in, docs_in, names_of}
 use Rattle.campaign_core.specs.Topics.{KeptTopic, held_of, kept, kept_of, pool_of}
-use Rattle.campaign_core.specs.declared.topics.TopicState.{TopicState}
+use Rattle.assessment.specs.TopicFacts.{TopicFacts}
 use Rattle.campaign_core.proofs.Naming.{docno-back, docnos-back, each_named, numbers-within}
 use Rattle.campaign_core.proofs.Ordered.{Rises, below, in_order-all, in_order-any, in_order-rises}
 use Rattle.campaign_core.proofs.ListFacts.{all_back, all_front, all_head, all_tail, all_take, and_true, any_map, each_cons, pairs_cons}
@@ -117,15 +117,15 @@ pool-texts H topic docs held_runs one_list runs_are sorted each =
 
 -- The topic of an id.
 
-abbrev pub Looked : History → List Topic → Text → Option TopicState → Type 0
+abbrev pub Looked : History → List Topic → Text → Option TopicFacts → Type 0
 Looked H ts id None = list_any (λ t. bytes_eq t.id id) ts ≡ false
 Looked H ts id (Some s) = (list_any (λ t. bytes_eq t.id id) ts ≡ true) × (kept s ≡ kept_of H id)
 
-wider : (H : History) (t : Topic) (ts : List Topic) (id : Text) (o : Option TopicState) → bytes_eq t.id id ≡ false → Looked H ts id o → Looked H (t ∷ ts) id o
+wider : (H : History) (t : Topic) (ts : List Topic) (id : Text) (o : Option TopicFacts) → bytes_eq t.id id ≡ false → Looked H ts id o → Looked H (t ∷ ts) id o
 wider H t ts id None other w = rw other w
 wider H t ts id (Some s) other w = (rw other w.0, w.1)
 
-look_step : (H : History) (s : TopicState) (t : Topic) (ts : List Topic) (id : Text) (rest o : Option TopicState) (b : Bool) → kept s ≡ kept_of H t.id → bytes_eq s.id id ≡ b → cond b (Some s) rest ≡ o → (rest ≡ o → Looked H ts id o) → Looked H (t ∷ ts) id o
+look_step : (H : History) (s : TopicFacts) (t : Topic) (ts : List Topic) (id : Text) (rest o : Option TopicFacts) (b : Bool) → kept s ≡ kept_of H t.id → bytes_eq s.id id ≡ b → cond b (Some s) rest ≡ o → (rest ≡ o → Looked H ts id o) → Looked H (t ∷ ts) id o
 look_step H s t ts id rest o true same is found later =
     let ids : s.id ≡ t.id = ap (λ (k : KeptTopic). k.id) same in
     let here : s.id ≡ id = (bytes_eq-Decides s.id id).0 is in
@@ -135,7 +135,7 @@ look_step H s t ts id rest o false same is found later =
     let ids : s.id ≡ t.id = ap (λ (k : KeptTopic). k.id) same in
     wider H t ts id o (sym (ap (λ i. bytes_eq i id) ids) ∙ is) (later found)
 
-pub look : (H : History) (states : List TopicState) (ts : List Topic) (id : Text) → map kept states ≡ map (kept_of H) (map (λ t. t.id) ts) → (o : Option TopicState) → find (λ s. bytes_eq s.id id) states ≡ o → Looked H ts id o
+pub look : (H : History) (states : List TopicFacts) (ts : List Topic) (id : Text) → map kept states ≡ map (kept_of H) (map (λ t. t.id) ts) → (o : Option TopicFacts) → find (λ s. bytes_eq s.id id) states ≡ o → Looked H ts id o
 look H [] [] id same None found = refl
 look H [] [] id same (Some s) found = cc found
 look H [] (t ∷ ts) id same o found = cc same

@@ -1,9 +1,10 @@
 -- The pools of a history with one more entry.
 use Rattle.std.proofs.Common.{◌≡◌, ◌≢◌, ◌||◌, ◌<◌, ◌≤◌, ◌+◌, ℕ, suc, true, false, List, ◌++◌, ◌∷◌, [], length, map, take, arith, refl, sym, ap, ◌∙◌}
-use Rattle.std.specs.Prelude.{◌==◌, All, unwrap_or}
+use Rattle.std.specs.Prelude.{◌==◌, All}
 use Rattle.std.proofs.lemmas.Bool.{ne_eqb}
 use Rattle.std.specs.List.{enumerate_from, flat_map}
 use Rattle.std.proofs.lemmas.List.{map-append, take-map}
+use Rattle.decimal_rank.specs.declared.naming.DocId.{DocId}
 use Rattle.depth_pool.specs.declared.runs.RunId.{RunId}
 use Rattle.depth_pool.specs.Holdings.{Held, has_run, with_run}
 use Rattle.trec_formats.specs.declared.Topic.{Topic}
@@ -13,8 +14,9 @@ use Rattle.rulebook.specs.Words.{Text, contains_text, each_once}
 use Rattle.rulebook.specs.Campaign.{History, Run, docnos, docs_on, held, need, needed, rules_of, runs, submitted_docnos}
 use Rattle.campaign_core.specs.Growth.{BeginsWith}
 use Rattle.campaign_core.specs.Numbers.{are_named, doc_in, docs_in, names_of}
-use Rattle.campaign_core.specs.Topics.{AwaitsRun, KeptTopic, after_run, empty_topic, held_of, kept, kept_of, pool_of}
-use Rattle.campaign_core.specs.declared.topics.TopicState.{TopicState}
+use Rattle.campaign_core.specs.Topics.{KeptTopic, empty_topic, held_of, kept, kept_of, pool_of}
+use Rattle.assessment.specs.RunLists.{each_with_list}
+use Rattle.assessment.specs.TopicFacts.{TopicFacts, with_list}
 use Rattle.campaign_core.proofs.Naming.{docs-kept, each_named}
 use Rattle.campaign_core.proofs.PoolFacts.{held-named}
 use Rattle.campaign_core.proofs.ListFacts.{all_back, all_front, each_cons}
@@ -74,49 +76,50 @@ not-in run (h ∷ hs) all =
 -- Each topic after the entry.
 
 -- a topic with one more run
-run-added : (H J : History) (name : Text) (lists : List TopicList) (run : RunId) (names : List Text) (t : TopicState) (id : Text)
+run-added : (H J : History) (name : Text) (lists : List TopicList) (run : RunId) (names : List Text) (t : TopicFacts) (listed : List DocId) (id : Text)
     → ((new : Held) (hs : List Held) → All (λ h. h.run.0 < new.run.0) hs → with_run new hs ≡ hs ++ new ∷ [])
     → rules_of J ≡ rules_of H → BeginsWith (names_of H) (names_of J) → runs J ≡ runs H ++ (record { name = name; lists = lists }) ∷ [] → names ≡ names_of J
-    → run.0 ≡ length (runs H) → kept t ≡ kept_of H id → AwaitsRun names lists t → after_run run t ≡ kept_of J id
-run-added H J name lists run names t id goes_last rules_are grown runs_are names_are number same awaits =
+    → run.0 ≡ length (runs H) → kept t ≡ kept_of H id → listed ≡ docs_in names (docs_on lists t.id) → kept (with_list run listed t) ≡ kept_of J id
+run-added H J name lists run names t listed id goes_last rules_are grown runs_are names_are number same listed_is =
     let ids : t.id ≡ id = ap (λ (k : KeptTopic). k.id) same in
-    let depths : t.pool.depth ≡ (rules_of H).depth = ap (λ (k : KeptTopic). k.depth) same in
-    let before : t.pool.runs ≡ pool_of H id = ap (λ (k : KeptTopic). k.runs) same in
+    let depths : t.depth ≡ (rules_of H).depth = ap (λ (k : KeptTopic). k.depth) same in
+    let before : t.pool ≡ pool_of H id = ap (λ (k : KeptTopic). k.runs) same in
     let new_run : Run = record { name = name; lists = lists } in
-    let docs : take t.pool.depth (unwrap_or t.ranking []) ≡ docs_in (names_of J) (held J id new_run) =
-    ap (λ o. take t.pool.depth (unwrap_or o [])) awaits.ranking
-    ∙ take-map (doc_in names) t.pool.depth (docs_on lists t.id)
-    ∙ ap (λ n. docs_in n (take t.pool.depth (docs_on lists t.id))) names_are
-    ∙ ap (λ i. docs_in (names_of J) (take t.pool.depth (docs_on lists i))) ids
+    let docs : take t.depth listed ≡ docs_in (names_of J) (held J id new_run) =
+    ap (take t.depth) listed_is
+    ∙ take-map (doc_in names) t.depth (docs_on lists t.id)
+    ∙ ap (λ n. docs_in n (take t.depth (docs_on lists t.id))) names_are
+    ∙ ap (λ i. docs_in (names_of J) (take t.depth (docs_on lists i))) ids
     ∙ ap (λ d. docs_in (names_of J) (take d (docs_on lists id))) (depths ∙ ap (λ (r : Rules). r.depth) (sym rules_are)) in
-    let new : Held = record { run = run; docs = take t.pool.depth (unwrap_or t.ranking []) } in
+    let new : Held = record { run = run; docs = take t.depth listed } in
     let last : Held = held_of J id (length (runs H), new_run) in
     let numbers : run ≡ (let r : RunId = record { 0 = length (runs H) } in r) = same_run run (length (runs H)) number in
-    let is_last : new ≡ last = ap (λ (r : RunId). let h : Held = record { run = r; docs = take t.pool.depth (unwrap_or t.ranking []) } in h) numbers ∙ ap (λ ds. let h : Held = record { run = record { 0 = length (runs H) }; docs = ds } in h) docs in
+    let is_last : new ≡ last = ap (λ (r : RunId). let h : Held = record { run = r; docs = take t.depth listed } in h) numbers ∙ ap (λ ds. let h : Held = record { run = record { 0 = length (runs H) }; docs = ds } in h) docs in
     let below : All (λ h. h.run.0 < new.run.0) (pool_of H id) = numbers-below H id (runs H) 0 run.0 (omega (arith, number)) in
-    let runs_after : with_run new t.pool.runs ≡ pool_of J id =
+    let runs_after : with_run new t.pool ≡ pool_of J id =
     ap (with_run new) before ∙ goes_last new (pool_of H id) below ∙ ap (λ h. pool_of H id ++ h ∷ []) is_last ∙ sym (pool-grows H J id new_run rules_are grown runs_are) in
-    ap (λ i. let k : KeptTopic = record { id = i; labels_needed = t.need; level = t.view.level; depth = t.pool.depth; runs = with_run new t.pool.runs } in k) ids
-    ∙ ap (λ n. let k : KeptTopic = record { id = id; labels_needed = n; level = t.view.level; depth = t.pool.depth; runs = with_run new t.pool.runs } in k) (ap (λ (k : KeptTopic). k.labels_needed) same ∙ ap (λ (r : Rules). needed r id) (sym rules_are))
-    ∙ ap (λ l. let k : KeptTopic = record { id = id; labels_needed = need J id; level = l; depth = t.pool.depth; runs = with_run new t.pool.runs } in k) (ap (λ (k : KeptTopic). k.level) same ∙ ap (λ (r : Rules). r.level) (sym rules_are))
-    ∙ ap (λ d. let k : KeptTopic = record { id = id; labels_needed = need J id; level = (rules_of J).level; depth = d; runs = with_run new t.pool.runs } in k) (depths ∙ ap (λ (r : Rules). r.depth) (sym rules_are))
+    ap (λ i. let k : KeptTopic = record { id = i; labels_needed = t.need; level = t.level; depth = t.depth; runs = with_run new t.pool } in k) ids
+    ∙ ap (λ n. let k : KeptTopic = record { id = id; labels_needed = n; level = t.level; depth = t.depth; runs = with_run new t.pool } in k) (ap (λ (k : KeptTopic). k.labels_needed) same ∙ ap (λ (r : Rules). needed r id) (sym rules_are))
+    ∙ ap (λ l. let k : KeptTopic = record { id = id; labels_needed = need J id; level = l; depth = t.depth; runs = with_run new t.pool } in k) (ap (λ (k : KeptTopic). k.level) same ∙ ap (λ (r : Rules). r.level) (sym rules_are))
+    ∙ ap (λ d. let k : KeptTopic = record { id = id; labels_needed = need J id; level = (rules_of J).level; depth = d; runs = with_run new t.pool } in k) (depths ∙ ap (λ (r : Rules). r.depth) (sym rules_are))
     ∙ ap (λ hs. let k : KeptTopic = record { id = id; labels_needed = need J id; level = (rules_of J).level; depth = (rules_of J).depth; runs = hs } in k) runs_after
   where
     same_run : (run : RunId) (n : ℕ) → run.0 ≡ n → run ≡ (let r : RunId = record { 0 = n } in r)
     same_run run n is = ap (λ m. let r : RunId = record { 0 = m } in r) is
 
-pub runs-added : (H J : History) (name : Text) (lists : List TopicList) (run : RunId) (names : List Text) (ts : List TopicState) (ids : List Text)
+pub runs-added : (H J : History) (name : Text) (lists : List TopicList) (run : RunId) (names : List Text) (ts : List TopicFacts) (ids : List Text)
     → ((new : Held) (hs : List Held) → All (λ h. h.run.0 < new.run.0) hs → with_run new hs ≡ hs ++ new ∷ [])
     → rules_of J ≡ rules_of H → BeginsWith (names_of H) (names_of J) → runs J ≡ runs H ++ (record { name = name; lists = lists }) ∷ [] → names ≡ names_of J
-    → run.0 ≡ length (runs H) → map kept ts ≡ map (kept_of H) ids → All (AwaitsRun names lists) ts → map (after_run run) ts ≡ map (kept_of J) ids
-runs-added H J name lists run names [] [] goes_last rules_are grown runs_are names_are number same awaits = refl
-runs-added H J name lists run names [] (id ∷ ids) goes_last rules_are grown runs_are names_are number same awaits = cc same
-runs-added H J name lists run names (t ∷ ts) [] goes_last rules_are grown runs_are names_are number same awaits = cc same
-runs-added H J name lists run names (t ∷ ts) (id ∷ ids) goes_last rules_are grown runs_are names_are number same awaits =
+    → run.0 ≡ length (runs H) → map kept ts ≡ map (kept_of H) ids → map kept (each_with_list run (map (λ topic. docs_in names (docs_on lists topic.id)) ts) ts) ≡ map (kept_of J) ids
+runs-added H J name lists run names [] [] goes_last rules_are grown runs_are names_are number same = refl
+runs-added H J name lists run names [] (id ∷ ids) goes_last rules_are grown runs_are names_are number same = cc same
+runs-added H J name lists run names (t ∷ ts) [] goes_last rules_are grown runs_are names_are number same = cc same
+runs-added H J name lists run names (t ∷ ts) (id ∷ ids) goes_last rules_are grown runs_are names_are number same =
     let head : kept t ≡ kept_of H id = cc same in
     let tail : map kept ts ≡ map (kept_of H) ids = cc same in
-    ap (λ k. k ∷ map (after_run run) ts) (run-added H J name lists run names t id goes_last rules_are grown runs_are names_are number head (awaits 0 t (omega arith)))
-    ∙ ap (λ ks. kept_of J id ∷ ks) (runs-added H J name lists run names ts ids goes_last rules_are grown runs_are names_are number tail (λ k d within. awaits (suc k) d (omega (arith, within))))
+    let docs : TopicFacts → List DocId = λ topic. docs_in names (docs_on lists topic.id) in
+    ap (λ k. k ∷ map kept (each_with_list run (map docs ts) ts)) (run-added H J name lists run names t (docs t) id goes_last rules_are grown runs_are names_are number head refl)
+    ∙ ap (λ ks. kept_of J id ∷ ks) (runs-added H J name lists run names ts ids goes_last rules_are grown runs_are names_are number tail)
 
 -- the topics before any run
 pub topics-made : (J : History) (given : List Topic) (rules : Rules) → rules ≡ rules_of J → runs J ≡ [] → map (λ t. empty_topic rules t.id) given ≡ map (kept_of J) (map (λ t. t.id) given)

@@ -17,7 +17,7 @@ use Rattle.campaign_core.specs.Labelling.{graded_in}
 use Rattle.campaign_core.specs.Numbers.{doc_in, docs_in, names_of}
 use Rattle.campaign_core.specs.Printed.{IsTopicOf}
 use Rattle.campaign_core.specs.Topics.{KeptTopic, pool_of}
-use Rattle.campaign_core.specs.declared.topics.TopicState.{TopicState}
+use Rattle.assessment.specs.TopicFacts.{TopicFacts}
 use Rattle.campaign_core.proofs.Desks.{count_by-cons}
 use Rattle.campaign_core.proofs.LabelSteps.{differ-all}
 use Rattle.campaign_core.proofs.ListFacts.{and_true, both_true}
@@ -129,14 +129,14 @@ rises-differ : (xs : List Text) → Rises xs → differ xs ≡ true
 rises-differ [] up = refl
 rises-differ (x ∷ xs) up = and_true (not (contains_text xs x)) (differ xs) (not-true (contains_text xs x) (not_later x xs up)) (rises-differ xs up.1)
 
-module _ (H : History) (names : List Text) (topic : TopicState) (is : IsTopicOf H names topic) where
-  level-is : topic.view.level ≡ (rules_of H).level
+module _ (H : History) (names : List Text) (topic : TopicFacts) (is : IsTopicOf H names topic) where
+  level-is : topic.level ≡ (rules_of H).level
   level-is = ap (λ (k : KeptTopic). k.level) is.kept_is
 
-  runs-are : topic.pool.runs ≡ pool_of H topic.id
+  runs-are : topic.pool ≡ pool_of H topic.id
   runs-are = ap (λ (k : KeptTopic). k.runs) is.kept_is
 
-  pub pool-count : (count : ℕ) → IsCount (λ doc. some_run_holds doc topic.pool.runs) count → count ≡ length (pool H topic.id)
+  pub pool-count : (count : ℕ) → IsCount (λ doc. some_run_holds doc topic.pool) count → count ≡ length (pool H topic.id)
   pool-count count counts =
       let docs = pool H topic.id in
       let differs = rises-differ docs (in_order-rises (flat_map (held H topic.id) (live H))) in
@@ -145,16 +145,16 @@ module _ (H : History) (names : List Text) (topic : TopicState) (is : IsTopicOf 
       ∙ length-map docs (λ doc. doc_in (names_of H) doc)
 
   module _ (on_trail : GradedAreOnTrail) where
-    pub relevant-count : count_by (λ g. relevant_there topic.view.level g.grade) topic.view.graded ≡ relevant_count H topic.id
+    pub relevant-count : count_by (λ g. relevant_there topic.level g.grade) topic.graded ≡ relevant_count H topic.id
     relevant-count =
-        ap (count_by (λ (g : Graded). relevant_there topic.view.level g.grade)) is.labelled.graded_are
+        ap (count_by (λ (g : Graded). relevant_there topic.level g.grade)) is.labelled.graded_are
         ∙ ap (λ level. count_by (λ (g : Graded). relevant_there level g.grade) (map (graded_in H names topic.id) (trail H topic.id))) level-is
         ∙ count-same H names topic.id on_trail (relevant_there (rules_of H).level) refl
         ∙ count-alike (λ doc. relevant_there (rules_of H).level (effective H topic.id doc)) (λ doc. is_relevant (rules_of H).level (effective H topic.id doc)) (graded H topic.id) (λ doc. same-relevant (rules_of H).level (effective H topic.id doc))
 
-    pub non_relevant-count : count_by (λ g. non_relevant_there topic.view.level g.grade) topic.view.graded ≡ non_relevant_count H topic.id
+    pub non_relevant-count : count_by (λ g. non_relevant_there topic.level g.grade) topic.graded ≡ non_relevant_count H topic.id
     non_relevant-count =
-        ap (count_by (λ (g : Graded). non_relevant_there topic.view.level g.grade)) is.labelled.graded_are
+        ap (count_by (λ (g : Graded). non_relevant_there topic.level g.grade)) is.labelled.graded_are
         ∙ ap (λ level. count_by (λ (g : Graded). non_relevant_there level g.grade) (map (graded_in H names topic.id) (trail H topic.id))) level-is
         ∙ count-same H names topic.id on_trail (non_relevant_there (rules_of H).level) refl
         ∙ count-alike (λ doc. non_relevant_there (rules_of H).level (effective H topic.id doc)) (λ doc. is_non_relevant (rules_of H).level (effective H topic.id doc)) (graded H topic.id) (λ doc. same-non_relevant (rules_of H).level (effective H topic.id doc))

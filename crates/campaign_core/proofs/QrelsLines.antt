@@ -20,7 +20,7 @@ use Rattle.rulebook.specs.Pages.{qrels_lines}
 use Rattle.campaign_core.specs.Labelling.{graded_in}
 use Rattle.campaign_core.specs.Numbers.{are_named, doc_in}
 use Rattle.campaign_core.specs.Printed.{IsTopicOf}
-use Rattle.campaign_core.specs.declared.topics.TopicState.{TopicState}
+use Rattle.assessment.specs.TopicFacts.{TopicFacts}
 use Rattle.campaign_core.proofs.LabelSteps.{trail-differs}
 use Rattle.campaign_core.proofs.ListFacts.{all_cons, all_head, all_tail, both_true, each_cons}
 use Rattle.campaign_core.proofs.Naming.{docno-back, number-within}
@@ -155,10 +155,10 @@ module _ (H : History) (names : List Text) (topic : Text) where
       each_cons (λ (g : Graded). g.doc.0 < length names) (one x) (map one xs) (number-within names x (all_head (contains_text names) x xs named)) (within-each xs (all_tail (contains_text names) x xs named))
 
 -- each document of the trail is one of the names
-pub grades-within : (H : History) (names : List Text) (topic : TopicState) → IsTopicOf H names topic → All (λ g. g.doc.0 < length names) topic.view.graded
+pub grades-within : (H : History) (names : List Text) (topic : TopicFacts) → IsTopicOf H names topic → All (λ g. g.doc.0 < length names) topic.graded
 grades-within H names topic is = subst (All (λ g. g.doc.0 < length names)) (sym is.labelled.graded_are) (within-each H names topic.id (trail H topic.id) is.labelled.trail_named)
 
-pub qrels-same : (H : History) (names : List Text) (topic : TopicState) → GradedAreOnTrail → IsTopicOf H names topic → qrels_text topic.id names topic.view.graded ≡ qrels_lines H topic.id
+pub qrels-same : (H : History) (names : List Text) (topic : TopicFacts) → GradedAreOnTrail → IsTopicOf H names topic → qrels_text topic.id names topic.graded ≡ qrels_lines H topic.id
 qrels-same H names topic on_trail is =
     let id = topic.id in
     let docs = trail H id in

@@ -3,7 +3,7 @@ use Rattle.std.specs.Prelude.{◌≡◌, ◌<◌, ◌≤◌, ℕ, false, List, [
 use Rattle.rulebook.specs.declared.limits.TheConstants.{MAX_RUNS, MAX_ENTRIES, MAX_LINES, MAX_DOCNOS, MAX_MOMENT, MAX_TOPICS}
 use Rattle.rulebook.specs.declared.entry.Entry.{Entry}
 use Rattle.rulebook.specs.Words.{Text, each_once}
-use Rattle.rulebook.specs.Campaign.{History, Run, has_topics, phase, runs, submitted_lines, submitted_docnos}
+use Rattle.rulebook.specs.Campaign.{History, Run, has_topics, phase, rules_of, runs, submitted_lines, submitted_docnos}
 use Rattle.rulebook.specs.Answers.{moment_after}
 use Rattle.rulebook.specs.Legal.{IsLegal}
 use Rattle.rulebook.specs.Grades.{given_labels, ruling, trail}
@@ -20,30 +20,29 @@ use Rattle.campaign_core.specs.Labelling.{IsLabelled}
 use Rattle.campaign_core.specs.Leasing.{IsLeased}
 use Rattle.campaign_core.specs.Growth.{BeginsWith}
 use Rattle.campaign_core.specs.Numbers.{names_of}
-use Rattle.campaign_core.specs.Plans.{CarriesOut, HasLists}
-use Rattle.campaign_core.specs.Scoring.{IsScored, graded_of, run_at}
+use Rattle.campaign_core.specs.Changes.{AwaitsEntry}
+use Rattle.campaign_core.specs.Scoring.{IsScored, graded_of, list_in, run_at}
 use Rattle.campaign_core.specs.Submissions.{AreSubmissions}
-use Rattle.campaign_core.specs.Topics.{IsQueued, LabelledTopic, kept, kept_of, labelled_of, topic_ids}
-use Rattle.campaign_core.specs.declared.plans.Plan.{Plan}
+use Rattle.campaign_core.specs.Topics.{LabelledTopic, kept, kept_of, labelled_of, topic_ids}
 use Rattle.campaign_core.specs.declared.state.State.TheInside.{Inside}
-use Rattle.campaign_core.specs.declared.topics.TopicState.{TopicState}
+use Rattle.assessment.specs.Changes.{Facts, facts}
+use Rattle.assessment.specs.TopicFacts.{TopicFacts}
 
 -- The names are the docnos of the history, and each topic has its pool.
-pub record StandsFor (H : History) (topics : List TopicState) (names : List Text) : Type 0 where
+pub record StandsFor (H : History) (topics : List TopicFacts) (names : List Text) : Type 0 where
   pub names_are : names ≡ names_of H
   pub topics_are : map kept topics ≡ map (kept_of H) (topic_ids H)
 
--- Each topic has its pool, its labels and its judging order, and the desk has the leases.
-pub record KnowsAll (H : History) (topics : List TopicState) (desk : List Lease) : Type 0 where
+-- Each topic has its pool and its labels, and the desk has the leases.
+pub record KnowsAll (H : History) (topics : List TopicFacts) (desk : List Lease) : Type 0 where
   pub topics_are : map kept topics ≡ map (kept_of H) (topic_ids H)
   pub labels_are : All (IsLabelled H (names_of H)) (map labelled_of topics)
-  pub queued : All IsQueued topics
   pub leased : IsLeased H (names_of H) desk
   pub topics_differ : IsTrue (differ (topic_ids H))
   pub topics_fit : length (topic_ids H) ≤ MAX_TOPICS
 
 -- The board has the scores of a run of the history, whose topics are kept so.
-pub record KnowsRun (H : History) (topics : List TopicState) (board : Scores) (number : RunId) (run : Run) : Type 0 where
+pub record KnowsRun (H : History) (topics : List TopicFacts) (board : Scores) (number : RunId) (run : Run) : Type 0 where
   pub legal : IsLegal H
   pub desk : List Lease
   pub knows : KnowsAll H topics desk
@@ -63,15 +62,21 @@ pub record IsFew (entries : ℕ) (topic : LabelledTopic) : Type 0 where
   pub few_labels : (doc : DocId) → length (given_at topic.marked doc) ≤ entries
   pub few_grades : length topic.graded ≤ entries
 
--- The prepared entry may join the history, which has room for it, and the plan carries it out. There is room for a run's place and for its lists.
-pub record IsReady (s : Inside) (e : Entry) (plan : Plan) : Type 0 where
+-- What is known by numbers is what the history says.
+pub record IsAssessmentOf (H : History) (known : Facts) : Type 0 where
+  pub knows : KnowsAll H known.topics.topics known.leases
+  pub few : All (IsFew (length H)) (map labelled_of known.topics.topics)
+  pub level_is : known.topics.level ≡ (rules_of H).level
+  pub lists_are : (run : RunId) (on : ℕ) → known.topics.lists run on ≡ list_in (names_of H) (topic_ids H) (runs H) run on
+
+-- The prepared entry may join the history, which has room for it, and the change that waits carries it out. There is room for a run's place.
+pub record IsReady (s : Inside) (e : Entry) : Type 0 where
   pub joins : MayJoin s.history.items s.docnos e
   pub moment_fits : e.core.moment ≤ MAX_MOMENT
   pub entries_fit : length s.history.items < MAX_ENTRIES
   pub room : vec_len s.history < vec_capacity s.history
-  pub place_room : vec_len s.runs.places < vec_capacity s.runs.places
-  pub carries_out : CarriesOut s.history.items s.docnos s.topics.items s.desk e plan
-  pub lists_room : HasLists plan s.topics.items s.runs.board
+  pub place_room : vec_len s.places < vec_capacity s.places
+  pub awaits : AwaitsEntry s.history.items s.docnos s.assessment e
 
 -- The history is legal and within the limits, and the first docnos are those of the history. Others may follow, from requests that weren't committed.
 pub record IsKept (s : Inside) : Type 0 where
@@ -83,18 +88,11 @@ pub record IsKept (s : Inside) : Type 0 where
   pub runs_fit : length (runs s.history.items) ≤ MAX_RUNS
   -- no run comes before the topics
   pub topics_first : has_topics s.history.items ≡ false → runs s.history.items ≡ []
-  pub topics_differ : IsTrue (differ (topic_ids s.history.items))
-  pub topics_fit : length (topic_ids s.history.items) ≤ MAX_TOPICS
   pub docnos_fit : s.docnos_kept ≤ MAX_DOCNOS
   pub docnos_are : BeginsWith (each_once (submitted_docnos s.history.items)) s.docnos
   pub docnos_kept_are : s.docnos_kept ≡ length (each_once (submitted_docnos s.history.items))
-  pub topics_are : map kept s.topics.items ≡ map (kept_of s.history.items) (topic_ids s.history.items)
-  pub labels_are : All (IsLabelled s.history.items (names_of s.history.items)) (map labelled_of s.topics.items)
-  pub queued : All IsQueued s.topics.items
-  pub leased : IsLeased s.history.items (names_of s.history.items) s.desk.leases
-  pub places_are : AreSubmissions s.history.items s.runs.places.items
-  pub scored : IsScored s.history.items (names_of s.history.items) (map graded_of s.topics.items) s.runs.board
+  pub places_are : AreSubmissions s.history.items s.places.items
+  pub assessed : IsAssessmentOf s.history.items (facts s.assessment)
   -- documents are judged once the campaign is opened
-  pub unjudged : phase s.history.items ≡ Collecting → IsUnjudged s.history.items (map labelled_of s.topics.items)
-  pub few : All (IsFew (length s.history.items)) (map labelled_of s.topics.items)
-  pub ready : MatchOption s.prepared (Unit {0}) (λ p. IsReady s p.entry.value p.plan)
+  pub unjudged : phase s.history.items ≡ Collecting → IsUnjudged s.history.items (map labelled_of (facts s.assessment).topics.topics)
+  pub ready : MatchOption s.prepared (Unit {0}) (λ p. IsReady s p.value)

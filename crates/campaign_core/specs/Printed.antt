@@ -9,7 +9,7 @@ use Rattle.campaign_core.specs.Numbers.{names_of}
 use Rattle.campaign_core.specs.Topics.{kept, kept_of, labelled_of}
 use Rattle.campaign_core.specs.declared.pages.Page.{Page}
 use Rattle.campaign_core.specs.declared.pages.Page.TheVariants as page
-use Rattle.campaign_core.specs.declared.topics.TopicState.{TopicState}
+use Rattle.assessment.specs.TopicFacts.{TopicFacts}
 
 -- what a page shows of a topic
 abbrev pub part_of : Page → History → ℕ → Text → Text
@@ -22,7 +22,7 @@ abbrev pub page_text : Page → History → ℕ → Text
 page_text page H now = flat_map (part_of page H now) (topics_in_order H)
 
 -- The state of a topic has the rules' pool, labels and grades of its id.
-pub record IsTopicOf (H : History) (names : List Text) (topic : TopicState) : Type 0 where
+pub record IsTopicOf (H : History) (names : List Text) (topic : TopicFacts) : Type 0 where
   pub names_are : names ≡ names_of H
   pub kept_is : kept topic ≡ kept_of H topic.id
   pub labelled : IsLabelled H names (labelled_of topic)

@@ -1,4 +1,5 @@
-ghost use Rattle.std.specs.Prelude.{◌≡◌, List};
+ghost use Rattle.std.specs.Prelude.{◌≡◌, List, map};
+ghost use Rattle.assessment.specs.TopicFacts.{facts_of};
 ghost use Rattle.lease_desk.specs.declared.leases.Lease.{Lease};
 ghost use Rattle.rulebook.specs.Answers.{amend_ruling as amend_rule, rule_ruling as rule_rule};
 ghost use Rattle.rulebook.specs.Campaign.{History, phase as phase_of};
@@ -11,7 +12,8 @@ ghost use Rattle.campaign_core.specs.Topics.{labelled_of};
 
 use crate::leasing::is_judging;
 use crate::looks::rules;
-use crate::topics::{TopicState, topic_number};
+use crate::topics::topic_number;
+use assessment::Topic;
 use decimal_rank::{Names, Text};
 use rulebook::{Entry, EntryCore, Phase, Refusal, Reply};
 
@@ -19,7 +21,7 @@ use rulebook::{Entry, EntryCore, Phase, Refusal, Reply};
 pub(crate) fn amend_ruling(
     history: &[Entry],
     phase: Phase,
-    topics: &[TopicState],
+    topics: &[Topic],
     docnos: &Names,
     core: &EntryCore,
     topic: &Text,
@@ -28,7 +30,7 @@ pub(crate) fn amend_ruling(
 ) -> Result<Reply, Refusal>
     requires phase { phase ≡ phase_of history.now }
     requires legal { IsLegal history.now }
-    requires stands { (desk : List Lease) × KnowsAll history.now topics.now desk }
+    requires stands { (desk : List Lease) × KnowsAll history.now (map facts_of topics.now) desk }
     requires names { docnos.now ≡ names_of history.now }
     ensures { result ≡ amend_rule history.now core.now.caller topic.now doc.now grade }
 {
@@ -52,7 +54,7 @@ pub(crate) fn amend_ruling(
 pub(crate) fn rule_ruling(
     history: &[Entry],
     phase: Phase,
-    topics: &[TopicState],
+    topics: &[Topic],
     docnos: &Names,
     topic: &Text,
     doc: &Text,
@@ -60,7 +62,7 @@ pub(crate) fn rule_ruling(
 ) -> Result<Reply, Refusal>
     requires phase { phase ≡ phase_of history.now }
     requires legal { IsLegal history.now }
-    requires stands { (desk : List Lease) × KnowsAll history.now topics.now desk }
+    requires stands { (desk : List Lease) × KnowsAll history.now (map facts_of topics.now) desk }
     requires names { docnos.now ≡ names_of history.now }
     ensures { result ≡ rule_rule history.now topic.now doc.now grade }
 {
@@ -80,21 +82,21 @@ pub(crate) fn rule_ruling(
 }
 
 /// Whether an assessor has a label on a document.
-fn is_labelled_by(topic: &TopicState, docnos: &Names, assessor: &[u8], doc: &[u8]) -> bool
-    ensures { (H : History) → IsLabelled H docnos.now (labelled_of topic.now) → result ≡ labelled_by_rule H topic.now.id doc.now assessor.now }
+fn is_labelled_by(topic: &Topic, docnos: &Names, assessor: &[u8], doc: &[u8]) -> bool
+    ensures { (H : History) → IsLabelled H docnos.now (labelled_of topic.now.facts) → result ≡ labelled_by_rule H topic.now.facts.id doc.now assessor.now }
 {
     match docnos.find(doc) {
-        Some(doc) => topic.marks.has_label(assessor, doc),
+        Some(doc) => topic.marks().has_label(assessor, doc),
         None => false,
     }
 }
 
 /// Whether some assessor has a label on a document.
-fn is_labelled(topic: &TopicState, docnos: &Names, doc: &[u8]) -> bool
-    ensures { (H : History) → IsLabelled H docnos.now (labelled_of topic.now) → result ≡ labelled_rule H topic.now.id doc.now }
+fn is_labelled(topic: &Topic, docnos: &Names, doc: &[u8]) -> bool
+    ensures { (H : History) → IsLabelled H docnos.now (labelled_of topic.now.facts) → result ≡ labelled_rule H topic.now.facts.id doc.now }
 {
     match docnos.find(doc) {
-        Some(doc) => topic.marks.count(doc) > 0,
+        Some(doc) => topic.marks().count(doc) > 0,
         None => false,
     }
 }

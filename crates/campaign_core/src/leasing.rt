@@ -1,4 +1,5 @@
-ghost use Rattle.std.specs.Prelude.{◌≡◌, ◌≤◌, ℕ, List, IfOk, length};
+ghost use Rattle.std.specs.Prelude.{◌≡◌, ◌≤◌, ℕ, List, IfOk, length, map};
+ghost use Rattle.assessment.specs.TopicFacts.{facts_of};
 ghost use Rattle.decimal_rank.specs.Names.{docno_of};
 ghost use Rattle.rulebook.specs.declared.limits.TheConstants.{MAX_ENTRIES, MAX_MOMENT};
 ghost use Rattle.rulebook.specs.declared.rules.Phase.TheVariants.{Judging};
@@ -12,7 +13,8 @@ ghost use Rattle.campaign_core.specs.Leasing.{IsLeased, first_refusal, refusals_
 
 use crate::looks::{rules, title};
 use crate::selection::named;
-use crate::topics::{TopicState, topic_number};
+use crate::topics::topic_number;
+use assessment::Topic;
 use decimal_rank::{DocId, Memory, Names, Text};
 use lease_desk::{Desk, Lease};
 use mtf_queue::first_that_passes;
@@ -27,7 +29,7 @@ pub(crate) fn lease_ruling(
     alloc: Global,
     history: &[Entry],
     phase: Phase,
-    topics: &[TopicState],
+    topics: &[Topic],
     docnos: &Names,
     desk: &Desk,
     core: &EntryCore,
@@ -35,7 +37,7 @@ pub(crate) fn lease_ruling(
 ) -> Ruling
     requires phase { phase ≡ phase_of history.now }
     requires legal { IsLegal history.now }
-    requires stands { KnowsAll history.now topics.now desk.now.leases }
+    requires stands { KnowsAll history.now (map facts_of topics.now) desk.now.leases }
     requires names { docnos.now ≡ names_of history.now }
     requires entries_fit { length history.now ≤ MAX_ENTRIES }
     requires moment_fits { core.now.moment ≤ MAX_MOMENT }
@@ -72,7 +74,7 @@ pub(crate) fn grade_ruling(
     alloc: Global,
     history: &[Entry],
     phase: Phase,
-    topics: &[TopicState],
+    topics: &[Topic],
     docnos: &Names,
     desk: &Desk,
     core: &EntryCore,
@@ -81,7 +83,7 @@ pub(crate) fn grade_ruling(
 ) -> Ruling
     requires phase { phase ≡ phase_of history.now }
     requires legal { IsLegal history.now }
-    requires stands { KnowsAll history.now topics.now desk.now.leases }
+    requires stands { KnowsAll history.now (map facts_of topics.now) desk.now.leases }
     requires names { docnos.now ≡ names_of history.now }
     ensures { IfOk result (λ told. told ≡ grade_rule history.now core.now.caller core.now.moment number grade) }
 {
@@ -98,7 +100,7 @@ pub(crate) fn grade_ruling(
         return Ok(Err(Refusal::GradeRange));
     }
     Ok(Ok(Reply::Graded {
-        topic: topics[lease.topic as usize].id.copy()?,
+        topic: Text::from_slice(alloc, topics[lease.topic as usize].id())?,
         doc: docno(alloc, docnos, lease.doc)?,
         grade,
     }))

@@ -2,17 +2,15 @@
 #![tactic(auto)]
 
 mod amending;
+mod changes;
 mod docnos;
 mod leasing;
 mod looks;
 mod pages;
-mod plans;
 mod pools;
 mod queries;
 mod rulings;
-mod runs;
 mod score_pages;
-mod scoring;
 mod selection;
 mod state;
 mod submissions;

@@ -1,5 +1,6 @@
 //! Pages that are printed topic by topic.
 ghost use Rattle.std.specs.Prelude.{◌≡◌, ◌++◌, ℕ, List, IfOk, IsTrue, OnOk, codes, decimal, map};
+ghost use Rattle.assessment.specs.TopicFacts.{facts_of};
 ghost use Rattle.rulebook.specs.Campaign.{History};
 ghost use Rattle.rulebook.specs.declared.reply.Reply.TheVariants as reply;
 ghost use Rattle.rulebook.specs.Words.{contains_text};
@@ -9,7 +10,8 @@ ghost use Rattle.campaign_core.specs.Numbers.{names_of};
 ghost use Rattle.campaign_core.specs.Printed.{IsTopicOf, page_text, part_of};
 
 use crate::texts::{docnos_of, ids_of, in_order};
-use crate::topics::{TopicState, topic_number};
+use crate::topics::topic_number;
+use assessment::Topic;
 use decimal_rank::{Memory, Names, Text};
 use itoa::Buffer;
 use lease_desk::Desk;
@@ -31,13 +33,13 @@ pub(crate) enum Page {
 pub(crate) fn page_reply(
     alloc: Global,
     page: Page,
-    topics: &[TopicState],
+    topics: &[Topic],
     docnos: &Names,
     desk: &Desk,
     now: u64,
 ) -> Result<Reply, Memory>
-    requires knows { (H : History) × KnowsAll H topics.now desk.now.leases × (docnos.now ≡ names_of H) }
-    ensures { (H : History) → KnowsAll H topics.now desk.now.leases → docnos.now ≡ names_of H
+    requires knows { (H : History) × KnowsAll H (map facts_of topics.now) desk.now.leases × (docnos.now ≡ names_of H) }
+    ensures { (H : History) → KnowsAll H (map facts_of topics.now) desk.now.leases → docnos.now ≡ names_of H
         → IfOk result (λ told. told ≡ reply.Page (page_text page H now)) }
 {
     let mut out = Vec::new(alloc);
@@ -53,16 +55,16 @@ pub(crate) fn page_reply(
 fn write_topic(
     alloc: Global,
     page: Page,
-    topics: &[TopicState],
+    topics: &[Topic],
     docnos: &Names,
     desk: &Desk,
     now: u64,
     id: &[u8],
     out: &mut Vec<u8>,
 ) -> Result<(), Memory>
-    requires knows { (H : History) × KnowsAll H topics.now desk.now.leases × (docnos.now ≡ names_of H) }
-    requires listed { IsTrue (contains_text (map (λ topic. topic.id) topics.now) id.now) }
-    ensures { (H : History) → KnowsAll H topics.now desk.now.leases → docnos.now ≡ names_of H
+    requires knows { (H : History) × KnowsAll H (map facts_of topics.now) desk.now.leases × (docnos.now ≡ names_of H) }
+    requires listed { IsTrue (contains_text (map (λ topic. topic.id) (map facts_of topics.now)) id.now) }
+    ensures { (H : History) → KnowsAll H (map facts_of topics.now) desk.now.leases → docnos.now ≡ names_of H
         → OnOk result (out.new.items ≡ out.old.items ++ part_of page H now id.now) }
 {
     let number = topic_number(topics, id).unwrap();
@@ -74,19 +76,19 @@ fn write_topic(
 fn write_part(
     alloc: Global,
     page: Page,
-    topic: &TopicState,
+    topic: &Topic,
     docnos: &Names,
     live: u32,
     out: &mut Vec<u8>,
 ) -> Result<(), Memory>
-    requires knows { (H : History) × IsTopicOf H docnos.now topic.now }
-    ensures { (H : History) (now : ℕ) → IsTopicOf H docnos.now topic.now → live ≡ live_count H now topic.now.id
-        → OnOk result (out.new.items ≡ out.old.items ++ part_of page H now topic.now.id) }
+    requires knows { (H : History) × IsTopicOf H docnos.now topic.now.facts }
+    ensures { (H : History) (now : ℕ) → IsTopicOf H docnos.now topic.now.facts → live ≡ live_count H now topic.now.facts.id
+        → OnOk result (out.new.items ≡ out.old.items ++ part_of page H now topic.now.facts.id) }
 {
     // the documents with a grade are those of the trail that have one
     graded_are_on_trail();
     match page {
-        Page::Qrels => topic.view.write(topic.id.bytes(), docnos, out),
+        Page::Qrels => topic.grades().write(topic.id(), docnos, out),
         Page::Disagreements => write_disagreements(alloc, topic, docnos, out),
         Page::Progress => write_progress(topic, live, out),
     }
@@ -95,18 +97,18 @@ fn write_part(
 /// Appends the lines of a topic's documents whose labels differ.
 fn write_disagreements(
     alloc: Global,
-    topic: &TopicState,
+    topic: &Topic,
     docnos: &Names,
     out: &mut Vec<u8>,
 ) -> Result<(), Memory>
-    ensures { (H : History) → IsTopicOf H docnos.now topic.now
-        → OnOk result (out.new.items ≡ out.old.items ++ disagreement_lines H topic.now.id) }
+    ensures { (H : History) → IsTopicOf H docnos.now topic.now.facts
+        → OnOk result (out.new.items ≡ out.old.items ++ disagreement_lines H topic.now.facts.id) }
 {
-    let docs = topic.marks.disagreements(alloc, topic.need)?;
+    let docs = topic.marks().disagreements(alloc, topic.need())?;
     // the documents whose labels differ are among those with a label
     labelled_are_listed();
     for docno in &in_order(docnos_of(alloc, docnos, &docs)?) {
-        write_disagreement(topic.id.bytes(), docno, out)?;
+        write_disagreement(topic.id(), docno, out)?;
     }
     Ok(())
 }
@@ -122,23 +124,17 @@ fn write_disagreement(topic: &[u8], docno: &[u8], out: &mut Vec<u8>) -> Result<(
 }
 
 /// Appends the line of a topic, on which so many leases are live.
-fn write_progress(topic: &TopicState, live: u32, out: &mut Vec<u8>) -> Result<(), Memory>
-    ensures { (H : History) (names : List (List ℕ)) (now : ℕ) → IsTopicOf H names topic.now → live ≡ live_count H now topic.now.id
-        → OnOk result (out.new.items ≡ out.old.items ++ progress_line H now topic.now.id) }
+fn write_progress(topic: &Topic, live: u32, out: &mut Vec<u8>) -> Result<(), Memory>
+    ensures { (H : History) (names : List (List ℕ)) (now : ℕ) → IsTopicOf H names topic.now.facts → live ≡ live_count H now topic.now.facts.id
+        → OnOk result (out.new.items ≡ out.old.items ++ progress_line H now topic.now.facts.id) }
 {
     // the documents with a grade are those of the trail that have one
     graded_are_on_trail();
-    let documents = topic.pool.len() as u64;
-    let relevant = topic.view.relevant();
-    let non_relevant = topic.view.non_relevant();
-    write_counts(
-        topic.id.bytes(),
-        documents,
-        relevant,
-        non_relevant,
-        live,
-        out,
-    )
+    let documents = topic.pool().len() as u64;
+    let grades = topic.grades();
+    let relevant = grades.relevant();
+    let non_relevant = grades.non_relevant();
+    write_counts(topic.id(), documents, relevant, non_relevant, live, out)
 }
 
 fn write_counts(

@@ -1,10 +1,12 @@
 ghost use Rattle.std.specs.Prelude.{◌≡◌, map, IfOk};
 ghost use Rattle.decimal_rank.specs.Names.{docno_of};
+ghost use Rattle.assessment.specs.TopicFacts.{facts_of};
 ghost use Rattle.rulebook.specs.Answers.{pool_ruling, reply_of};
 ghost use Rattle.rulebook.specs.Campaign.{History, docs_on};
 ghost use Rattle.campaign_core.specs.Kept.{StandsFor};
 
-use crate::topics::{TopicState, topic_of};
+use crate::topics::topic_of;
+use assessment::Topic;
 use decimal_rank::{DocId, Memory, Names, Rows, Text};
 use depth_pool::one_list_by_docno;
 use rulebook::{Refusal, Reply};
@@ -14,19 +16,19 @@ use trec_formats::TopicList;
 /// The pool of a topic.
 pub(crate) fn pool_reply(
     alloc: Global,
-    topics: &[TopicState],
+    topics: &[Topic],
     docnos: &Names,
     topic: Text,
 ) -> Result<Reply, Memory>
-    requires stands { (H : History) × StandsFor H topics.now docnos.now }
-    ensures { (H : History) → StandsFor H topics.now docnos.now → IfOk result (λ reply. reply ≡ reply_of (pool_ruling H topic)) }
+    requires stands { (H : History) × StandsFor H (map facts_of topics.now) docnos.now }
+    ensures { (H : History) → StandsFor H (map facts_of topics.now) docnos.now → IfOk result (λ reply. reply ≡ reply_of (pool_ruling H topic)) }
 {
     let Some(kept) = topic_of(topics, topic.bytes()) else {
         return Ok(Reply::Refused(Refusal::UnknownTopic));
     };
     // a list by docno is known by its documents
     one_list_by_docno();
-    let docs = kept.pool.docs(docnos)?;
+    let docs = kept.pool().docs(docnos)?;
     Ok(Reply::Pool {
         topic,
         docs: texts(alloc, docnos, &docs)?,

@@ -1,20 +1,18 @@
-ghost use Rattle.std.specs.Prelude.{◌≡◌, ◌<◌, IfOk, IsTrue, length, map};
+ghost use Rattle.std.specs.Prelude.{◌≡◌, ◌<◌, IfOk, IsTrue, length};
+ghost use Rattle.assessment.specs.Changes.{facts};
 ghost use Rattle.rulebook.specs.declared.ask.Ask.TheVariants.{See};
 ghost use Rattle.rulebook.specs.Answers.{reply_of, told as told_of};
 ghost use Rattle.rulebook.specs.Campaign.{runs as runs_of};
 ghost use Rattle.rulebook.specs.Legal.{IsLegal, is_built};
-ghost use Rattle.campaign_core.specs.Kept.{KnowsAll};
+ghost use Rattle.campaign_core.specs.Kept.{IsAssessmentOf};
 ghost use Rattle.campaign_core.specs.Numbers.{names_of};
-ghost use Rattle.campaign_core.specs.Scoring.{IsScored, graded_of};
 ghost use Rattle.campaign_core.specs.Submissions.{AreSubmissions};
 
 use crate::pages::{Page, page_reply};
 use crate::pools::pool_reply;
-use crate::runs::Runs;
 use crate::score_pages::{scores_reply, table_reply};
-use crate::topics::TopicState;
+use assessment::Assessment;
 use decimal_rank::{Memory, Names};
-use lease_desk::Desk;
 use rulebook::{Caller, Entry, Query, Reply};
 use std::alloc::Global;
 
@@ -22,27 +20,28 @@ use std::alloc::Global;
 pub(crate) fn told(
     alloc: Global,
     history: &[Entry],
-    topics: &[TopicState],
+    assessment: &Assessment,
     docnos: &Names,
-    desk: &Desk,
-    runs: &Runs,
+    places: &[u32],
     who: &Caller,
     now: u64,
     query: Query,
 ) -> Result<Reply, Memory>
     requires built { IsTrue (is_built (See query)) }
     requires legal { IsLegal history.now }
-    requires knows { KnowsAll history.now topics.now desk.now.leases }
+    requires assessed { IsAssessmentOf history.now (facts assessment.now) }
     requires names { docnos.now ≡ names_of history.now }
-    requires places { AreSubmissions history.now runs.now.places.items }
-    requires scored { IsScored history.now docnos.now (map graded_of topics.now) runs.now.board }
+    requires places { AreSubmissions history.now places.now }
     requires few_runs { length (runs_of history.now) < 65536 }
     ensures { IfOk result (λ reply. reply ≡ reply_of (told_of history.now who.now now query)) }
 {
+    let all = assessment.topics();
+    let topics = all.items();
+    let desk = assessment.desk();
     match query {
         Query::Pool { topic } => pool_reply(alloc, topics, docnos, topic),
-        Query::Scores { run } => scores_reply(alloc, history, topics, runs, who, &run),
-        Query::Table => table_reply(alloc, history, topics, runs),
+        Query::Scores { run } => scores_reply(alloc, history, all, places, who, &run),
+        Query::Table => table_reply(alloc, history, all, places),
         Query::Qrels => page_reply(alloc, Page::Qrels, topics, docnos, desk, now),
         Query::Disagreements => page_reply(alloc, Page::Disagreements, topics, docnos, desk, now),
         Query::Progress => page_reply(alloc, Page::Progress, topics, docnos, desk, now),

@@ -1,4 +1,5 @@
-ghost use Rattle.std.specs.Prelude.{◌≡◌, ◌≤◌, ◌<◌, ◌^◌, ◌+◌, ◌∷◌, [], ◌++◌, length, IfOk, OnOk, IsTrue, nat_lt, max};
+ghost use Rattle.std.specs.Prelude.{◌≡◌, ◌≤◌, ◌<◌, ◌^◌, ◌+◌, ◌∷◌, [], ◌++◌, length, IfOk, OnOk, IsTrue, nat_lt, map, max};
+ghost use Rattle.assessment.specs.TopicFacts.{facts_of};
 ghost use Rattle.rulebook.specs.declared.limits.TheConstants.{MAX_LINES, MAX_DOCNOS, MAX_ENTRIES, MAX_ENTRY_BYTES, MAX_MOMENT};
 ghost use Rattle.rulebook.specs.declared.ask.Ask.TheVariants.{Act};
 ghost use Rattle.rulebook.specs.Words.{each_once};
@@ -17,7 +18,7 @@ use crate::docnos::add_docnos;
 use crate::leasing::{grade_ruling, lease_ruling, release_ruling};
 use crate::looks::{has_topics, unknown_line};
 use crate::submissions::{is_taken, line_count, submitted_lines};
-use crate::topics::TopicState;
+use assessment::Topic;
 use decimal_rank::{Memory, Names, Text};
 use lease_desk::Desk;
 use rulebook::{
@@ -25,7 +26,7 @@ use rulebook::{
     Refusal, Reply,
 };
 use std::alloc::Global;
-use trec_formats::{Topic, TopicList};
+use trec_formats::{Topic as GivenTopic, TopicList};
 
 /// The greater of the moment that was handed in and that of the last entry.
 pub(crate) fn moment_after(history: &[Entry], moment: u64) -> u64
@@ -42,7 +43,7 @@ pub(crate) fn ruled(
     alloc: Global,
     history: &[Entry],
     phase: Phase,
-    topics: &[TopicState],
+    topics: &[Topic],
     docnos: &mut Names,
     desk: &Desk,
     places: &[u32],
@@ -52,7 +53,7 @@ pub(crate) fn ruled(
     requires short { length (command_bytes core.now.command) ≤ MAX_ENTRY_BYTES }
     requires phase { phase ≡ phase_of history.now }
     requires legal { IsLegal history.now }
-    requires stands { KnowsAll history.now topics.now desk.now.leases }
+    requires stands { KnowsAll history.now (map facts_of topics.now) desk.now.leases }
     requires places { AreSubmissions history.now places.now }
     requires docnos_are { docnos.old ≡ each_once (submitted_docnos history.now) }
     requires docnos_fit { length docnos.old ≤ MAX_DOCNOS }
@@ -94,7 +95,7 @@ pub(crate) fn ruled(
 pub(crate) fn topics_ruling(
     history: &[Entry],
     phase: Phase,
-    topics: &[Topic],
+    topics: &[GivenTopic],
 ) -> Result<Reply, Refusal>
     requires { phase ≡ phase_of history.now }
     ensures { result ≡ topics_ruling history.now topics.now }

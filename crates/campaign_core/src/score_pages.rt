@@ -1,9 +1,11 @@
 //! The pages of the scores of runs.
 ghost use Rattle.std.specs.Prelude.{◌≡◌, ◌++◌, ◌&&◌, ◌<◌, ℕ, List, IfOk, IsTrue, OnOk, length, map, not};
+ghost use Rattle.assessment.specs.TopicFacts.{facts_of};
+ghost use Rattle.assessment.specs.TopicsFacts.{told};
 ghost use Rattle.lease_desk.specs.declared.leases.Lease.{Lease};
 ghost use Rattle.rulebook.specs.declared.reply.Reply.TheVariants as reply;
 ghost use Rattle.rulebook.specs.Answers.{reply_of, scores_ruling};
-ghost use Rattle.rulebook.specs.Campaign.{History, Run, runs as runs_of};
+ghost use Rattle.rulebook.specs.Campaign.{History, Run, rules_of, runs as runs_of};
 ghost use Rattle.rulebook.specs.Legal.{IsLegal};
 ghost use Rattle.rulebook.specs.Roles.{is_group};
 ghost use Rattle.rulebook.specs.Scores.{cell_lines, is_counted as counts, is_submitter, scores_page, summary_lines, table_page};
@@ -11,13 +13,13 @@ ghost use Rattle.rulebook.specs.Words.{contains_text};
 ghost use Rattle.campaign_core.specs.Kept.{KnowsAll, KnowsRun};
 ghost use Rattle.campaign_core.specs.Numbers.{names_of};
 ghost use Rattle.campaign_core.specs.Printed.{IsTopicOf};
-ghost use Rattle.campaign_core.specs.Scoring.{IsScored, graded_of};
+ghost use Rattle.campaign_core.specs.Scoring.{AreListed};
 ghost use Rattle.campaign_core.specs.Submissions.{AreSubmissions};
 
-use crate::runs::Runs;
 use crate::submissions::{is_submitter, name_of, run_number};
 use crate::texts::{ids_of, in_order};
-use crate::topics::{TopicState, topic_number};
+use crate::topics::topic_number;
+use assessment::{Topic, Topics};
 use decimal_rank::{Memory, Text};
 use depth_pool::RunId;
 use measures::{write_cell, write_summary};
@@ -29,27 +31,30 @@ use std::alloc::Global;
 pub(crate) fn scores_reply(
     alloc: Global,
     history: &[Entry],
-    topics: &[TopicState],
-    runs: &Runs,
+    topics: &Topics,
+    places: &[u32],
     who: &Caller,
     name: &Text,
 ) -> Result<Reply, Memory>
     requires legal { IsLegal history.now }
-    requires knows { (desk : List Lease) × KnowsAll history.now topics.now desk }
-    requires places { AreSubmissions history.now runs.now.places.items }
-    requires scored { IsScored history.now (names_of history.now) (map graded_of topics.now) runs.now.board }
+    requires knows { (desk : List Lease) × KnowsAll history.now (told topics.now).topics desk }
+    requires places { AreSubmissions history.now places.now }
+    requires level { (told topics.now).level ≡ (rules_of history.now).level }
+    requires lists { AreListed history.now (names_of history.now) (told topics.now).lists }
     requires few_runs { length (runs_of history.now) < 65536 }
     ensures { IfOk result (λ reply. reply ≡ reply_of (scores_ruling history.now who.now name.now)) }
 {
-    let Some(number) = run_number(history, &runs.places, name.bytes()) else {
+    let Some(number) = run_number(history, places, name.bytes()) else {
         return Ok(Reply::Refused(Refusal::UnknownRun));
     };
-    if is_another_group(history, &runs.places, who, name.bytes()) {
+    if is_another_group(history, places, who, name.bytes()) {
         return Ok(Reply::Refused(Refusal::NotYours));
     }
     let run = RunId(number as u16);
+    let items = topics.items();
+    let board = topics.board();
     let mut out = Vec::new(alloc);
-    write_scores(alloc, topics, &runs.board, run, name.bytes(), &mut out)?;
+    write_scores(alloc, items, board, run, name.bytes(), &mut out)?;
     Ok(Reply::Page {
         text: Text::new(out),
     })
@@ -67,21 +72,24 @@ fn is_another_group(history: &[Entry], places: &[u32], who: &Caller, name: &[u8]
 pub(crate) fn table_reply(
     alloc: Global,
     history: &[Entry],
-    topics: &[TopicState],
-    runs: &Runs,
+    topics: &Topics,
+    places: &[u32],
 ) -> Result<Reply, Memory>
     requires legal { IsLegal history.now }
-    requires knows { (desk : List Lease) × KnowsAll history.now topics.now desk }
-    requires places { AreSubmissions history.now runs.now.places.items }
-    requires scored { IsScored history.now (names_of history.now) (map graded_of topics.now) runs.now.board }
+    requires knows { (desk : List Lease) × KnowsAll history.now (told topics.now).topics desk }
+    requires places { AreSubmissions history.now places.now }
+    requires level { (told topics.now).level ≡ (rules_of history.now).level }
+    requires lists { AreListed history.now (names_of history.now) (told topics.now).lists }
     requires few_runs { length (runs_of history.now) < 65536 }
     ensures { IfOk result (λ told. told ≡ reply.Page (table_page history.now)) }
 {
+    let items = topics.items();
+    let board = topics.board();
     let mut out = Vec::new(alloc);
-    for (number, place) in runs.places.iter().enumerate() {
+    for (number, place) in places.iter().enumerate() {
         let name = name_of(&history[*place as usize]);
         let run = RunId(number as u16);
-        write_run_summary(topics, &runs.board, run, name, &mut out)?;
+        write_run_summary(items, board, run, name, &mut out)?;
     }
     Ok(Reply::Page {
         text: Text::new(out),
@@ -91,14 +99,14 @@ pub(crate) fn table_reply(
 /// Appends the cells of a run by topic id, and its summary.
 fn write_scores(
     alloc: Global,
-    topics: &[TopicState],
+    topics: &[Topic],
     board: &Board,
     run: RunId,
     name: &[u8],
     out: &mut Vec<u8>,
 ) -> Result<(), Memory>
-    requires knows { (H : History) × (r : Run) × KnowsRun H topics.now board.now run r }
-    ensures { (H : History) (r : Run) → KnowsRun H topics.now board.now run r → name.now ≡ r.name
+    requires knows { (H : History) × (r : Run) × KnowsRun H (map facts_of topics.now) board.now run r }
+    ensures { (H : History) (r : Run) → KnowsRun H (map facts_of topics.now) board.now run r → name.now ≡ r.name
         → OnOk result (out.new.items ≡ out.old.items ++ scores_page H r) }
 {
     for id in &in_order(ids_of(alloc, topics)?) {
@@ -109,16 +117,16 @@ fn write_scores(
 
 /// Appends the cell of a run on the topic of this id, where the topic counts.
 fn write_topic_cell(
-    topics: &[TopicState],
+    topics: &[Topic],
     board: &Board,
     run: RunId,
     name: &[u8],
     id: &[u8],
     out: &mut Vec<u8>,
 ) -> Result<(), Memory>
-    requires knows { (H : History) × (r : Run) × KnowsRun H topics.now board.now run r }
-    requires listed { IsTrue (contains_text (map (λ topic. topic.id) topics.now) id.now) }
-    ensures { (H : History) (r : Run) → KnowsRun H topics.now board.now run r → name.now ≡ r.name
+    requires knows { (H : History) × (r : Run) × KnowsRun H (map facts_of topics.now) board.now run r }
+    requires listed { IsTrue (contains_text (map (λ topic. topic.id) (map facts_of topics.now)) id.now) }
+    ensures { (H : History) (r : Run) → KnowsRun H (map facts_of topics.now) board.now run r → name.now ≡ r.name
         → OnOk result (out.new.items ≡ out.old.items ++ cell_lines H r id.now) }
 {
     // a document with a grade is on the trail
@@ -133,24 +141,25 @@ fn write_topic_cell(
 }
 
 /// Whether some document of a topic has an effective grade.
-fn is_counted(topic: &TopicState) -> bool
-    ensures { (H : History) (names : List (List ℕ)) → IsTopicOf H names topic.now → result ≡ counts H topic.now.id }
+fn is_counted(topic: &Topic) -> bool
+    ensures { (H : History) (names : List (List ℕ)) → IsTopicOf H names topic.now.facts → result ≡ counts H topic.now.facts.id }
 {
     // the documents with a grade are those of the trail that have one
     graded_are_on_trail();
-    let relevant = u64::from(topic.view.relevant());
-    relevant + u64::from(topic.view.non_relevant()) > 0
+    let grades = topic.grades();
+    let relevant = u64::from(grades.relevant());
+    relevant + u64::from(grades.non_relevant()) > 0
 }
 
 /// Appends the summary of a run.
 fn write_run_summary(
-    topics: &[TopicState],
+    topics: &[Topic],
     board: &Board,
     run: RunId,
     name: &[u8],
     out: &mut Vec<u8>,
 ) -> Result<(), Memory>
-    ensures { (H : History) (r : Run) → KnowsRun H topics.now board.now run r → name.now ≡ r.name
+    ensures { (H : History) (r : Run) → KnowsRun H (map facts_of topics.now) board.now run r → name.now ≡ r.name
         → OnOk result (out.new.items ≡ out.old.items ++ summary_lines H r) }
 {
     // a document with a grade is on the trail

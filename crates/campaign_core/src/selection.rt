@@ -1,27 +1,47 @@
 ghost use Rattle.std.specs.Prelude.{◌≡◌, ◌+◌, find, length, nat_lt};
 ghost use Rattle.labels.specs.Marked.{given_at};
 ghost use Rattle.lease_desk.specs.Leases.{live_on};
+ghost use Rattle.assessment.specs.TopicFacts.{IsQueued};
+ghost use Rattle.mtf_queue.specs.QueueView.{QueueView};
 ghost use Rattle.campaign_core.specs.Leasing.{first_open, is_open_in};
 
-use crate::topics::TopicState;
+use assessment::Topic;
 use decimal_rank::DocId;
+use depth_pool::RunId;
 use lease_desk::Desk;
 
 /// The document that an assessor is told to grade at a moment: in the first run of the judging
 /// order that holds one that is open to the assessor, the one of least rank. `number` is the
 /// topic's, from 0.
 pub(crate) fn named(
-    topic: &TopicState,
+    topic: &Topic,
     number: u16,
     desk: &Desk,
     assessor: &[u8],
     now: u64,
 ) -> Option<DocId>
-    ensures { let is_open = is_open_in topic.now.need topic.now.marks.marked desk.now.leases number now assessor.now in
-        result ≡ first_open is_open topic.now.pool.runs topic.now.queue.order }
+    ensures { let is_open = is_open_in topic.now.facts.need topic.now.facts.marked desk.now.leases number now assessor.now in
+        (queue : QueueView) × IsQueued topic.now.facts.level topic.now.facts.pool topic.now.facts.graded queue
+        × (result ≡ first_open is_open topic.now.facts.pool queue.order) }
 {
-    for run in topic.queue.order() {
-        let docs = topic.pool.held(*run);
+    let queue = topic.queue();
+    first_in(topic, number, desk, assessor, now, queue.order())
+}
+
+/// The same for runs in this order.
+fn first_in(
+    topic: &Topic,
+    number: u16,
+    desk: &Desk,
+    assessor: &[u8],
+    now: u64,
+    order: &[RunId],
+) -> Option<DocId>
+    ensures { let is_open = is_open_in topic.now.facts.need topic.now.facts.marked desk.now.leases number now assessor.now in
+        result ≡ first_open is_open topic.now.facts.pool order.now }
+{
+    for run in order {
+        let docs = topic.pool().held(*run);
         let open = open_among(topic, number, desk, assessor, now, docs);
         if open.is_some() {
             return open;
@@ -32,14 +52,14 @@ pub(crate) fn named(
 
 /// The first of these documents that is open to an assessor.
 fn open_among(
-    topic: &TopicState,
+    topic: &Topic,
     number: u16,
     desk: &Desk,
     assessor: &[u8],
     now: u64,
     docs: &[DocId],
 ) -> Option<DocId>
-    ensures { let is_open = is_open_in topic.now.need topic.now.marks.marked desk.now.leases number now assessor.now in
+    ensures { let is_open = is_open_in topic.now.facts.need topic.now.facts.marked desk.now.leases number now assessor.now in
         result ≡ find is_open docs.now }
 {
     for doc in docs {
@@ -51,27 +71,20 @@ fn open_among(
 }
 
 /// Whether a document may be leased to an assessor.
-fn is_open(
-    topic: &TopicState,
-    number: u16,
-    desk: &Desk,
-    assessor: &[u8],
-    now: u64,
-    doc: DocId,
-) -> bool
-    ensures { result ≡ is_open_in topic.now.need topic.now.marks.marked desk.now.leases number now assessor.now doc }
+fn is_open(topic: &Topic, number: u16, desk: &Desk, assessor: &[u8], now: u64, doc: DocId) -> bool
+    ensures { result ≡ is_open_in topic.now.facts.need topic.now.facts.marked desk.now.leases number now assessor.now doc }
 {
-    topic.marks.effective(topic.need, doc).is_none()
-        && !topic.marks.has_label(assessor, doc)
+    topic.marks().effective(topic.need(), doc).is_none()
+        && !topic.marks().has_label(assessor, doc)
         && !desk.has(assessor, number, doc, now)
         && is_wanted(topic, number, desk, now, doc)
 }
 
 /// Whether the labels and live leases on a document are fewer than the topic needs.
-fn is_wanted(topic: &TopicState, number: u16, desk: &Desk, now: u64, doc: DocId) -> bool
-    ensures { result ≡ nat_lt (length (given_at topic.now.marks.marked doc) + live_on desk.now.leases number doc now) topic.now.need }
+fn is_wanted(topic: &Topic, number: u16, desk: &Desk, now: u64, doc: DocId) -> bool
+    ensures { result ≡ nat_lt (length (given_at topic.now.facts.marked doc) + live_on desk.now.leases number doc now) topic.now.facts.need }
 {
-    let labels = u64::from(topic.marks.count(doc));
+    let labels = u64::from(topic.marks().count(doc));
     let leases = u64::from(desk.live_on(number, doc, now));
-    labels + leases < u64::from(topic.need)
+    labels + leases < u64::from(topic.need())
 }

@@ -1,39 +1,34 @@
-ghost use Rattle.std.specs.Prelude.{◌≡◌, ℕ, List, All, ◌<◌, ◌≤◌, ◌∷◌, [], ◌++◌, length, map, MatchResult, vec_len, vec_capacity, IfOk, OnOk, OnErr, IsTrue, None, Ok, Some};
+//! The state of a campaign: its history, and what is known of it by numbers. A request is answered
+//! first; the change of an accepted one is given room then, and made when its entry joins the history.
+ghost use Rattle.std.specs.Prelude.{◌≡◌, ◌<◌, ◌≤◌, ◌∷◌, [], ◌++◌, ℕ, List, length, vec_len, vec_capacity, IfOk, OnOk, OnErr, IsTrue, None, Ok, Some, is_some};
+ghost use Rattle.assessment.specs.Changes.{facts};
 ghost use Rattle.rulebook.specs.declared.ask.Ask.TheVariants.{Act};
 ghost use Rattle.rulebook.specs.declared.limits.TheConstants.{MAX_ENTRIES, MAX_LINES, MAX_DOCNOS, MAX_RUNS};
 ghost use Rattle.rulebook.specs.Words.{each_once};
 ghost use Rattle.rulebook.specs.Spelling.{are_rules, differ};
-ghost use Rattle.rulebook.specs.Campaign.{docnos_with, docs_on, phase as phase_of, runs as runs_of, submitted_lines, submitted_docnos};
+ghost use Rattle.rulebook.specs.Campaign.{docnos_with, docs_on, opens, phase as phase_of, run_in, runs as runs_of, submitted_lines, submitted_docnos};
 ghost use Rattle.rulebook.specs.Answers.{answer, moment_after as moment_of, ruled as ruled_of};
 ghost use Rattle.rulebook.specs.Legal.{is_built, is_well_addressed, founding, IsLegal};
+ghost use Rattle.campaign_core.specs.Changes.{AwaitsEntry, phase_after, places_after};
 ghost use Rattle.campaign_core.specs.Growth.{BeginsWith, lists_in};
 ghost use Rattle.campaign_core.specs.Joining.{MayJoin};
 ghost use Rattle.campaign_core.specs.Numbers.{are_named};
-ghost use Rattle.campaign_core.specs.Kept.{KnowsAll};
-ghost use Rattle.depth_pool.specs.declared.runs.RunId.{RunId};
-ghost use Rattle.score_index.specs.Scores.{docs_at};
-ghost use Rattle.score_index.specs.Standing.{StandsFor};
-ghost use Rattle.campaign_core.specs.Plans.{AreLabelsAfter, CarriesOut, HasLists, MayScore, RoomFor, docs_after, leases_after, level_after, phase_after, places_after, topics_after};
-ghost use Rattle.campaign_core.specs.Scoring.{graded_of};
+ghost use Rattle.campaign_core.specs.Kept.{IsAssessmentOf};
 ghost use Rattle.campaign_core.specs.Submissions.{AreSubmissions};
 ghost use Rattle.campaign_core.specs.State.{IsRuling, IsVerdict};
-ghost use Rattle.campaign_core.specs.Topics.{IsQueued, kept, labelled_of};
 
-use crate::plans::{Plan, plan_of};
+use crate::changes::change_of;
 use crate::queries::told;
 use crate::rulings::{moment_after, ruled};
-use crate::runs::{Runs, enter_run, forget_lists, label_document, reserve_lists_of, rule_document};
-use crate::topics::TopicState;
 use crate::verdict::{Prepared, Verdict};
+use assessment::Assessment;
 use decimal_rank::{Memory, Names, Steps, Text};
 use depth_pool::greatest_run_goes_last;
 use labels::{marks_follow_labels, marks_follow_rulings};
-use lease_desk::{Desk, LeaseEnd};
 use rulebook::{
     Ask, Caller, Command, Entry, EntryCore, MAX_ENTRIES, Phase, Quantity, Refusal, Reply, Role,
     Rules, labels_join, quiet_entries_keep_grades, rulings_join,
 };
-use score_index::Board;
 use std::alloc::Global;
 use std::marker::Model;
 use std::snapshot::Snapshot;
@@ -49,20 +44,11 @@ pub struct State {
     docnos: Names,
     /// How many docnos the history has.
     docnos_kept: u32,
-    /// The campaign's topics, in the order of their entry.
-    topics: Vec<TopicState>,
-    /// The leases, by the numbers of their topics and documents.
-    desk: Desk,
-    /// The submitted runs and their scores.
-    runs: Runs,
-    prepared: Option<Ready>,
-}
-
-/// The entry that is prepared, and what it changes beside the history.
-#[derive(Drop)]
-struct Ready {
-    entry: Snapshot<Entry>,
-    plan: Plan,
+    /// The topics, the runs' lists and the leases, and the change of the entry that is prepared.
+    assessment: Assessment,
+    /// The places of the entries that submit runs, by submission.
+    places: Vec<u32>,
+    prepared: Option<Snapshot<Entry>>,
 }
 
 impl Model for State {
@@ -75,7 +61,7 @@ impl Model for State {
 
     ghost view = { λ s. record {
       history = s.history.items;
-      prepared = option_map (λ ready. ready.entry.value) s.prepared;
+      prepared = option_map (λ entry. entry.value) s.prepared;
     } };
 
     ghost invariant = { IsKept };
@@ -89,7 +75,7 @@ impl State {
         ensures prepared { IfOk result (λ state. state.prepared ≡ None) }
     {
         let name = Text::from_slice(alloc, b"campaign")?;
-        let board = Board::new(alloc, 0, rules.level)?;
+        let assessment = Assessment::new(alloc, rules.level)?;
         let core = EntryCore {
             caller: Caller {
                 name,
@@ -109,12 +95,8 @@ impl State {
             phase: Phase::Collecting,
             docnos: Names::new(alloc),
             docnos_kept: 0,
-            topics: Vec::new(alloc),
-            desk: Desk::new(alloc),
-            runs: Runs {
-                places: Vec::new(alloc),
-                board,
-            },
+            assessment,
+            places: Vec::new(alloc),
             prepared: None,
         })
     }
@@ -158,10 +140,9 @@ impl State {
                 let reply = told(
                     alloc,
                     &self.history,
-                    &self.topics,
+                    &self.assessment,
                     &self.docnos,
-                    &self.desk,
-                    &self.runs,
+                    &self.places,
                     who,
                     now,
                     query,
@@ -181,8 +162,10 @@ impl State {
     {
         let reply = p.reply;
         let place = self.history.len() as u32;
-        self.history.push_reserved(p.entry);
         self.docnos_kept = self.docnos.len();
+        self.phase = phase_after(&p.entry.core.command, self.phase);
+        add_place(&mut self.places, &p.entry.core.command, place);
+        self.history.push_reserved(p.entry);
         // a run of the greatest number stands last in a pool, and an entry changes the grades of
         // one document at most
         greatest_run_goes_last();
@@ -191,17 +174,8 @@ impl State {
         marks_follow_labels();
         rulings_join();
         marks_follow_rulings();
-        if let Some(ready) = self.prepared.take() {
-            carry_out(
-                ready.plan,
-                place,
-                &mut self.topics,
-                &mut self.runs,
-                &mut self.desk,
-                &mut self.phase,
-                steps,
-            );
-        }
+        self.assessment.commit(steps);
+        self.prepared = None;
         reply
     }
 
@@ -219,9 +193,8 @@ impl State {
         ensures history { self.new.history ≡ self.old.history }
         ensures prepared { self.new.prepared ≡ None }
     {
-        if let Some(ready) = self.prepared.take() {
-            forget_lists(&ready.plan, &self.topics, &mut self.runs.board);
-        }
+        self.prepared = None;
+        self.assessment.cancel();
     }
 
     fn prepare_command(
@@ -253,17 +226,13 @@ impl State {
         match accepted(
             &mut self.history,
             self.phase,
-            &mut self.topics,
+            &mut self.assessment,
             &mut self.docnos,
-            &mut self.desk,
-            &mut self.runs,
+            &mut self.places,
             core,
         )? {
-            Ok((prepared, plan)) => {
-                self.prepared = Some(Ready {
-                    entry: Snapshot::of(&prepared.entry),
-                    plan,
-                });
+            Ok(prepared) => {
+                self.prepared = Some(Snapshot::of(&prepared.entry));
                 Ok(Verdict::Ready(prepared))
             }
             Err(refusal) => Ok(Verdict::Told(Reply::Refused(refusal))),
@@ -271,85 +240,54 @@ impl State {
     }
 }
 
-/// Carries out the plan of an entry that joins the history.
-fn carry_out<L: Ledger>(
-    plan: Plan,
-    place: u32,
-    topics: &mut Vec<TopicState>,
-    runs: &mut Runs,
-    desk: &mut Desk,
-    phase: &mut Phase,
-    steps: &mut Steps<L>,
-)
-    requires rooms { RoomFor plan topics.old.items desk.old }
-    requires place_room { vec_len runs.old.places < vec_capacity runs.old.places }
-    requires queued { All IsQueued topics.old.items }
-    requires scored { MayScore plan topics.old.items runs.old.board }
-    ensures topics { map kept topics.new.items ≡ topics_after plan topics.old.items }
-    ensures labelled { AreLabelsAfter plan topics.old.items (map labelled_of topics.new.items) }
-    ensures queued { All IsQueued topics.new.items }
-    ensures leases { desk.new.leases ≡ leases_after plan desk.old.leases }
-    ensures phase { phase.new ≡ phase_after plan phase.old }
-    ensures places { runs.new.places.items ≡ places_after plan place runs.old.places.items }
-    ensures stands { StandsFor runs.new.board (map graded_of topics.new.items) }
-    ensures level { runs.new.board.level ≡ level_after plan runs.old.board.level }
-    ensures lists { (run : RunId) (on : ℕ) (d : TopicState) → docs_at runs.new.board run on ≡ docs_after plan topics.old.items runs.old.board run on d }
+/// The phase after a command.
+fn phase_after(command: &Command, phase: Phase) -> Phase
+    ensures { result ≡ phase_after command.now phase }
 {
-    match plan {
-        Plan::Topics(given, board) => {
-            *topics = given;
-            runs.board = board;
-        }
-        Plan::Run(run) => enter_run(runs, topics, run, place),
-        Plan::Open => *phase = Phase::Judging,
-        Plan::Lease(topic, doc, until, assessor) => {
-            desk.grant(assessor, topic, doc, until);
-        }
-        Plan::Label(number, topic, doc, assessor, grade) => {
-            label_document(
-                &mut runs.board,
-                topics,
-                topic as usize,
-                doc,
-                assessor,
-                grade,
-                steps,
-            );
-            desk.end(number, LeaseEnd::Graded);
-        }
-        Plan::Amend(topic, doc, assessor, grade) => {
-            label_document(
-                &mut runs.board,
-                topics,
-                topic as usize,
-                doc,
-                assessor,
-                grade,
-                steps,
-            );
-        }
-        Plan::Rule(topic, doc, grade) => {
-            rule_document(&mut runs.board, topics, topic as usize, doc, grade, steps);
-        }
-        Plan::Release(number) => desk.end(number, LeaseEnd::Released),
+    if opens(command) {
+        Phase::Judging
+    } else {
+        phase
     }
 }
 
-/// The entry of a command with its docnos added and its plan, or the first refusal of the command.
+fn opens(command: &Command) -> bool
+    ensures { result ≡ opens command.now }
+{
+    matches!(command, Command::Open)
+}
+
+/// Adds the place of an entry whose command submits a run.
+fn add_place(places: &mut Vec<u32>, command: &Command, place: u32)
+    requires { vec_len places.old < vec_capacity places.old }
+    ensures { places.new.items ≡ places_after command.now place places.old.items }
+{
+    if submits_run(command) {
+        places.push_reserved(place);
+    }
+}
+
+fn submits_run(command: &Command) -> bool
+    ensures { result ≡ is_some (run_in command.now) }
+{
+    matches!(command, Command::Submit { .. })
+}
+
+/// The entry of a command, whose change then waits, with its docnos added; or the first refusal of
+/// the command.
 fn accepted(
     history: &mut Vec<Entry>,
     phase: Phase,
-    topics: &mut Vec<TopicState>,
+    assessment: &mut Assessment,
     docnos: &mut Names,
-    desk: &mut Desk,
-    runs: &mut Runs,
+    places: &mut Vec<u32>,
     core: EntryCore,
-) -> Result<Result<(Prepared, Plan), Refusal>, Memory>
+) -> Result<Result<Prepared, Refusal>, Memory>
     requires addressed { IsTrue (is_well_addressed core.caller core.number (Act core.command) core.moment) }
     requires phase { phase ≡ phase_of history.old.items }
     requires legal { IsLegal history.old.items }
-    requires stands { KnowsAll history.old.items topics.old.items desk.old.leases }
-    requires places { AreSubmissions history.old.items runs.old.places.items }
+    requires assessed { IsAssessmentOf history.old.items (facts assessment.old) }
+    requires places { AreSubmissions history.old.items places.old.items }
     requires latest { moment_of history.old.items core.moment ≡ core.moment }
     requires entries_fit { length history.old.items < MAX_ENTRIES }
     requires docnos_are { docnos.old ≡ each_once (submitted_docnos history.old.items) }
@@ -357,37 +295,31 @@ fn accepted(
     requires lines_fit { submitted_lines history.old.items ≤ MAX_LINES }
     requires runs_fit { length (runs_of history.old.items) ≤ MAX_RUNS }
     ensures history { history.new.items ≡ history.old.items }
-    ensures topics { map kept topics.new.items ≡ map kept topics.old.items }
-    ensures labelled { map labelled_of topics.new.items ≡ map labelled_of topics.old.items }
-    ensures queued { All IsQueued topics.old.items → All IsQueued topics.new.items }
-    ensures leases { desk.new.leases ≡ desk.old.leases }
-    ensures places { runs.new.places.items ≡ runs.old.places.items }
-    ensures board_level { runs.new.board.level ≡ runs.old.board.level }
-    ensures board_topics { runs.new.board.topics ≡ runs.old.board.topics }
+    ensures facts { facts assessment.new ≡ facts assessment.old }
+    ensures places { places.new.items ≡ places.old.items }
     ensures grown { BeginsWith docnos.old docnos.new }
     ensures ruling { let ruling = ruled_of history.old.items core.caller core.moment core.command in
         IfOk result (IsRuling ruling) }
-    ensures core { IfOk result (λ accepted. IfOk accepted (λ ready. ready.0.core ≡ core)) }
-    ensures joins { IfOk result (λ accepted. IfOk accepted (λ ready. MayJoin history.old.items docnos.new ready.0)) }
+    ensures core { IfOk result (λ accepted. IfOk accepted (λ entry. entry.core ≡ core)) }
+    ensures joins { IfOk result (λ accepted. IfOk accepted (λ entry. MayJoin history.old.items docnos.new entry)) }
     ensures room { let has_room = vec_len history.new < vec_capacity history.new in
         IfOk result (λ accepted. OnOk accepted has_room) }
-    ensures place_room { let has_room = vec_len runs.new.places < vec_capacity runs.new.places in
+    ensures place_room { let has_room = vec_len places.new < vec_capacity places.new in
         IfOk result (λ accepted. OnOk accepted has_room) }
-    ensures lists_room { IfOk result (λ accepted. IfOk accepted (λ ready. HasLists ready.1 topics.new.items runs.new.board)) }
-    ensures plan { IfOk result (λ accepted. IfOk accepted (λ ready. CarriesOut history.old.items docnos.new topics.new.items desk.new ready.0 ready.1)) }
+    ensures waits { IfOk result (λ accepted. IfOk accepted (AwaitsEntry history.old.items docnos.new assessment.new)) }
 {
     let alloc = *history.allocator();
     match ruled(
         alloc,
         history,
         phase,
-        topics,
+        assessment.topics().items(),
         docnos,
-        desk,
-        &runs.places,
+        assessment.desk(),
+        places,
         &core,
     )? {
-        Ok(reply) => Ok(Ok(made_ready(history, topics, docnos, desk, runs, core, reply)?)),
+        Ok(reply) => Ok(Ok(made_ready(history, assessment, docnos, places, core, reply)?)),
         Err(refusal) => {
             drop(core);
             Ok(Err(refusal))
@@ -395,59 +327,51 @@ fn accepted(
     }
 }
 
-/// The entry of an accepted command, and its plan. The history, the topics and the board then have
-/// room.
+/// The entry of an accepted command, whose change then waits. The history has room for it.
 fn made_ready(
     history: &mut Vec<Entry>,
-    topics: &mut Vec<TopicState>,
+    assessment: &mut Assessment,
     docnos: &Names,
-    desk: &mut Desk,
-    runs: &mut Runs,
+    places: &mut Vec<u32>,
     core: EntryCore,
     reply: Reply,
-) -> Result<(Prepared, Plan), Memory>
+) -> Result<Prepared, Memory>
     requires built { IsTrue (is_built (Act core.command)) }
     requires legal { IsLegal history.old.items }
     requires accepted { ruled_of history.old.items core.caller core.moment core.command ≡ Ok reply }
-    requires stands { KnowsAll history.old.items topics.old.items desk.old.leases }
-    requires places { AreSubmissions history.old.items runs.old.places.items }
+    requires assessed { IsAssessmentOf history.old.items (facts assessment.old) }
+    requires places { AreSubmissions history.old.items places.old.items }
+    requires entries_fit { length history.old.items < MAX_ENTRIES }
     requires docnos_are { docnos.now ≡ docnos_with history.old.items (lists_in core.command) }
     requires few { (topic : List ℕ) → length (docs_on (lists_in core.command) topic) ≤ 1000 }
     requires distinct { (topic : List ℕ) → IsTrue (differ (docs_on (lists_in core.command) topic)) }
     requires named { (topic : List ℕ) → IsTrue (are_named docnos.now (docs_on (lists_in core.command) topic)) }
     requires few_runs { length (runs_of history.old.items) < 65536 }
     ensures history { history.new.items ≡ history.old.items }
-    ensures topics { map kept topics.new.items ≡ map kept topics.old.items }
-    ensures labelled { map labelled_of topics.new.items ≡ map labelled_of topics.old.items }
-    ensures queued { All IsQueued topics.old.items → All IsQueued topics.new.items }
-    ensures leases { desk.new.leases ≡ desk.old.leases }
-    ensures places { runs.new.places.items ≡ runs.old.places.items }
-    ensures board_level { runs.new.board.level ≡ runs.old.board.level }
-    ensures board_topics { runs.new.board.topics ≡ runs.old.board.topics }
+    ensures facts { facts assessment.new ≡ facts assessment.old }
+    ensures places { places.new.items ≡ places.old.items }
     ensures room { OnOk result (vec_len history.new < vec_capacity history.new) }
-    ensures place_room { OnOk result (vec_len runs.new.places < vec_capacity runs.new.places) }
-    ensures lists_room { IfOk result (λ ready. HasLists ready.1 topics.new.items runs.new.board) }
-    ensures entry { IfOk result (λ ready. ready.0 ≡ record { core = core; reply = reply }) }
-    ensures plan { IfOk result (λ ready. CarriesOut history.old.items docnos.now topics.new.items desk.new ready.0 ready.1) }
+    ensures place_room { OnOk result (vec_len places.new < vec_capacity places.new) }
+    ensures entry { IfOk result (λ entry. entry ≡ record { core = core; reply = reply }) }
+    ensures waits { IfOk result (AwaitsEntry history.old.items docnos.now assessment.new) }
 {
     history.reserve(1)?;
-    runs.places.reserve(1)?;
+    places.reserve(1)?;
     let alloc = *history.allocator();
-    let plan = plan_of(
+    let change = change_of(
         alloc,
         history,
-        topics,
+        assessment.topics().items(),
         docnos,
-        desk,
-        &runs.places,
+        assessment.desk(),
+        places,
         &core,
         &reply,
     )?;
-    let entry = Entry {
-        core,
-        reply: reply.copy(alloc)?,
-    };
-    // the room on the board comes last: nothing that fails behind it would give it back
-    reserve_lists_of(&plan, topics, &mut runs.board)?;
-    Ok((Prepared { entry, reply }, plan))
+    let told = reply.copy(alloc)?;
+    assessment.reserve(change)?;
+    Ok(Prepared {
+        entry: Entry { core, reply: told },
+        reply,
+    })
 }

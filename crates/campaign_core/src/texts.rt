@@ -1,10 +1,11 @@
 //! Texts that are printed in byte order.
 ghost use Rattle.std.specs.Prelude.{◌≡◌, map, IfOk};
+ghost use Rattle.assessment.specs.TopicFacts.{facts_of};
 ghost use Rattle.decimal_rank.specs.Names.{docno_of};
 ghost use Rattle.rulebook.specs.Words.{in_order as in_byte_order};
 ghost use Rattle.campaign_core.specs.Texts.{shown};
 
-use crate::topics::TopicState;
+use assessment::Topic;
 use decimal_rank::{DocId, Memory, Names};
 use std::alloc::Global;
 
@@ -19,12 +20,12 @@ pub(crate) fn in_order<'a>(texts: Vec<&'a [u8]>) -> Vec<&'a [u8]>
 }
 
 /// The ids of topics.
-pub(crate) fn ids_of(alloc: Global, topics: &[TopicState]) -> Result<Vec<&[u8]>, Memory>
-    ensures { IfOk result (λ ids. shown ids.items ≡ map (λ topic. topic.id) topics.now) }
+pub(crate) fn ids_of(alloc: Global, topics: &[Topic]) -> Result<Vec<&[u8]>, Memory>
+    ensures { IfOk result (λ ids. shown ids.items ≡ map (λ topic. topic.id) (map facts_of topics.now)) }
 {
     let mut ids = Vec::with_capacity(alloc, topics.len())?;
     for topic in topics {
-        ids.push(topic.id.bytes())?;
+        ids.push(topic.id())?;
     }
     Ok(ids)
 }

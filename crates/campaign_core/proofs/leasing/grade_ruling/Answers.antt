@@ -1,4 +1,5 @@
-use Rattle.std.proofs.Common.{◌≡◌, ◌<◌, ◌≤◌, ap, sym, ◌∙◌, Ok, subst}
+use Rattle.std.proofs.Common.{◌≡◌, ◌<◌, ◌≤◌, ap, arith, get_or, length, map, sym, ◌∙◌, Ok, subst}
+use Rattle.std.proofs.lemmas.List.{length-map}
 use Rattle.decimal_rank.specs.Names.{docno_of}
 use Rattle.rulebook.specs.declared.reply.Reply.TheVariants as reply
 use Rattle.rulebook.specs.declared.rules.Rules.{Rules}
@@ -7,7 +8,8 @@ use Rattle.rulebook.specs.Words.{Text}
 use Rattle.campaign_core.specs.Leasing.{KnownLease}
 use Rattle.campaign_core.specs.Numbers.{names_of}
 use Rattle.campaign_core.specs.Topics.{KeptTopic}
-use Rattle.campaign_core.specs.declared.topics.TopicState.{TopicState}
+use Rattle.assessment.specs.TopicFacts.{facts_of}
+use Rattle.campaign_core.proofs.ListFacts.{get-map}
 use Rattle.campaign_core.proofs.Naming.{docno-back}
 use Rattle.campaign_core.proofs.LeaseFacts.{found-lease, grade-given, grade-outside, grade-refused, stands-at, within-states}
 use Rattle.campaign_core.proofs.leasing.grade_ruling.Goals as goal
@@ -29,15 +31,17 @@ pub bounds-topics-lease : goal.bounds-topics-lease
 bounds-topics-lease c =
     let H = c.args.history.now in
     let w = found-lease H (names_of H) c.args.desk.now.leases c.args.number c.in-Some.lease.now c.requires.stands.leased (sym c.in-Some.ensures.lease) in
-    within-states H c.args.topics.now c.args.desk.now.leases c.requires.stands w.lease.topic c.in-Some.lease.now.topic
-    (ap (λ (k : KnownLease). k.topic) w.alike) w.listed
+    let inside = within-states H (map facts_of c.args.topics.now) c.args.desk.now.leases c.requires.stands w.lease.topic c.in-Some.lease.now.topic (ap (λ (k : KnownLease). k.topic) w.alike) w.listed in
+    omega (arith, inside, length-map c.args.topics.now facts_of)
 
 pub returns : goal.returns
 returns c =
     let H = c.args.history.now in
     let w = found-lease H (names_of H) c.args.desk.now.leases c.args.number c.in-Some.lease.now c.requires.stands.leased (sym c.in-Some.ensures.lease) in
-    let at = stands-at H c.args.topics.now c.args.desk.now.leases c.requires.stands w.lease.topic c.in-Some.lease.now.topic (ap (λ (k : KnownLease). k.topic) w.alike) w.listed c.index-topics-lease.result c.index-topics-lease.is in
-    let topic : c.in_ok-copy.field-0 ≡ w.lease.topic = c.in_ok-copy.ensures.copy ∙ ap (λ (s : TopicState). s.id) (sym c.index-topics-lease.is) ∙ ap (λ (k : KeptTopic). k.id) at.kept_is in
+    let s = c.index-topics-lease.result.facts in
+    let s_is : s ≡ get_or (map facts_of c.args.topics.now) c.in-Some.lease.now.topic s = ap facts_of c.index-topics-lease.is ∙ sym (get-map facts_of c.args.topics.now c.in-Some.lease.now.topic c.index-topics-lease.result) in
+    let at = stands-at H (map facts_of c.args.topics.now) c.args.desk.now.leases c.requires.stands w.lease.topic c.in-Some.lease.now.topic (ap (λ (k : KnownLease). k.topic) w.alike) w.listed s s_is in
+    let topic : c.in_ok-from_slice.field-0 ≡ w.lease.topic = c.in_ok-from_slice.ensures.text ∙ c.id.ensures ∙ ap (λ (k : KeptTopic). k.id) at.kept_is in
     let doc : c.in_ok-docno.field-0 ≡ w.lease.doc =
     c.in_ok-docno.ensures
     ∙ ap (λ names. docno_of names c.in-Some.lease.now.doc.0) c.requires.names

@@ -1,4 +1,6 @@
-use Rattle.std.proofs.Common.{◌≡◌, ◌<◌, ◌+◌, ◌∙◌, ℕ, List, None, Ok, Some, ap, arith, length}
+use Rattle.std.proofs.Common.{◌≡◌, ◌<◌, ◌+◌, ◌∙◌, ℕ, List, None, Ok, Some, ap, arith, get_or, length, map, sym}
+use Rattle.assessment.specs.TopicFacts.{facts_of}
+use Rattle.campaign_core.proofs.ListFacts.{get-map}
 use Rattle.decimal_rank.specs.Names.{docno_of}
 use Rattle.rulebook.specs.declared.reply.Reply.TheVariants as reply
 use Rattle.rulebook.specs.declared.rules.Rules.{Rules}
@@ -17,14 +19,14 @@ pub returns-in_default : goal.returns-in_default
 returns-in_default c =
     let H = c.args.history.now in
     lease-unknown H c.args.core.now.caller c.args.core.now.moment c.args.topic.now c.args.phase c.requires.phase c.if-not-is_judging.ensures
-    (unknown-topic H c.args.topics.now c.args.topic.now c.requires.stands.topics_are (rw (← c.bytes.ensures) c.in_default.ensures))
+    (unknown-topic H (map facts_of c.args.topics.now) c.args.topic.now c.requires.stands.topics_are (rw (← c.bytes.ensures) c.in_default.ensures))
 
 pub returns-then-live-from : goal.returns-then-live-from
 returns-then-live-from c =
     let H = c.args.history.now in
     let who = c.args.core.now.caller in
     let now = c.args.core.now.moment in
-    let at = known-topic H c.args.topics.now c.args.topic.now c.in-Some.number c.requires.stands.topics_are (rw (← c.bytes.ensures) c.in-Some.ensures) in
+    let at = known-topic H (map facts_of c.args.topics.now) c.args.topic.now c.in-Some.number c.requires.stands.topics_are (rw (← c.bytes.ensures) c.in-Some.ensures) in
     let live_is : c.live_of-live.result ≡ length (live_leases_of H now who.name) =
     c.live_of-live.ensures ∙ live-of-same H (names_of H) c.args.desk.now.leases now c.bytes-assessor.result.now c.requires.stands.leased
     ∙ ap (λ (name : Text). length (live_leases_of H now name)) c.bytes-assessor.ensures in
@@ -43,18 +45,20 @@ returns-in_ok-from_slice-in-Some-named c =
     let now = c.args.core.now.moment in
     let topic = c.args.topic.now in
     let desk = c.args.desk.now.leases in
-    let at = known-topic H c.args.topics.now topic c.in-Some.number c.requires.stands.topics_are (rw (← c.bytes.ensures) c.in-Some.ensures) in
+    let at = known-topic H (map facts_of c.args.topics.now) topic c.in-Some.number c.requires.stands.topics_are (rw (← c.bytes.ensures) c.in-Some.ensures) in
     let live_is : c.live_of-live.result ≡ length (live_leases_of H now who.name) =
     c.live_of-live.ensures ∙ live-of-same H (names_of H) desk now c.bytes-assessor.result.now c.requires.stands.leased
     ∙ ap (λ (name : Text). length (live_leases_of H now name)) c.bytes-assessor.ensures in
     let hold_is : c.from.result ≡ (rules_of H).hold = c.from.ensures ∙ ap (λ (r : Rules). r.hold) c.rules-rules.ensures in
     let few : length (live_leases_of H now who.name) < (rules_of H).hold = omega (arith, live_is, hold_is, c.if-live-from.false) in
-    let s = c.index-topics-number.result in
-    let stands = stands-at H c.args.topics.now desk c.requires.stands topic c.in-Some.number at.number_is at.listed s c.index-topics-number.is in
+    let s = c.index-topics-number.result.facts in
+    let s_is : s ≡ get_or (map facts_of c.args.topics.now) c.in-Some.number s = ap facts_of c.index-topics-number.is ∙ sym (get-map facts_of c.args.topics.now c.in-Some.number c.index-topics-number.result) in
+    let stands = stands-at H (map facts_of c.args.topics.now) desk c.requires.stands topic c.in-Some.number at.number_is at.listed s s_is in
     let doc = c.in-Some-named.doc in
-    let is : Some doc ≡ first_open (is_open_in s.need s.marks.marked desk c.in-Some.number now who.name) s.pool.runs s.queue.order =
-    c.in-Some-named.ensures ∙ ap (λ (name : Text). first_open (is_open_in s.need s.marks.marked desk c.in-Some.number now name) s.pool.runs s.queue.order) c.bytes-assessor.ensures in
-    let named_is = doc-named H c.args.topics.now desk c.requires.stands topic c.in-Some.number at.number_is at.listed s stands now who.name c.first_that_passes.ensures doc is in
+    let queue = c.in-Some-named.ensures.0 in
+    let is : Some doc ≡ first_open (is_open_in s.need s.marked desk c.in-Some.number now who.name) s.pool queue.order =
+    c.in-Some-named.ensures.2 ∙ ap (λ (name : Text). first_open (is_open_in s.need s.marked desk c.in-Some.number now name) s.pool queue.order) c.bytes-assessor.ensures in
+    let named_is = doc-named H (map facts_of c.args.topics.now) desk c.requires.stands topic c.in-Some.number at.number_is at.listed s stands queue c.in-Some-named.ensures.1 now who.name c.first_that_passes.ensures doc is in
     let text : c.in_ok-docno-in-Some-named.field-0 ≡ docno_of (names_of H) doc.0 = c.in_ok-docno-in-Some-named.ensures ∙ ap (λ (names : List Text). docno_of names doc.0) c.requires.names in
     let titled : c.in_ok-from_slice-in-Some-named.field-0 ≡ title H topic =
     c.in_ok-from_slice-in-Some-named.ensures.text ∙ c.title.ensures ∙ ap (title H) c.bytes-in-Some-named.ensures in
@@ -78,15 +82,17 @@ returns-in-None c =
     let now = c.args.core.now.moment in
     let topic = c.args.topic.now in
     let desk = c.args.desk.now.leases in
-    let at = known-topic H c.args.topics.now topic c.in-Some.number c.requires.stands.topics_are (rw (← c.bytes.ensures) c.in-Some.ensures) in
+    let at = known-topic H (map facts_of c.args.topics.now) topic c.in-Some.number c.requires.stands.topics_are (rw (← c.bytes.ensures) c.in-Some.ensures) in
     let live_is : c.live_of-live.result ≡ length (live_leases_of H now who.name) =
     c.live_of-live.ensures ∙ live-of-same H (names_of H) desk now c.bytes-assessor.result.now c.requires.stands.leased
     ∙ ap (λ (name : Text). length (live_leases_of H now name)) c.bytes-assessor.ensures in
     let hold_is : c.from.result ≡ (rules_of H).hold = c.from.ensures ∙ ap (λ (r : Rules). r.hold) c.rules-rules.ensures in
     let few : length (live_leases_of H now who.name) < (rules_of H).hold = omega (arith, live_is, hold_is, c.if-live-from.false) in
-    let s = c.index-topics-number.result in
-    let stands = stands-at H c.args.topics.now desk c.requires.stands topic c.in-Some.number at.number_is at.listed s c.index-topics-number.is in
-    let is : None ≡ first_open (is_open_in s.need s.marks.marked desk c.in-Some.number now who.name) s.pool.runs s.queue.order =
-    c.in-None.ensures ∙ ap (λ (name : Text). first_open (is_open_in s.need s.marks.marked desk c.in-Some.number now name) s.pool.runs s.queue.order) c.bytes-assessor.ensures in
+    let s = c.index-topics-number.result.facts in
+    let s_is : s ≡ get_or (map facts_of c.args.topics.now) c.in-Some.number s = ap facts_of c.index-topics-number.is ∙ sym (get-map facts_of c.args.topics.now c.in-Some.number c.index-topics-number.result) in
+    let stands = stands-at H (map facts_of c.args.topics.now) desk c.requires.stands topic c.in-Some.number at.number_is at.listed s s_is in
+    let queue = c.in-None.ensures.0 in
+    let is : None ≡ first_open (is_open_in s.need s.marked desk c.in-Some.number now who.name) s.pool queue.order =
+    c.in-None.ensures.2 ∙ ap (λ (name : Text). first_open (is_open_in s.need s.marked desk c.in-Some.number now name) s.pool queue.order) c.bytes-assessor.ensures in
     lease-nothing H who now topic c.args.phase c.requires.phase c.if-not-is_judging.ensures at.listed few
-    (none-named H c.args.topics.now desk c.requires.stands topic c.in-Some.number at.number_is at.listed s stands now who.name c.first_that_passes.ensures is)
+    (none-named H (map facts_of c.args.topics.now) desk c.requires.stands topic c.in-Some.number at.number_is at.listed s stands queue c.in-None.ensures.1 now who.name c.first_that_passes.ensures is)

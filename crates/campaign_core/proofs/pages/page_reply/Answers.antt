@@ -6,7 +6,7 @@ use Rattle.rulebook.specs.declared.reply.Reply.TheVariants as reply
 use Rattle.rulebook.specs.Words.{Text, in_order}
 use Rattle.campaign_core.specs.Printed.{part_of}
 use Rattle.campaign_core.specs.Texts.{shown}
-use Rattle.campaign_core.specs.declared.topics.TopicState.{TopicState}
+use Rattle.assessment.specs.TopicFacts.{TopicFacts, facts_of}
 use Rattle.campaign_core.proofs.Paging.{ids-kept, listed-there}
 use Rattle.campaign_core.proofs.pages.page_reply.Goals as goal
 
@@ -19,7 +19,7 @@ loop-id-init c = record {
 pub write_topic-requires : goal.write_topic-requires
 write_topic-requires c = record {
   knows = c.requires.knows;
-  listed = listed-there c.deref-id-items.result.now (map (λ (topic : TopicState). topic.id) c.args.topics.now) c.loop-id.id-index (record { ref_ptr = (0, 0); now = [] }) c.loop-id.invariant.ids_are c.loop-id-test.true;
+  listed = listed-there c.deref-id-items.result.now (map (λ (topic : TopicFacts). topic.id) (map facts_of c.args.topics.now)) c.loop-id.id-index (record { ref_ptr = (0, 0); now = [] }) c.loop-id.invariant.ids_are c.loop-id-test.true;
 }
 
 pub loop-id-preserved : goal.loop-id-preserved
@@ -39,7 +39,7 @@ loop-id-preserved c = record {
 
 pub returns : goal.returns
 returns c = λ H knows names_are.
-    let ids = map (λ (topic : TopicState). topic.id) c.args.topics.now in
+    let ids = map (λ (topic : TopicFacts). topic.id) (map facts_of c.args.topics.now) in
     let items = c.deref-id-items.result.now in
     let part : Text → Text = part_of c.args.page H c.args.now in
     let past : length items ≤ c.loop-id.id-index = search rules in
@@ -47,4 +47,4 @@ returns c = λ H knows names_are.
     ∙ c.loop-id.invariant.printed H knows names_are
     ∙ ap (flat_map (λ id. part id.now)) (take_all c.loop-id.id-index items past)
     ∙ sym (flat_map-map part (λ id. id.now) items)
-    ∙ ap (flat_map part) (c.loop-id.invariant.ids_are ∙ ap in_order (ids-kept H c.args.topics.now _ knows.topics_are)))
+    ∙ ap (flat_map part) (c.loop-id.invariant.ids_are ∙ ap in_order (ids-kept H (map facts_of c.args.topics.now) _ knows.topics_are)))

@@ -1,6 +1,7 @@
-use Rattle.std.proofs.Common.{◌≡◌, ◌++◌, ◌∙◌, map, ap, sym, take, take_all, length, ◌≤◌, rules}
+use Rattle.std.proofs.Common.{◌≡◌, ◌++◌, ◌∙◌, List, map, ap, sym, take, take_all, length, ◌≤◌, rules}
 use Rattle.std.specs.List.{flat_map}
 use Rattle.std.proofs.lemmas.List.Folds.{flat_map-map}
+use Rattle.labels.specs.Marked.{Marked, disagrees_at}
 use Rattle.decimal_rank.specs.Names.{docno_of}
 use Rattle.rulebook.specs.Pages.{disagreement_line, disagreement_lines}
 use Rattle.rulebook.specs.Words.{Text, in_order}
@@ -10,14 +11,14 @@ use Rattle.campaign_core.proofs.pages.write_disagreements.Goals as goal
 
 pub returns : goal.returns
 returns c = λ H is.
-    let id = c.args.topic.now.id in
+    let id = c.args.topic.now.facts.id in
     let names = c.args.docnos.now in
     let docs = c.in_ok-docs.docs.items in
     let line : Text → Text = disagreement_line id in
     let texts : shown c.in_order.result.items ≡ in_order (map (λ doc. docno_of names doc.0) docs) = c.in_order.ensures ∙ ap in_order (c.in_ok-docnos_of.ensures ∙ ap (map (λ doc. docno_of names doc.0)) c.deref.ensures.value) in
     let lines : flat_map (λ docno. line docno.now) c.in_order.result.items ≡ disagreement_lines H id =
     sym (flat_map-map line (λ docno. docno.now) c.in_order.result.items)
-    ∙ ap (flat_map line) (texts ∙ disagreeing-texts H names c.args.topic.now is docs c.in_ok-docs.ensures.each c.labelled_are_listed.ensures) in
+    ∙ ap (flat_map line) (texts ∙ disagreeing-texts H names c.args.topic.now.facts is docs (λ doc. c.in_ok-docs.ensures.each doc ∙ ap (λ need. disagrees_at need c.marks.result.now.marked doc) c.need.ensures ∙ ap (λ (marked : List Marked). disagrees_at c.args.topic.now.facts.need marked doc) c.marks.ensures) c.labelled_are_listed.ensures) in
     let items_are : c.deref-docno-items.result.now ≡ c.in_order.result.items = c.deref-docno-items.ensures.value in
     let past : length c.deref-docno-items.result.now ≤ c.loop-docno.docno-index = search rules in
     let whole : take c.loop-docno.docno-index c.deref-docno-items.result.now ≡ c.in_order.result.items = take_all c.loop-docno.docno-index c.deref-docno-items.result.now past ∙ items_are in

@@ -4,4 +4,4 @@ use Rattle.rulebook.specs.Pages.{disagreement_line}
 use Rattle.campaign_core.proofs.pages.write_disagreements.Given as goal
 
 abbrev pub invariant-loop-docno : goal.invariant-loop-docno
-invariant-loop-docno l = l.out.items ≡ l.initial.out.items ++ flat_map (λ docno. disagreement_line l.topic.id docno.now) (take l.docno-index l.docno-items)
+invariant-loop-docno l = l.out.items ≡ l.initial.out.items ++ flat_map (λ docno. disagreement_line l.topic.facts.id docno.now) (take l.docno-index l.docno-items)

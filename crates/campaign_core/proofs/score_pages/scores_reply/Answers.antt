@@ -1,4 +1,4 @@
-use Rattle.std.proofs.Common.{◌≡◌, ◌++◌, ◌∙◌, ap, arith, get_or, sym, Some, None, false, true}
+use Rattle.std.proofs.Common.{◌≡◌, ◌++◌, ◌∙◌, ap, arith, get_or, map, sym, Some, None, false, true}
 use Rattle.std.specs.Prelude.{◌&&◌, not}
 use Rattle.std.specs.List.{position}
 use Rattle.std.specs.Str.{bytes_eq}
@@ -8,6 +8,8 @@ use Rattle.rulebook.specs.Roles.{is_group}
 use Rattle.rulebook.specs.Scores.{is_submitter, scores_page}
 use Rattle.rulebook.specs.Words.{Text}
 use Rattle.campaign_core.specs.Kept.{KnowsRun}
+use Rattle.assessment.specs.TopicFacts.{facts_of}
+use Rattle.campaign_core.proofs.KnownRuns.{knows-run}
 use Rattle.campaign_core.proofs.Submitted.{no_run}
 use Rattle.campaign_core.proofs.ScoresTold.{no-run-found, run-found, told-not-yours, told-scores, told-unknown}
 use Rattle.campaign_core.proofs.score_pages.scores_reply.Goals as goal
@@ -43,8 +45,8 @@ write_scores-requires c =
     let some : Some c.in-Some.number ≡ position (λ (run : Run). bytes_eq run.name name) (runs H) = c.in-Some.ensures ∙ ap (λ (name : Text). position (λ (run : Run). bytes_eq run.name name) (runs H)) c.bytes.ensures in
     let is = run-found H name c.in-Some.number some in
     let run : Run = get_or (runs H) c.in-Some.number no_run in
-    let knows : KnowsRun H c.args.topics.now c.args.runs.now.board (record { 0 = c.in-Some.number }) run =
-    record { legal = c.requires.legal; desk = c.requires.knows.0; knows = c.requires.knows.1; scored = c.requires.scored; run_is = is.there } in
+    let knows : KnowsRun H (map facts_of c.items-items.result.now) c.board-board.result.now (record { 0 = c.in-Some.number }) run =
+    knows-run H c.args.topics.now c.items-items.result.now c.board-board.result.now c.requires.knows.0 (record { 0 = c.in-Some.number }) run c.requires.legal c.requires.knows.1 c.requires.level c.requires.lists c.items-items.ensures.topics c.board-board.ensures.board c.board-board.ensures.stands is.there in
     record { knows = (H, run, knows) }
 
 pub returns : goal.returns
@@ -54,8 +56,8 @@ returns c =
     let some : Some c.in-Some.number ≡ position (λ (run : Run). bytes_eq run.name name) (runs H) = c.in-Some.ensures ∙ ap (λ (name : Text). position (λ (run : Run). bytes_eq run.name name) (runs H)) c.bytes.ensures in
     let is = run-found H name c.in-Some.number some in
     let run : Run = get_or (runs H) c.in-Some.number no_run in
-    let knows : KnowsRun H c.args.topics.now c.args.runs.now.board (record { 0 = c.in-Some.number }) run =
-    record { legal = c.requires.legal; desk = c.requires.knows.0; knows = c.requires.knows.1; scored = c.requires.scored; run_is = is.there } in
+    let knows : KnowsRun H (map facts_of c.items-items.result.now) c.board-board.result.now (record { 0 = c.in-Some.number }) run =
+    knows-run H c.args.topics.now c.items-items.result.now c.board-board.result.now c.requires.knows.0 (record { 0 = c.in-Some.number }) run c.requires.legal c.requires.knows.1 c.requires.level c.requires.lists c.items-items.ensures.topics c.board-board.ensures.board c.board-board.ensures.stands is.there in
     let mine : (is_group c.args.who.now.role && not (is_submitter H c.args.who.now.name name)) ≡ false =
     sym (c.is_another_group.ensures ∙ ap (λ (name : Text). is_group c.args.who.now.role && not (is_submitter H c.args.who.now.name name)) c.bytes-2.ensures) ∙ c.if-is_another_group.false in
     let name_is : c.bytes-3.result.now ≡ run.name = c.bytes-3.ensures ∙ sym is.name_is in

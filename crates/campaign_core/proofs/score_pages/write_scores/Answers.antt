@@ -7,7 +7,7 @@ use Rattle.rulebook.specs.Scores.{cell_lines, summary_lines}
 use Rattle.rulebook.specs.Words.{Text, in_order}
 use Rattle.campaign_core.specs.Texts.{shown}
 use Rattle.campaign_core.specs.Topics.{topic_ids}
-use Rattle.campaign_core.specs.declared.topics.TopicState.{TopicState}
+use Rattle.assessment.specs.TopicFacts.{TopicFacts, facts_of}
 use Rattle.campaign_core.proofs.Paging.{ids-kept, listed-there}
 use Rattle.campaign_core.proofs.score_pages.write_scores.Goals as goal
 
@@ -20,7 +20,7 @@ loop-id-init c = record {
 pub write_topic_cell-requires : goal.write_topic_cell-requires
 write_topic_cell-requires c = record {
   knows = c.requires.knows;
-  listed = listed-there c.deref-id-items.result.now (map (λ (topic : TopicState). topic.id) c.args.topics.now) c.loop-id.id-index (record { ref_ptr = (0, 0); now = [] }) c.loop-id.invariant.ids_are c.loop-id-test.true;
+  listed = listed-there c.deref-id-items.result.now (map (λ (topic : TopicFacts). topic.id) (map facts_of c.args.topics.now)) c.loop-id.id-index (record { ref_ptr = (0, 0); now = [] }) c.loop-id.invariant.ids_are c.loop-id-test.true;
 }
 
 pub loop-id-preserved : goal.loop-id-preserved
@@ -45,7 +45,7 @@ returns c = λ H r knows name_is.
     let cells : c.loop-id.out.items ≡ c.args.out.now.items ++ flat_map part (in_order (topic_ids H)) =
     c.loop-id.invariant.printed H r knows name_is
     ∙ ap (λ ids. c.args.out.now.items ++ flat_map (λ id. part id.now) ids) (take_all c.loop-id.id-index items past)
-    ∙ ap (λ text. c.args.out.now.items ++ text) (sym (flat_map-map part (λ id. id.now) items) ∙ ap (flat_map part) c.loop-id.invariant.ids_are ∙ ap (λ ids. flat_map part (in_order ids)) (ids-kept H c.args.topics.now (topic_ids H) knows.knows.topics_are)) in
+    ∙ ap (λ text. c.args.out.now.items ++ text) (sym (flat_map-map part (λ id. id.now) items) ∙ ap (flat_map part) c.loop-id.invariant.ids_are ∙ ap (λ ids. flat_map part (in_order ids)) (ids-kept H (map facts_of c.args.topics.now) (topic_ids H) knows.knows.topics_are)) in
     let whole : c.loop-id.out.items ++ summary_lines H r ≡ c.args.out.now.items ++ (flat_map part (in_order (topic_ids H)) ++ summary_lines H r) =
     ap (λ text. text ++ summary_lines H r) cells ∙ append_assoc c.args.out.now.items (flat_map part (in_order (topic_ids H))) (summary_lines H r) in
     subst (λ text. OnOk c.write_run_summary.result (c.write_run_summary.new.out.items ≡ text)) whole (c.write_run_summary.ensures H r knows name_is)

@@ -7,7 +7,8 @@ use Rattle.rulebook.specs.Scores.{cell_on, is_counted}
 use Rattle.rulebook.specs.Words.{Text}
 use Rattle.campaign_core.specs.Leasing.{topic_in}
 use Rattle.campaign_core.specs.Numbers.{names_of}
-use Rattle.campaign_core.specs.declared.topics.TopicState.{TopicState}
+use Rattle.assessment.specs.TopicFacts.{TopicFacts, facts_of}
+use Rattle.campaign_core.proofs.ListFacts.{get-map}
 use Rattle.campaign_core.proofs.LeaseFacts.{known-topic}
 use Rattle.campaign_core.proofs.Paging.{page-topic}
 use Rattle.campaign_core.proofs.Places.{some-there, topic-found}
@@ -16,31 +17,31 @@ use Rattle.campaign_core.proofs.score_pages.write_topic_cell.Goals as goal
 
 pub unwrap-number-requires : goal.unwrap-number-requires
 unwrap-number-requires c =
-    let ids = map (λ (topic : TopicState). topic.id) c.args.topics.now in
-    some-there c.topic_number.result (topic_in ids c.args.id.now) (c.topic_number.ensures ∙ topic-found c.args.topics.now ids c.args.id.now refl c.requires.listed)
+    let ids = map (λ (topic : TopicFacts). topic.id) (map facts_of c.args.topics.now) in
+    some-there c.topic_number.result (topic_in ids c.args.id.now) (c.topic_number.ensures ∙ topic-found (map facts_of c.args.topics.now) ids c.args.id.now refl c.requires.listed)
 
 pub cell-requires : goal.cell-requires
 cell-requires c =
     let H = c.requires.knows.0 in
     let knows = c.requires.knows.2 in
-    let placed = known-topic H c.args.topics.now c.args.id.now c.unwrap-number.result knows.knows.topics_are (sym c.unwrap-number.ensures ∙ c.topic_number.ensures) in
-    omega (arith, placed.within, as-many H c.args.topics.now c.args.board.now c.args.run c.requires.knows.1 knows)
+    let placed = known-topic H (map facts_of c.args.topics.now) c.args.id.now c.unwrap-number.result knows.knows.topics_are (sym c.unwrap-number.ensures ∙ c.topic_number.ensures) in
+    omega (arith, placed.within, as-many H (map facts_of c.args.topics.now) c.args.board.now c.args.run c.requires.knows.1 knows)
 
 pub returns-then-not-is_counted : goal.returns-then-not-is_counted
 returns-then-not-is_counted c = λ H r knows name_is.
-    let s = c.index-topics-number.result in
+    let s = c.index-topics-number.result.facts in
     let id = c.args.id.now in
-    let page = page-topic H c.args.topics.now knows.desk (names_of H) id c.unwrap-number.result s knows.knows refl (sym c.unwrap-number.ensures ∙ c.topic_number.ensures) c.index-topics-number.is in
+    let page = page-topic H (map facts_of c.args.topics.now) knows.desk (names_of H) id c.unwrap-number.result s knows.knows refl (sym c.unwrap-number.ensures ∙ c.topic_number.ensures) (ap facts_of c.index-topics-number.is ∙ sym (get-map facts_of c.args.topics.now c.unwrap-number.result c.index-topics-number.result)) in
     let none : false ≡ is_counted H id = c.if-not-is_counted.ensures H (names_of H) page.is_topic ∙ ap (is_counted H) page.id_is in
     sym (append-nil c.args.out.now.items) ∙ ap (λ t. c.args.out.now.items ++ (if t then cell_text r.name id (cell_on H r id) else [])) none
 
 pub returns : goal.returns
 returns c = λ H r knows name_is.
-    let s = c.index-topics-number.result in
+    let s = c.index-topics-number.result.facts in
     let id = c.args.id.now in
-    let page = page-topic H c.args.topics.now knows.desk (names_of H) id c.unwrap-number.result s knows.knows refl (sym c.unwrap-number.ensures ∙ c.topic_number.ensures) c.index-topics-number.is in
+    let page = page-topic H (map facts_of c.args.topics.now) knows.desk (names_of H) id c.unwrap-number.result s knows.knows refl (sym c.unwrap-number.ensures ∙ c.topic_number.ensures) (ap facts_of c.index-topics-number.is ∙ sym (get-map facts_of c.args.topics.now c.unwrap-number.result c.index-topics-number.result)) in
     let some : true ≡ is_counted H id = c.if-not-is_counted.ensures H (names_of H) page.is_topic ∙ ap (is_counted H) page.id_is in
-    let cell : c.cell.result ≡ cell_on H r id = c.cell.ensures.cell _ knows.scored.stands ∙ cell-at H c.args.topics.now c.args.board.now c.args.run r knows c.graded_are_on_trail.ensures c.graded_are_there.ensures id c.unwrap-number.result s (sym c.unwrap-number.ensures ∙ c.topic_number.ensures) c.index-topics-number.is in
+    let cell : c.cell.result ≡ cell_on H r id = c.cell.ensures.cell _ knows.scored.stands ∙ cell-at H (map facts_of c.args.topics.now) c.args.board.now c.args.run r knows c.graded_are_on_trail.ensures c.graded_are_there.ensures id c.unwrap-number.result s (sym c.unwrap-number.ensures ∙ c.topic_number.ensures) (ap facts_of c.index-topics-number.is ∙ sym (get-map facts_of c.args.topics.now c.unwrap-number.result c.index-topics-number.result)) in
     c.in_ok-write_cell.ensures.ok
     ∙ ap (λ (name : Text). c.args.out.now.items ++ cell_text name id c.cell.result) name_is
     ∙ ap (λ (cell : Cell). c.args.out.now.items ++ cell_text r.name id cell) cell

@@ -4,5 +4,5 @@ use Rattle.campaign_core.proofs.selection.open_among.Given as goal
 
 abbrev pub invariant-loop-doc : goal.invariant-loop-doc
 invariant-loop-doc l =
-    let is_open = is_open_in l.topic.need l.topic.marks.marked l.desk.leases l.number l.now l.assessor in
+    let is_open = is_open_in l.topic.facts.need l.topic.facts.marked l.desk.leases l.number l.now l.assessor in
     find is_open (drop l.doc-index l.docs) ≡ find is_open l.docs

@@ -30,7 +30,7 @@ made_ready-requires-clause-named c = λ topic.
 pub returns-in_ok-made_ready-in-Ok-clause-joins : goal.returns-in_ok-made_ready-in-Ok-clause-joins
 returns-in_ok-made_ready-in-Ok-clause-joins c =
     let H = c.args.history.now.items in
-    let entry = c.in_ok-made_ready-in-Ok.field-0.0 in
+    let entry = c.in_ok-made_ready-in-Ok.field-0 in
     let added : c.ruled.new.docnos ≡ each_once (submitted_docnos H ++ docnos (lists_in c.args.core.command)) = search rules in
     let ruled_ok : ruled H c.args.core.caller c.args.core.moment c.args.core.command ≡ Ok entry.reply = search rules in
     record {

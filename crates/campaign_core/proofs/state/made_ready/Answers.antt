@@ -1,38 +1,25 @@
-use Rattle.std.proofs.Common.{◌≡◌, List, ap, arith, length, subst, sym}
-use Rattle.std.specs.Prelude.{All}
-use Rattle.std.proofs.lemmas.List.{with_items_is}
-use Rattle.campaign_core.specs.Plans.{CarriesOut}
-use Rattle.campaign_core.specs.Topics.{IsQueued}
+use Rattle.std.proofs.Common.{◌≡◌, ◌∙◌, List, ap, map, subst}
+use Rattle.lease_desk.specs.declared.leases.Lease.{Lease}
+use Rattle.assessment.specs.Changes.{facts}
+use Rattle.assessment.specs.TopicFacts.{TopicView, facts_of}
+use Rattle.assessment.specs.TopicsFacts.{TopicsView}
 use Rattle.rulebook.specs.declared.entry.Entry.{Entry}
-use Rattle.rulebook.specs.declared.reply.Reply.{Reply}
-use Rattle.campaign_core.specs.declared.topics.TopicState.{TopicState}
+use Rattle.rulebook.specs.Campaign.{History}
+use Rattle.campaign_core.specs.Changes.{CarriesOut}
+use Rattle.campaign_core.proofs.Fitting.{fits}
 use Rattle.campaign_core.proofs.state.made_ready.Goals as goal
 
-pub returns-in_err-plan-clause-queued : goal.returns-in_err-plan-clause-queued
-returns-in_err-plan-clause-queued c = λ all.
-    let long : length c.plan_of.new.topics ≡ c.args.topics.now.len = omega (arith, c.plan_of.auto.topics, ap length c.deref_mut.ensures.value, c.args.topics.now.ok.0) in
-    subst (All IsQueued) (sym (with_items_is c.args.topics.now c.plan_of.new.topics long)) (c.plan_of.ensures.queued (rw c.deref_mut.ensures.value all))
-
-pub returns-in_err-copy-clause-queued : goal.returns-in_err-copy-clause-queued
-returns-in_err-copy-clause-queued c = λ all.
-    let long : length c.plan_of.new.topics ≡ c.args.topics.now.len = omega (arith, c.plan_of.auto.topics, ap length c.deref_mut.ensures.value, c.args.topics.now.ok.0) in
-    subst (All IsQueued) (sym (with_items_is c.args.topics.now c.plan_of.new.topics long)) (c.plan_of.ensures.queued (rw c.deref_mut.ensures.value all))
-
-pub returns-in_err-reserve_lists_of-clause-queued : goal.returns-in_err-reserve_lists_of-clause-queued
-returns-in_err-reserve_lists_of-clause-queued c = λ all.
-    let long : length c.plan_of.new.topics ≡ c.args.topics.now.len = omega (arith, c.plan_of.auto.topics, ap length c.deref_mut.ensures.value, c.args.topics.now.ok.0) in
-    subst (All IsQueued) (sym (with_items_is c.args.topics.now c.plan_of.new.topics long)) (c.plan_of.ensures.queued (rw c.deref_mut.ensures.value all))
-
-pub returns-clause-queued : goal.returns-clause-queued
-returns-clause-queued c = λ all.
-    let long : length c.plan_of.new.topics ≡ c.args.topics.now.len = omega (arith, c.plan_of.auto.topics, ap length c.deref_mut.ensures.value, c.args.topics.now.ok.0) in
-    subst (All IsQueued) (sym (with_items_is c.args.topics.now c.plan_of.new.topics long)) (c.plan_of.ensures.queued (rw c.deref_mut.ensures.value all))
-
-pub returns-clause-plan : goal.returns-clause-plan
-returns-clause-plan c =
-    let long : length c.plan_of.new.topics ≡ c.args.topics.now.len = omega (arith, c.plan_of.auto.topics, ap length c.deref_mut.ensures.value, c.args.topics.now.ok.0) in
-    let entry : Reply → Entry = λ reply. record { core = c.args.core; reply = reply } in
-    let Out : List TopicState → Reply → Type 0 = λ topics reply. CarriesOut c.args.history.now.items c.args.docnos.now topics c.plan_of.new.desk (entry reply) c.in_ok-plan.plan in
-    let planned : Out c.plan_of.new.topics c.args.reply = rw (c.deref.ensures.value, c.in_ok-reserve.ensures.items) at c.in_ok-plan.ensures.plan in
-    let copied : Out c.plan_of.new.topics c.in_ok-copy.field-0 = subst (Out c.plan_of.new.topics) (sym c.in_ok-copy.ensures) planned in
-    subst (λ topics. Out topics c.in_ok-copy.field-0) (sym (with_items_is c.args.topics.now c.plan_of.new.topics long)) copied
+pub reserve-requires-3 : goal.reserve-requires-3
+reserve-requires-3 c =
+    let H : History = c.args.history.now.items in
+    let known = c.args.assessment.now in
+    let names = c.args.docnos.now in
+    let made = c.in_ok-change.change in
+    let e : Entry = record { core = c.args.core; reply = c.args.reply } in
+    let items : c.items.result.now ≡ known.topics.topics = c.items.ensures.topics ∙ ap (λ (all : TopicsView). all.topics) c.topics.ensures.topics in
+    let history : c.deref.result.now ≡ H = c.deref.ensures.value ∙ c.in_ok-reserve.ensures.items in
+    let out : CarriesOut H names (map facts_of known.topics.topics) known.leases e made =
+    subst (λ (H : History). CarriesOut H names (map facts_of known.topics.topics) known.leases e made) history
+    (subst (λ (topics : List TopicView). CarriesOut c.deref.result.now names (map facts_of topics) known.leases e made) items
+    (subst (λ (leases : List Lease). CarriesOut c.deref.result.now names (map facts_of c.items.result.now) leases e made) c.desk.ensures c.in_ok-change.ensures)) in
+    fits H (facts known) c.requires.assessed c.requires.entries_fit names e made c.requires.accepted c.requires.docnos_are out

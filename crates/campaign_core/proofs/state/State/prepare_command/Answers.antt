@@ -1,14 +1,13 @@
-use Rattle.std.proofs.Common.{◌≡◌, ◌<◌, ◌≤◌, ◌∙◌, None, ap, refl, rules, length, vec_len, vec_capacity}
+use Rattle.std.proofs.Common.{◌≡◌, ◌<◌, ◌≤◌, ◌∙◌, None, ap, refl, rules, length, subst, sym, vec_len, vec_capacity}
 use Rattle.std.specs.Option.{option_map}
 use Rattle.rulebook.specs.declared.entry.Entry.{Entry}
 use Rattle.rulebook.specs.declared.limits.TheConstants.{MAX_ENTRIES, MAX_MOMENT}
 use Rattle.rulebook.specs.Words.{each_once}
-use Rattle.rulebook.specs.Campaign.{submitted_docnos}
+use Rattle.rulebook.specs.Campaign.{History, submitted_docnos}
+use Rattle.campaign_core.specs.Changes.{AwaitsEntry}
 use Rattle.campaign_core.specs.Growth.{BeginsWith}
 use Rattle.campaign_core.specs.Joining.{MayJoin}
-use Rattle.campaign_core.specs.Plans.{CarriesOut, HasLists}
 use Rattle.campaign_core.specs.Seen.{Seen}
-use Rattle.campaign_core.specs.declared.state.Ready.{Ready}
 use Rattle.campaign_core.proofs.Preparing.{none-ready, still-kept}
 use Rattle.campaign_core.proofs.Told.{moment-of}
 use Rattle.campaign_core.proofs.state.State.prepare_command.Goals as goal
@@ -24,25 +23,28 @@ invariant_of-self-in-Ok c =
     let moment_fits : e.core.moment ≤ MAX_MOMENT = moment-of e.core.caller e.core.number e.core.command e.core.moment joins.accepted.addressed in
     let entries_fit : length H < MAX_ENTRIES = search rules in
     let room : vec_len c.accepted.new.history < vec_capacity c.accepted.new.history = search rules in
-    let place_room : vec_len c.accepted.new.runs.places < vec_capacity c.accepted.new.runs.places = search rules in
-    let lists_room : HasLists c.in-Ok.plan c.accepted.new.topics.items c.accepted.new.runs.board = search rules in
-    let carries_out : CarriesOut H c.accepted.new.docnos c.accepted.new.topics.items c.accepted.new.desk e c.in-Ok.plan = search rules in
-    still-kept s _ c.self.invariant same (search rules) docnos_are (search rules) c.in_ok-prepared.ensures.topics c.in_ok-prepared.ensures.labelled (c.in_ok-prepared.ensures.queued c.self.invariant.queued) c.in_ok-prepared.ensures.leases
-    c.in_ok-prepared.ensures.places c.in_ok-prepared.ensures.board_level c.in_ok-prepared.ensures.board_topics
-    (record { joins = rw same joins; moment_fits = moment_fits; entries_fit = rw same entries_fit; room = room; place_room = place_room; carries_out = rw same carries_out; lists_room = lists_room })
+    let place_room : vec_len c.accepted.new.places < vec_capacity c.accepted.new.places = search rules in
+    let awaits : AwaitsEntry H c.accepted.new.docnos c.accepted.new.assessment e = search rules in
+    still-kept s _ c.self.invariant same (search rules) docnos_are (search rules) c.in_ok-prepared.ensures.facts c.in_ok-prepared.ensures.places
+    (record {
+      joins = rw same joins;
+      moment_fits = moment_fits;
+      entries_fit = rw same entries_fit;
+      room = room;
+      place_room = place_room;
+      awaits = subst (λ (H : History). AwaitsEntry H c.accepted.new.docnos c.accepted.new.assessment e) (sym same) awaits;
+    })
 
 pub invariant_of-self : goal.invariant_of-self
 invariant_of-self c =
     let s = c.self.inside in
     let docnos_are : BeginsWith (each_once (submitted_docnos s.history.items)) c.accepted.new.docnos = search rules in
-    let none : option_map (λ (ready : Ready). ready.entry.value) s.prepared ≡ None = ap (λ (seen : Seen). seen.prepared) c.self.view_is ∙ c.requires.forgotten in
-    still-kept s _ c.self.invariant c.accepted.ensures.history refl docnos_are refl c.accepted.ensures.topics c.accepted.ensures.labelled (c.accepted.ensures.queued c.self.invariant.queued) c.accepted.ensures.leases
-    c.accepted.ensures.places c.accepted.ensures.board_level c.accepted.ensures.board_topics (none-ready _ s.prepared none)
+    let none : option_map (λ e. e.value) s.prepared ≡ None = ap (λ (seen : Seen). seen.prepared) c.self.view_is ∙ c.requires.forgotten in
+    still-kept s _ c.self.invariant c.accepted.ensures.history refl docnos_are refl c.accepted.ensures.facts c.accepted.ensures.places (none-ready s.prepared (λ e. e.value) _ none)
 
 pub invariant_of-self-in-Err : goal.invariant_of-self-in-Err
 invariant_of-self-in-Err c =
     let s = c.self.inside in
     let docnos_are : BeginsWith (each_once (submitted_docnos s.history.items)) c.accepted.new.docnos = search rules in
-    let none : option_map (λ (ready : Ready). ready.entry.value) s.prepared ≡ None = ap (λ (seen : Seen). seen.prepared) c.self.view_is ∙ c.requires.forgotten in
-    still-kept s _ c.self.invariant c.accepted.ensures.history refl docnos_are refl c.accepted.ensures.topics c.accepted.ensures.labelled (c.accepted.ensures.queued c.self.invariant.queued) c.accepted.ensures.leases
-    c.accepted.ensures.places c.accepted.ensures.board_level c.accepted.ensures.board_topics (none-ready _ s.prepared none)
+    let none : option_map (λ e. e.value) s.prepared ≡ None = ap (λ (seen : Seen). seen.prepared) c.self.view_is ∙ c.requires.forgotten in
+    still-kept s _ c.self.invariant c.accepted.ensures.history refl docnos_are refl c.accepted.ensures.facts c.accepted.ensures.places (none-ready s.prepared (λ e. e.value) _ none)

@@ -1,0 +1,30 @@
+-- What is known of a run, by the topics and the board.
+use Rattle.std.proofs.Common.{◌≡◌, ◌∙◌, List, Some, ap, map, subst, sym}
+use Rattle.depth_pool.specs.declared.runs.RunId.{RunId}
+use Rattle.lease_desk.specs.declared.leases.Lease.{Lease}
+use Rattle.qrels_view.specs.declared.grades.Graded.{Graded}
+use Rattle.score_index.specs.Scores.{Scores, docs_at}
+use Rattle.score_index.specs.Standing.{StandsFor}
+use Rattle.assessment.specs.TopicFacts.{TopicView, facts_of, graded_of as graded_in}
+use Rattle.assessment.specs.TopicsFacts.{TopicsView, told}
+use Rattle.rulebook.specs.Campaign.{History, Run, rules_of}
+use Rattle.rulebook.specs.Legal.{IsLegal}
+use Rattle.campaign_core.specs.Kept.{KnowsAll, KnowsRun}
+use Rattle.campaign_core.specs.Numbers.{names_of}
+use Rattle.campaign_core.specs.Scoring.{AreListed, graded_of, run_at}
+use Rattle.campaign_core.proofs.ListFacts.{map-map}
+
+pub knows-run : (H : History) (all : TopicsView) (items : List TopicView) (board : Scores) (desk : List Lease) (number : RunId) (run : Run) → IsLegal H → KnowsAll H (told all).topics desk
+    → (told all).level ≡ (rules_of H).level → AreListed H (names_of H) (told all).lists → items ≡ all.topics → board ≡ all.board → StandsFor board (map graded_in all.topics)
+    → run_at H number ≡ Some run → KnowsRun H (map facts_of items) board number run
+knows-run H all items board desk number run legal knows level_is lists_are items_are board_is stands run_is = record {
+  legal = legal;
+  desk = desk;
+  knows = subst (λ (topics : List TopicView). KnowsAll H (map facts_of topics) desk) (sym items_are) knows;
+  scored = record {
+    level_is = ap (λ (b : Scores). b.level) board_is ∙ level_is;
+    stands = subst (StandsFor board) (sym (ap (λ (topics : List TopicView). map graded_of (map facts_of topics)) items_are ∙ map-map graded_of facts_of all.topics)) stands;
+    lists_are = λ run on d within. ap (λ (b : Scores). docs_at b run on) board_is ∙ lists_are run on d within;
+  };
+  run_is = run_is;
+}

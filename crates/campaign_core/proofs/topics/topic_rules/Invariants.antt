@@ -1,0 +1,10 @@
+use Rattle.std.proofs.Common.{◌≡◌, map, take}
+use Rattle.assessment.specs.TopicFacts.{new_topic}
+use Rattle.campaign_core.specs.Topics.{empty_topic, kept, labelled_of, unlabelled}
+use Rattle.campaign_core.proofs.topics.topic_rules.Given as goal
+
+abbrev pub invariant-loop-topic : goal.invariant-loop-topic
+invariant-loop-topic l = record {
+  kept : map kept (map new_topic l.made.items) ≡ map (λ topic. empty_topic l.rules topic.id) (take l.topic-index l.topics);
+  labelled : map labelled_of (map new_topic l.made.items) ≡ map (λ topic. unlabelled topic.id) (take l.topic-index l.topics);
+}

@@ -1,0 +1,128 @@
+-- What an entry that is accepted changes of what is known by numbers.
+use Rattle.std.specs.Prelude.{◌≡◌, ℕ, List, [], ◌++◌, ◌∷◌, Some, None, IsTrue, is_some, if◌then◌else◌, length, map}
+use Rattle.std.specs.Option.{IsSomeAnd}
+use Rattle.decimal_rank.specs.declared.naming.DocId.{DocId}
+use Rattle.lease_desk.specs.Leases.{lease_numbered as desk_lease}
+use Rattle.lease_desk.specs.declared.leases.Lease.{Lease as DeskLease}
+use Rattle.assessment.specs.Changes.{AssessmentView, IsUnended, facts}
+use Rattle.assessment.specs.RunLists.{RankedLists}
+use Rattle.assessment.specs.TopicFacts.{TopicFacts, facts_of}
+use Rattle.assessment.specs.TopicsFacts.{TopicsFacts, told}
+use Rattle.assessment.specs.declared.change.Change.{Change}
+use Rattle.assessment.specs.declared.change.Change.TheVariants as change
+use Rattle.assessment.specs.declared.change.Grant.{Grant}
+use Rattle.assessment.specs.declared.change.Label.{Label as DocLabel}
+use Rattle.rulebook.specs.declared.rules.Phase.{Phase}
+use Rattle.rulebook.specs.declared.rules.Phase.TheVariants.{Judging}
+use Rattle.trec_formats.specs.declared.Topic.{Topic}
+use Rattle.trec_formats.specs.declared.TopicList.{TopicList}
+use Rattle.rulebook.specs.declared.ask.Command.{Command}
+use Rattle.rulebook.specs.declared.ask.Command.TheVariants as command
+use Rattle.rulebook.specs.declared.entry.Entry.{Entry}
+use Rattle.rulebook.specs.declared.entry.EntryCore.{EntryCore}
+use Rattle.rulebook.specs.declared.limits.TheConstants.{MAX_TOPICS}
+use Rattle.rulebook.specs.declared.reply.Reply.{Reply}
+use Rattle.rulebook.specs.declared.reply.Reply.TheVariants as reply
+use Rattle.rulebook.specs.Words.{Text, contains_text}
+use Rattle.rulebook.specs.Campaign.{History, docs_on, opens, rules_of, run_in, runs}
+use Rattle.rulebook.specs.Leases.{Lease, lease_in, lease_numbered}
+use Rattle.std.specs.Prelude.{◌<◌, ◌≤◌}
+use Rattle.campaign_core.specs.Leasing.{topic_in}
+use Rattle.campaign_core.specs.Numbers.{doc_in, docs_in}
+use Rattle.campaign_core.specs.Topics.{empty_topic, kept, labelled_of, topic_ids, unlabelled}
+
+-- the lease that the reply tells, by the numbers of its topic and its document
+pub record IsLeaseChange (H : History) (names : List Text) (e : Entry) (grant : Grant) : Type 0 where
+  pub command_is : (wanted : Text) × (e.core.command ≡ command.Lease wanted)
+  pub lease : Lease
+  pub told : lease_in e.core.caller.name e.reply ≡ Some lease
+  pub topic_is : grant.topic ≡ topic_in (topic_ids H) lease.topic
+  pub doc_is : grant.doc ≡ doc_in names lease.doc
+  pub until_is : grant.until ≡ lease.until
+  pub assessor_is : grant.assessor ≡ lease.assessor
+  pub doc_named : IsTrue (contains_text names lease.doc)
+
+-- the grade of a lease that has no end, by the numbers of its topic and its document
+pub record IsGradeChange (H : History) (names : List Text) (desk : List DeskLease) (e : Entry) (number : ℕ) (label : DocLabel) : Type 0 where
+  pub command_is : e.core.command ≡ command.Grade number label.grade
+  pub lease : Lease
+  pub found : lease_numbered H number ≡ Some lease
+  pub topic_is : label.topic ≡ topic_in (topic_ids H) lease.topic
+  pub doc_is : label.doc ≡ doc_in names lease.doc
+  pub assessor_is : label.assessor ≡ e.core.caller.name
+  pub unended : IsUnended number desk
+
+-- what the reply of an accepted lease tells: a document of the names and a topic of the campaign, up to a moment
+pub record ToldLease (H : History) (topics : List TopicFacts) (names : List Text) (core : EntryCore) (topic : Text) (told : Reply) : Type 0 where
+  pub command_is : core.command ≡ command.Lease topic
+  pub number : ℕ
+  pub doc : Text
+  pub until : ℕ
+  pub title : Text
+  pub reply_is : told ≡ reply.Leased number topic doc until title
+  pub doc_named : IsTrue (contains_text names doc)
+  pub listed : IsTrue (contains_text (topic_ids H) topic)
+  pub ids_are : map (λ topic. topic.id) topics ≡ topic_ids H
+  pub ids_fit : length (topic_ids H) ≤ MAX_TOPICS
+
+-- an accepted grade is of a lease of the desk that has no end
+pub record ToldGrade (H : History) (names : List Text) (desk : List DeskLease) (core : EntryCore) (number : ℕ) (grade : ℕ) : Type 0 where
+  pub command_is : core.command ≡ command.Grade number grade
+  pub there : DeskLease
+  pub found_there : desk_lease desk number ≡ Some there
+  pub unended : there.end ≡ None
+  pub lease : Lease
+  pub found : lease_numbered H number ≡ Some lease
+  pub topic_is : there.topic ≡ topic_in (topic_ids H) lease.topic
+  pub doc_is : there.doc ≡ doc_in names lease.doc
+
+-- a topic of the campaign, and a document of the names
+pub record IsPlace (ids : List Text) (names : List Text) (topics : List TopicFacts) (topic doc : Text) : Type 0 where
+  pub ids_are : map (λ topic. topic.id) topics ≡ ids
+  pub ids_fit : length ids ≤ MAX_TOPICS
+  pub listed : IsTrue (contains_text ids topic)
+  pub doc_named : IsTrue (contains_text names doc)
+
+-- their numbers
+pub record IsPlacedAt (ids : List Text) (names : List Text) (topic doc : Text) (number : ℕ) (at : DocId) : Type 0 where
+  pub number_is : number ≡ topic_in ids topic
+  pub at_is : at ≡ doc_in names doc
+  pub listed : IsTrue (contains_text ids topic)
+  pub doc_named : IsTrue (contains_text names doc)
+
+-- the board of new topics has the level of the rules, no list and no room for one
+pub record IsNewBoard (level : ℕ) (all : TopicsFacts) (rooms : List ℕ) : Type 0 where
+  pub level_is : all.level ≡ level
+  pub empty : all.lists ≡ (λ run on. None)
+  pub no_room : rooms ≡ []
+
+-- The change carries out the entry: the opening; the topics before any run; the next run, with its list on each topic; a lease; its grade; its release; an amendment; a ruling.
+abbrev pub CarriesOut : History → List Text → List TopicFacts → List DeskLease → Entry → Change → Type 0
+CarriesOut H names topics desk e change.Nothing = e.core.command ≡ command.Open
+CarriesOut H names topics desk e (change.Topics made) =
+    (given : List Topic) × (e.core.command ≡ command.Topics given) × (map kept (map facts_of made.topics) ≡ map (λ topic. empty_topic (rules_of H) topic.id) given)
+    × (map labelled_of (map facts_of made.topics) ≡ map (λ topic. unlabelled topic.id) given) × IsNewBoard (rules_of H).level (told made) made.board.rooms
+CarriesOut H names topics desk e (change.Run run lists) =
+    (name : Text) × (given : List TopicList) × (e.core.command ≡ command.Submit name given) × (run.0 ≡ length (runs H)) × (lists.items ≡ map (λ topic. docs_in names (docs_on given topic.id)) topics)
+CarriesOut H names topics desk e (change.Withdraw run) = ⊥
+CarriesOut H names topics desk e (change.Lease grant) = IsLeaseChange H names e grant
+CarriesOut H names topics desk e (change.Grade number label) = IsGradeChange H names desk e number label
+CarriesOut H names topics desk e (change.Release number) = (e.core.command ≡ command.Release number) × IsUnended number desk
+CarriesOut H names topics desk e (change.Amend label) =
+    (topic : Text) × (doc : Text) × (e.core.command ≡ command.Amend topic doc label.grade) × (label.assessor ≡ e.core.caller.name) × IsPlacedAt (topic_ids H) names topic doc label.topic label.doc
+CarriesOut H names topics desk e (change.Rule ruling) =
+    (topic : Text) × (doc : Text) × (e.core.command ≡ command.Rule topic doc ruling.grade) × IsPlacedAt (topic_ids H) names topic doc ruling.topic ruling.doc
+
+-- the places of the entries that submit runs, after one more entry at a place
+abbrev pub places_after : Command → ℕ → List ℕ → List ℕ
+places_after command place places = if is_some (run_in command) then places ++ place ∷ [] else places
+
+-- the phase after a command that doesn't publish
+abbrev pub phase_after : Command → Phase → Phase
+phase_after command phase = if opens command then Judging else phase
+
+-- a change waits that carries out an entry
+pub record AwaitsEntry (H : History) (names : List Text) (assessment : AssessmentView) (e : Entry) : Type 0 where
+  pub change : Change
+  pub waits : assessment.pending ≡ Some change
+  pub carries_out : CarriesOut H names (facts assessment).topics.topics assessment.leases e change
