@@ -8,11 +8,12 @@ use Rattle.campaign_cli.specs.declared.words.Command.TheVariants as command
 pub data Request : Type 0 where
   Eval : List ℕ → List ℕ → Request
   Session : Request
+  Check : Request
   Nothing : Request
 
 abbrev pub request_of : List (List ℕ) → Request
 request_of (word ∷ run ∷ qrels ∷ []) = if bytes_eq word (codes "eval") then Eval run qrels else Nothing
-request_of (word ∷ []) = if bytes_eq word (codes "session") then Session else Nothing
+request_of (word ∷ []) = if bytes_eq word (codes "session") then Session else (if bytes_eq word (codes "check") then Check else Nothing)
 request_of words = Nothing
 
 -- the request that the words after the program's name are
@@ -23,6 +24,7 @@ asked words = request_of (map string_bytes words)
 abbrev pub meant : Command → Request
 meant (command.Eval run qrels) = Eval run.now qrels.now
 meant command.Session = Session
+meant command.Check = Check
 meant command.Usage = Nothing
 
 -- what is printed where the words are no command
