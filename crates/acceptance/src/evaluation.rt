@@ -1,5 +1,6 @@
+use crate::journals::ended_with;
 use crate::links::idle_link;
-use campaign_cli::{MemoryShelf, MemorySink, USAGE_LINE, campaign};
+use campaign_cli::{MemoryShelf, MemorySink, USAGE_LINE};
 use decimal_rank::Text;
 use std::alloc::Global;
 use std::test::Fail;
@@ -56,7 +57,7 @@ fn scored(
     let words = words_of(alloc, &["eval", "r.txt", "q.txt"])?;
     let mut shelf = shelf_of(alloc, run, qrels, Vec::new(alloc))?;
     let mut out = MemorySink::new(Vec::new(alloc));
-    let status = campaign(
+    let status = ended_with(
         rt,
         alloc,
         &words,
@@ -252,7 +253,7 @@ fn other_words_get_the_usage_line(rt: HostRuntime) -> Result<(), Fail> {
         let words = words_of(alloc, row)?;
         let mut shelf = shelf_of(alloc, Some(RUN), Some(QRELS), Vec::new(alloc))?;
         let mut out = MemorySink::new(Vec::new(alloc));
-        let status = campaign(
+        let status = ended_with(
             &rt,
             alloc,
             &words,
@@ -274,7 +275,7 @@ fn each_failing_read_is_a_file_that_was_not_read(rt: HostRuntime) -> Result<(), 
         let fails = vec![in alloc; place]?;
         let mut shelf = shelf_of(alloc, Some(RUN), Some(QRELS), fails)?;
         let mut out = MemorySink::new(Vec::new(alloc));
-        let status = campaign(
+        let status = ended_with(
             &rt,
             alloc,
             &words,
@@ -305,7 +306,7 @@ fn a_failing_write_is_told(rt: HostRuntime) -> Result<(), Fail> {
         let words = words_of(alloc, row)?;
         let mut shelf = shelf_of(alloc, Some(run), Some(QRELS), Vec::new(alloc))?;
         let mut out = MemorySink::new(vec![in alloc; 1]?);
-        let status = campaign(
+        let status = ended_with(
             &rt,
             alloc,
             &words,

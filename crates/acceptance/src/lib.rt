@@ -1,10 +1,12 @@
-//! Tests that cross crates: the program's top call over files, output and links in memory.
+//! Tests that cross crates: the program's top call over files, output, links and disks in memory.
 #![tactic(auto)]
 
 #[cfg(test)]
 mod adapters;
 #[cfg(test)]
 mod evaluation;
+#[cfg(test)]
+mod journals;
 #[cfg(test)]
 mod links;
 #[cfg(test)]

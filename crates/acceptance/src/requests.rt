@@ -1,6 +1,7 @@
+use crate::journals::ended_with;
 use crate::links::link_of;
 use crate::settings::{SETTINGS, settings_shelf};
-use campaign_cli::{MemorySink, campaign};
+use campaign_cli::MemorySink;
 use std::alloc::Global;
 use std::test::Fail;
 
@@ -80,7 +81,7 @@ fn each_path_of_the_table_is_answered(rt: HostRuntime) -> Result<(), Fail> {
     let mut shelf = settings_shelf(alloc, SETTINGS)?;
     let mut out = MemorySink::new(Vec::new(alloc));
     let mut link = link_of(alloc, &requests, b"", Vec::new(alloc), Vec::new(alloc))?;
-    let status = campaign(&rt, alloc, &words, &mut shelf, &mut out, &mut link);
+    let status = ended_with(&rt, alloc, &words, &mut shelf, &mut out, &mut link);
     assert_eq!(rt; status.0, 0);
     assert_eq!(rt; link.written(), answers.as_slice());
     Ok(())

@@ -1,21 +1,22 @@
+use crate::journals::ended_with;
 use crate::links::{AnsweredFirst, link_of};
 use crate::settings::{SETTINGS, settings_shelf};
-use campaign_cli::{MemorySink, campaign};
+use campaign_cli::MemorySink;
 use campaign_server::{Link, MemoryLink};
 use std::alloc::Global;
 use std::test::Fail;
 
 /// Each session begins with this request.
-const TOPICS: &[u8] =
+pub(crate) const TOPICS: &[u8] =
     b"POST /topics HTTP/1.1\r\nX-Campaign-Key: ORGANISERORGAN01\r\nContent-Length: 37\r\n\r\n<top>\n<num> 1\n<title> pooling\n</top>\n";
 
-const TOPICS_TAKEN: &[u8] =
+pub(crate) const TOPICS_TAKEN: &[u8] =
     b"HTTP/1.1 201 Created\r\nContent-Type: application/json\r\nContent-Length: 13\r\n\r\n{\"topics\":1}\n";
 
-const SUBMIT: &[u8] =
+pub(crate) const SUBMIT: &[u8] =
     b"POST /runs/X HTTP/1.1\r\nX-Campaign-Key: GROUPGROUPGROUP1\r\nContent-Length: 39\r\n\r\n1 Q0 a 1 3 X\n1 Q0 b 2 2 X\n1 Q0 e 3 1 X\n";
 
-const SUBMITTED: &[u8] =
+pub(crate) const SUBMITTED: &[u8] =
     b"HTTP/1.1 201 Created\r\nContent-Type: application/json\r\nContent-Length: 33\r\n\r\n{\"lines\":3,\"run\":\"X\",\"topics\":1}\n";
 
 const TAKEN: &[u8] =
@@ -90,7 +91,7 @@ fn held(
         places(alloc, read)?,
         places(alloc, write)?,
     )?;
-    let status = campaign(rt, alloc, &words, &mut shelf, &mut out, &mut link);
+    let status = ended_with(rt, alloc, &words, &mut shelf, &mut out, &mut link);
     Ok((status.0, out, link))
 }
 
@@ -101,7 +102,7 @@ fn end_of<I: Link>(rt: &HostRuntime, link: &mut I) -> Result<u8, Fail> {
     words.push(String::from_str(alloc, "session")?)?;
     let mut shelf = settings_shelf(alloc, SETTINGS)?;
     let mut out = MemorySink::new(Vec::new(alloc));
-    Ok(campaign(rt, alloc, &words, &mut shelf, &mut out, link).0)
+    Ok(ended_with(rt, alloc, &words, &mut shelf, &mut out, link).0)
 }
 
 fn both(alloc: Global, first: &[u8], second: &[u8]) -> Result<Vec<u8>, Fail> {

@@ -1,5 +1,6 @@
+use crate::journals::ended_with;
 use crate::links::idle_link;
-use campaign_cli::{MemoryShelf, MemorySink, SettingsEnd, campaign, read_settings};
+use campaign_cli::{MemoryShelf, MemorySink, SettingsEnd, read_settings};
 use decimal_rank::Text;
 use std::alloc::Global;
 use std::test::Fail;
@@ -172,7 +173,7 @@ fn ended(rt: &HostRuntime, mut shelf: MemoryShelf) -> Result<(u8, MemorySink), F
     let mut words = Vec::new(alloc);
     words.push(String::from_str(alloc, "session")?)?;
     let mut out = MemorySink::new(Vec::new(alloc));
-    let status = campaign(
+    let status = ended_with(
         rt,
         alloc,
         &words,

@@ -187,7 +187,7 @@ module _ {D : Type 0} (images : D → List ℕ → Type 0) (clock : D → ℕ) (
     seen_same : new.journal ≡ old.journal → new.history ≡ old.history → new.pending ≡ old.pending → seen_by new opening ≡ seen_by old opening
     seen_same journal history pending = rw (journal, history, pending) refl
 
-    leads : (answer : Answer) → Accepts images clock since faults old e answer new → Leads (story_of images clock since faults (seen_by old opening)) asked answer (story_of images clock since faults (seen_by new opening))
+    leads : (answer : Answer) → Accepts images clock since faults old e answer new → Leads (story_of faults (seen_by old opening)) asked answer (story_of faults (seen_by new opening))
     leads (answered.Reply r) w = (w.comes.0 ∙ sym is.reply, w.comes.1 ∙ ap (λ more. old.history ++ more) (sym added))
     leads answered.DiskFault w = ((λ none. let wrong : e ∷ [] ≡ [] = sym added ∙ none in cc), w.comes.0, w.comes.2)
     leads answered.Memory w = w.comes.1

@@ -18,12 +18,12 @@ pub record Seen (D : Type 0) : Type 0 where
   pub pending : Option Entry
   pub opening : ℕ
 
+-- the accepted entries of a book, with its disk's count of faults
+abbrev pub story_of : {D : Type 0} → (D → ℕ) → Seen D → Story
+story_of faults book = record { list = book.history; faults = faults book.disk; opening = book.opening }
+
 -- The books of a disk: its images, its clock, what it might have held since a moment, and its count of faults.
 module _ {D : Type 0} (images : D → List ℕ → Type 0) (clock : D → ℕ) (images_since : D → ℕ → List ℕ → Type 0) (faults : D → ℕ) where
-  -- the accepted entries, with the disk's counts
-  abbrev pub story_of : Seen D → Story
-  story_of book = record { list = book.history; faults = faults book.disk; opening = book.opening }
-
   -- Its entries can come about, and the disk stands for them, with the pending one or without it. One is pending only where the disk failed since the opening.
   pub record IsSound (book : Seen D) : Type 0 where
     pub legal : IsLegal book.history
@@ -55,7 +55,7 @@ module _ {D : Type 0} (images : D → List ℕ → Type 0) (clock : D → ℕ) (
   pub record Acts (old : Seen D) (asked : Addressed) (answer : Answer) (new : Seen D) : Type 0 where
     pub before : IsSound old
     pub after : IsSound new
-    pub told : IsTold (story_of old) asked answer (story_of new)
+    pub told : IsTold (story_of faults old) asked answer (story_of faults new)
     pub leaves : Leaves old asked answer new
     pub moments : EachMoment clock images_since old.disk new.disk (HoldsOneOf old.history old.pending (added_by old.history asked))
     pub runs : Runs old new

@@ -5,5 +5,6 @@ pub mod RunLaws
 pub mod Journaling
 pub mod Laws
 pub mod Openings
+pub mod OpeningLaws
 pub mod Replays
 pub mod Taking

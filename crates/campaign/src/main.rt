@@ -1,13 +1,17 @@
-//! The program: the files of the system, standard input and output and the machine's clock, and the
-//! top call over them.
+//! The program: the files of the system, standard input and output, the machine's clock and the file of
+//! the campaign's journal, and the top call over them.
 #![tactic(auto)]
 
 use campaign_cli::{FileShelf, OutputSink, Status, campaign};
 use campaign_server::StreamLink;
 use decimal_rank::Secret;
+use disk_model::FileDisk;
 use std::alloc::{AllocError, Global};
 use std::env;
 use std::process::ExitCode;
+
+/// The file that keeps the campaign, in the folder that the program runs in.
+const JOURNAL: &str = "campaign.journal";
 
 /// What is said where tables hash with a secret of the clocks, which is weaker.
 const WEAKER: &str =
@@ -34,7 +38,11 @@ fn main(rt: HostRuntime) -> ExitCode {
             let mut shelf = FileShelf::new(&rt);
             let mut out = OutputSink::new(&rt);
             let mut own = StreamLink::new(&rt);
-            campaign(&rt, alloc, &words, &mut shelf, &mut out, &mut own)
+            let disk = FileDisk::new(&rt, JOURNAL);
+            let (status, _disk) = campaign(
+                &rt, alloc, &words, &mut shelf, &mut out, &mut own, disk,
+            );
+            status
         }
         Err(_) => Status(7),
     };

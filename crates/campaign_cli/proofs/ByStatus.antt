@@ -5,88 +5,49 @@ use Rattle.std.specs.Io.KnownBytes.{Appends}
 use Rattle.decimal_rank.specs.Causes.{Rose}
 use Rattle.decimal_rank.specs.KnownBytes.{AppendsPart}
 use Rattle.decimal_rank.specs.Writings.{Writing}
+use Rattle.book.specs.declared.faults.BookFault.{BookFault}
+use Rattle.book.specs.declared.faults.BookFault.TheVariants as fault
+use Rattle.book.specs.Books.{Seen}
+use Rattle.book.specs.Openings.{Refused}
+use Rattle.book.specs.OpeningLaws.{MayOpen, opens_or_memory}
 use Rattle.campaign_server.specs.declared.ends.End.{End}
 use Rattle.campaign_server.specs.declared.ends.End.TheVariants as end
+use Rattle.rulebook.specs.Words.{Text}
 use Rattle.eval.specs.Evaluations.{IsReport, IsInputFault}
 use Rattle.eval.specs.Findings.{AreExclusive}
 use Rattle.campaign_cli.specs.declared.settings.Settings.{Settings}
+use Rattle.campaign_cli.specs.BookEnds.{IsRefused, TellsFault, Unopened, entry_line, header_line, not_begun, not_opened, rules_line, settings_file, settings_line, settings_refused, settings_unread}
+use Rattle.campaign_cli.specs.CheckEnds.{CheckEnds, CheckWay, Shows, check_text, checked, unshown, untold}
 use Rattle.campaign_cli.specs.Endings.{Ends}
 use Rattle.campaign_cli.specs.EvalEnds.{EvalWay, EvalEnds, scored, refused, unread, short}
-use Rattle.campaign_cli.specs.Outside.{Outside, Prints, Misses}
-use Rattle.campaign_cli.specs.Requests.{Request, Eval, Session, Nothing, usage_line}
-use Rattle.campaign_cli.specs.SessionEnds.{Holds, SessionWay, SessionEnds, held, settings_refused, settings_unread, not_begun, settings_file, settings_line, status_of}
+use Rattle.campaign_cli.specs.Outside.{Outside, Streams, Prints, Misses}
+use Rattle.campaign_cli.specs.Requests.{Request, Eval, Session, Check, Nothing, usage_line}
+use Rattle.campaign_cli.specs.SessionEnds.{Holds, SessionWay, SessionEnds, held, unheld, status_of}
 use Rattle.campaign_cli.specs.Settings.{settings_of}
 use Rattle.campaign_cli.specs.Shelves.{Files, Follows, Gives, ShelfState, file_at}
-use Rattle.campaign_cli.specs.Statuses.{Cause, Done, Usage, Input, File, Memory, Output, Link, Cut, number_of, Says, IsSaid, IsCut, SessionComesTo, CanDo, HasToRefuse, IsCalm, TellsBoth, TellsSettings, Statuses}
-use Rattle.campaign_cli.specs.UsageEnds.{UsageWay, UsageEnds, told, untold}
+use Rattle.campaign_cli.specs.Statuses.{Cause, Done, Usage, Input, File, Disk, Memory, Output, Damaged, Link, Cut, number_of, Says, IsDamage, IsSaid, IsCut, IsUnopened, SessionComesTo, CanDo, CanOpen, HasToRefuse, IsCalm, NeedsBook, TellsBoth, TellsRecords, TellsSettings, Statuses}
+use Rattle.campaign_cli.specs.UsageEnds.{UsageWay, UsageEnds, told, untold as unasked}
 
 -- a status has one cause
 
 abbrev cause_by : ℕ → Cause
-cause_by n = cond (n == 0) Done (cond (n == 2) Usage (cond (n == 3) Input (cond (n == 4) File (cond (n == 7) Memory (cond (n == 8) Output (cond (n == 10) Link Cut))))))
+cause_by n =
+    cond (n == 0) Done (cond (n == 2) Usage (cond (n == 3) Input (cond (n == 4) File (cond (n == 5) Disk (cond (n == 7) Memory (cond (n == 8) Output (cond (n == 9) Damaged (cond (n == 10) Link Cut))))))))
 
 cause_by-number : (cause : Cause) → cause_by (number_of cause) ≡ cause
 cause_by-number Done = refl
 cause_by-number Usage = refl
 cause_by-number Input = refl
 cause_by-number File = refl
+cause_by-number Disk = refl
 cause_by-number Memory = refl
 cause_by-number Output = refl
+cause_by-number Damaged = refl
 cause_by-number Link = refl
 cause_by-number Cut = refl
 
 same_cause : (a b : Cause) → number_of a ≡ number_of b → a ≡ b
 same_cause a b e = sym (cause_by-number a) ∙ ap cause_by e ∙ cause_by-number b
-
--- the status is that of a cause that holds
-abbrev Told : Request → Outside → Outside → ℕ → Type 0
-Told request old new status = (cause : Cause) × (status ≡ number_of cause) × Says cause request old new
-
-says : (request : Request) (old new : Outside) (status : ℕ) → Told request old new status → (cause : Cause) → status ≡ number_of cause → Says cause request old new
-says request old new status w cause e = subst (λ c. Says c request old new) (same_cause w.0 cause (sym w.1 ∙ e)) w.2
-
--- a text was printed, or a part of it was
-printed : (request : Request) (old new : Outside) (status : ℕ) (text : List ℕ) (cause : Cause) → Prints old.out new.out text (number_of cause) status → IsSaid request old.shelf text
-    → (Appends old.out.written new.out.written text → Says cause request old new) → Told request old new status
-printed request old new status text cause prints said whole = by prints.either
-  where
-    by : ((status ≡ number_of cause) × Appends old.out.written new.out.written text)
-        ⊎ ((status ≡ 8) × Rose old.out.faults new.out.faults × AppendsPart old.out.written new.out.written text)
-        → Told request old new status
-    by (inl all) = (cause, all.0, whole all.1)
-    by (inr part) = (Output, part.0, inl (part.1, (text, said, part.2)))
-
-eval_told : (run qrels : List ℕ) (old new : Outside) (status : ℕ) → EvalWay run qrels old new status → Told (Eval run qrels) old new status
-eval_told run qrels old new status (scored r q text gr gq report prints) =
-    printed (Eval run qrels) old new status text Done prints (inl (r, q, gr, gq, report)) (λ all. inl (text, (r, q, gr, gq, report), all))
-eval_told run qrels old new status (refused r q line gr gq fault prints) =
-    printed (Eval run qrels) old new status line Input prints (inr (inl (r, q, gr, gq, fault))) (λ all. (line, (r, q, gr, gq, fault), all))
-eval_told run qrels old new status (unread missed same e) = (File, e, (missed, same))
-eval_told run qrels old new status (short same e) = (Memory, e, same)
-
-session_told : (old new : Outside) (status : ℕ) → SessionWay old new status → Told Session old new status
-session_told old new status (held text settings how gives is holds same e) = by how holds e
-  where
-    comes_to : (h : End) → Holds settings old.own new.own h → SessionComesTo Session old new h
-    comes_to h w = (refl, same, (text, settings, gives, is, w))
-
-    by : (h : End) → Holds settings old.own new.own h → status ≡ status_of h → Told Session old new status
-    by end.Ended w is_status = (Done, is_status, inr (comes_to end.Ended w))
-    by end.Cut w is_status = (Cut, is_status, inl (comes_to end.Cut w))
-    by (end.Refused fault) w is_status = (Cut, is_status, inr (inl (fault, comes_to (end.Refused fault) w)))
-    by end.ReadFault w is_status = (Link, is_status, comes_to end.ReadFault w)
-    by end.WriteFault w is_status = (Output, is_status, inr (comes_to end.WriteFault w))
-    by end.Memory w is_status = (Memory, is_status, same)
-    by end.Worn w is_status = (Cut, is_status, inr (inr (comes_to end.Worn w)))
-session_told old new status (settings_refused text gives none prints own) =
-    printed Session old new status settings_line Input prints (inr (inl (refl, (text, gives, none)))) (λ all. (settings_line, (refl, (text, gives, none)), all))
-session_told old new status (settings_unread missed same own e) = (File, e, (missed, same))
-session_told old new status (not_begun same own e) = (Memory, e, same)
-
-usage_told : (old new : Outside) (status : ℕ) → UsageWay old new status → Told Nothing old new status
-usage_told old new status (told prints) =
-    printed Nothing old new status usage_line Usage prints (inr (inr (refl, refl))) (λ all. (usage_line, (refl, refl), all))
-usage_told old new status (untold same e) = (Memory, e, same)
 
 -- what was given of a file that is told is the file
 given : (shelf : ShelfState) (name bytes there : List ℕ) (files : Files) → shelf.files ≡ Some files → file_at files name ≡ Some there → Gives shelf name bytes → there ≡ bytes
@@ -114,130 +75,302 @@ not_both_missed old new run qrels P w calm (inl missed) = not_missed old new run
 not_both_missed old new run qrels P w calm (inr missed) = not_missed old new qrels w.2 w.0 w.3 w.5 calm missed
 
 -- a text was printed whole, where no write failed
-prints_whole : (old new : Outside) (text : List ℕ) (status ended : ℕ) → Prints old.out new.out text status ended → IsCalm old new → ended ≡ status
+prints_whole : (old new : Writing) (text : List ℕ) (status ended : ℕ) → Prints old new text status ended → ¬ (Rose old.faults new.faults) → ended ≡ status
 prints_whole old new text status ended prints calm = by prints.either
   where
-    by : ((ended ≡ status) × Appends old.out.written new.out.written text)
-        ⊎ ((ended ≡ 8) × Rose old.out.faults new.out.faults × AppendsPart old.out.written new.out.written text)
+    by : ((ended ≡ status) × Appends old.written new.written text)
+        ⊎ ((ended ≡ 8) × Rose old.faults new.faults × AppendsPart old.written new.written text)
         → ended ≡ status
     by (inl all) = all.0
-    by (inr part) = absurd (calm.out part.1)
-
--- where its files are told and within their grammars, a command is done or memory is short; a session may be cut
-abbrev IsComplete : Request → Outside → Outside → ℕ → Type 0
-IsComplete request old new status = (status ≡ 0) ⊎ ((status ≡ 7) ⊎ ((status ≡ 11) × IsCut request old new))
-
-module _ (exclusive : AreExclusive) where
-  eval_complete : (run qrels : List ℕ) (old new : Outside) (status : ℕ) → CanDo (Eval run qrels) old.shelf → IsCalm old new → EvalWay run qrels old new status → IsComplete (Eval run qrels) old new status
-  eval_complete run qrels old new status can calm (scored r q text gr gq report prints) = inl (prints_whole old new text 0 status prints calm)
-  eval_complete run qrels old new status can calm (refused r q line gr gq fault prints) =
-      let report = told_both old.shelf run qrels r q (λ r q. (text : List ℕ) × IsReport run r q text) can gr gq in
-      absurd (exclusive run qrels r q report.0 line report.1 fault)
-  eval_complete run qrels old new status can calm (unread missed same e) =
-      absurd (not_both_missed old.shelf new.shelf run qrels (λ r q. (text : List ℕ) × IsReport run r q text) can calm.shelf missed)
-  eval_complete run qrels old new status can calm (short same e) = inr (inl e)
-
-  eval_refused : (run qrels : List ℕ) (old new : Outside) (status : ℕ) → HasToRefuse (Eval run qrels) old.shelf → IsCalm old new → EvalWay run qrels old new status → (status ≡ 3) ⊎ (status ≡ 7)
-  eval_refused run qrels old new status has calm (scored r q text gr gq report prints) =
-      let fault = told_both old.shelf run qrels r q (λ r q. (line : List ℕ) × IsInputFault run qrels r q line) has gr gq in
-      absurd (exclusive run qrels r q text fault.0 report fault.1)
-  eval_refused run qrels old new status has calm (refused r q line gr gq fault prints) = inl (prints_whole old new line 3 status prints calm)
-  eval_refused run qrels old new status has calm (unread missed same e) =
-      absurd (not_both_missed old.shelf new.shelf run qrels (λ r q. (line : List ℕ) × IsInputFault run qrels r q line) has calm.shelf missed)
-  eval_refused run qrels old new status has calm (short same e) = inr e
-
-session_complete : (old new : Outside) (status : ℕ) → CanDo Session old.shelf → IsCalm old new → SessionWay old new status → IsComplete Session old new status
-session_complete old new status can calm (held text settings how gives is holds same e) = by how holds e
-  where
-    comes_to : (h : End) → Holds settings old.own new.own h → SessionComesTo Session old new h
-    comes_to h w = (refl, same, (text, settings, gives, is, w))
-
-    by : (h : End) → Holds settings old.own new.own h → status ≡ status_of h → IsComplete Session old new status
-    by end.Ended w is_status = inl is_status
-    by end.Cut w is_status = inr (inr (is_status, inl (comes_to end.Cut w)))
-    by (end.Refused fault) w is_status = inr (inr (is_status, inr (inl (fault, comes_to (end.Refused fault) w))))
-    by end.ReadFault w is_status = absurd (calm.reading w.1.ends.1)
-    by end.WriteFault w is_status = absurd (calm.writing (elim w.1.ends [ inl part ↦ part.fault | inr cut ↦ cut.fault ]))
-    by end.Memory w is_status = inr (inl is_status)
-    by end.Worn w is_status = inr (inr (is_status, inr (inr (comes_to end.Worn w))))
-session_complete old new status can calm (settings_refused text gives none prints own) =
-    let read = told_settings old.shelf text (λ bytes. (settings : Settings) × (settings_of bytes ≡ Some settings)) can gives in
-    let both : None ≡ Some read.0 = sym none ∙ read.1 in
-    absurd (cc both)
-session_complete old new status can calm (settings_unread missed same own e) =
-    absurd (not_missed old.shelf new.shelf settings_file can.1 can.0 can.2 can.3 calm.shelf missed)
-session_complete old new status can calm (not_begun same own e) = inr (inl e)
-
-session_refused : (old new : Outside) (status : ℕ) → HasToRefuse Session old.shelf → IsCalm old new → SessionWay old new status → (status ≡ 3) ⊎ (status ≡ 7)
-session_refused old new status has calm (held text settings how gives is holds same e) =
-    let none : settings_of text ≡ None = told_settings old.shelf text (λ bytes. settings_of bytes ≡ None) has gives in
-    let both : None ≡ Some settings = sym none ∙ is in
-    absurd (cc both)
-session_refused old new status has calm (settings_refused text gives none prints own) = inl (prints_whole old new settings_line 3 status prints calm)
-session_refused old new status has calm (settings_unread missed same own e) =
-    absurd (not_missed old.shelf new.shelf settings_file has.1 has.0 has.2 has.3 calm.shelf missed)
-session_refused old new status has calm (not_begun same own e) = inr e
+    by (inr part) = absurd (calm part.1)
 
 -- no count of the output falls
-same_out : (old new : Outside) → new.out ≡ old.out → old.out.faults ≤ new.out.faults
+same_out : (old new : Writing) → new ≡ old → old.faults ≤ new.faults
 same_out old new same = omega (arith, ap (λ (w : Writing). w.faults) same)
 
-eval_later : (run qrels : List ℕ) (old new : Outside) (status : ℕ) → EvalWay run qrels old new status → old.out.faults ≤ new.out.faults
+eval_later : (run qrels : List ℕ) (old new : Streams) (status : ℕ) → EvalWay run qrels old new status → old.out.faults ≤ new.out.faults
 eval_later run qrels old new status (scored r q text gr gq report prints) = prints.later
 eval_later run qrels old new status (refused r q line gr gq fault prints) = prints.later
-eval_later run qrels old new status (unread missed same e) = same_out old new same
-eval_later run qrels old new status (short same e) = same_out old new same
+eval_later run qrels old new status (unread missed same e) = same_out old.out new.out same
+eval_later run qrels old new status (short same e) = same_out old.out new.out same
 
-session_later : (old new : Outside) (status : ℕ) → SessionWay old new status → old.out.faults ≤ new.out.faults
-session_later old new status (held text settings how gives is holds same e) = same_out old new same
-session_later old new status (settings_refused text gives none prints own) = prints.later
-session_later old new status (settings_unread missed same own e) = same_out old new same
-session_later old new status (not_begun same own e) = same_out old new same
-
-usage_later : (old new : Outside) (status : ℕ) → UsageWay old new status → old.out.faults ≤ new.out.faults
+usage_later : (old new : Streams) (status : ℕ) → UsageWay old new status → old.out.faults ≤ new.out.faults
 usage_later old new status (told prints) = prints.later
-usage_later old new status (untold same e) = same_out old new same
+usage_later old new status (unasked same e) = same_out old.out new.out same
 
--- what each status says, by what was asked
-pub by_status : AreExclusive → (request : Request) (old new : Outside) (status : ℕ) → Ends request old new status → Statuses request old new status
-by_status exclusive (Eval run qrels) old new status ends =
-    let w = eval_told run qrels old new status ends.way in
-    record {
-      known = (w.0, w.1);
-      says = says (Eval run qrels) old new status w;
-      complete = λ can calm. eval_complete exclusive run qrels old new status can calm ends.way;
-      refused = λ has calm. eval_refused exclusive run qrels old new status has calm ends.way;
-      shelf = ends.shelf;
-      write_faults = eval_later run qrels old new status ends.way;
-      own = λ other. ap (λ (w : Outside). w.own) ends.rest;
-      no_file = λ is. absurd (cc is);
-    }
-by_status exclusive Session old new status ends =
-    let w = session_told old new status ends.way in
-    record {
-      known = (w.0, w.1);
-      says = says Session old new status w;
-      complete = λ can calm. session_complete old new status can calm ends.way;
-      refused = λ has calm. session_refused old new status has calm ends.way;
-      shelf = ends.shelf;
-      write_faults = session_later old new status ends.way;
-      own = λ other. absurd (other refl);
-      no_file = λ is. absurd (cc is);
-    }
-by_status exclusive Nothing old new status ends =
-    let w = usage_told old new status ends.way in
-    let same : new.shelf ≡ old.shelf = ap (λ (w : Outside). w.shelf) ends.rest in
-    record {
-      known = (w.0, w.1);
-      says = says Nothing old new status w;
-      complete = λ can calm. absurd can;
-      refused = λ has calm. absurd has;
-      shelf = record {
-        files = ap (λ (s : ShelfState). s.files) same;
-        faults = omega (arith, ap (λ (s : ShelfState). s.faults) same);
-        misses = omega (arith, ap (λ (s : ShelfState). s.misses) same);
-      };
-      write_faults = usage_later old new status ends.way;
-      own = λ other. ap (λ (w : Outside). w.own) ends.rest;
-      no_file = λ is. same;
-    }
+fault_later : (why : BookFault) (old new : Writing) (status : ℕ) → TellsFault why old new status → old.faults ≤ new.faults
+fault_later fault.Disk old new status tells = same_out old new tells.0
+fault_later fault.Header old new status prints = prints.later
+fault_later (fault.Damaged entry) old new status (inl prints) = prints.later
+fault_later (fault.Damaged entry) old new status (inr none) = same_out old new none.0
+fault_later fault.RulesDiffer old new status prints = prints.later
+fault_later fault.Memory old new status tells = same_out old new tells.0
+
+module _ {D : Type 0} (content : D → Option (List ℕ)) (images : D → List ℕ → Type 0) (clock : D → ℕ) (since : D → ℕ → List ℕ → Type 0) (faults : D → ℕ) where
+  -- the status is that of a cause that holds
+  abbrev Told : Request → Outside D → Outside D → ℕ → Type 0
+  Told request old new status = (cause : Cause) × (status ≡ number_of cause) × Says content images clock since faults cause request old new
+
+  says : (request : Request) (old new : Outside D) (status : ℕ) → Told request old new status → (cause : Cause) → status ≡ number_of cause → Says content images clock since faults cause request old new
+  says request old new status w cause e = subst (λ c. Says content images clock since faults c request old new) (same_cause w.0 cause (sym w.1 ∙ e)) w.2
+
+  -- a text was printed, or a part of it was
+  printed : (request : Request) (old new : Outside D) (status : ℕ) (text : List ℕ) (cause : Cause) → Prints old.streams.out new.streams.out text (number_of cause) status
+      → IsSaid content images clock since faults request old new text
+      → (Appends old.streams.out.written new.streams.out.written text → Says content images clock since faults cause request old new) → Told request old new status
+  printed request old new status text cause prints said whole = by prints.either
+    where
+      by : ((status ≡ number_of cause) × Appends old.streams.out.written new.streams.out.written text)
+          ⊎ ((status ≡ 8) × Rose old.streams.out.faults new.streams.out.faults × AppendsPart old.streams.out.written new.streams.out.written text)
+          → Told request old new status
+      by (inl all) = (cause, all.0, whole all.1)
+      by (inr part) = (Output, part.0, inl (part.1, (text, said, part.2)))
+
+  eval_told : (run qrels : List ℕ) (old new : Outside D) (status : ℕ) → EvalWay run qrels old.streams new.streams status → new.disk ≡ old.disk → Told (Eval run qrels) old new status
+  eval_told run qrels old new status (scored r q text gr gq report prints) kept =
+      printed (Eval run qrels) old new status text Done prints (inl (r, q, gr, gq, report)) (λ all. inl (text, (r, q, gr, gq, report), all))
+  eval_told run qrels old new status (refused r q line gr gq fault prints) kept =
+      printed (Eval run qrels) old new status line Input prints (inr (inl (r, q, gr, gq, fault))) (λ all. (line, (r, q, gr, gq, fault), all))
+  eval_told run qrels old new status (unread missed same e) kept = (File, e, (missed, same, kept))
+  eval_told run qrels old new status (short same e) kept = (Memory, e, same)
+
+  -- why there is no campaign, by the command
+  unopened_session : (old new : Outside D) (status : ℕ) → Unopened content images clock since faults old new status → Told Session old new status
+  unopened_session old new status (settings_refused text gives none prints kept) =
+      printed Session old new status settings_line Input prints (inr (inl (inl ((refl, (text, gives, none)), kept)))) (λ all. (settings_line, inl ((refl, (text, gives, none)), kept), all))
+  unopened_session old new status (settings_unread missed same kept e) = (File, e, (missed, same, kept))
+  unopened_session old new status (not_begun same kept e) = (Memory, e, same)
+  unopened_session old new status (not_opened text settings gives is given_up) = by given_up.why given_up.refused given_up.told
+    where
+      none : (why : BookFault) → Refused content images clock since faults settings.rules old.disk new.disk why → IsUnopened content images clock since faults Session old new why
+      none why r = (inl refl, (text, settings, gives, is, r))
+
+      by : (why : BookFault) → Refused content images clock since faults settings.rules old.disk new.disk why → TellsFault why old.streams.out new.streams.out status → Told Session old new status
+      by fault.Disk r tells = (Disk, tells.1, (none fault.Disk r, tells.0))
+      by fault.Header r prints =
+          printed Session old new status header_line Damaged prints (inr (inr (inl (inl (refl, none fault.Header r))))) (λ all. (header_line, inl (refl, none fault.Header r), all))
+      by (fault.Damaged entry) r (inl prints) =
+          printed Session old new status (entry_line entry) Damaged prints (inr (inr (inl (inr (entry, refl, none (fault.Damaged entry) r))))) (λ all. (entry_line entry, inr (entry, refl, none (fault.Damaged entry) r), all))
+      by (fault.Damaged entry) r (inr none_told) = (Memory, none_told.1, none_told.0)
+      by fault.RulesDiffer r prints =
+          printed Session old new status rules_line Input prints (inr (inl (inr (refl, none fault.RulesDiffer r)))) (λ all. (rules_line, inr (refl, none fault.RulesDiffer r), all))
+      by fault.Memory r tells = (Memory, tells.1, tells.0)
+
+  unopened_check : (old new : Outside D) (status : ℕ) → Unopened content images clock since faults old new status → Told Check old new status
+  unopened_check old new status (settings_refused text gives none prints kept) =
+      printed Check old new status settings_line Input prints (inr (inl (inl ((refl, (text, gives, none)), kept)))) (λ all. (settings_line, inl ((refl, (text, gives, none)), kept), all))
+  unopened_check old new status (settings_unread missed same kept e) = (File, e, (missed, same, kept))
+  unopened_check old new status (not_begun same kept e) = (Memory, e, same)
+  unopened_check old new status (not_opened text settings gives is given_up) = by given_up.why given_up.refused given_up.told
+    where
+      none : (why : BookFault) → Refused content images clock since faults settings.rules old.disk new.disk why → IsUnopened content images clock since faults Check old new why
+      none why r = (inr refl, (text, settings, gives, is, r))
+
+      by : (why : BookFault) → Refused content images clock since faults settings.rules old.disk new.disk why → TellsFault why old.streams.out new.streams.out status → Told Check old new status
+      by fault.Disk r tells = (Disk, tells.1, (none fault.Disk r, tells.0))
+      by fault.Header r prints =
+          printed Check old new status header_line Damaged prints (inr (inr (inl (inl (refl, none fault.Header r))))) (λ all. (header_line, inl (refl, none fault.Header r), all))
+      by (fault.Damaged entry) r (inl prints) =
+          printed Check old new status (entry_line entry) Damaged prints (inr (inr (inl (inr (entry, refl, none (fault.Damaged entry) r))))) (λ all. (entry_line entry, inr (entry, refl, none (fault.Damaged entry) r), all))
+      by (fault.Damaged entry) r (inr none_told) = (Memory, none_told.1, none_told.0)
+      by fault.RulesDiffer r prints =
+          printed Check old new status rules_line Input prints (inr (inl (inr (refl, none fault.RulesDiffer r)))) (λ all. (rules_line, inr (refl, none fault.RulesDiffer r), all))
+      by fault.Memory r tells = (Memory, tells.1, tells.0)
+
+  session_told : (old new : Outside D) (status : ℕ) → SessionWay content images clock since faults old new status → Told Session old new status
+  session_told old new status (held text settings how gives is holds same e) = by how holds e
+    where
+      comes_to : (h : End) → Holds content images clock since faults settings old new h → SessionComesTo content images clock since faults Session old new h
+      comes_to h w = (refl, same, (text, settings, gives, is, w))
+
+      by : (h : End) → Holds content images clock since faults settings old new h → status ≡ status_of h → Told Session old new status
+      by end.Ended w is_status = (Done, is_status, inr (comes_to end.Ended w))
+      by end.Cut w is_status = (Cut, is_status, inl (comes_to end.Cut w))
+      by (end.Refused cause) w is_status = (Cut, is_status, inr (inl (cause, comes_to (end.Refused cause) w)))
+      by end.ReadFault w is_status = (Link, is_status, comes_to end.ReadFault w)
+      by end.WriteFault w is_status = (Output, is_status, inr (comes_to end.WriteFault w))
+      by end.Memory w is_status = (Memory, is_status, same)
+      by end.Worn w is_status = (Cut, is_status, inr (inr (comes_to end.Worn w)))
+  session_told old new status (unheld none own) = unopened_session old new status none
+
+  check_told : (old new : Outside D) (status : ℕ) → CheckWay content images clock since faults old new status → Told Check old new status
+  check_told old new status (checked text settings book gives is shows prints) =
+      printed Check old new status (check_text book.history) Done prints (inl (text, settings, gives, is, (book, shows, refl))) (λ all. inl (check_text book.history, (text, settings, gives, is, (book, shows, refl)), all))
+  check_told old new status (untold text settings book gives is shows same e) = (Memory, e, same)
+  check_told old new status (unshown none) = unopened_check old new status none
+
+  usage_told : (old new : Outside D) (status : ℕ) → UsageWay old.streams new.streams status → Told Nothing old new status
+  usage_told old new status (told prints) =
+      printed Nothing old new status usage_line Usage prints (inr (inr (inr (refl, refl)))) (λ all. (usage_line, (refl, refl), all))
+  usage_told old new status (unasked same e) = (Memory, e, same)
+
+  -- where its files and its disk are told and within their grammars, a command is done or memory is short; a session may be cut
+  abbrev IsComplete : Request → Outside D → Outside D → ℕ → Type 0
+  IsComplete request old new status = (status ≡ 0) ⊎ ((status ≡ 7) ⊎ ((status ≡ 11) × IsCut content images clock since faults request old new))
+
+  module _ (exclusive : AreExclusive) where
+    eval_complete : (run qrels : List ℕ) (old new : Outside D) (status : ℕ) → CanDo content images clock since faults (Eval run qrels) old → IsCalm content images clock since faults old new → EvalWay run qrels old.streams new.streams status
+        → IsComplete (Eval run qrels) old new status
+    eval_complete run qrels old new status can calm (scored r q text gr gq report prints) = inl (prints_whole old.streams.out new.streams.out text 0 status prints calm.out)
+    eval_complete run qrels old new status can calm (refused r q line gr gq fault prints) =
+        let report = told_both old.streams.shelf run qrels r q (λ r q. (text : List ℕ) × IsReport run r q text) can gr gq in
+        absurd (exclusive run qrels r q report.0 line report.1 fault)
+    eval_complete run qrels old new status can calm (unread missed same e) =
+        absurd (not_both_missed old.streams.shelf new.streams.shelf run qrels (λ r q. (text : List ℕ) × IsReport run r q text) can calm.shelf missed)
+    eval_complete run qrels old new status can calm (short same e) = inr (inl e)
+
+    eval_refused : (run qrels : List ℕ) (old new : Outside D) (status : ℕ) → HasToRefuse content images clock since faults (Eval run qrels) old → IsCalm content images clock since faults old new → EvalWay run qrels old.streams new.streams status
+        → (status ≡ 3) ⊎ (status ≡ 7)
+    eval_refused run qrels old new status has calm (scored r q text gr gq report prints) =
+        let fault = told_both old.streams.shelf run qrels r q (λ r q. (line : List ℕ) × IsInputFault run qrels r q line) has gr gq in
+        absurd (exclusive run qrels r q text fault.0 report fault.1)
+    eval_refused run qrels old new status has calm (refused r q line gr gq fault prints) = inl (prints_whole old.streams.out new.streams.out line 3 status prints calm.out)
+    eval_refused run qrels old new status has calm (unread missed same e) =
+        absurd (not_both_missed old.streams.shelf new.streams.shelf run qrels (λ r q. (line : List ℕ) × IsInputFault run qrels r q line) has calm.shelf missed)
+    eval_refused run qrels old new status has calm (short same e) = inr e
+
+  -- a disk that may be opened is, or memory is short
+  unopened_complete : (old new : Outside D) (status : ℕ) → CanOpen content images clock since faults old → IsCalm content images clock since faults old new → Unopened content images clock since faults old new status → status ≡ 7
+  unopened_complete old new status can calm (settings_refused text gives none prints kept) =
+      let read = (told_settings old.streams.shelf text (λ bytes. (settings : Settings) × (settings_of bytes ≡ Some settings) × ((payloads : List Text) × TellsRecords (content old.disk) payloads × MayOpen settings.rules payloads)) can gives) in
+      let both : None ≡ Some read.0 = sym none ∙ read.1 in
+      absurd (cc both)
+  unopened_complete old new status can calm (settings_unread missed same kept e) =
+      absurd (not_missed old.streams.shelf new.streams.shelf settings_file can.1 can.0 can.2 can.3 calm.shelf missed)
+  unopened_complete old new status can calm (not_begun same kept e) = e
+  unopened_complete old new status can calm (not_opened text settings gives is given_up) =
+      by (told_settings old.streams.shelf text (λ bytes. (settings : Settings) × (settings_of bytes ≡ Some settings) × ((payloads : List Text) × TellsRecords (content old.disk) payloads × MayOpen settings.rules payloads)) can gives)
+    where
+      memory_told : (why : BookFault) → why ≡ fault.Memory → TellsFault why old.streams.out new.streams.out status → status ≡ 7
+      memory_told why is_memory tells =
+          let here : TellsFault fault.Memory old.streams.out new.streams.out status = subst (λ (why : BookFault). TellsFault why old.streams.out new.streams.out status) is_memory tells in
+          here.1
+
+      by : (found : Settings) × (settings_of text ≡ Some found) × ((payloads : List Text) × TellsRecords (content old.disk) payloads × MayOpen found.rules payloads) → status ≡ 7
+      by (found, reads, (payloads, (bytes, tells, decodes), may)) =
+          let same : found ≡ settings = cc (reads, is) in
+          memory_told given_up.why
+          (opens_or_memory content images clock since faults settings.rules old.disk bytes payloads tells decodes (subst (λ (s : Settings). MayOpen s.rules payloads) same may) new.disk given_up.why calm.disk given_up.refused)
+          given_up.told
+
+  session_complete : (old new : Outside D) (status : ℕ) → CanOpen content images clock since faults old → IsCalm content images clock since faults old new → SessionWay content images clock since faults old new status → IsComplete Session old new status
+  session_complete old new status can calm (held text settings how gives is holds same e) = by how holds e
+    where
+      comes_to : (h : End) → Holds content images clock since faults settings old new h → SessionComesTo content images clock since faults Session old new h
+      comes_to h w = (refl, same, (text, settings, gives, is, w))
+
+      by : (h : End) → Holds content images clock since faults settings old new h → status ≡ status_of h → IsComplete Session old new status
+      by end.Ended w is_status = inl is_status
+      by end.Cut w is_status = inr (inr (is_status, inl (comes_to end.Cut w)))
+      by (end.Refused cause) w is_status = inr (inr (is_status, inr (inl (cause, comes_to (end.Refused cause) w))))
+      by end.ReadFault w is_status = absurd (calm.reading w.talk.ends.1)
+      by end.WriteFault w is_status = absurd (calm.writing (elim w.talk.ends [ inl part ↦ part.fault | inr cut ↦ cut.fault ]))
+      by end.Memory w is_status = inr (inl is_status)
+      by end.Worn w is_status = inr (inr (is_status, inr (inr (comes_to end.Worn w))))
+  session_complete old new status can calm (unheld none own) = inr (inl (unopened_complete old new status can calm none))
+
+  check_complete : (old new : Outside D) (status : ℕ) → CanOpen content images clock since faults old → IsCalm content images clock since faults old new → CheckWay content images clock since faults old new status → IsComplete Check old new status
+  check_complete old new status can calm (checked text settings book gives is shows prints) = inl (prints_whole old.streams.out new.streams.out (check_text book.history) 0 status prints calm.out)
+  check_complete old new status can calm (untold text settings book gives is shows same e) = inr (inl e)
+  check_complete old new status can calm (unshown none) = inr (inl (unopened_complete old new status can calm none))
+
+  -- settings that have to be refused are
+  not_read : (old : ShelfState) (text : List ℕ) (settings : Settings) → TellsSettings old (λ bytes. settings_of bytes ≡ None) → Gives old settings_file text → settings_of text ≡ Some settings → ⊥
+  not_read old text settings has gives is =
+      let none : settings_of text ≡ None = told_settings old text (λ bytes. settings_of bytes ≡ None) has gives in
+      let both : None ≡ Some settings = sym none ∙ is in
+      cc both
+
+  unopened_refused : (old new : Outside D) (status : ℕ) → TellsSettings old.streams.shelf (λ bytes. settings_of bytes ≡ None) → IsCalm content images clock since faults old new → Unopened content images clock since faults old new status
+      → (status ≡ 3) ⊎ (status ≡ 7)
+  unopened_refused old new status has calm (settings_refused text gives none prints kept) = inl (prints_whole old.streams.out new.streams.out settings_line 3 status prints calm.out)
+  unopened_refused old new status has calm (settings_unread missed same kept e) =
+      absurd (not_missed old.streams.shelf new.streams.shelf settings_file has.1 has.0 has.2 has.3 calm.shelf missed)
+  unopened_refused old new status has calm (not_begun same kept e) = inr e
+  unopened_refused old new status has calm (not_opened text settings gives is given_up) = absurd (not_read old.streams.shelf text settings has gives is)
+
+  session_refused : (old new : Outside D) (status : ℕ) → TellsSettings old.streams.shelf (λ bytes. settings_of bytes ≡ None) → IsCalm content images clock since faults old new → SessionWay content images clock since faults old new status
+      → (status ≡ 3) ⊎ (status ≡ 7)
+  session_refused old new status has calm (held text settings how gives is holds same e) = absurd (not_read old.streams.shelf text settings has gives is)
+  session_refused old new status has calm (unheld none own) = unopened_refused old new status has calm none
+
+  check_refused : (old new : Outside D) (status : ℕ) → TellsSettings old.streams.shelf (λ bytes. settings_of bytes ≡ None) → IsCalm content images clock since faults old new → CheckWay content images clock since faults old new status
+      → (status ≡ 3) ⊎ (status ≡ 7)
+  check_refused old new status has calm (checked text settings book gives is shows prints) = absurd (not_read old.streams.shelf text settings has gives is)
+  check_refused old new status has calm (untold text settings book gives is shows same e) = absurd (not_read old.streams.shelf text settings has gives is)
+  check_refused old new status has calm (unshown none) = unopened_refused old new status has calm none
+
+  unopened_later : (old new : Outside D) (status : ℕ) → Unopened content images clock since faults old new status → old.streams.out.faults ≤ new.streams.out.faults
+  unopened_later old new status (settings_refused text gives none prints kept) = prints.later
+  unopened_later old new status (settings_unread missed same kept e) = same_out old.streams.out new.streams.out same
+  unopened_later old new status (not_begun same kept e) = same_out old.streams.out new.streams.out same
+  unopened_later old new status (not_opened text settings gives is given_up) = fault_later given_up.why old.streams.out new.streams.out status given_up.told
+
+  session_later : (old new : Outside D) (status : ℕ) → SessionWay content images clock since faults old new status → old.streams.out.faults ≤ new.streams.out.faults
+  session_later old new status (held text settings how gives is holds same e) = same_out old.streams.out new.streams.out same
+  session_later old new status (unheld none own) = unopened_later old new status none
+
+  check_later : (old new : Outside D) (status : ℕ) → CheckWay content images clock since faults old new status → old.streams.out.faults ≤ new.streams.out.faults
+  check_later old new status (checked text settings book gives is shows prints) = prints.later
+  check_later old new status (untold text settings book gives is shows same e) = same_out old.streams.out new.streams.out same
+  check_later old new status (unshown none) = unopened_later old new status none
+
+  -- what each status says, by what was asked
+  pub by_status : AreExclusive → (request : Request) (old new : Outside D) (status : ℕ) → Ends content images clock since faults request old new status → Statuses content images clock since faults request old new status
+  by_status exclusive (Eval run qrels) old new status (ends, kept) =
+      let w = eval_told run qrels old new status ends.way kept in
+      record {
+        known = (w.0, w.1);
+        says = says (Eval run qrels) old new status w;
+        complete = λ can calm. eval_complete exclusive run qrels old new status can calm ends.way;
+        refused = λ has calm. eval_refused exclusive run qrels old new status has calm ends.way;
+        shelf = ends.shelf;
+        write_faults = eval_later run qrels old.streams new.streams status ends.way;
+        own = λ other. ap (λ (w : Streams). w.own) ends.rest;
+        no_file = λ is. absurd (cc is);
+        no_disk = λ other another. kept;
+      }
+  by_status exclusive Session old new status ends =
+      let w = session_told old new status ends.way in
+      record {
+        known = (w.0, w.1);
+        says = says Session old new status w;
+        complete = λ can calm. session_complete old new status can calm ends.way;
+        refused = λ has calm. session_refused old new status has calm ends.way;
+        shelf = ends.shelf;
+        write_faults = session_later old new status ends.way;
+        own = λ other. absurd (other refl);
+        no_file = λ is. absurd (cc is);
+        no_disk = λ other another. absurd (other refl);
+      }
+  by_status exclusive Check old new status ends =
+      let w = check_told old new status ends.way in
+      record {
+        known = (w.0, w.1);
+        says = says Check old new status w;
+        complete = λ can calm. check_complete old new status can calm ends.way;
+        refused = λ has calm. check_refused old new status has calm ends.way;
+        shelf = ends.shelf;
+        write_faults = check_later old new status ends.way;
+        own = λ other. ends.own;
+        no_file = λ is. absurd (cc is);
+        no_disk = λ other another. absurd (another refl);
+      }
+  by_status exclusive Nothing old new status (ends, kept) =
+      let w = usage_told old new status ends.way in
+      let same : new.streams.shelf ≡ old.streams.shelf = ap (λ (w : Streams). w.shelf) ends.rest in
+      record {
+        known = (w.0, w.1);
+        says = says Nothing old new status w;
+        complete = λ can calm. absurd can;
+        refused = λ has calm. absurd has;
+        shelf = record {
+          files = ap (λ (s : ShelfState). s.files) same;
+          faults = omega (arith, ap (λ (s : ShelfState). s.faults) same);
+          misses = omega (arith, ap (λ (s : ShelfState). s.misses) same);
+        };
+        write_faults = usage_later old.streams new.streams status ends.way;
+        own = λ other. ap (λ (w : Streams). w.own) ends.rest;
+        no_file = λ is. same;
+        no_disk = λ other another. kept;
+      }

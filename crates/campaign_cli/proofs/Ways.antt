@@ -1,19 +1,27 @@
 -- The ways in which the commands end.
-use Rattle.std.proofs.Common.{◌≡◌, ◌≤◌, ◌⊎◌, inl, inr, ℕ, List, Some, None, refl, sym, ap, subst, ◌∙◌, arith}
-use Rattle.std.specs.Prelude.{IfSome}
+use Rattle.std.proofs.Common.{◌≡◌, ◌≤◌, ◌⊎◌, inl, inr, ℕ, List, Option, Some, None, refl, sym, ap, subst, ◌∙◌, arith}
+use Rattle.std.specs.Prelude.{IfErr, IfSome, Result, Ok, Err}
 use Rattle.decimal_rank.specs.Causes.{Rose}
 use Rattle.decimal_rank.specs.Writings.{Writing}
-use Rattle.campaign_server.specs.declared.ends.End.{End}
+use Rattle.book.specs.Books.{Seen}
+use Rattle.book.specs.Images.{StandsFor}
+use Rattle.book.specs.OpeningLaws.{stands_alone}
+use Rattle.campaign_server.specs.Connections.{Ends}
 use Rattle.campaign_server.specs.Links.{LinkState}
+use Rattle.campaign_server.specs.Sessions.{IsSession}
 use Rattle.eval.specs.Evaluations.{IsReport, IsInputFault}
+use Rattle.routes.specs.declared.keys.KeyRow.{KeyRow}
 use Rattle.campaign_cli.specs.declared.settings.Settings.{Settings}
+use Rattle.campaign_cli.specs.declared.statuses.Status.{Status}
+use Rattle.campaign_cli.specs.BookEnds.{IsOpened, IsRefused, Unopened, not_begun, not_opened, settings_file, settings_line, settings_refused, settings_unread}
+use Rattle.campaign_cli.specs.CheckEnds.{CheckEnds, CheckWay, Tells, checked, unshown, untold}
 use Rattle.campaign_cli.specs.EvalEnds.{EvalWay, EvalEnds, scored, refused, unread, short}
-use Rattle.campaign_cli.specs.Outside.{Outside, Prints, Misses, IsUnread}
-use Rattle.campaign_cli.specs.SessionEnds.{Holds, IsHeld, SessionWay, SessionEnds, held, settings_refused, settings_unread, not_begun, settings_file, settings_line, status_of}
+use Rattle.campaign_cli.specs.Outside.{Outside, Streams, Prints, Misses, IsUnread}
+use Rattle.campaign_cli.specs.SessionEnds.{Answers, SessionEnds, SessionsStand, held, unheld}
 use Rattle.campaign_cli.specs.Settings.{settings_of}
 use Rattle.campaign_cli.specs.Shelves.{Follows, Gives, Lacks, ShelfState, file_at}
 
-abbrev pub outside : ShelfState → Writing → LinkState → Outside
+abbrev pub outside : ShelfState → Writing → LinkState → Streams
 outside shelf out own = record { shelf = shelf; out = out; own = own }
 
 pub follows_on : (a b c : ShelfState) → Follows a b → Follows b c → Follows a c
@@ -69,23 +77,76 @@ qrels_unread run qrels a b c o status first second (inl missed) own = record {
 }
 qrels_unread run qrels a b c o status first second (inr is) own = record { way = short refl is; shelf = follows_on a b c first second; rest = refl }
 
--- the settings weren't read
-pub unread_settings : (a b : ShelfState) (o : Writing) (own : LinkState) (status : ℕ) → Follows a b → IsUnread a b settings_file status → SessionEnds (outside a o own) (outside b o own) status
-unread_settings a b o own status w (inl missed) = record { way = settings_unread missed.1 refl refl missed.0; shelf = w; rest = refl }
-unread_settings a b o own status w (inr is) = record { way = not_begun refl refl is; shelf = w; rest = refl }
+module _ {D : Type 0} (content : D → Option (List ℕ)) (images : D → List ℕ → Type 0) (clock : D → ℕ) (since : D → ℕ → List ℕ → Type 0) (faults : D → ℕ) where
+  -- the outside, with its disk
+  abbrev pub with_disk : Streams → D → Outside D
+  with_disk streams disk = record { streams = streams; disk = disk }
 
-pub refused_settings : (text : List ℕ) (a b : ShelfState) (o p : Writing) (own : LinkState) (status : ℕ) → Follows a b → Gives a settings_file text → settings_of text ≡ None
-    → Prints o p settings_line 3 status → SessionEnds (outside a o own) (outside b p own) status
-refused_settings text a b o p own status w gives none prints = record { way = settings_refused text gives none prints refl; shelf = w; rest = refl }
+  -- the settings weren't read
+  pub unread_settings : (a b : ShelfState) (o : Writing) (disk : D) (status : ℕ) → IsUnread a b settings_file status → (own : LinkState)
+      → Unopened content images clock since faults (with_disk (outside a o own) disk) (with_disk (outside b o own) disk) status
+  unread_settings a b o disk status (inl missed) own = settings_unread missed.1 refl refl missed.0
+  unread_settings a b o disk status (inr is) own = not_begun refl refl is
 
-pub held_settings : (text : List ℕ) (settings : Settings) (a b : ShelfState) (o : Writing) (own later : LinkState) (status : ℕ) → Follows a b → Gives a settings_file text
-    → settings_of text ≡ Some settings → IsHeld settings own later status → SessionEnds (outside a o own) (outside b o later) status
-held_settings text settings a b o own later status w gives is (inl talk) = record {
-  way = held text settings talk.0 gives is talk.1 refl talk.2;
-  shelf = w;
-  rest = refl;
-}
-held_settings text settings a b o own later status w gives is (inr none) = record { way = not_begun refl none.0 none.1; shelf = w; rest = refl }
+  -- a disk that wasn't opened
+  pub refused_disk : (text : List ℕ) (settings : Settings) (a b : ShelfState) (o p : Writing) (disk after : D) (status : ℕ) → Gives a settings_file text → settings_of text ≡ Some settings
+      → IsRefused content images clock since faults settings.rules disk after o p status → (own : LinkState)
+      → Unopened content images clock since faults (with_disk (outside a o own) disk) (with_disk (outside b p own) after) status
+  refused_disk text settings a b o p disk after status gives is given_up own = not_opened text settings gives is given_up
 
-pub no_memory : (a b : ShelfState) (o : Writing) (own : LinkState) (status : ℕ) → Follows a b → status ≡ 7 → SessionEnds (outside a o own) (outside b o own) status
-no_memory a b o own status w is = record { way = not_begun refl refl is; shelf = w; rest = refl }
+  pub refused_result : {T : Type 0} (text : List ℕ) (settings : Settings) (a b : ShelfState) (o p : Writing) (disk : D) → Gives a settings_file text → settings_of text ≡ Some settings → (result : Result T (Status × D))
+      → IfErr result (λ ended. IsRefused content images clock since faults settings.rules disk ended.1 o p ended.0.0)
+      → IfErr result (λ ended. (own : LinkState) → Unopened content images clock since faults (with_disk (outside a o own) disk) (with_disk (outside b p own) ended.1) ended.0.0)
+  refused_result text settings a b o p disk gives is (Ok found) none = tt
+  refused_result text settings a b o p disk gives is (Err ended) given_up = refused_disk text settings a b o p disk ended.1 ended.0.0 gives is given_up
+
+  -- settings that are refused
+  pub refused_settings : (text : List ℕ) (a b : ShelfState) (o p : Writing) (disk : D) (status : ℕ) → Gives a settings_file text → settings_of text ≡ None → Prints o p settings_line 3 status → (own : LinkState)
+      → Unopened content images clock since faults (with_disk (outside a o own) disk) (with_disk (outside b p own) disk) status
+  refused_settings text a b o p disk status gives none prints own = settings_refused text gives none prints refl
+
+  -- a campaign that was opened answers a link
+  pub held_session : (a b : ShelfState) (o p : Writing) (own later : LinkState) (disk after : D) (book : Seen D) (callers : List KeyRow) (status : ℕ) → Follows a b → p ≡ o
+      → IsOpened content images clock since faults a disk book callers → Answers images clock since faults callers book own later after status
+      → SessionEnds content images clock since faults (with_disk (outside a o own) disk) (with_disk (outside b p later) after) status
+  held_session a b o p own later disk after book callers status follows same opened answers = record {
+    way = held opened.text opened.settings answers.how opened.given opened.read (record {
+      opened = book;
+      closed = answers.closed;
+      opens = opened.opened;
+      talk = subst (λ (callers : List KeyRow). Ends (IsSession faults callers book own.clock answers.closed later.clock) own later answers.how) opened.callers_are answers.talk;
+      runs = answers.runs;
+      sound = answers.sound;
+      closes = answers.closes;
+    }) same answers.status_is;
+    shelf = follows;
+  }
+
+  pub unheld_session : (a b : ShelfState) (o p : Writing) (own : LinkState) (disk after : D) (status : ℕ) → Follows a b
+      → Unopened content images clock since faults (with_disk (outside a o own) disk) (with_disk (outside b p own) after) status
+      → SessionEnds content images clock since faults (with_disk (outside a o own) disk) (with_disk (outside b p own) after) status
+  unheld_session a b o p own disk after status follows none = record { way = unheld none refl; shelf = follows }
+
+  -- a campaign that was opened is shown
+  pub shown_campaign : (a b : ShelfState) (o p q : Writing) (own : LinkState) (disk after : D) (book : Seen D) (callers : List KeyRow) (status : ℕ) → Follows a b → p ≡ o
+      → IsOpened content images clock since faults a disk book callers → Tells book.history p q status → after ≡ book.disk
+      → CheckEnds content images clock since faults (with_disk (outside a o own) disk) (with_disk (outside b q own) after) status
+  shown_campaign a b o p q own disk after book callers status follows same opened tells closes =
+      record { way = by (subst (λ (o : Writing). Tells book.history o q status) same tells); shelf = follows; own = refl }
+    where
+      by : Tells book.history o q status → CheckWay content images clock since faults (with_disk (outside a o own) disk) (with_disk (outside b q own) after) status
+      by (inl prints) = checked opened.text opened.settings book opened.given opened.read (record { opens = opened.opened; closes = closes }) prints
+      by (inr none) = untold opened.text opened.settings book opened.given opened.read (record { opens = opened.opened; closes = closes }) none.0 none.1
+
+  pub unshown_campaign : (a b : ShelfState) (o p : Writing) (own : LinkState) (disk after : D) (status : ℕ) → Follows a b
+      → Unopened content images clock since faults (with_disk (outside a o own) disk) (with_disk (outside b p own) after) status
+      → CheckEnds content images clock since faults (with_disk (outside a o own) disk) (with_disk (outside b p own) after) status
+  unshown_campaign a b o p own disk after status follows none = record { way = unshown none; shelf = follows; own = refl }
+
+  -- what the disk stands for at the end of a session, where no call on it failed
+  pub session_stands : SessionsStand content images clock since faults
+  session_stands settings old new how session calm =
+      let same_opening : session.closed.opening ≡ faults old.disk = session.runs.opening ∙ session.opens.opening_is in
+      let alone = stands_alone images clock since faults session.closed session.sound
+      (λ rose. calm (subst (λ (disk : D). Rose (faults old.disk) (faults disk)) (sym session.closes) (subst (λ n. Rose n (faults session.closed.disk)) same_opening rose))) in
+      subst (λ (disk : D). StandsFor (images disk) session.closed.history None) (sym session.closes) alone

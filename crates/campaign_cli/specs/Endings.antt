@@ -1,13 +1,16 @@
 -- How the program ends, by what its words ask for.
-use Rattle.std.specs.Prelude.{ℕ}
+use Rattle.std.specs.Prelude.{◌≡◌, ℕ, List, Option}
+use Rattle.campaign_cli.specs.CheckEnds.{CheckEnds}
 use Rattle.campaign_cli.specs.EvalEnds.{EvalEnds}
 use Rattle.campaign_cli.specs.Outside.{Outside}
-use Rattle.campaign_cli.specs.Requests.{Request, Eval, Session, Nothing}
+use Rattle.campaign_cli.specs.Requests.{Request, Eval, Session, Check, Nothing}
 use Rattle.campaign_cli.specs.SessionEnds.{SessionEnds}
 use Rattle.campaign_cli.specs.UsageEnds.{UsageEnds}
 
--- The program was asked this and ended with the status; the outside was as the first, and is as the second.
-abbrev pub Ends : Request → Outside → Outside → ℕ → Type 0
-Ends (Eval run qrels) old new status = EvalEnds run qrels old new status
-Ends Session old new status = SessionEnds old new status
-Ends Nothing old new status = UsageEnds old new status
+module _ {D : Type 0} (content : D → Option (List ℕ)) (images : D → List ℕ → Type 0) (clock : D → ℕ) (images_since : D → ℕ → List ℕ → Type 0) (faults : D → ℕ) where
+  -- The program was asked this and ended with the status; the outside was as the first, and is as the second.
+  abbrev pub Ends : Request → Outside D → Outside D → ℕ → Type 0
+  Ends (Eval run qrels) old new status = EvalEnds run qrels old.streams new.streams status × (new.disk ≡ old.disk)
+  Ends Session old new status = SessionEnds content images clock images_since faults old new status
+  Ends Check old new status = CheckEnds content images clock images_since faults old new status
+  Ends Nothing old new status = UsageEnds old.streams new.streams status × (new.disk ≡ old.disk)

@@ -1,11 +1,11 @@
 -- How `eval` ends.
 use Rattle.std.specs.Prelude.{◌≡◌, ◌⊎◌, ℕ, List}
 use Rattle.eval.specs.Evaluations.{IsReport, IsInputFault}
-use Rattle.campaign_cli.specs.Outside.{Outside, Prints, Misses}
+use Rattle.campaign_cli.specs.Outside.{Streams, Prints, Misses}
 use Rattle.campaign_cli.specs.Shelves.{Gives, Follows}
 
 -- the ways in which `eval` ends
-pub data EvalWay (run qrels : List ℕ) (old new : Outside) (status : ℕ) : Type 0 where
+pub data EvalWay (run qrels : List ℕ) (old new : Streams) (status : ℕ) : Type 0 where
   -- both files are within their grammars: the scores are printed
   scored : (r q text : List ℕ) → Gives old.shelf run r → Gives old.shelf qrels q → IsReport run r q text
       → Prints old.out new.out text 0 status → EvalWay run qrels old new status
@@ -18,7 +18,7 @@ pub data EvalWay (run qrels : List ℕ) (old new : Outside) (status : ℕ) : Typ
   -- there was no memory
   short : new.out ≡ old.out → status ≡ 7 → EvalWay run qrels old new status
 
-pub record EvalEnds (run qrels : List ℕ) (old new : Outside) (status : ℕ) : Type 0 where
+pub record EvalEnds (run qrels : List ℕ) (old new : Streams) (status : ℕ) : Type 0 where
   pub way : EvalWay run qrels old new status
   pub shelf : Follows old.shelf new.shelf
   -- all but the shelf and the output is as it was

@@ -1,3 +1,5 @@
+pub mod BookEnds
+pub mod CheckEnds
 pub mod Endings
 pub mod EvalEnds
 pub mod Outside

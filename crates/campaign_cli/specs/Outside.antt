@@ -8,10 +8,15 @@ use Rattle.campaign_server.specs.Links.{LinkState}
 use Rattle.campaign_cli.specs.Shelves.{ShelfState, Lacks}
 
 -- the files, the output and the program's own link
-pub record Outside : Type 0 where
+pub record Streams : Type 0 where
   pub shelf : ShelfState
   pub out : Writing
   pub own : LinkState
+
+-- these, and the disk that the program keeps a campaign on
+pub record Outside (D : Type 0) : Type 0 where
+  pub streams : Streams
+  pub disk : D
 
 -- The text was written whole and the program ends with the status, or a write failed, a part of it was written, and the program ends with 8.
 pub record Prints (old new : Writing) (text : List ℕ) (status ended : ℕ) : Type 0 where

@@ -11,6 +11,7 @@ use Rattle.campaign_cli.specs.declared.words.TheConstants.{FORMS}
 pub data Request : Type 0 where
   Eval : List ℕ → List ℕ → Request
   Session : Request
+  Check : Request
   Nothing : Request
 
 -- the forms of the commands: their names, and the names of their positional words and of their options
@@ -24,7 +25,7 @@ eval_of values = Nothing
 -- the request of a command, by its name and its values in the order of its form
 abbrev pub request_at : List ℕ × List (List ℕ) → Request
 request_at found = if bytes_eq found.0 (codes "eval") then eval_of found.1
-    else (if bytes_eq found.0 (codes "session") then Session else Nothing)
+    else (if bytes_eq found.0 (codes "session") then Session else (if bytes_eq found.0 (codes "check") then Check else Nothing))
 
 -- the request that words give by the forms
 abbrev pub request_of : List (List ℕ) → Request
@@ -38,6 +39,7 @@ asked words = request_of (map string_bytes words)
 abbrev pub meant : Command → Request
 meant (command.Eval run qrels) = Eval run.now qrels.now
 meant command.Session = Session
+meant command.Check = Check
 meant command.Usage = Nothing
 
 -- what is printed where the words are no command

@@ -1,31 +1,20 @@
 -- How `session` ends.
-use Rattle.std.specs.Prelude.{◌≡◌, ◌⊎◌, ℕ, List, [], ◌∷◌, Some, None, codes}
-use Rattle.rulebook.specs.Campaign.{History}
-use Rattle.rulebook.specs.Legal.{IsLegal, founding}
-use Rattle.rulebook.specs.Stories.{StartsWith}
+use Rattle.std.specs.Prelude.{◌≡◌, ℕ, List, Option, None, Some}
+use Rattle.decimal_rank.specs.Causes.{Rose}
+use Rattle.book.specs.Books.{IsSound, Runs, Seen}
+use Rattle.book.specs.Images.{StandsFor}
+use Rattle.book.specs.Openings.{Opened}
 use Rattle.campaign_server.specs.declared.ends.End.{End}
 use Rattle.campaign_server.specs.declared.ends.End.TheVariants as end
 use Rattle.campaign_server.specs.Connections.{Ends}
 use Rattle.campaign_server.specs.Links.{LinkState}
-use Rattle.campaign_server.specs.Talks.{IsTalkAlone}
+use Rattle.campaign_server.specs.Sessions.{IsSession}
+use Rattle.routes.specs.declared.keys.KeyRow.{KeyRow}
 use Rattle.campaign_cli.specs.declared.settings.Settings.{Settings}
-use Rattle.campaign_cli.specs.Outside.{Outside, Prints, Misses}
+use Rattle.campaign_cli.specs.BookEnds.{Unopened, settings_file}
+use Rattle.campaign_cli.specs.Outside.{Outside}
 use Rattle.campaign_cli.specs.Settings.{settings_of}
 use Rattle.campaign_cli.specs.Shelves.{Gives, Follows}
-
--- the file with the settings
-abbrev pub settings_file : List ℕ
-settings_file = codes "campaign.toml"
-
--- what is printed where the settings are refused
-abbrev pub settings_line : List ℕ
-settings_line = codes "input: campaign.toml\n"
-
--- The session of these settings, from the founding entry on, came to this end: the entries then can come about, and begin with it.
-abbrev pub Holds : Settings → LinkState → LinkState → End → Type 0
-Holds settings old new how =
-    (after : History) × Ends (IsTalkAlone settings.callers (founding settings.rules ∷ []) old.clock after new.clock) old new how
-    × IsLegal after × StartsWith after (founding settings.rules ∷ [])
 
 -- the status by an end
 abbrev pub status_of : End → ℕ
@@ -37,26 +26,46 @@ status_of end.WriteFault = 8
 status_of end.Memory = 7
 status_of end.Worn = 11
 
--- the session was held and ended with the status of its end, or there was no memory to begin it
-abbrev pub IsHeld : Settings → LinkState → LinkState → ℕ → Type 0
-IsHeld settings old new status = ((how : End) × Holds settings old new how × (status ≡ status_of how)) ⊎ ((new ≡ old) × (status ≡ 7))
+-- what a campaign on a disk comes to where it answers a link: the end, the campaign then, and its disk
+pub record Answers {D : Type 0} (images : D → List ℕ → Type 0) (clock : D → ℕ) (images_since : D → ℕ → List ℕ → Type 0) (faults : D → ℕ) (callers : List KeyRow)
+    (opened : Seen D) (old new : LinkState) (disk : D) (status : ℕ) : Type 0 where
+  pub how : End
+  pub closed : Seen D
+  pub talk : Ends (IsSession faults callers opened old.clock closed new.clock) old new how
+  pub runs : Runs images clock images_since faults opened closed
+  pub sound : IsSound images clock images_since faults closed
+  pub closes : disk ≡ closed.disk
+  pub status_is : status ≡ status_of how
 
--- the ways in which `session` ends
-pub data SessionWay (old new : Outside) (status : ℕ) : Type 0 where
-  -- the settings are read: the requests of the own link are answered, and nothing is printed
-  held : (text : List ℕ) (settings : Settings) (how : End) → Gives old.shelf settings_file text → settings_of text ≡ Some settings
-      → Holds settings old.own new.own how → new.out ≡ old.out → status ≡ status_of how → SessionWay old new status
-  -- the settings are refused: the line that names their file is printed
-  settings_refused : (text : List ℕ) → Gives old.shelf settings_file text → settings_of text ≡ None
-      → Prints old.out new.out settings_line 3 status → new.own ≡ old.own → SessionWay old new status
-  -- the settings weren't read
-  settings_unread : Misses old.shelf new.shelf settings_file → new.out ≡ old.out → new.own ≡ old.own → status ≡ 4
-      → SessionWay old new status
-  -- there was no memory to begin
-  not_begun : new.out ≡ old.out → new.own ≡ old.own → status ≡ 7 → SessionWay old new status
+module _ {D : Type 0} (content : D → Option (List ℕ)) (images : D → List ℕ → Type 0) (clock : D → ℕ) (images_since : D → ℕ → List ℕ → Type 0) (faults : D → ℕ) where
+  -- A session of these settings came to this end.
+  pub record Holds (settings : Settings) (old new : Outside D) (how : End) : Type 0 where
+    -- a campaign, as it was opened and as it was closed
+    pub opened : Seen D
+    pub closed : Seen D
+    -- it began with the entries that the disk told, or with the founding one
+    pub opens : Opened content images clock images_since faults settings.rules old.disk opened
+    -- each answer is what the rules give after the entries so far, and an accepted command is added to them
+    pub talk : Ends (IsSession faults settings.callers opened old.streams.own.clock closed new.streams.own.clock) old.streams.own new.streams.own how
+    -- the entries only grow; a crash at any moment leaves a part of them from their start, with each one from before, or it and one entry that the rules accept next
+    pub runs : Runs images clock images_since faults opened closed
+    -- at the end the disk stands for the entries, with the pending one or without it
+    pub sound : IsSound images clock images_since faults closed
+    pub closes : new.disk ≡ closed.disk
 
-pub record SessionEnds (old new : Outside) (status : ℕ) : Type 0 where
-  pub way : SessionWay old new status
-  pub shelf : Follows old.shelf new.shelf
-  -- all but the shelf, the output and the own link is as it was
-  pub rest : new ≡ record old { shelf = new.shelf; out = new.out; own = new.own }
+  -- the ways in which `session` ends
+  pub data SessionWay (old new : Outside D) (status : ℕ) : Type 0 where
+    -- the settings are read and the disk is opened: the requests of the own link are answered, and nothing is printed
+    held : (text : List ℕ) (settings : Settings) (how : End) → Gives old.streams.shelf settings_file text → settings_of text ≡ Some settings
+        → Holds settings old new how → new.streams.out ≡ old.streams.out → status ≡ status_of how → SessionWay old new status
+    -- there is no campaign
+    unheld : Unopened content images clock images_since faults old new status → new.streams.own ≡ old.streams.own → SessionWay old new status
+
+  pub record SessionEnds (old new : Outside D) (status : ℕ) : Type 0 where
+    pub way : SessionWay old new status
+    pub shelf : Follows old.streams.shelf new.streams.shelf
+
+  -- Where no call on the disk failed, each of its images holds the entries at the end, and no other.
+  abbrev pub SessionsStand : Type 0
+  SessionsStand = (settings : Settings) (old new : Outside D) (how : End) (session : Holds settings old new how)
+      → ¬ (Rose (faults old.disk) (faults new.disk)) → StandsFor (images new.disk) session.closed.history None

@@ -2,14 +2,23 @@ ghost use Rattle.std.specs.Prelude.{ℕ};
 ghost use Rattle.campaign_cli.specs.Endings.{Ends};
 ghost use Rattle.campaign_cli.specs.Outside.{Outside};
 ghost use Rattle.campaign_cli.specs.Requests.{Request};
+ghost use Rattle.campaign_cli.specs.SessionEnds.{SessionsStand};
 ghost use Rattle.campaign_cli.specs.Statuses.{Statuses};
 
+use book::Disk;
 use eval::never_both;
 
 /// However the program ends, its status is that of a cause that holds; with its files there and within
-/// their grammars the work is done; and what the words don't need is as it was.
-pub fn each_status_says()
-    ensures { (request : Request) (old new : Outside) (status : ℕ) → Ends request old new status → Statuses request old new status }
+/// their grammars, and so its disk, the work is done; and what the words don't need is as it was.
+pub fn each_status_says<D: Disk>()
+    ensures { (request : Request) (old new : Outside D) (status : ℕ) → Ends D.content D.images D.clock D.images_since D.fault_count request old new status
+        → Statuses D.content D.images D.clock D.images_since D.fault_count request old new status }
 {
     never_both();
 }
+
+/// Where no call on the disk failed in a session, the disk stands at its end for the accepted entries
+/// alone.
+pub fn sessions_stand<D: Disk>()
+    ensures { SessionsStand D.content D.images D.clock D.images_since D.fault_count }
+{}

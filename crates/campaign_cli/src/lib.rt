@@ -1,14 +1,17 @@
 //! The program of a campaign: the words that it is called with, its settings, the files that it reads
-//! and the output that it writes. `Shelf` and `Sink` stand for the outside; each has a form in memory
-//! and an adapter over the real thing.
+//! the output that it writes and the disk that it keeps a campaign on. `Shelf` and `Sink` stand for the
+//! outside, beside `Link` and `Disk` of the crates below; each has a form in memory and an adapter over
+//! the real thing.
 #![tactic(auto)]
 
+mod checks;
 mod evaluations;
 mod faults;
 mod file_shelf;
 mod laws;
 mod memory_shelf;
 mod memory_sink;
+mod openings;
 mod output_sink;
 mod printing;
 mod program;
@@ -24,7 +27,7 @@ mod words;
 pub use decimal_rank::{Failed, Output as Sink, write_all};
 pub use faults::{SettingsEnd, ShelfFault};
 pub use file_shelf::FileShelf;
-pub use laws::each_status_says;
+pub use laws::{each_status_says, sessions_stand};
 pub use memory_shelf::MemoryShelf;
 pub use memory_sink::MemorySink;
 pub use output_sink::OutputSink;

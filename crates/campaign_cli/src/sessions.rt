@@ -1,57 +1,51 @@
-//! `session`: answers the requests of the program's own link on a campaign of the settings.
-ghost use Rattle.std.specs.Prelude.{◌≡◌, IsTrue};
-ghost use Rattle.rulebook.specs.Spelling.{are_rules};
-ghost use Rattle.campaign_cli.specs.SessionEnds.{IsHeld, SessionEnds, status_of as status_by};
+//! `session`: answers the requests of the program's own link by the campaign that the disk keeps.
+ghost use Rattle.std.specs.Prelude.{◌≡◌};
+ghost use Rattle.campaign_server.specs.Connections.{Ends};
+ghost use Rattle.campaign_server.specs.Sessions.{IsSession};
+ghost use Rattle.book.specs.Books.{IsSound, Runs};
+ghost use Rattle.campaign_cli.specs.SessionEnds.{Answers, SessionEnds, status_of as status_by};
 
-use crate::faults::SettingsEnd;
-use crate::printing::print;
-use crate::readings::read;
-use crate::settings::{Settings, read_settings};
+use crate::openings::open_book;
 use crate::shelves::Shelf;
 use crate::statuses::Status;
-use campaign_core::State;
+use book::{Book, Disk};
 use campaign_server::{End, Link, session};
-use decimal_rank::{Memory, Output as Sink};
+use decimal_rank::Output as Sink;
+use routes::Keys;
 use std::alloc::Global;
 
-/// The file with the settings.
-const SETTINGS_FILE: &[u8] = b"campaign.toml";
-
-/// What is printed where the settings are refused.
-const SETTINGS_LINE: &[u8] = b"input: campaign.toml\n";
-
-/// Reads the settings and answers the requests of a link on the campaign that they found.
-pub(crate) fn hold_session<R, F: Shelf, O: Sink, I: Link>(
+/// Reads the settings, opens their campaign from the disk and answers the requests of a link.
+pub(crate) fn hold_session<R, F: Shelf, O: Sink, I: Link, D: Disk>(
     rt: &R,
     alloc: Global,
     shelf: &mut F,
     out: &mut O,
     own: &mut I,
-) -> Status
-    ensures { SessionEnds (record { shelf = F.seen shelf.old; out = O.writing out.old; own = I.seen own.old })
-        (record { shelf = F.seen shelf.new; out = O.writing out.new; own = I.seen own.new }) result.0 }
+    disk: D,
+) -> (Status, D)
+    ensures { SessionEnds D.content D.images D.clock D.images_since D.fault_count
+        (record { streams = record { shelf = F.seen shelf.old; out = O.writing out.old; own = I.seen own.old }; disk = disk })
+        (record { streams = record { shelf = F.seen shelf.new; out = O.writing out.new; own = I.seen own.new }; disk = result.1 }) result.0.0 }
 {
-    let text = match read(alloc, shelf, SETTINGS_FILE) {
-        Ok(text) => text,
-        Err(status) => return status,
-    };
-    match read_settings(alloc, &text) {
-        Ok(settings) => answer_link(rt, alloc, settings, own),
-        Err(SettingsEnd::Refused) => print(out, SETTINGS_LINE, Status(3)),
-        Err(SettingsEnd::Memory) => Status(7),
+    match open_book(alloc, shelf, out, disk) {
+        Ok((book, callers)) => answer_link(rt, alloc, book, &callers, own),
+        Err(given) => given,
     }
 }
 
-/// Answers the requests of a link on a new campaign of these settings.
-fn answer_link<R, I: Link>(rt: &R, alloc: Global, settings: Settings, own: &mut I) -> Status
-    requires { IsTrue (are_rules settings.rules) }
-    ensures { IsHeld settings (I.seen own.old) (I.seen own.new) result.0 }
+// Answers the requests of a link by a campaign.
+fn answer_link<R, I: Link, D: Disk>(
+    rt: &R,
+    alloc: Global,
+    book: Book<D>,
+    callers: &Keys,
+    own: &mut I,
+) -> (Status, D)
+    ensures { Answers D.images D.clock D.images_since D.fault_count callers.now book (I.seen own.old) (I.seen own.new) result.1 result.0.0 }
 {
-    let Settings { rules, callers } = settings;
-    match State::found(alloc, rules) {
-        Ok(mut state) => status_of(session(rt, alloc, &mut state, own, &callers)),
-        Err(Memory) => Status(7),
-    }
+    let mut book = book;
+    let end = session(rt, alloc, &mut book, own, callers);
+    (status_of(end), book.close())
 }
 
 fn status_of(end: End) -> Status

@@ -8,14 +8,20 @@ use decimal_rank::Memory;
 use std::alloc::Global;
 
 /// The forms of the commands.
-static FORMS: [CommandForm<'static>; 2] = [("eval", &["run", "qrels"], &[]), ("session", &[], &[])];
+static FORMS: [CommandForm<'static>; 3] = [
+    ("eval", &["run", "qrels"], &[]),
+    ("session", &[], &[]),
+    ("check", &[], &[]),
+];
 
 /// A command of the program. `Eval` scores the run in one file against the qrels in another, by the
-/// files' names. `Session` answers the messages of one connection.
+/// files' names. `Session` answers the messages of one connection. `Check` tells what the journal
+/// holds.
 #[derive(Clone, Copy, Debug, PartialEq, Eq)]
 pub enum Command<'a> {
     Eval { run: &'a [u8], qrels: &'a [u8] },
     Session,
+    Check,
     Usage,
 }
 
@@ -37,6 +43,8 @@ fn command_of<'a>(found: &CommandWords<'a>) -> Command<'a>
         eval_of(found.values.as_slice())
     } else if found.name == "session" {
         Command::Session
+    } else if found.name == "check" {
+        Command::Check
     } else {
         Command::Usage
     }

@@ -1,5 +1,4 @@
-pub mod Added
-pub mod Alone
+pub mod Keeping
 pub mod Chaining
 pub mod Hearing
 pub mod Known

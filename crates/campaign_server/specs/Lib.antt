@@ -9,4 +9,4 @@ pub mod MemoryLinks
 pub mod Pieces
 pub mod Stories
 pub mod Talks
-pub mod Tellers
+pub mod Sessions

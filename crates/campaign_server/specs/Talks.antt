@@ -79,7 +79,3 @@ pub record TalkLaws (keys : List KeyRow) (n c : ℕ) (S : History) (last : ℕ) 
   pub longer : (more : History) (later : ℕ) → last ≤ later → Talk false keys n c S last places said → Talk false keys n c (S ++ more) later places said
   pub earlier : (m b : ℕ) → m ≤ n → b ≤ c → Talk false keys n c S last places said → Talk false keys m b S last places said
   pub loosened : Talk true keys n c S last places said → Talk false keys n c S last places said
-
--- the talk of a session with a campaign in memory, from its entries before to those after
-abbrev pub IsTalkAlone : List KeyRow → History → Clock → History → Clock → List Said → Type 0
-IsTalkAlone keys before clock after later said = (places : List ℕ) × Talks true keys (length before) 0 clock after 0 later places said

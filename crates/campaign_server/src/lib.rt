@@ -1,10 +1,12 @@
 //! One connection to a campaign: its requests are asked as their bytes come, and each answer is written
 //! before more is read. `Link` stands for the connection; it has a form in memory and an adapter over
-//! standard input and output. `Teller` stands for the campaign.
+//! standard input and output. `Teller` stands for the campaign; a book
+//! is one.
 #![tactic(auto)]
 
 mod answering;
 mod asks;
+mod booked;
 mod buffers;
 mod connections;
 mod ends;
@@ -12,7 +14,6 @@ mod laws;
 mod links;
 mod memory_link;
 mod sessions;
-mod states;
 mod stream_link;
 mod tellers;
 

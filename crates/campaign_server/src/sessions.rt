@@ -1,29 +1,27 @@
-ghost use Rattle.rulebook.specs.Legal.{IsLegal};
-ghost use Rattle.rulebook.specs.Stories.{StartsWith};
+ghost use Rattle.book.specs.Books.{IsSound, Runs};
 ghost use Rattle.campaign_server.specs.Connections.{Ends};
-ghost use Rattle.campaign_server.specs.Talks.{IsTalkAlone};
+ghost use Rattle.campaign_server.specs.Sessions.{IsSession};
 
 use crate::connections::converse;
 use crate::ends::End;
 use crate::links::Link;
-use campaign_core::State;
+use book::{Book, Disk};
 use routes::Keys;
 use std::alloc::Global;
 
-/// Answers the requests of a link as they come, to its end. Nobody else adds an entry meanwhile.
-pub fn session<R, I: Link>(
+/// Answers the requests of a link as they come, to its end, by a campaign on a disk. Nobody else adds an
+/// entry meanwhile. At each moment a crash leaves the entries so far, or these and one more.
+pub fn session<R, D: Disk, I: Link>(
     _rt: &R,
     alloc: Global,
-    state: &mut State,
+    book: &mut Book<D>,
     link: &mut I,
     keys: &Keys,
 ) -> End
-    ensures ends { Ends (IsTalkAlone keys.now state.old.history (I.seen link.old).clock state.new.history (I.seen link.new).clock)
-        (I.seen link.old) (I.seen link.new) result }
-    ensures longer { StartsWith state.new.history state.old.history }
-    ensures legal { IsLegal state.new.history }
+    ensures ends { Ends (IsSession D.fault_count keys.now book.old (I.seen link.old).clock book.new (I.seen link.new).clock) (I.seen link.old) (I.seen link.new) result }
+    ensures runs { Runs D.images D.clock D.images_since D.fault_count book.old book.new }
+    ensures sound { IsSound D.images D.clock D.images_since D.fault_count book.new }
 {
-    let end = converse(alloc, state, link, keys);
-    let _legal = state.entries();
-    end
+    book.stands();
+    converse(alloc, book, link, keys)
 }

@@ -1,25 +1,16 @@
-use Rattle.std.proofs.Common.{◌≡◌, None, Some, rules}
-use Rattle.campaign_cli.specs.Outside.{Prints}
-use Rattle.campaign_cli.specs.SessionEnds.{settings_file, settings_line}
-use Rattle.campaign_cli.specs.Settings.{settings_of}
-use Rattle.campaign_cli.specs.Shelves.{Gives}
-use Rattle.campaign_cli.proofs.Ways.{held_settings, refused_settings}
+-- A session with the campaign that was opened, or why there is none.
+use Rattle.campaign_cli.proofs.Ways.{held_session, unheld_session}
 use Rattle.campaign_cli.proofs.sessions.hold_session.Goals as goal
 
-pub returns-in-Err-Refused : goal.returns-in-Err-Refused
-returns-in-Err-Refused g c =
-    let old = g.F.Shelf.seen c.args.shelf.now in
-    let given : Gives old settings_file c.in-Ok.text.items = search rules in
-    let none : settings_of c.in-Ok.text.items ≡ None = search rules in
-    let prints : Prints (g.O.Output.writing c.args.out.now) (g.O.Output.writing c.print.new.out) settings_line 3 c.print.result.0 = search rules in
-    refused_settings c.in-Ok.text.items old (g.F.Shelf.seen c.read.new.shelf) (g.O.Output.writing c.args.out.now) (g.O.Output.writing c.print.new.out)
-    (g.I.Link.seen c.args.own.now) c.print.result.0 c.in-Ok.ensures.follows given none prints
+pub returns-in-Ok : goal.returns-in-Ok
+returns-in-Ok g c =
+    let D = g.D.Disk in
+    held_session D.content D.images D.clock D.images_since D.fault_count (g.F.Shelf.seen c.args.shelf.now) (g.F.Shelf.seen c.open_book.new.shelf) (g.O.Output.writing c.args.out.now) (g.O.Output.writing c.open_book.new.out)
+    (g.I.Link.seen c.args.own.now) (g.I.Link.seen c.answer_link.new.own) c.args.disk c.answer_link.result.1 c.in-Ok.book c.in-Ok.callers c.answer_link.result.0.0
+    c.in-Ok.ensures.follows c.in-Ok.ensures.out c.in-Ok.ensures.opened c.answer_link.ensures
 
-pub returns-in-Ok-read_settings : goal.returns-in-Ok-read_settings
-returns-in-Ok-read_settings g c =
-    let old = g.F.Shelf.seen c.args.shelf.now in
-    let settings = c.in-Ok-read_settings.settings in
-    let given : Gives old settings_file c.in-Ok.text.items = search rules in
-    let read : settings_of c.in-Ok.text.items ≡ Some settings = search rules in
-    held_settings c.in-Ok.text.items settings old (g.F.Shelf.seen c.read.new.shelf) (g.O.Output.writing c.args.out.now) (g.I.Link.seen c.args.own.now)
-    (g.I.Link.seen c.answer_link.new.own) c.answer_link.result.0 c.in-Ok.ensures.follows given read c.answer_link.ensures
+pub returns-in-Err : goal.returns-in-Err
+returns-in-Err g c =
+    let D = g.D.Disk in
+    unheld_session D.content D.images D.clock D.images_since D.fault_count (g.F.Shelf.seen c.args.shelf.now) (g.F.Shelf.seen c.open_book.new.shelf) (g.O.Output.writing c.args.out.now) (g.O.Output.writing c.open_book.new.out)
+    (g.I.Link.seen c.args.own.now) c.args.disk c.in-Err.given.1 c.in-Err.given.0.0 c.in-Err.ensures.follows (c.in-Err.ensures.unopened (g.I.Link.seen c.args.own.now))

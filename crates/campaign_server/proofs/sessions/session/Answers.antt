@@ -1,10 +1,21 @@
-use Rattle.campaign_server.proofs.Alone.{session_ends}
+-- What a session comes to, from the chain of the book's states.
+use Rattle.campaign_server.proofs.Keeping.{session_ends}
 use Rattle.campaign_server.proofs.sessions.session.Goals as goal
 
 pub returns-clause-ends : goal.returns-clause-ends
 returns-clause-ends g c =
-    (session_ends c.args.keys.now c.args.state.now c.converse-end.new.teller (g.I.Link.seen c.args.link.now) (g.I.Link.seen c.converse-end.new.link) c.converse-end.result c.converse-end.ensures).1
+    let D = g.D.Disk in
+    (session_ends D.images D.clock D.images_since D.fault_count c.args.keys.now g.met.D.Disk.only_now c.args.book.now c.converse.new.teller (g.I.Link.seen c.args.link.now) (g.I.Link.seen c.converse.new.link)
+    c.converse.result c.stands.ensures c.converse.ensures).1
 
-pub returns-clause-longer : goal.returns-clause-longer
-returns-clause-longer g c =
-    (session_ends c.args.keys.now c.args.state.now c.converse-end.new.teller (g.I.Link.seen c.args.link.now) (g.I.Link.seen c.converse-end.new.link) c.converse-end.result c.converse-end.ensures).0
+pub returns-clause-runs : goal.returns-clause-runs
+returns-clause-runs g c =
+    let D = g.D.Disk in
+    (session_ends D.images D.clock D.images_since D.fault_count c.args.keys.now g.met.D.Disk.only_now c.args.book.now c.converse.new.teller (g.I.Link.seen c.args.link.now) (g.I.Link.seen c.converse.new.link)
+    c.converse.result c.stands.ensures c.converse.ensures).0.0
+
+pub returns-clause-sound : goal.returns-clause-sound
+returns-clause-sound g c =
+    let D = g.D.Disk in
+    (session_ends D.images D.clock D.images_since D.fault_count c.args.keys.now g.met.D.Disk.only_now c.args.book.now c.converse.new.teller (g.I.Link.seen c.args.link.now) (g.I.Link.seen c.converse.new.link)
+    c.converse.result c.stands.ensures c.converse.ensures).0.1

@@ -1,0 +1,176 @@
+use crate::links::link_of;
+use crate::session::{SUBMIT, SUBMITTED, TOPICS, TOPICS_TAKEN};
+use crate::settings::{SETTINGS, settings_shelf};
+use campaign_cli::{MemorySink, Shelf, Sink, Status, campaign};
+use campaign_server::{Link, MemoryLink};
+use disk_model::MemoryDisk;
+use std::alloc::Global;
+use std::test::Fail;
+
+/// The status of the program over a disk that is empty.
+pub(crate) fn ended_with<R, F: Shelf, O: Sink, I: Link>(
+    rt: &R,
+    alloc: Global,
+    words: &[String],
+    shelf: &mut F,
+    out: &mut O,
+    own: &mut I,
+) -> Status {
+    let disk = MemoryDisk::new(Vec::new(alloc), Vec::new(alloc));
+    let (status, disk) = campaign(rt, alloc, words, shelf, out, own, disk);
+    drop(disk);
+    status
+}
+
+const TABLE: &[u8] = b"GET /table HTTP/1.1\r\nX-Campaign-Key: ORGANISERORGAN01\r\n\r\n";
+
+const FAULT: &[u8] =
+    b"HTTP/1.1 503 Service Unavailable\r\nContent-Type: application/json\r\nContent-Length: 17\r\n\r\n{\"fault\":\"disk\"}\n";
+
+/// The calls on the disk up to the gate's sync of the first request: ten for the opening, with the
+/// founding entry, and four for the request's entry.
+const GATE_SYNC: u64 = 14;
+
+// A disk with these bytes. The call at this place fails; none where the place is 0.
+fn disk_of(alloc: Global, bytes: &[u8], fail: u64) -> Result<MemoryDisk, Fail> {
+    let mut fails = Vec::new(alloc);
+    if fail > 0 {
+        fails.push(fail)?;
+    }
+    Ok(MemoryDisk::new(Vec::from_slice(alloc, bytes)?, fails))
+}
+
+// Answers these requests by the campaign on a disk. It gives what was written and what the disk has then.
+fn answered(
+    rt: &HostRuntime,
+    disk: MemoryDisk,
+    requests: &[u8],
+) -> Result<(MemoryLink, Vec<u8>), Fail> {
+    let alloc = rt.alloc();
+    let mut words = Vec::new(alloc);
+    words.push(String::from_str(alloc, "session")?)?;
+    let mut shelf = settings_shelf(alloc, SETTINGS)?;
+    let mut out = MemorySink::new(Vec::new(alloc));
+    let mut link = link_of(alloc, requests, b"", Vec::new(alloc), Vec::new(alloc))?;
+    let (status, disk) = campaign(rt, alloc, &words, &mut shelf, &mut out, &mut link, disk);
+    (status.0 == 0).then_some(()).ok_or("the session failed")?;
+    Ok((link, Vec::from_slice(alloc, disk.content())?))
+}
+
+// The status of `check` under these settings, what it printed, and what the disk has then.
+fn checked(
+    rt: &HostRuntime,
+    settings: &str,
+    disk: MemoryDisk,
+) -> Result<(u8, MemorySink, Vec<u8>), Fail> {
+    let alloc = rt.alloc();
+    let mut words = Vec::new(alloc);
+    words.push(String::from_str(alloc, "check")?)?;
+    let mut shelf = settings_shelf(alloc, settings)?;
+    let mut out = MemorySink::new(Vec::new(alloc));
+    let mut link = link_of(alloc, b"", b"", Vec::new(alloc), Vec::new(alloc))?;
+    let (status, disk) = campaign(rt, alloc, &words, &mut shelf, &mut out, &mut link, disk);
+    Ok((status.0, out, Vec::from_slice(alloc, disk.content())?))
+}
+
+// The bytes with another last byte, and these behind it.
+fn ended_by(alloc: Global, bytes: &[u8], last: u8, behind: &[u8]) -> Result<Vec<u8>, Fail> {
+    let mut all = Vec::from_slice(alloc, &bytes[..bytes.len().saturating_sub(1)])?;
+    all.push(last)?;
+    all.extend_from_slice(behind)?;
+    Ok(all)
+}
+
+fn with_hold(alloc: Global, hold: &str) -> Result<String, Fail> {
+    Ok(SETTINGS.replace(alloc, "hold = 2", hold)?)
+}
+
+const NEW: &str = "entries 1\nphase collecting\n";
+
+/// A record of a grade of lease 1 that p gave at moment 0, and a closed gate.
+const GRADE: &[u8] = b"\x12\0\0\0\x01p\x03\0\0\0\0\0\0\0\0\0\x06\x01\0\0\0\x02\0";
+
+#[test]
+fn what_a_disk_holds_is_told(rt: HostRuntime) -> Result<(), Fail> {
+    let alloc = rt.alloc();
+    let (_, founded) = answered(&rt, disk_of(alloc, b"", 0)?, b"")?;
+    let (_, held) = answered(&rt, disk_of(alloc, b"", 0)?, TOPICS)?;
+    let damaged = ended_by(alloc, &held, 1, GRADE)?;
+    let cases: [(&[u8], u64, &str, u8, &str); 7] = [
+        (b"", 0, "hold = 2", 0, NEW),
+        (b"xxxxxxxxxxxxxxxxx", 0, "hold = 2", 0, NEW),
+        (b"xxxxxxxxxxxxxxxxxx", 0, "hold = 2", 9, "damaged header\n"),
+        (&damaged, 0, "hold = 2", 9, "damaged entry 3\n"),
+        (&founded, 0, "hold = 2", 0, NEW),
+        (&founded, 0, "hold = 3", 3, "input: rules\n"),
+        (&founded, 1, "hold = 2", 5, ""),
+    ];
+    for (bytes, fail, hold, status, text) in cases {
+        let settings = with_hold(alloc, hold)?;
+        let (ended, out, _) = checked(&rt, settings.as_str(), disk_of(alloc, bytes, fail)?)?;
+        assert_eq!(rt; ended, status);
+        assert_eq!(rt; out.written(), text.as_bytes());
+    }
+    Ok(())
+}
+
+#[test]
+fn a_stop_in_an_append_leaves_the_entry_out_or_whole(rt: HostRuntime) -> Result<(), Fail> {
+    let alloc = rt.alloc();
+    let (_, founded) = answered(&rt, disk_of(alloc, b"", 0)?, b"")?;
+    let (_, held) = answered(&rt, disk_of(alloc, b"", 0)?, TOPICS)?;
+    let frame = &held[founded.len().min(held.len())..];
+    let whole = "entries 2\nphase collecting\n";
+    // what stands at the gate, how many bytes of the frame stand behind it, and what is told then
+    let cases: [(u8, usize, &str); 7] = [
+        (0, 0, NEW),
+        (0, 1, NEW),
+        (0, frame.len(), NEW),
+        (77, frame.len(), NEW),
+        (1, frame.len(), whole),
+        (1, frame.len().saturating_sub(2), NEW),
+        (1, 3, NEW),
+    ];
+    for (byte, count, text) in cases {
+        let image = ended_by(alloc, &founded, byte, &frame[..count.min(frame.len())])?;
+        let (ended, out, _) = checked(&rt, SETTINGS, disk_of(alloc, &image, 0)?)?;
+        assert_eq!(rt; ended, 0);
+        assert_eq!(rt; out.written(), text.as_bytes());
+    }
+    Ok(())
+}
+
+#[test]
+fn a_command_that_a_fault_kept_out_is_taken_when_it_is_sent_again(
+    rt: HostRuntime,
+) -> Result<(), Fail> {
+    let alloc = rt.alloc();
+    let mut twice = Vec::from_slice(alloc, TOPICS)?;
+    twice.extend_from_slice(TOPICS)?;
+    let mut answers = Vec::from_slice(alloc, FAULT)?;
+    answers.extend_from_slice(TOPICS_TAKEN)?;
+    let (link, held) = answered(&rt, disk_of(alloc, b"", GATE_SYNC)?, &twice)?;
+    assert_eq!(rt; link.written(), answers.as_slice());
+    let (ended, out, _) = checked(&rt, SETTINGS, disk_of(alloc, &held, 0)?)?;
+    assert_eq!(rt; ended, 0);
+    assert_eq!(rt; out.written(), b"entries 2\nphase collecting\n".as_slice());
+    Ok(())
+}
+
+#[test]
+fn a_campaign_is_there_when_its_disk_is_opened_again(rt: HostRuntime) -> Result<(), Fail> {
+    let alloc = rt.alloc();
+    let mut requests = Vec::from_slice(alloc, TOPICS)?;
+    requests.extend_from_slice(SUBMIT)?;
+    let mut with_table = Vec::from_slice(alloc, &requests)?;
+    with_table.extend_from_slice(TABLE)?;
+    let (at_once, _) = answered(&rt, disk_of(alloc, b"", 0)?, &with_table)?;
+    let (first, held) = answered(&rt, disk_of(alloc, b"", 0)?, &requests)?;
+    let (then, after) = answered(&rt, disk_of(alloc, &held, 0)?, TABLE)?;
+    let mut joined = Vec::from_slice(alloc, first.written())?;
+    joined.extend_from_slice(then.written())?;
+    assert_eq!(rt; at_once.written(), joined.as_slice());
+    assert_eq!(rt; first.written().len(), TOPICS_TAKEN.len() + SUBMITTED.len());
+    assert_eq!(rt; after, held);
+    Ok(())
+}

@@ -1,0 +1,106 @@
+//! `check`: tells what the campaign on the disk is, and changes nothing of it.
+ghost use Rattle.std.specs.Prelude.{◌≡◌, IfOk};
+ghost use Rattle.campaign_server.specs.Links.{LinkState};
+ghost use Rattle.rulebook.specs.declared.reply.Reply.TheVariants.{Page as PageReply};
+ghost use Rattle.rulebook.specs.Scores.{table_page};
+ghost use Rattle.campaign_cli.specs.CheckEnds.{CheckEnds, Tells, check_text, phase_word};
+
+use crate::openings::open_book;
+use crate::printing::print;
+use crate::shelves::Shelf;
+use crate::statuses::Status;
+use book::{Book, Disk};
+use decimal_rank::{Memory, Output as Sink, Text};
+use itoa::Buffer as Digits;
+use rulebook::{Addressed, Answer, Ask, Caller, Phase, Query, Reply, Role};
+use std::alloc::Global;
+
+/// Who asks for the table.
+const ASKER: &[u8] = b"campaign";
+
+/// Reads the settings, opens their campaign from the disk and prints what it is.
+pub(crate) fn show_campaign<F: Shelf, O: Sink, D: Disk>(
+    alloc: Global,
+    shelf: &mut F,
+    out: &mut O,
+    disk: D,
+) -> (Status, D)
+    ensures { (own : LinkState) → CheckEnds D.content D.images D.clock D.images_since D.fault_count
+        (record { streams = record { shelf = F.seen shelf.old; out = O.writing out.old; own = own }; disk = disk })
+        (record { streams = record { shelf = F.seen shelf.new; out = O.writing out.new; own = own }; disk = result.1 }) result.0.0 }
+{
+    match open_book(alloc, shelf, out, disk) {
+        Ok((book, _callers)) => show(alloc, book, out),
+        Err(given) => given,
+    }
+}
+
+// Prints what a campaign is.
+fn show<O: Sink, D: Disk>(alloc: Global, book: Book<D>, out: &mut O) -> (Status, D)
+    ensures shown { Tells book.history (O.writing out.old) (O.writing out.new) result.0.0 }
+    ensures disk { result.1 ≡ book.disk }
+{
+    let mut book = book;
+    match text_of(alloc, &mut book) {
+        Ok(text) => (print(out, &text, Status(0)), book.close()),
+        Err(Memory) => (Status(7), book.close()),
+    }
+}
+
+// What is printed of a campaign.
+fn text_of<D: Disk>(alloc: Global, book: &mut Book<D>) -> Result<Vec<u8>, Memory>
+    ensures same { book.new ≡ book.old }
+    ensures text { IfOk result (λ text. text.items ≡ check_text book.old.history) }
+{
+    let table = table_of(alloc, book)?;
+    let mut text = Vec::new(alloc);
+    text.extend_from_slice(b"entries ")?;
+    text.extend_from_slice(Digits::new().format(book.entries()).as_bytes())?;
+    text.extend_from_slice(b"\nphase ")?;
+    text.extend_from_slice(word_of(book.phase()))?;
+    text.extend_from_slice(b"\n")?;
+    text.extend_from_slice(table.bytes())?;
+    Ok(text)
+}
+
+fn word_of(phase: Phase) -> &'static [u8]
+    ensures { result.now ≡ phase_word phase }
+{
+    match phase {
+        Phase::Collecting => b"collecting",
+        Phase::Judging => b"judging",
+        Phase::Published => b"published",
+    }
+}
+
+// The table of the runs, as an organiser is told it.
+fn table_of<D: Disk>(alloc: Global, book: &mut Book<D>) -> Result<Text, Memory>
+    ensures same { book.new ≡ book.old }
+    ensures table { IfOk result (λ table. table ≡ table_page book.old.history) }
+{
+    let name = Text::from_slice(alloc, ASKER)?;
+    let who = Caller {
+        name,
+        role: Role::Organiser,
+    };
+    match book.act(Addressed {
+        who,
+        number: None,
+        ask: Ask::See(Query::Table),
+        moment: 0,
+    }) {
+        Answer::Reply(reply) => page_of(reply),
+        Answer::DiskFault => Err(Memory),
+        Answer::Memory => Err(Memory),
+    }
+}
+
+// The text of a page.
+fn page_of(reply: Reply) -> Result<Text, Memory>
+    ensures { IfOk result (λ text. reply ≡ PageReply text) }
+{
+    let Reply::Page { text } = reply else {
+        return Err(Memory);
+    };
+    Ok(text)
+}
