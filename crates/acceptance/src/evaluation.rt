@@ -243,11 +243,15 @@ fn a_missing_file_is_told_before_a_faulty_one(rt: HostRuntime) -> Result<(), Fai
 #[test]
 fn other_words_get_the_usage_line(rt: HostRuntime) -> Result<(), Fail> {
     let alloc = rt.alloc();
-    let rows: [&[&str]; 4] = [
+    let rows: [&[&str]; 8] = [
         &[],
         &["eval", "r.txt"],
         &["eval", "r.txt", "q.txt", "q.txt"],
         &["score", "r.txt", "q.txt"],
+        &["eval", "--", "r.txt", "q.txt"],
+        &["session", "x"],
+        &["help"],
+        &["-h"],
     ];
     for row in rows {
         let words = words_of(alloc, row)?;
