@@ -1,7 +1,7 @@
-use crate::links::link_of;
+use crate::links::{idle_link, link_of};
 use crate::session::{SUBMIT, SUBMITTED, TOPICS, TOPICS_TAKEN};
 use crate::settings::{SETTINGS, settings_shelf};
-use campaign_cli::{MemorySink, Shelf, Sink, Status, campaign};
+use campaign_cli::{MemoryShelf, MemorySink, Shelf, Sink, Status, campaign};
 use campaign_server::{Link, MemoryLink};
 use disk_model::MemoryDisk;
 use std::alloc::Global;
@@ -40,37 +40,65 @@ fn disk_of(alloc: Global, bytes: &[u8], fail: u64) -> Result<MemoryDisk, Fail> {
     Ok(MemoryDisk::new(Vec::from_slice(alloc, bytes)?, fails))
 }
 
-// Answers these requests by the campaign on a disk. It gives what was written and what the disk has then.
+fn content_of(alloc: Global, disk: MemoryDisk) -> Result<Vec<u8>, Fail> {
+    Ok(Vec::from_slice(alloc, disk.content())?)
+}
+
+// The status of the program over a disk with these bytes, of which the call at this place fails, and what
+// the disk has then.
+fn left_by(
+    rt: &HostRuntime,
+    words: &[String],
+    shelf: &mut MemoryShelf,
+    out: &mut MemorySink,
+    own: &mut MemoryLink,
+    bytes: &[u8],
+    fail: u64,
+) -> Result<(u8, Vec<u8>), Fail> {
+    let alloc = rt.alloc();
+    let disk = disk_of(alloc, bytes, fail)?;
+    let (status, disk) = campaign(rt, alloc, words, shelf, out, own, disk);
+    Ok((status.0, content_of(alloc, disk)?))
+}
+
+fn word_alone(alloc: Global, word: &str) -> Result<Vec<String>, Fail> {
+    let mut words = Vec::new(alloc);
+    words.push(String::from_str(alloc, word)?)?;
+    Ok(words)
+}
+
+// What is written where these requests are answered by the campaign of these bytes, of which the call at
+// this place fails, and what the disk has then.
 fn answered(
     rt: &HostRuntime,
-    disk: MemoryDisk,
+    bytes: &[u8],
+    fail: u64,
     requests: &[u8],
-) -> Result<(MemoryLink, Vec<u8>), Fail> {
+) -> Result<(Vec<u8>, Vec<u8>), Fail> {
     let alloc = rt.alloc();
-    let mut words = Vec::new(alloc);
-    words.push(String::from_str(alloc, "session")?)?;
+    let words = word_alone(alloc, "session")?;
     let mut shelf = settings_shelf(alloc, SETTINGS)?;
     let mut out = MemorySink::new(Vec::new(alloc));
     let mut link = link_of(alloc, requests, b"", Vec::new(alloc), Vec::new(alloc))?;
-    let (status, disk) = campaign(rt, alloc, &words, &mut shelf, &mut out, &mut link, disk);
-    (status.0 == 0).then_some(()).ok_or("the session failed")?;
-    Ok((link, Vec::from_slice(alloc, disk.content())?))
+    let (_, content) = left_by(rt, &words, &mut shelf, &mut out, &mut link, bytes, fail)?;
+    Ok((Vec::from_slice(alloc, link.written())?, content))
 }
 
-// The status of `check` under these settings, what it printed, and what the disk has then.
+// The status of `check` under these settings on a disk with these bytes, of which the call at this place
+// fails, and what it printed.
 fn checked(
     rt: &HostRuntime,
     settings: &str,
-    disk: MemoryDisk,
-) -> Result<(u8, MemorySink, Vec<u8>), Fail> {
+    bytes: &[u8],
+    fail: u64,
+) -> Result<(u8, Vec<u8>), Fail> {
     let alloc = rt.alloc();
-    let mut words = Vec::new(alloc);
-    words.push(String::from_str(alloc, "check")?)?;
+    let words = word_alone(alloc, "check")?;
     let mut shelf = settings_shelf(alloc, settings)?;
     let mut out = MemorySink::new(Vec::new(alloc));
-    let mut link = link_of(alloc, b"", b"", Vec::new(alloc), Vec::new(alloc))?;
-    let (status, disk) = campaign(rt, alloc, &words, &mut shelf, &mut out, &mut link, disk);
-    Ok((status.0, out, Vec::from_slice(alloc, disk.content())?))
+    let mut link = idle_link(alloc);
+    let (status, _) = left_by(rt, &words, &mut shelf, &mut out, &mut link, bytes, fail)?;
+    Ok((status, Vec::from_slice(alloc, out.written())?))
 }
 
 // The bytes with another last byte, and these behind it.
@@ -93,8 +121,8 @@ const GRADE: &[u8] = b"\x12\0\0\0\x01p\x03\0\0\0\0\0\0\0\0\0\x06\x01\0\0\0\x02\0
 #[test]
 fn what_a_disk_holds_is_told(rt: HostRuntime) -> Result<(), Fail> {
     let alloc = rt.alloc();
-    let (_, founded) = answered(&rt, disk_of(alloc, b"", 0)?, b"")?;
-    let (_, held) = answered(&rt, disk_of(alloc, b"", 0)?, TOPICS)?;
+    let (_, founded) = answered(&rt, b"", 0, b"")?;
+    let (_, held) = answered(&rt, b"", 0, TOPICS)?;
     let damaged = ended_by(alloc, &held, 1, GRADE)?;
     let cases: [(&[u8], u64, &str, u8, &str); 7] = [
         (b"", 0, "hold = 2", 0, NEW),
@@ -107,9 +135,9 @@ fn what_a_disk_holds_is_told(rt: HostRuntime) -> Result<(), Fail> {
     ];
     for (bytes, fail, hold, status, text) in cases {
         let settings = with_hold(alloc, hold)?;
-        let (ended, out, _) = checked(&rt, settings.as_str(), disk_of(alloc, bytes, fail)?)?;
+        let (ended, printed) = checked(&rt, settings.as_str(), bytes, fail)?;
         assert_eq!(rt; ended, status);
-        assert_eq!(rt; out.written(), text.as_bytes());
+        assert_eq!(rt; printed.as_slice(), text.as_bytes());
     }
     Ok(())
 }
@@ -117,8 +145,8 @@ fn what_a_disk_holds_is_told(rt: HostRuntime) -> Result<(), Fail> {
 #[test]
 fn a_stop_in_an_append_leaves_the_entry_out_or_whole(rt: HostRuntime) -> Result<(), Fail> {
     let alloc = rt.alloc();
-    let (_, founded) = answered(&rt, disk_of(alloc, b"", 0)?, b"")?;
-    let (_, held) = answered(&rt, disk_of(alloc, b"", 0)?, TOPICS)?;
+    let (_, founded) = answered(&rt, b"", 0, b"")?;
+    let (_, held) = answered(&rt, b"", 0, TOPICS)?;
     let frame = &held[founded.len().min(held.len())..];
     let whole = "entries 2\nphase collecting\n";
     // what stands at the gate, how many bytes of the frame stand behind it, and what is told then
@@ -133,9 +161,9 @@ fn a_stop_in_an_append_leaves_the_entry_out_or_whole(rt: HostRuntime) -> Result<
     ];
     for (byte, count, text) in cases {
         let image = ended_by(alloc, &founded, byte, &frame[..count.min(frame.len())])?;
-        let (ended, out, _) = checked(&rt, SETTINGS, disk_of(alloc, &image, 0)?)?;
+        let (ended, printed) = checked(&rt, SETTINGS, &image, 0)?;
         assert_eq!(rt; ended, 0);
-        assert_eq!(rt; out.written(), text.as_bytes());
+        assert_eq!(rt; printed.as_slice(), text.as_bytes());
     }
     Ok(())
 }
@@ -149,11 +177,14 @@ fn a_command_that_a_fault_kept_out_is_taken_when_it_is_sent_again(
     twice.extend_from_slice(TOPICS)?;
     let mut answers = Vec::from_slice(alloc, FAULT)?;
     answers.extend_from_slice(TOPICS_TAKEN)?;
-    let (link, held) = answered(&rt, disk_of(alloc, b"", GATE_SYNC)?, &twice)?;
-    assert_eq!(rt; link.written(), answers.as_slice());
-    let (ended, out, _) = checked(&rt, SETTINGS, disk_of(alloc, &held, 0)?)?;
+    let (written, held) = answered(&rt, b"", GATE_SYNC, &twice)?;
+    assert_eq!(rt; written.as_slice(), answers.as_slice());
+    let (ended, printed) = checked(&rt, SETTINGS, &held, 0)?;
     assert_eq!(rt; ended, 0);
-    assert_eq!(rt; out.written(), b"entries 2\nphase collecting\n".as_slice());
+    assert_eq!(rt;
+        printed.as_slice(),
+        b"entries 2\nphase collecting\n".as_slice()
+    );
     Ok(())
 }
 
@@ -164,13 +195,13 @@ fn a_campaign_is_there_when_its_disk_is_opened_again(rt: HostRuntime) -> Result<
     requests.extend_from_slice(SUBMIT)?;
     let mut with_table = Vec::from_slice(alloc, &requests)?;
     with_table.extend_from_slice(TABLE)?;
-    let (at_once, _) = answered(&rt, disk_of(alloc, b"", 0)?, &with_table)?;
-    let (first, held) = answered(&rt, disk_of(alloc, b"", 0)?, &requests)?;
-    let (then, after) = answered(&rt, disk_of(alloc, &held, 0)?, TABLE)?;
-    let mut joined = Vec::from_slice(alloc, first.written())?;
-    joined.extend_from_slice(then.written())?;
-    assert_eq!(rt; at_once.written(), joined.as_slice());
-    assert_eq!(rt; first.written().len(), TOPICS_TAKEN.len() + SUBMITTED.len());
+    let (at_once, _) = answered(&rt, b"", 0, &with_table)?;
+    let (first, held) = answered(&rt, b"", 0, &requests)?;
+    let (then, after) = answered(&rt, &held, 0, TABLE)?;
+    let mut joined = Vec::from_slice(alloc, &first)?;
+    joined.extend_from_slice(&then)?;
+    assert_eq!(rt; at_once.as_slice(), joined.as_slice());
+    assert_eq!(rt; first.len(), TOPICS_TAKEN.len() + SUBMITTED.len());
     assert_eq!(rt; after, held);
     Ok(())
 }
