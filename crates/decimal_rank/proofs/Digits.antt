@@ -22,10 +22,10 @@ pub digit_at : (digits : List ℕ) (i : ℕ) → list_all is_digit digits ≡ tr
 digit_at digits i all inside = true_from_ne_false (is_digit (get_or digits i 0)) (λ other. let wrong = list_all_at is_digit digits i 0 inside other in cc)
 
 -- the capped value with one more digit
-pub capped_more : (digits : List ℕ) (i value next cap : ℕ) → list_all is_digit digits ≡ true → i < length digits → value ≡ min (digits_value 10 (take i digits)) cap
-    → next ≡ min (value * 10 + (get_or digits i 0 - 48)) cap → next ≡ min (digits_value 10 (take (i + 1) digits)) cap
-capped_more digits i value next cap all inside was is =
-    omega (arith, was, is, digits_value_more 10 digits i inside, digit_value_digit (get_or digits i 0) (digit_range (get_or digits i 0) (digit_at digits i all inside)))
+pub capped_more : (digits : List ℕ) (i value next cap : ℕ) → list_all is_digit digits ≡ true → i < length digits → cap < 2 ^ 64 → value ≡ min (digits_value 10 (take i digits)) cap
+    → next ≡ min (min (min (value * 10) (2 ^ 64 - 1) + (get_or digits i 0 - 48)) (2 ^ 64 - 1)) cap → next ≡ min (digits_value 10 (take (i + 1) digits)) cap
+capped_more digits i value next cap all inside fits was is =
+    omega (arith, fits, was, is, digits_value_more 10 digits i inside, digit_value_digit (get_or digits i 0) (digit_range (get_or digits i 0) (digit_at digits i all inside)))
 
 -- ---- zeros at the end
 

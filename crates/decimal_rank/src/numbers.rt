@@ -1,5 +1,5 @@
 //! Numbers that are written in decimal digits, as far as a greatest one.
-ghost use Rattle.std.specs.Prelude.{◌≡◌, ◌≤◌, ◌^◌, IsTrue, min};
+ghost use Rattle.std.specs.Prelude.{◌≡◌, IsTrue, min};
 ghost use Rattle.std.specs.List.{list_all};
 ghost use Rattle.std.specs.Str.Parse.{digits_value};
 ghost use Rattle.decimal_rank.specs.DecimalText.{are_digits, is_digit};
@@ -23,13 +23,13 @@ pub fn is_number(text: &[u8]) -> bool
 /// The number that decimal digits write, or `cap` where it is greater. Nothing written is 0.
 #[tactic(auto, using(crate::proofs::Digits::capped_more))]
 pub fn capped_number(digits: &[u8], cap: u64) -> u64
-    requires digits { IsTrue (list_all is_digit digits.now) }
-    requires cap { cap ≤ 2 ^ 60 }
+    requires { IsTrue (list_all is_digit digits.now) }
     ensures { result ≡ min (digits_value 10 digits.now) cap }
 {
     let mut value: u64 = 0;
     for digit in digits {
-        value = (value * 10 + u64::from(digit.saturating_sub(ZERO))).min(cap);
+        let digit = u64::from(digit.saturating_sub(ZERO));
+        value = value.saturating_mul(10).saturating_add(digit).min(cap);
     }
     value
 }

@@ -1,5 +1,6 @@
 //! What a caller keeps in order, and the want of memory.
 ghost use Rattle.std.specs.Prelude.{◌≡◌, List};
+ghost use Rattle.std.specs.Cmp.Lexicographic.{lists_per, pointwise};
 
 use std::alloc::{AllocError, AllocFailed};
 use std::marker::Model;
@@ -30,6 +31,16 @@ impl<T> Model for Rows<T> {
     ghost Value = { List T };
 
     ghost view = { λ rows. rows.items.items };
+}
+
+impl<T: PartialEq> PartialEq for Rows<T> {
+    ghost eq = { pointwise T.eq };
+
+    ghost laws = { lists_per T.laws };
+
+    fn eq(&self, other: &Rows<T>) -> bool {
+        self.items() == other.items()
+    }
 }
 
 impl<T> Rows<T> {

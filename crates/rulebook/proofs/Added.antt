@@ -15,14 +15,14 @@ use Rattle.rulebook.specs.declared.reply.Quantity.TheVariants as quantity
 use Rattle.rulebook.specs.declared.reply.Refusal.TheVariants as refusal
 use Rattle.rulebook.specs.declared.reply.Reply.TheVariants as reply
 use Rattle.rulebook.specs.Additions.{IsAdded}
-use Rattle.rulebook.specs.Answers.{acted, acting, adding_nothing, answer, moment_after, ruled}
+use Rattle.rulebook.specs.Answers.{Answer, acted, acting, adding_nothing, answer, moment_after, ruled}
 use Rattle.rulebook.specs.Campaign.{History}
-use Rattle.rulebook.specs.Legal.{IsAccepted, IsFounding, IsLegal, core_of, is_built, is_well_addressed}
+use Rattle.rulebook.specs.Legal.{IsAccepted, IsFounding, IsLegal, core_of, is_well_addressed}
 use Rattle.rulebook.specs.Refusals.{Ruling}
 use Rattle.rulebook.specs.Roles.{may_give}
 use Rattle.rulebook.specs.Spelling.{command_bytes, entry_bytes, has_spelling, is_number, is_plain, number_bytes, short}
 use Rattle.rulebook.proofs.AllPass.{both, first_of_both, second_of_both}
-use Rattle.rulebook.proofs.LegalWalk.{legal_induction, legal_more}
+use Rattle.rulebook.proofs.LegalWalk.{IsUnused, legal_induction, legal_more, unused_of}
 
 -- Moments
 
@@ -41,7 +41,7 @@ moment_pushed H e moment = ap (λ last. max moment (option_map_or (λ (x : Entry
 
 -- the parts of a well addressed command
 pub record IsGiven (who : Caller) (number : Option ℕ) (c : Command) (moment : ℕ) : Type 0 where
-  pub allowed : (is_built (Act c) && may_give who.role c) ≡ true
+  pub allowed : may_give who.role c ≡ true
   pub named : (is_name who.name && is_number number) ≡ true
   pub in_time : moment ≤ MAX_MOMENT
   pub plain : is_plain c ≡ true
@@ -51,15 +51,15 @@ pub given_of : (who : Caller) (number : Option ℕ) (c : Command) (moment : ℕ)
 given_of who number c moment addressed =
     let core : EntryCore = core_of who number moment c in
     let size : Bool = nat_le (length (entry_bytes core)) MAX_ENTRY_BYTES in
-    let front = first_of_both (is_built (Act c) && may_give who.role c && has_spelling core) size addressed in
-    let spelled = second_of_both (is_built (Act c) && may_give who.role c) (has_spelling core) front in
+    let front = first_of_both (may_give who.role c && has_spelling core) size addressed in
+    let spelled = second_of_both (may_give who.role c) (has_spelling core) front in
     let timed = first_of_both (is_name who.name && is_number number && nat_le moment MAX_MOMENT) (is_plain c) spelled in
     record {
-      allowed = first_of_both (is_built (Act c) && may_give who.role c) (has_spelling core) front;
+      allowed = first_of_both (may_give who.role c) (has_spelling core) front;
       named = first_of_both (is_name who.name && is_number number) (nat_le moment MAX_MOMENT) timed;
       in_time = leb-true moment MAX_MOMENT (second_of_both (is_name who.name && is_number number) (nat_le moment MAX_MOMENT) timed);
       plain = second_of_both (is_name who.name && is_number number && nat_le moment MAX_MOMENT) (is_plain c) spelled;
-      short = leb-true (length (entry_bytes core)) MAX_ENTRY_BYTES (second_of_both (is_built (Act c) && may_give who.role c && has_spelling core) size addressed);
+      short = leb-true (length (entry_bytes core)) MAX_ENTRY_BYTES (second_of_both (may_give who.role c && has_spelling core) size addressed);
     }
 
 pub addressed_by : (who : Caller) (number : Option ℕ) (c : Command) (moment : ℕ) → IsGiven who number c moment → is_well_addressed who number (Act c) moment ≡ true
@@ -67,8 +67,8 @@ addressed_by who number c moment is =
     let core : EntryCore = core_of who number moment c in
     let timed = both (is_name who.name && is_number number) (nat_le moment MAX_MOMENT) is.named (le-leb moment MAX_MOMENT is.in_time) in
     let spelled = both (is_name who.name && is_number number && nat_le moment MAX_MOMENT) (is_plain c) timed is.plain in
-    both (is_built (Act c) && may_give who.role c && has_spelling core) (nat_le (length (entry_bytes core)) MAX_ENTRY_BYTES)
-    (both (is_built (Act c) && may_give who.role c) (has_spelling core) is.allowed spelled) (le-leb _ MAX_ENTRY_BYTES is.short)
+    both (may_give who.role c && has_spelling core) (nat_le (length (entry_bytes core)) MAX_ENTRY_BYTES)
+    (both (may_give who.role c) (has_spelling core) is.allowed spelled) (le-leb _ MAX_ENTRY_BYTES is.short)
 
 founding_in_time : (first : Entry) → IsFounding first → moment_after (first ∷ []) 0 ≤ MAX_MOMENT
 founding_in_time first is = rw (is.2) (omega arith)
@@ -132,13 +132,16 @@ pub added_accepted : (H : History) (who : Caller) (number : Option ℕ) (ask : A
     → is_well_addressed who number ask moment ≡ true → (answer H who number ask moment).added ≡ e ∷ [] → IsAdded H who number ask moment e
 added_accepted H who number (See q) moment e legal addressed added = cc added
 added_accepted H who number (Act c) moment e legal addressed added =
-    record { accepted = accepted; legal = legal_more H e legal accepted; reply = made.reply_is; core = core }
+    record { accepted = accepted; legal = legal_more H e legal accepted; reply = ap (λ (a : Answer). a.reply) unused.acted_is ∙ made.reply_is; core = core }
   where
     now : ℕ
     now = moment_after H moment
 
+    unused : IsUnused H who number c moment
+    unused = unused_of H who number c moment e added
+
     made : IsMade H (core_of who number now c) e
-    made = made_of H (core_of who number now c) e added
+    made = made_of H (core_of who number now c) e (ap (λ (a : Answer). a.added) (sym unused.acted_is) ∙ added)
 
     in_time : now ≤ MAX_MOMENT
     in_time = omega (arith, (given_of who number c moment addressed).in_time, moments_in_time H legal)
@@ -158,4 +161,6 @@ added_accepted H who number (Act c) moment e legal addressed added =
 -- an accepted entry had room
 pub accepted_room : (H : History) (e : Entry) → IsAccepted H e → (length H == MAX_ENTRIES) ≡ false
 accepted_room H e accepted =
-    (made_of H (core_of e.core.caller e.core.number (moment_after H e.core.moment) e.core.command) e accepted.added).room
+    let unused = unused_of H e.core.caller e.core.number e.core.command e.core.moment e accepted.added in
+    let added = ap (λ (a : Answer). a.added) (sym unused.acted_is) ∙ accepted.added in
+    (made_of H (core_of e.core.caller e.core.number (moment_after H e.core.moment) e.core.command) e added).room

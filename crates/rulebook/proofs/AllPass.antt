@@ -1,5 +1,5 @@
 -- What holds of each element of a list holds of each of the lists that are made of it.
-use Rattle.std.proofs.Common.{Ordering, Less, Equal, Greater, ◌≡◌, ℕ, zero, suc, ◌+◌, Bool, true, false, List, [], ◌∷◌, ◌++◌, Option, None, Some, take, refl, sym, ap, ◌∙◌, filter}
+use Rattle.std.proofs.Common.{Ordering, Less, Equal, Greater, ◌≡◌, ℕ, zero, suc, ◌+◌, Bool, true, false, List, [], ◌∷◌, ◌++◌, Option, None, Some, map, take, refl, sym, ap, ◌∙◌, filter}
 use Rattle.std.specs.Prelude.{◌&&◌, cond, slice_get}
 use Rattle.std.specs.List.{cons_option, enumerate_from, filter_map, find, flat_map, fold, list_all}
 use Rattle.std.specs.Ordering.{match_ordering, nat_cmp}
@@ -65,6 +65,10 @@ module _ {X : Type 0} (p : X → Bool) where
   all_numbered n [] all = refl
   all_numbered n (x ∷ xs) all =
       both (p x) (list_all (λ x. p x.1) (enumerate_from (n + 1) xs)) (all_head x xs all) (all_numbered (n + 1) xs (all_tail x xs all))
+
+pub all_images : {X Y : Type 0} (p : Y → Bool) (f : X → Y) (xs : List X) → list_all (λ x. p (f x)) xs ≡ true → list_all p (map f xs) ≡ true
+all_images p f [] all = refl
+all_images p f (x ∷ xs) all = both (p (f x)) (list_all p (map f xs)) (all_head (λ x. p (f x)) x xs all) (all_images p f xs (all_tail (λ x. p (f x)) x xs all))
 
 module _ {X Y : Type 0} (p : X → Bool) (q : Y → Bool) where
   pub all_mapped_flat : (f : X → List Y) → ((x : X) → p x ≡ true → list_all q (f x) ≡ true) → (xs : List X)

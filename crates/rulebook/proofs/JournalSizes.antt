@@ -127,8 +127,8 @@ module _ (H : History) (who : Caller) (now : ℕ) where
   topics_step (command.Release lease) told is once = omega (arith, once)
   topics_step (command.Amend topic doc grade) told is once = omega (arith, once)
   topics_step (command.Rule topic doc grade) told is once = omega (arith, once)
-  topics_step (command.Withdraw run) told is once = cc is
-  topics_step command.Publish told is once = cc is
+  topics_step (command.Withdraw run) told is once = omega (arith, once)
+  topics_step command.Publish told is once = omega (arith, once)
 
   runs_step : (c : Command) (told : Reply) → ruled H who now c ≡ Ok told → length (runs H) ≤ MAX_RUNS → length (runs H) + runs_of c ≤ MAX_RUNS
   runs_step (command.Found rules) told is few = cc is
@@ -140,8 +140,8 @@ module _ (H : History) (who : Caller) (now : ℕ) where
   runs_step (command.Release lease) told is few = omega (arith, few)
   runs_step (command.Amend topic doc grade) told is few = omega (arith, few)
   runs_step (command.Rule topic doc grade) told is few = omega (arith, few)
-  runs_step (command.Withdraw run) told is few = cc is
-  runs_step command.Publish told is few = cc is
+  runs_step (command.Withdraw run) told is few = omega (arith, few)
+  runs_step command.Publish told is few = omega (arith, few)
 
 topics_once : (H : History) → IsLegal H → length (given_topics H) ≤ 1
 topics_once =
@@ -237,8 +237,8 @@ module _ (H : History) (who : Caller) (now : ℕ) where
   entry_fits (command.Release lease) told is plain size most small = omega (arith, small, four_bytes lease)
   entry_fits (command.Amend topic doc grade) told is plain size most small = omega (arith, small, judged_size topic doc grade plain)
   entry_fits (command.Rule topic doc grade) told is plain size most small = omega (arith, small, judged_size topic doc grade plain)
-  entry_fits (command.Withdraw run) told is plain size most small = cc is
-  entry_fits command.Publish told is plain size most small = cc is
+  entry_fits (command.Withdraw run) told is plain size most small = omega (arith, small, name_size run plain)
+  entry_fits command.Publish told is plain size most small = omega (arith, small)
 
 abbrev weight_of : Entry → ℕ
 weight_of e = length (entry_bytes e.core) + 5

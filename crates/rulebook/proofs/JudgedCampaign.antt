@@ -29,36 +29,36 @@ use Rattle.rulebook.proofs.SmallCampaign.{after as after_at_1000, campaign, grou
 abbrev assessor : Text → Caller
 assessor name = record { name = name; role = Assessor }
 
-abbrev p : Caller
+abbrev pub p : Caller
 p = assessor (codes "p")
 
-abbrev q : Caller
+abbrev pub q : Caller
 q = assessor (codes "q")
 
-abbrev lease : Command
+abbrev pub lease : Command
 lease = command.Lease (codes "1")
 
 -- the list after one more request at a moment
-abbrev after : History → Caller → Command → ℕ → History
+abbrev pub after : History → Caller → Command → ℕ → History
 after H who c moment = H ++ (answer H who None (Act c) moment).added
 
-abbrev replied : History → Caller → Command → ℕ → Reply
+abbrev pub replied : History → Caller → Command → ℕ → Reply
 replied H who c moment = (answer H who None (Act c) moment).reply
 
-abbrev leased : ℕ → Text → ℕ → Reply
+abbrev pub leased : ℕ → Text → ℕ → Reply
 leased number doc until = reply.Leased number (codes "1") doc until (codes "pooling")
 
-abbrev refused : Refusal → Reply
+abbrev pub refused : Refusal → Reply
 refused r = reply.Refused r
 
 -- the order of the two runs, by the first of them
-abbrev first_run : History → Option (List ℕ)
+abbrev pub first_run : History → Option (List ℕ)
 first_run H = option_map (λ run. run.1.name) (first_of H (codes "1") (numbered H))
 
 first-lease : replied opened p lease 1000 ≡ leased 1 (codes "a") 1600
 first-lease = refl
 
-abbrev a_leased : History
+abbrev pub a_leased : History
 a_leased = after opened p lease 1000
 
 abbrev a_graded : History
@@ -76,7 +76,7 @@ first-after = refl
 second-lease : replied a_graded p lease 1000 ≡ leased 2 (codes "c") 1600
 second-lease = refl
 
-abbrev c_leased : History
+abbrev pub c_leased : History
 c_leased = after a_graded p lease 1000
 
 beside-a-live-lease : replied c_leased q lease 1000 ≡ leased 3 (codes "d") 1600
@@ -158,7 +158,7 @@ wrong-phase = refl
 abbrev graded_next : History → ℕ → ℕ → History
 graded_next H number grade = after (after H p lease 1000) p (command.Grade number grade) 1000
 
-abbrev all_graded : History
+abbrev pub all_graded : History
 all_graded = graded_next (graded_next (graded_next (graded_next (graded_next (graded_next opened 1 0) 2 1) 3 0) 4 1) 5 0) 6 2
 
 nothing-left : replied all_graded p lease 1000 ≡ refused refusal.NothingLeft
@@ -199,7 +199,7 @@ amendment-out-of-range : replied amended p (command.Amend (codes "1") (codes "c"
 amendment-out-of-range = refl
 
 -- Progress counts the leases that are live at the moment.
-abbrev told_at : History → Query → ℕ → Reply
+abbrev pub told_at : History → Query → ℕ → Reply
 told_at H ask moment = (answer H organiser None (See ask) moment).reply
 
 progress-before : told_at a_leased query.Progress 1599 ≡ reply.Page (codes "1 6 0 0 1\n")

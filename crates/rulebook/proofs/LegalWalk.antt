@@ -1,16 +1,21 @@
 -- What holds of the founding entry, and stays with each accepted entry, holds of every legal history.
-use Rattle.std.proofs.Common.{◌≡◌, Bool, true, false, [], ◌∷◌, ◌++◌, Ok, Err, length, refl, sym, ap, ◌∙◌, subst}
+use Rattle.std.proofs.Common.{◌≡◌, ℕ, Bool, true, false, Option, None, Some, [], ◌∷◌, ◌++◌, Ok, Err, length, refl, sym, ap, ◌∙◌, subst}
 use Rattle.std.specs.Prelude.{◌==◌, if◌then◌else◌}
+use Rattle.std.specs.Option.{option_map_or}
 use Rattle.std.proofs.lemmas.List.{append_assoc, append-nil}
 use Rattle.rulebook.specs.declared.limits.TheConstants.{MAX_ENTRIES}
+use Rattle.rulebook.specs.declared.ask.Ask.TheVariants.{Act}
+use Rattle.rulebook.specs.declared.ask.Command.{Command}
 use Rattle.rulebook.specs.declared.entry.Entry.{Entry}
 use Rattle.rulebook.specs.declared.entry.EntryCore.{EntryCore}
+use Rattle.rulebook.specs.declared.rules.Caller.{Caller}
 use Rattle.rulebook.specs.declared.reply.Quantity.TheVariants as quantity
 use Rattle.rulebook.specs.declared.reply.Refusal.TheVariants as refusal
 use Rattle.rulebook.specs.declared.reply.Reply.TheVariants as reply
-use Rattle.rulebook.specs.Answers.{acting, adding_nothing, moment_after, ruled}
+use Rattle.rulebook.specs.Answers.{Answer, acted, acting, adding_nothing, answer, moment_after, repeated, ruled}
 use Rattle.rulebook.specs.Campaign.{History}
 use Rattle.rulebook.specs.Legal.{AreAccepted, IsAccepted, IsFounding, IsLegal, core_of}
+use Rattle.rulebook.specs.Numbers.{used}
 use Rattle.rulebook.specs.Refusals.{Ruling}
 
 accepted_more : (front later : History) (e : Entry) → AreAccepted front later → IsAccepted (front ++ later) e → AreAccepted front (later ++ e ∷ [])
@@ -34,16 +39,39 @@ module _ (P : History → Type 0) (step : (before : History) (e : Entry) → IsL
   legal_induction founding [] legal = absurd legal
   legal_induction founding (first ∷ later) legal = along (first ∷ []) later (legal.0, tt) (founding first legal.0) legal.1
 
--- an accepted entry has the core that its request makes, and the reply that the rules give
+-- a command whose number wasn't used is answered by its ruling
+pub record IsUnused (H : History) (who : Caller) (number : Option ℕ) (c : Command) (moment : ℕ) : Type 0 where
+  pub unused : used H who.name number ≡ None
+  pub acted_is : answer H who number (Act c) moment ≡ acted H (core_of who number (moment_after H moment) c)
+
+-- what adds an entry is a command whose number wasn't used
+pub unused_of : (H : History) (who : Caller) (number : Option ℕ) (c : Command) (moment : ℕ) (e : Entry)
+    → (answer H who number (Act c) moment).added ≡ e ∷ [] → IsUnused H who number c moment
+unused_of H who number c moment e added = step (used H who.name number) refl added
+  where
+    core : EntryCore
+    core = core_of who number (moment_after H moment) c
+
+    step : (kept : Option (ℕ × Entry)) → used H who.name number ≡ kept
+        → (option_map_or (repeated c) kept (acted H core)).added ≡ e ∷ [] → IsUnused H who number c moment
+    step None is added = record { unused = is; acted_is = rw is refl }
+    step (Some placed) is added = cc added
+
+-- an accepted entry has the core that its request makes, the reply that the rules give, and a number that wasn't used
 pub record Accepted (H : History) (e : Entry) : Type 0 where
   pub core_is : e.core ≡ core_of e.core.caller e.core.number (moment_after H e.core.moment) e.core.command
   pub ruled_is : ruled H e.core.caller (moment_after H e.core.moment) e.core.command ≡ Ok e.reply
+  pub unused : used H e.core.caller.name e.core.number ≡ None
 
 pub accepted_of : (H : History) (e : Entry) → IsAccepted H e → Accepted H e
-accepted_of H e accepted = step (length H == MAX_ENTRIES) (ruled H core.caller core.moment core.command) refl accepted.added
+accepted_of H e accepted =
+    step (length H == MAX_ENTRIES) (ruled H core.caller core.moment core.command) refl (ap (λ (a : Answer). a.added) (sym free.acted_is) ∙ accepted.added)
   where
     core : EntryCore
     core = core_of e.core.caller e.core.number (moment_after H e.core.moment) e.core.command
+
+    free : IsUnused H e.core.caller e.core.number e.core.command e.core.moment
+    free = unused_of H e.core.caller e.core.number e.core.command e.core.moment e accepted.added
 
     step : (full : Bool) (ruling : Ruling) → ruled H core.caller core.moment core.command ≡ ruling
         → (if full then adding_nothing (reply.Refused (refusal.Limit quantity.Entries)) else acting core ruling).added ≡ e ∷ [] → Accepted H e
@@ -52,4 +80,4 @@ accepted_of H e accepted = step (length H == MAX_ENTRIES) (ruled H core.caller c
     step false (Ok r) is added =
         let made : Entry = record { core = core; reply = r } in
         let same : made ≡ e = cc added in
-        record { core_is = ap (λ (e : Entry). e.core) (sym same); ruled_is = is ∙ ap (λ (e : Entry). Ok e.reply) same }
+        record { core_is = ap (λ (e : Entry). e.core) (sym same); ruled_is = is ∙ ap (λ (e : Entry). Ok e.reply) same; unused = free.unused }

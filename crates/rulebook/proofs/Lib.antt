@@ -1,5 +1,6 @@
 pub mod SmallCampaign
 pub mod JournalSizes
+pub mod EndedCampaign
 pub mod JudgedCampaign
 pub mod Entering
 pub mod Listing

@@ -1,7 +1,7 @@
 -- Every reply on a legal history is plain, and a command's is short.
 use Rattle.std.proofs.Common.{◌≡◌, ℕ, Bool, true, false, List, [], ◌∷◌, ◌++◌, Option, None, Some, Ok, Err, length, map, refl, sym, ap, ◌∙◌, filter}
-use Rattle.std.specs.Prelude.{◌&&◌, ◌==◌, ◌-◌, ◌^◌, if◌then◌else◌, nat_lt, nat_le, slice_get, unwrap_or}
-use Rattle.std.specs.List.{All, filter_map, find, flat_map, list_all}
+use Rattle.std.specs.Prelude.{◌&&◌, ◌==◌, ◌-◌, ◌^◌, if◌then◌else◌, nat_lt, nat_le, not, slice_get, unwrap_or}
+use Rattle.std.specs.List.{All, enumerate_from, filter_map, find, flat_map, list_all}
 use Rattle.std.specs.Option.{option_and_then, option_map_or}
 use Rattle.std.specs.Str.{bytes_eq}
 use Rattle.std.proofs.lemmas.List.Sums.{AllPass-from_list_all}
@@ -23,18 +23,21 @@ use Rattle.rulebook.specs.declared.reply.Refusal.{Refusal}
 use Rattle.rulebook.specs.declared.reply.Refusal.TheVariants as refusal
 use Rattle.rulebook.specs.declared.reply.Reply.{Reply}
 use Rattle.rulebook.specs.declared.reply.Reply.TheVariants as reply
-use Rattle.rulebook.specs.Answers.{acting, adding_nothing, amend_tests, answer, grade_range, grade_ruling, graded_lease, judging_tests, lease_refusals, lease_ruling, lease_tests, leased, moment_after, open_tests, paged, pool_tests, release_ruling, released_lease, reply_of, rule_tests, ruled, scores_tests, submit_tests, told, topics_tests}
-use Rattle.rulebook.specs.Campaign.{History, Run, docs_on, held, line_count, live, numbered, pool, run_in, title, topics, topics_in}
+use Rattle.rulebook.specs.Answers.{acted, acting, adding_nothing, amend_tests, answer, grade_range, grade_ruling, graded_lease, judging_tests, lease_refusals, lease_ruling, lease_tests, leased, moment_after, open_tests, paged, pool_tests, release_ruling, release_tests, released, released_lease, repeated, reply_of, rule_tests, ruled, run_refusals, submit_tests, told, topics_tests, withdraw_ruling, withdraw_tests}
+use Rattle.rulebook.specs.Campaign.{History, Run, docs_on, held, is_withdrawn, line_count, live, numbered, pool, run_in, runs, title, topics, topics_in}
 use Rattle.rulebook.specs.JudgingOrder.{first_of, holds_open, is_open_to, named}
 use Rattle.rulebook.specs.Leases.{Lease, lease_in, lease_numbered, leases}
-use Rattle.rulebook.specs.Legal.{IsAccepted, IsFounding, IsLegal, core_of, founding, is_built, is_named, is_well_addressed}
+use Rattle.rulebook.specs.Legal.{IsAccepted, IsFounding, IsLegal, core_of, founding, is_named, is_well_addressed}
+use Rattle.rulebook.specs.Numbers.{is_numbered, used}
+use Rattle.rulebook.specs.Pages.{qrels_page}
 use Rattle.rulebook.specs.Plain.{is_plain_and_short, is_plain_entry, is_plain_reply, is_short_reply}
 use Rattle.rulebook.specs.Refusals.{Ruling, given, unless}
 use Rattle.rulebook.specs.Roles.{may_give, may_see}
-use Rattle.rulebook.specs.Scores.{run_named, scores_page}
+use Rattle.rulebook.specs.SameCommands.{same_command}
+use Rattle.rulebook.specs.Scores.{run_named, scores_page, table_page}
 use Rattle.rulebook.specs.Spelling.{are_rules, differ, entry_bytes, has_spelling, is_ascending, is_number, is_plain, is_plain_list, is_plain_topic, is_printable}
 use Rattle.rulebook.specs.Words.{Text}
-use Rattle.rulebook.proofs.AllPass.{all_filtered, all_found, all_given, all_got, all_in_order, all_mapped_flat, all_numbered, all_pushed, all_taken, both, first_of_both, second_of_both}
+use Rattle.rulebook.proofs.AllPass.{all_filtered, all_found, all_images, all_given, all_got, all_in_order, all_mapped_flat, all_numbered, all_pushed, all_taken, both, first_of_both, second_of_both}
 use Rattle.rulebook.proofs.LegalWalk.{accepted_of, legal_induction}
 
 abbrev pub ArePlain : History → Type 0
@@ -112,8 +115,15 @@ reply_part e plain =
     first_of_both (is_plain_reply e.reply) (is_short_reply e.reply) (second_of_both (is_plain e.core.command) (is_plain_and_short e.reply) plain)
 
 module _ (H : History) (all : ArePlain H) where
+  runs_plain : list_all is_plain_run (runs H) ≡ true
+  runs_plain = all_given is_plain_entry is_plain_run (λ e. run_in e.core.command) (λ e run plain is. run_plain e.core.command run (command_part e plain) is) H all
+
+  -- the live runs, each with its number
+  taking_part : list_all (λ (run : ℕ × Run). is_plain_run run.1) (numbered H) ≡ true
+  taking_part = all_filtered (λ (run : ℕ × Run). is_plain_run run.1) (λ (run : ℕ × Run). not (is_withdrawn H run.1.name)) (enumerate_from 0 (runs H)) (all_numbered is_plain_run 0 (runs H) runs_plain)
+
   live_plain : list_all is_plain_run (live H) ≡ true
-  live_plain = all_given is_plain_entry is_plain_run (λ e. run_in e.core.command) (λ e run plain is. run_plain e.core.command run (command_part e plain) is) H all
+  live_plain = all_images is_plain_run (λ (run : ℕ × Run). run.1) (numbered H) taking_part
 
   leases_plain : list_all is_plain_lease (leases H) ≡ true
   leases_plain =
@@ -173,7 +183,7 @@ module _ (H : History) (all : ArePlain H) where
       candidates = filter (holds_open H now assessor topic) (numbered H)
 
       plain : list_all (λ run. is_plain_run run.1) candidates ≡ true
-      plain = all_filtered (λ run. is_plain_run run.1) (holds_open H now assessor topic) (numbered H) (all_numbered is_plain_run 0 (live H) live_plain)
+      plain = all_filtered (λ run. is_plain_run run.1) (holds_open H now assessor topic) (numbered H) taking_part
 
       step : (o : Option (ℕ × Run)) → first_of H topic candidates ≡ o
           → option_and_then (λ (run : ℕ × Run). find (is_open_to H now assessor topic) (held H topic run.1)) o ≡ Some doc → is_docno doc ≡ true
@@ -224,6 +234,13 @@ module _ (H : History) (all : ArePlain H) (who : Caller) (now : ℕ) where
       (given_passes is_plain_and_short refused_short (lease_numbered H number) refusal.UnknownLease (released_lease H who now)
       (λ lease is. short_unless (lease_refusals H who now lease) (Ok reply.Done) refl))
 
+  withdraw_short : (run : Text) → is_plain_and_short (reply_of (withdraw_ruling H who run)) ≡ true
+  withdraw_short run =
+      let follows : Run → Ruling = λ found. unless (run_refusals H who run) (Ok reply.Done) in
+      short_unless (withdraw_tests H) (given (run_named H run) refusal.UnknownRun follows)
+      (given_passes is_plain_and_short refused_short (run_named H run) refusal.UnknownRun follows
+      (λ found is. short_unless (run_refusals H who run) (Ok reply.Done) refl))
+
   pub ruled_short : (c : Command) → is_plain c ≡ true → is_plain_and_short (reply_of (ruled H who now c)) ≡ true
   ruled_short (command.Found rules) plain = refl
   ruled_short (command.Topics topics) plain = short_unless (topics_tests H topics) (Ok (reply.Topics (length topics))) refl
@@ -235,11 +252,14 @@ module _ (H : History) (all : ArePlain H) (who : Caller) (now : ℕ) where
   ruled_short (command.Release number) plain = release_short number
   ruled_short (command.Amend topic doc grade) plain = short_unless (amend_tests H who topic doc grade) (Ok reply.Done) refl
   ruled_short (command.Rule topic doc grade) plain = short_unless (rule_tests H topic doc grade) (Ok reply.Done) refl
-  ruled_short (command.Withdraw run) plain = refl
-  ruled_short command.Publish plain = refl
+  ruled_short (command.Withdraw run) plain = withdraw_short run
+  ruled_short command.Publish plain = short_unless (judging_tests H) (Ok reply.Done) refl
 
   abbrev scores_told : Text → Run → Ruling
-  scores_told run found = unless (scores_tests H who run) (paged (scores_page H found))
+  scores_told run found = unless (run_refusals H who run) (paged (scores_page H found))
+
+  release_told : (release : ℕ) (text : Text) → is_plain_reply (reply_of (released H release text)) ≡ true
+  release_told release text = unless_passes is_plain_reply refused_plain (release_tests H release) (paged text) refl
 
   told_plain : (q : Query) → is_named q ≡ true → is_plain_reply (reply_of (told H who now q)) ≡ true
   told_plain (query.Pool topic) name =
@@ -248,25 +268,25 @@ module _ (H : History) (all : ArePlain H) (who : Caller) (now : ℕ) where
   told_plain query.Qrels name = refl
   told_plain (query.Scores run) name =
       given_passes is_plain_reply refused_plain (run_named H run) refusal.UnknownRun (scores_told run)
-      (λ found is. unless_passes is_plain_reply refused_plain (scores_tests H who run) (paged (scores_page H found)) refl)
+      (λ found is. unless_passes is_plain_reply refused_plain (run_refusals H who run) (paged (scores_page H found)) refl)
   told_plain query.Table name = refl
   told_plain query.Disagreements name = refl
   told_plain query.Progress name = refl
-  told_plain (query.ReleaseQrels release) name = refl
-  told_plain (query.ReleaseScores release) name = refl
+  told_plain (query.ReleaseQrels release) name = release_told release (qrels_page H)
+  told_plain (query.ReleaseScores release) name = release_told release (table_page H)
 
 -- a well addressed command is plain
 pub addressed_plain : (who : Caller) (number : Option ℕ) (c : Command) (moment : ℕ) → is_well_addressed who number (Act c) moment ≡ true → is_plain c ≡ true
 addressed_plain who number c moment addressed =
     let core : EntryCore = core_of who number moment c in
-    let front = first_of_both (is_built (Act c) && may_give who.role c && has_spelling core) (nat_le (length (entry_bytes core)) MAX_ENTRY_BYTES) addressed in
-    let spelled = second_of_both (is_built (Act c) && may_give who.role c) (has_spelling core) front in
+    let front = first_of_both (may_give who.role c && has_spelling core) (nat_le (length (entry_bytes core)) MAX_ENTRY_BYTES) addressed in
+    let spelled = second_of_both (may_give who.role c) (has_spelling core) front in
     second_of_both (is_name who.name && is_number number && nat_le moment MAX_MOMENT) (is_plain c) spelled
 
 addressed_named : (who : Caller) (number : Option ℕ) (q : Query) (moment : ℕ) → is_well_addressed who number (See q) moment ≡ true → is_named q ≡ true
 addressed_named who number q moment addressed =
-    second_of_both (is_built (See q) && may_see who.role q && is_name who.name) (is_named q)
-    (first_of_both (is_built (See q) && may_see who.role q && is_name who.name && is_named q) (nat_le moment MAX_MOMENT) addressed)
+    second_of_both (may_see who.role q && is_name who.name) (is_named q)
+    (first_of_both (may_see who.role q && is_name who.name && is_named q) (nat_le moment MAX_MOMENT) addressed)
 
 -- The walk over a legal history
 
@@ -290,20 +310,36 @@ entries_plain H legal = AllPass-from_list_all is_plain_entry H (all_plain H lega
 
 -- The answers
 
+-- the reply that a number was given is that of an entry
+kept_short : (H : History) (name : Text) (number : Option ℕ) (placed : ℕ × Entry) → ArePlain H → used H name number ≡ Some placed → is_plain_and_short placed.1.reply ≡ true
+kept_short H name None placed all is = cc is
+kept_short H name (Some number) placed all is =
+    let entry = all_found (λ (p : ℕ × Entry). is_plain_entry p.1) (λ p. is_numbered name number p.1) (enumerate_from 1 H) placed (all_numbered is_plain_entry 1 H all) is in
+    second_of_both (is_plain placed.1.core.command) (is_plain_and_short placed.1.reply) entry
+
 command_short : (H : History) (who : Caller) (number : Option ℕ) (c : Command) (moment : ℕ) → IsLegal H
     → is_well_addressed who number (Act c) moment ≡ true → is_plain_and_short (answer H who number (Act c) moment).reply ≡ true
-command_short H who number c moment legal addressed =
-    step (length H == MAX_ENTRIES) (ruled H who (moment_after H moment) c)
-    (ruled_short H (all_plain H legal) who (moment_after H moment) c (addressed_plain who number c moment addressed))
+command_short H who number c moment legal addressed = by_use (used H who.name number) refl
   where
     core : EntryCore
     core = core_of who number (moment_after H moment) c
 
-    step : (full : Bool) (ruling : Ruling) → is_plain_and_short (reply_of ruling) ≡ true
+    by_ruling : (full : Bool) (ruling : Ruling) → is_plain_and_short (reply_of ruling) ≡ true
         → is_plain_and_short (if full then adding_nothing (reply.Refused (refusal.Limit quantity.Entries)) else acting core ruling).reply ≡ true
-    step true ruling passes = refl
-    step false (Ok r) passes = passes
-    step false (Err r) passes = passes
+    by_ruling true ruling passes = refl
+    by_ruling false (Ok r) passes = passes
+    by_ruling false (Err r) passes = passes
+
+    by_sameness : (same : Bool) (placed : ℕ × Entry) → is_plain_and_short placed.1.reply ≡ true
+        → is_plain_and_short (if same then placed.1.reply else reply.Refused (refusal.Reused placed.0)) ≡ true
+    by_sameness true placed passes = passes
+    by_sameness false placed passes = refl
+
+    by_use : (kept : Option (ℕ × Entry)) → used H who.name number ≡ kept → is_plain_and_short (option_map_or (repeated c) kept (acted H core)).reply ≡ true
+    by_use None is =
+        by_ruling (length H == MAX_ENTRIES) (ruled H who (moment_after H moment) c)
+        (ruled_short H (all_plain H legal) who (moment_after H moment) c (addressed_plain who number c moment addressed))
+    by_use (Some placed) is = by_sameness (same_command c placed.1.core.command) placed (kept_short H who.name number placed (all_plain H legal) is)
 
 pub replies_plain : (H : History) (who : Caller) (number : Option ℕ) (ask : Ask) (moment : ℕ) → IsLegal H
     → is_well_addressed who number ask moment ≡ true → is_plain_reply (answer H who number ask moment).reply ≡ true

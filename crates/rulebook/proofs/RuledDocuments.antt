@@ -1,52 +1,40 @@
 -- In a list of entries that can come about a document with a ruling has a label.
-use Rattle.std.proofs.Common.{◌≡◌, ℕ, Bool, true, false, not, List, [], ◌∷◌, ◌++◌, Option, None, Some, Ok, length, suc, refl, sym, ap, ◌∙◌, is_some, subst, arith, lt-ltb}
-use Rattle.std.specs.Prelude.{◌==◌, ◌&&◌, if◌then◌else◌, nat_lt}
+use Rattle.std.proofs.Common.{◌≡◌, ℕ, Bool, true, false, not, List, [], ◌∷◌, ◌++◌, Option, None, Some, Ok, length, suc, refl, sym, ap, ◌∙◌, is_some, arith, lt-ltb}
+use Rattle.std.specs.Prelude.{◌&&◌, if◌then◌else◌, nat_lt}
 use Rattle.std.specs.Option.{option_or}
 use Rattle.std.specs.Str.{bytes_eq}
-use Rattle.std.proofs.lemmas.List.{append_assoc, append-nil}
 use Rattle.std.proofs.lemmas.Slice.Eq.{bytes_eq-Decides}
 use Rattle.labels.specs.Grades.{common_grade}
 use Rattle.labels.specs.Labelled.{grades_of}
 use Rattle.labels.specs.declared.given.Given.{Given}
-use Rattle.rulebook.specs.declared.limits.TheConstants.{MAX_ENTRIES}
 use Rattle.rulebook.specs.declared.rules.Phase.TheVariants.{Judging}
 use Rattle.rulebook.specs.declared.ask.Command.{Command}
 use Rattle.rulebook.specs.declared.ask.Command.TheVariants as command
 use Rattle.rulebook.specs.declared.entry.Entry.{Entry}
-use Rattle.rulebook.specs.declared.entry.EntryCore.{EntryCore}
-use Rattle.rulebook.specs.declared.reply.Quantity.TheVariants as quantity
 use Rattle.rulebook.specs.declared.reply.Refusal.{Refusal}
 use Rattle.rulebook.specs.declared.reply.Refusal.TheVariants as refusal
+use Rattle.rulebook.specs.declared.reply.Reply.{Reply}
 use Rattle.rulebook.specs.declared.reply.Reply.TheVariants as reply
-use Rattle.rulebook.specs.Answers.{acting, adding_nothing, grade_range, moment_after, rule_ruling, ruled}
+use Rattle.rulebook.specs.Answers.{grade_range, moment_after, rule_ruling, ruled}
 use Rattle.rulebook.specs.Campaign.{History, is_topic, need}
 use Rattle.rulebook.specs.Grades.{effective, is_labelled, labelled, labels_on, ruling, ruling_in, trail}
-use Rattle.rulebook.specs.Legal.{AreAccepted, IsAccepted, IsFounding, IsLegal}
+use Rattle.rulebook.specs.Legal.{IsAccepted, IsFounding, IsLegal}
 use Rattle.rulebook.specs.Refusals.{Ruling, ◌when◌, unless, wrong_phase_unless}
 use Rattle.rulebook.specs.Words.{Text, contains_text}
+use Rattle.rulebook.proofs.LegalWalk.{accepted_of, legal_induction}
 use Rattle.rulebook.proofs.Entering.{graded-on-trail, passes-among, rulings-follow}
 use Rattle.rulebook.proofs.Listing.{labelled-grow, listed-labelled}
 
--- a refusal that holds is told, or an earlier one
-refused-third : (a b : Option Refusal) (r : Refusal) (rest : List (Option Refusal)) (core : EntryCore) (ruling : Ruling) → (acting core (unless (a ∷ b ∷ Some r ∷ rest) ruling)).added ≡ []
-refused-third (Some s) b r rest core ruling = refl
-refused-third None (Some s) r rest core ruling = refl
-refused-third None None r rest core ruling = refl
+-- what is accepted passed its third test
+third-passes : (a b : Option Refusal) (r : Refusal) (t : Bool) (rest : List (Option Refusal)) (ruling : Ruling) (told : Reply) → unless (a ∷ b ∷ (r when not t) ∷ rest) ruling ≡ Ok told → t ≡ true
+third-passes (Some s) b r t rest ruling told is = cc is
+third-passes None (Some s) r t rest ruling told is = cc is
+third-passes None None r true rest ruling told is = refl
+third-passes None None r false rest ruling told is = cc is
 
--- what is accepted isn't refused
-rule-labelled : (H : History) (core : EntryCore) (topic doc : Text) (grade : ℕ) (e : Entry) (full : Bool)
-    → (if full then adding_nothing (reply.Refused (refusal.Limit quantity.Entries)) else acting core (rule_ruling H topic doc grade)).added ≡ e ∷ [] → is_labelled H topic doc ≡ true
-rule-labelled H core topic doc grade e true is = cc is
-rule-labelled H core topic doc grade e false is = step (is_labelled H topic doc) refl
-  where
-    step : (t : Bool) → is_labelled H topic doc ≡ t → t ≡ true
-    step true test = refl
-    step false test =
-        let tests : Bool → List (Option Refusal) = λ t. wrong_phase_unless Judging H ∷ (refusal.UnknownTopic when not (is_topic H topic)) ∷ (refusal.NotLabelled when not t) ∷ grade_range H grade ∷ [] in
-        let none : (acting core (rule_ruling H topic doc grade)).added ≡ [] =
-        ap (λ t. (acting core (unless (tests t) (Ok reply.Done))).added) test
-        ∙ refused-third (wrong_phase_unless Judging H) (refusal.UnknownTopic when not (is_topic H topic)) refusal.NotLabelled (grade_range H grade ∷ []) core (Ok reply.Done) in
-        cc (none, is)
+rule-labelled : (H : History) (topic doc : Text) (grade : ℕ) (told : Reply) → rule_ruling H topic doc grade ≡ Ok told → is_labelled H topic doc ≡ true
+rule-labelled H topic doc grade told is =
+    third-passes (wrong_phase_unless Judging H) (refusal.UnknownTopic when not (is_topic H topic)) refusal.NotLabelled (is_labelled H topic doc) (grade_range H grade ∷ []) (Ok reply.Done) told is
 
 abbrev RuledAreLabelled : History → Type 0
 RuledAreLabelled H = (topic doc : Text) → is_some (ruling H topic doc) ≡ true → is_labelled H topic doc ≡ true
@@ -57,12 +45,8 @@ labelled-stays H rest topic doc has = sym (listed-labelled (H ++ rest) topic doc
 accepted-ruling : (H : History) (e : Entry) (topic doc : Text) (c : Command) → e.core.command ≡ c → IsAccepted H e → is_some (ruling_in topic doc c) ≡ true → is_labelled H topic doc ≡ true
 accepted-ruling H e topic doc (command.Rule t d grade) is accepted some = step (bytes_eq t topic) refl (bytes_eq d doc) refl some
   where
-    core : EntryCore
-    core = record { caller = e.core.caller; number = e.core.number; moment = moment_after H e.core.moment; command = e.core.command }
-
     ruled_there : is_labelled H t d ≡ true
-    ruled_there = rule-labelled H core t d grade e (length H == MAX_ENTRIES)
-        (sym (ap (λ (c : Command). (if length H == MAX_ENTRIES then adding_nothing (reply.Refused (refusal.Limit quantity.Entries)) else acting core (ruled H core.caller core.moment c)).added) is) ∙ accepted.added)
+    ruled_there = rule-labelled H t d grade e.reply (ap (ruled H e.core.caller (moment_after H e.core.moment)) (sym is) ∙ (accepted_of H e accepted).ruled_is)
 
     step : (s : Bool) → bytes_eq t topic ≡ s → (u : Bool) → bytes_eq d doc ≡ u → is_some (if (s && u) then Some grade else None) ≡ true → is_labelled H topic doc ≡ true
     step true same_topic true same_doc has =
@@ -87,16 +71,11 @@ ruled-push H e before accepted topic doc some = labelled-stays H (e ∷ []) topi
     step (Some grade) is has = accepted-ruling H e topic doc e.core.command refl accepted (ap (λ (o : Option ℕ). is_some o) is)
     step None is has = before topic doc has
 
-ruled-along : (before later : History) → RuledAreLabelled before → AreAccepted before later → RuledAreLabelled (before ++ later)
-ruled-along before [] ruled accepted = subst RuledAreLabelled (sym (append-nil before)) ruled
-ruled-along before (e ∷ later) ruled accepted = subst RuledAreLabelled (append_assoc before (e ∷ []) later) (ruled-along (before ++ e ∷ []) later (ruled-push before e ruled accepted.0) accepted.1)
-
 founding-ruled : (first : Entry) → IsFounding first → RuledAreLabelled (first ∷ [])
 founding-ruled first is topic doc some = let e : first ≡ _ = is.2 in let none : is_some (ruling (first ∷ []) topic doc) ≡ false = rw e refl in cc (none, some)
 
 pub ruled-labelled : (H : History) → IsLegal H → RuledAreLabelled H
-ruled-labelled [] legal = absurd legal
-ruled-labelled (first ∷ later) legal = ruled-along (first ∷ []) later (founding-ruled first legal.0) legal.1
+ruled-labelled = legal_induction RuledAreLabelled (λ before e legal ruled accepted. ruled-push before e ruled accepted) founding-ruled
 
 -- A grade of the labels is one of some labels.
 common-some : (need_ : ℕ) (given : List Given) → is_some (common_grade need_ (grades_of given)) ≡ true → nat_lt 0 (length given) ≡ true

@@ -41,7 +41,7 @@ list_of topic line docs = record { topic = topic; line = line; docs = docs }
 abbrev pub submitted : Text → List Text → Command
 submitted run docs = command.Submit run (list_of (codes "1") 1 docs ∷ [])
 
-abbrev X : Command
+abbrev pub X : Command
 X = submitted (codes "X") (codes "a" ∷ codes "b" ∷ codes "e" ∷ [])
 
 abbrev Y : Command
@@ -54,7 +54,7 @@ after H who c = H ++ (answer H who None (Act c) 1000).added
 abbrev founded : ℕ → History
 founded depth = founding (rules depth) ∷ []
 
-abbrev with_topic : ℕ → History
+abbrev pub with_topic : ℕ → History
 with_topic depth = after (founded depth) organiser (command.Topics (pooling ∷ []))
 
 -- the campaign with both runs, at a depth

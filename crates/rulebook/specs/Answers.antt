@@ -7,7 +7,7 @@ use Rattle.trec_formats.specs.declared.Topic.{Topic}
 use Rattle.trec_formats.specs.declared.TopicList.{TopicList}
 use Rattle.rulebook.specs.declared.limits.TheConstants.{MAX_TOPICS, MAX_RUNS, MAX_LINES, MAX_DOCNOS, MAX_ENTRIES}
 use Rattle.rulebook.specs.declared.rules.Caller.{Caller}
-use Rattle.rulebook.specs.declared.rules.Phase.TheVariants.{Collecting, Judging}
+use Rattle.rulebook.specs.declared.rules.Phase.TheVariants.{Collecting, Judging, Published}
 use Rattle.rulebook.specs.declared.ask.Command.{Command}
 use Rattle.rulebook.specs.declared.ask.Command.TheVariants as command
 use Rattle.rulebook.specs.declared.ask.Query.{Query}
@@ -20,15 +20,18 @@ use Rattle.rulebook.specs.declared.reply.Quantity.TheVariants as quantity
 use Rattle.rulebook.specs.declared.reply.Reply.{Reply}
 use Rattle.rulebook.specs.declared.reply.Reply.TheVariants as reply
 use Rattle.rulebook.specs.declared.entry.EntryCore.{EntryCore}
+use Rattle.rulebook.specs.declared.entry.Entry.{Entry}
 use Rattle.rulebook.specs.Words.{Text}
-use Rattle.rulebook.specs.Campaign.{History, has_topics, is_topic, runs, is_taken, line_count, lines_with, docnos_with, pool, phase, rules_of, title}
+use Rattle.rulebook.specs.Campaign.{History, has_topics, is_topic, runs, is_taken, is_withdrawn, line_count, lines_with, docnos_with, pool, phase, rules_of, title}
 use Rattle.rulebook.specs.Grades.{is_labelled, is_labelled_by}
 use Rattle.rulebook.specs.JudgingOrder.{named}
 use Rattle.rulebook.specs.Pages.{disagreements_page, progress_page, qrels_page}
 use Rattle.rulebook.specs.Roles.{is_group}
 use Rattle.rulebook.specs.Scores.{is_submitter, run_named, scores_page, table_page}
 use Rattle.rulebook.specs.Leases.{Lease, is_ended, lease_numbered, leases, live_leases_of}
-use Rattle.rulebook.specs.Refusals.{Ruling, ◌when◌, given, unless, wrong_phase_unless}
+use Rattle.rulebook.specs.Numbers.{used}
+use Rattle.rulebook.specs.Refusals.{Ruling, ◌when◌, given, is_phase, unless, wrong_phase_unless, wrong_phase_where}
+use Rattle.rulebook.specs.SameCommands.{same_command}
 
 -- the least line of a list whose topic isn't a topic of the campaign
 abbrev pub unknown_line : History → List TopicList → Option ℕ
@@ -128,7 +131,23 @@ rule_tests H topic doc grade =
 abbrev pub rule_ruling : History → Text → Text → ℕ → Ruling
 rule_ruling H topic doc grade = unless (rule_tests H topic doc grade) (Ok reply.Done)
 
--- What a caller's command comes to at a moment. No request gives another command yet.
+-- The refusals of a request about a run: a group asks about its own runs alone, and a withdrawn run has no part any more.
+abbrev pub run_refusals : History → Caller → Text → List (Option Refusal)
+run_refusals H who name =
+    (refusal.NotYours when (is_group who.role && not (is_submitter H who.name name)))
+    ∷ (refusal.Withdrawn when is_withdrawn H name) ∷ []
+
+abbrev pub withdraw_tests : History → List (Option Refusal)
+withdraw_tests H = wrong_phase_where Published H ∷ []
+
+abbrev pub withdraw_ruling : History → Caller → Text → Ruling
+withdraw_ruling H who name =
+    unless (withdraw_tests H) (given (run_named H name) refusal.UnknownRun (λ run. unless (run_refusals H who name) (Ok reply.Done)))
+
+abbrev pub publish_ruling : History → Ruling
+publish_ruling H = unless (judging_tests H) (Ok reply.Done)
+
+-- What a caller's command comes to at a moment.
 abbrev pub ruled : History → Caller → ℕ → Command → Ruling
 ruled H who now (command.Topics topics) = topics_ruling H topics
 ruled H who now (command.Submit run lists) = submit_ruling H run lists
@@ -138,7 +157,10 @@ ruled H who now (command.Grade lease grade) = grade_ruling H who now lease grade
 ruled H who now (command.Release lease) = release_ruling H who now lease
 ruled H who now (command.Amend topic doc grade) = amend_ruling H who topic doc grade
 ruled H who now (command.Rule topic doc grade) = rule_ruling H topic doc grade
-ruled H who now _ = Err (refusal.WrongPhase (phase H))
+ruled H who now (command.Withdraw run) = withdraw_ruling H who run
+ruled H who now command.Publish = publish_ruling H
+-- nobody gives this: the founding entry is there from the start
+ruled H who now (command.Found rules) = Err (refusal.WrongPhase (phase H))
 
 -- What each query comes to.
 
@@ -152,15 +174,18 @@ pool_ruling H topic = unless (pool_tests H topic) (Ok (reply.Pool topic (pool H 
 abbrev pub paged : Text → Ruling
 paged text = Ok (reply.Page text)
 
--- A group is told the scores of its own runs alone.
-abbrev pub scores_tests : History → Caller → Text → List (Option Refusal)
-scores_tests H who name = (refusal.NotYours when (is_group who.role && not (is_submitter H who.name name))) ∷ []
-
 abbrev pub scores_ruling : History → Caller → Text → Ruling
 scores_ruling H who name =
-    given (run_named H name) refusal.UnknownRun (λ run. unless (scores_tests H who name) (paged (scores_page H run)))
+    given (run_named H name) refusal.UnknownRun (λ run. unless (run_refusals H who name) (paged (scores_page H run)))
 
--- What a caller's query comes to at a moment. No request asks another query yet.
+-- The one release is what the campaign published.
+abbrev pub release_tests : History → ℕ → List (Option Refusal)
+release_tests H release = (refusal.UnknownRelease when not (is_phase Published (phase H) && release == 1)) ∷ []
+
+abbrev pub released : History → ℕ → Text → Ruling
+released H release text = unless (release_tests H release) (paged text)
+
+-- What a caller's query comes to at a moment.
 abbrev pub told : History → Caller → ℕ → Query → Ruling
 told H who now (query.Pool topic) = pool_ruling H topic
 told H who now query.Qrels = paged (qrels_page H)
@@ -168,7 +193,8 @@ told H who now (query.Scores run) = scores_ruling H who run
 told H who now query.Table = paged (table_page H)
 told H who now query.Disagreements = paged (disagreements_page H)
 told H who now query.Progress = paged (progress_page H now)
-told H who now _ = Ok (reply.Page [])
+told H who now (query.ReleaseQrels release) = released H release (qrels_page H)
+told H who now (query.ReleaseScores release) = released H release (table_page H)
 
 abbrev pub reply_of : Ruling → Reply
 reply_of (Ok r) = r
@@ -197,10 +223,15 @@ acted H core =
     if length H == MAX_ENTRIES then adding_nothing (reply.Refused (refusal.Limit quantity.Entries))
     else acting core (ruled H core.caller core.moment core.command)
 
+-- The same command under the same number gets the reply that was kept, and another command none.
+abbrev pub repeated : Command → ℕ × Entry → Answer
+repeated c placed = adding_nothing (if same_command c placed.1.core.command then placed.1.reply else reply.Refused (refusal.Reused placed.0))
+
 -- The answer, by cases in their order:
 -- a query is told and adds nothing, whatever its number;
--- a command whose caller used its number before will get the kept reply, or be refused, here: no request has a number yet;
+-- a command whose caller used its number before gets the kept reply or is refused, and adds nothing;
 -- another command is refused where H is full, by the first refusal of its kind that holds, or accepted.
 abbrev pub answer : History → Caller → Option ℕ → Ask → ℕ → Answer
 answer H who number (See q) moment = adding_nothing (reply_of (told H who (moment_after H moment) q))
-answer H who number (Act c) moment = acted H (record { caller = who; number = number; moment = moment_after H moment; command = c })
+answer H who number (Act c) moment =
+    option_map_or (repeated c) (used H who.name number) (acted H (record { caller = who; number = number; moment = moment_after H moment; command = c }))

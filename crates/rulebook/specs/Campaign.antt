@@ -1,5 +1,5 @@
 -- Rules, phase, topics, runs and pools of a campaign whose list of accepted entries is H.
-use Rattle.std.specs.Prelude.{ℕ, Bool, true, false, if◌then◌else◌, ◌+◌, List, [], ◌++◌, Option, None, Some, ◌∷◌, take, length, unwrap_or, is_some, slice_get, sum_by}
+use Rattle.std.specs.Prelude.{ℕ, Bool, true, false, not, filter, map, if◌then◌else◌, ◌+◌, List, [], ◌++◌, Option, None, Some, ◌∷◌, take, length, unwrap_or, is_some, slice_get, sum_by}
 use Rattle.std.specs.List.{list_any, filter_map, find, flat_map, enumerate_from}
 use Rattle.std.specs.Option.{option_map_or}
 use Rattle.std.specs.Str.{bytes_eq}
@@ -92,13 +92,20 @@ runs H = filter_map (λ e. run_in e.core.command) H
 abbrev pub is_taken : History → Text → Bool
 is_taken H name = list_any (λ run. bytes_eq run.name name) (runs H)
 
--- the runs that take part: each submitted one. No entry ends a run's part yet; a Withdraw entry will.
-abbrev pub live : History → List Run
-live H = runs H
+abbrev pub withdraws : Text → Command → Bool
+withdraws name (command.Withdraw run) = bytes_eq run name
+withdraws name _ = false
 
--- the live runs, each with its number of submission
+-- whether the run of this name was withdrawn
+abbrev pub is_withdrawn : History → Text → Bool
+is_withdrawn H name = list_any (λ e. withdraws name e.core.command) H
+
+-- the live runs, each with its number of submission: those that were submitted and not withdrawn
 abbrev pub numbered : History → List (ℕ × Run)
-numbered H = enumerate_from 0 (live H)
+numbered H = filter (λ run. not (is_withdrawn H run.1.name)) (enumerate_from 0 (runs H))
+
+abbrev pub live : History → List Run
+live H = map (λ run. run.1) (numbered H)
 
 abbrev pub line_count : List TopicList → ℕ
 line_count lists = sum_by (λ l. length l.docs) lists

@@ -19,29 +19,16 @@ use Rattle.rulebook.specs.Spelling.{entry_bytes, has_spelling, are_rules}
 use Rattle.rulebook.specs.Answers.{answer}
 use Rattle.rulebook.specs.Campaign.{History}
 
--- the asks that the rules speak of so far
-abbrev pub is_built : Ask → Bool
-is_built (Act (command.Topics topics)) = true
-is_built (Act (command.Submit run lists)) = true
-is_built (Act command.Open) = true
-is_built (Act (command.Lease topic)) = true
-is_built (Act (command.Grade lease grade)) = true
-is_built (Act (command.Release lease)) = true
-is_built (Act (command.Amend topic doc grade)) = true
-is_built (Act (command.Rule topic doc grade)) = true
-is_built (See (query.Pool topic)) = true
-is_built (See query.Qrels) = true
-is_built (See (query.Scores run)) = true
-is_built (See query.Table) = true
-is_built (See query.Disagreements) = true
-is_built (See query.Progress) = true
-is_built _ = false
-
 -- whether the name that a query gives is one
 abbrev pub is_named : Query → Bool
 is_named (query.Pool topic) = is_name topic
+is_named query.Qrels = true
 is_named (query.Scores run) = is_name run
-is_named _ = true
+is_named query.Table = true
+is_named query.Disagreements = true
+is_named query.Progress = true
+is_named (query.ReleaseQrels release) = true
+is_named (query.ReleaseScores release) = true
 
 abbrev pub core_of : Caller → Option ℕ → ℕ → Command → EntryCore
 core_of who number moment c = record { caller = who; number = number; moment = moment; command = c }
@@ -49,10 +36,10 @@ core_of who number moment c = record { caller = who; number = number; moment = m
 -- A request that may be answered. A command is given by a role that may give it, and its entry has a spelling that isn't too long. A query is asked by a role that may ask it, and has names that are names and a moment that isn't too late.
 abbrev pub is_well_addressed : Caller → Option ℕ → Ask → ℕ → Bool
 is_well_addressed who number (Act c) moment =
-    is_built (Act c) && may_give who.role c && has_spelling (core_of who number moment c)
+    may_give who.role c && has_spelling (core_of who number moment c)
     && nat_le (length (entry_bytes (core_of who number moment c))) MAX_ENTRY_BYTES
 is_well_addressed who number (See q) moment =
-    is_built (See q) && may_see who.role q && is_name who.name && is_named q && nat_le moment MAX_MOMENT
+    may_see who.role q && is_name who.name && is_named q && nat_le moment MAX_MOMENT
 
 -- the first entry of a campaign
 abbrev pub founding : Rules → Entry

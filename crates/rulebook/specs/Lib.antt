@@ -5,6 +5,8 @@ pub mod Grades
 pub mod JudgingOrder
 pub mod Pages
 pub mod Refusals
+pub mod SameCommands
+pub mod Numbers
 pub mod Answers
 pub mod Spelling
 pub mod Roles

@@ -35,3 +35,6 @@ is_phase _ _ = false
 
 abbrev pub wrong_phase_unless : Phase → History → Option Refusal
 wrong_phase_unless p H = refusal.WrongPhase (phase H) when not (is_phase p (phase H))
+
+abbrev pub wrong_phase_where : Phase → History → Option Refusal
+wrong_phase_where p H = refusal.WrongPhase (phase H) when is_phase p (phase H)

@@ -1,9 +1,12 @@
+ghost use Rattle.std.specs.Prelude.{◌≡◌};
+ghost use Rattle.rulebook.specs.SameCommands.{same_command};
+
 use crate::rules::{Caller, Rules};
 use decimal_rank::{Rows, Text};
 use trec_formats::{Topic, TopicList};
 
-/// A request that adds an entry where it is accepted.
-#[derive(Debug, Drop)]
+/// A request that adds an entry where it is accepted. Two commands are the same where all their fields are.
+#[derive(Debug, Drop, PartialEq)]
 pub enum Command {
     /// The founding of the campaign, which no request gives.
     Found { rules: Rules },
@@ -27,6 +30,15 @@ pub enum Command {
     Withdraw { run: Text },
     /// The end of judging.
     Publish,
+}
+
+impl Command {
+    /// Whether all fields are the same.
+    pub fn is_same(&self, other: &Command) -> bool
+        ensures { result ≡ same_command self.now other.now }
+    {
+        self == other
+    }
 }
 
 /// A request that adds nothing.

@@ -37,7 +37,7 @@ pub enum Phase {
 }
 
 /// The settings of a campaign, which its first entry holds.
-#[derive(Debug, Drop)]
+#[derive(Debug, Drop, PartialEq)]
 pub struct Rules {
     /// The documents of a run's ranks 1 to `depth` are in the pool; 1 to 1000.
     pub depth: u16,

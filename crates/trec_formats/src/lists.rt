@@ -14,7 +14,7 @@ use std::alloc::Global;
 use std::cmp::Ordering;
 
 /// The ranked list of a run on one topic.
-#[derive(Debug, Drop)]
+#[derive(Debug, Drop, PartialEq)]
 pub struct TopicList {
     pub topic: Text,
     /// The topic's first line in the run's text, from 1.

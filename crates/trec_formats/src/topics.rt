@@ -16,7 +16,7 @@ use std::alloc::Global;
 use std::collections::HashMap;
 
 /// A topic of a campaign: its name, and what is sought in three fields.
-#[derive(Debug, Drop)]
+#[derive(Debug, Drop, PartialEq)]
 pub struct Topic {
     pub id: Text,
     pub title: Text,
