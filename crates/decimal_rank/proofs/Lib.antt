@@ -13,3 +13,4 @@ pub mod Shifts
 pub mod Standing
 pub mod ScoreTexts
 pub mod Values
+pub mod Walks

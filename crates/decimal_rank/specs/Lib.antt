@@ -14,6 +14,7 @@ pub mod Places
 pub mod QrelLines
 pub mod Ranks
 pub mod Relevance
+pub mod Searches
 pub mod Significands
 pub mod TextHashes
 pub mod TextKeys

@@ -1,7 +1,7 @@
 //! The ground under every crate of the campaign.
 //!
 //! - What is kept: `texts`, `storage` (rows, and the want of memory), `naming` (numbered names).
-//! - Tables: `secrets` (what they hash with), `chains` (items that share a key).
+//! - Tables: `secrets` (what they hash with), `chains` (items that share a key), `searches` (an item among these).
 //! - Text that is read and written: `ascii`, `numbers`, `appends`, `qrel_lines`.
 //! - The outside: `failures` (faults and the failing calls of memory forms), `outputs`.
 //! - Scores: `decimals`, over `parts` and `significands`; `grades` (relevance).
@@ -22,6 +22,7 @@ mod outputs;
 mod parts;
 mod qrel_lines;
 mod rankings;
+mod searches;
 mod secrets;
 mod significands;
 mod storage;
@@ -41,6 +42,7 @@ pub use numbers::{are_all_digits, capped_number, is_number};
 pub use outputs::{Output, write_all};
 pub use qrel_lines::append_qrel;
 pub use rankings::{RankFault, Ranking, Scored, rank};
+pub use searches::{Sought, first_found};
 pub use secrets::Secret;
 pub use storage::{Memory, Rows};
 pub use texts::Text;

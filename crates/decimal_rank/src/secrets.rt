@@ -3,7 +3,7 @@
 //! who doesn't have the secret can craft keys that share a hash. Nothing but the time that a table
 //! takes depends on a secret: contracts see what a hash is of, and never rest on it.
 ghost use Rattle.std.specs.Prelude.{◌≡◌};
-ghost use Rattle.decimal_rank.specs.TextKeys.{text_key, pair_key};
+ghost use Rattle.decimal_rank.specs.TextKeys.{text_key};
 
 use libc::types::timespec;
 use std::hash::{BuildHasher, DefaultHasher, Hasher};
@@ -57,17 +57,6 @@ impl Secret {
     {
         let mut state = self.seeded;
         state.write(text);
-        state.finish()
-    }
-
-    /// The key of two texts in a table of this secret.
-    pub fn pair_key_of(&self, first: &[u8], second: &[u8]) -> u64
-        ensures { result ≡ pair_key self.now first.now second.now }
-    {
-        let mut state = self.seeded;
-        state.write_usize(first.len());
-        state.write(first);
-        state.write(second);
         state.finish()
     }
 }

@@ -6,14 +6,6 @@ use std::test::Fail;
 fn equal_texts_share_a_key(rt: HostRuntime) {
     let secret = Secret::drawn();
     assert_eq!(rt; secret.key_of(b"FT911-3"), secret.key_of(b"FT911-3"));
-    assert_eq!(rt;
-        secret.pair_key_of(b"401", b"a"),
-        secret.pair_key_of(b"401", b"a")
-    );
-    assert_ne!(rt;
-        secret.pair_key_of(b"40", b"1a"),
-        secret.pair_key_of(b"401", b"a")
-    );
     assert_ne!(rt;
         secret.key_of(b"FT911-3"),
         Secret::drawn().key_of(b"FT911-3")

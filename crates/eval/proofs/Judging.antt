@@ -10,7 +10,7 @@ use denote.Ref.{Bor}
 use Rattle.decimal_rank.specs.Buckets.{Buckets, with_item}
 use Rattle.decimal_rank.specs.TextKeys.{text_key}
 use Rattle.decimal_rank.specs.declared.secrets.Secret.{Secret}
-use Rattle.trec_formats.specs.Searches.{AreUnder}
+use Rattle.decimal_rank.specs.Searches.{AreUnder}
 use Rattle.trec_formats.specs.declared.qrels.QrelLine.{QrelLine}
 use Rattle.eval.specs.Tables.{shown, grade_in, AreByDocno}
 

@@ -4,9 +4,9 @@ ghost use Rattle.decimal_rank.specs.Names.{number_of};
 ghost use Rattle.eval.specs.Evaluations.{topics_of as qrels_topics};
 ghost use Rattle.eval.specs.Tables.{shown, lines_on, IsAscending, AreByTopic, AreByDocno, tally_in, grade_in};
 
-use decimal_rank::{Chains, DocId, Memory, Names, Secret};
+use decimal_rank::{Chains, DocId, Memory, Names, Secret, Sought, first_found};
 use std::alloc::Global;
-use trec_formats::{QrelLine, Sought, first_found};
+use trec_formats::QrelLine;
 
 /// The least grade of a relevant document.
 pub(crate) const LEVEL: u8 = 1;

@@ -26,4 +26,3 @@ pub mod TopicOrder
 pub mod TopicProgress
 pub mod TopicReadings
 pub mod TopicSteps
-pub mod Walks

@@ -9,7 +9,7 @@ use Rattle.decimal_rank.specs.Buckets.{Buckets, with_item}
 use Rattle.decimal_rank.specs.declared.secrets.Secret.{Secret}
 use Rattle.trec_formats.specs.declared.faults.Kind.TheVariants.{Twice}
 use Rattle.trec_formats.specs.Documents.{same_by, document_key}
-use Rattle.trec_formats.specs.Searches.{AreUnder}
+use Rattle.decimal_rank.specs.Searches.{AreUnder}
 use Rattle.trec_formats.specs.Faults.{IsDistinct, IsTwice}
 use Rattle.trec_formats.proofs.Readings.{distinct_push, distinct_nil}
 

@@ -14,7 +14,6 @@ pub mod QrelsText
 pub mod RunFields
 pub mod RunStates
 pub mod Runs
-pub mod Searches
 pub mod SoundTopics
 pub mod TopicBlocks
 pub mod Topics

@@ -6,8 +6,7 @@ ghost use Rattle.trec_formats.specs.Documents.{same_by};
 ghost use Rattle.trec_formats.specs.Faults.{IsDistinct, IsTwice};
 
 use crate::faults::{FormatFault, Kind};
-use crate::searches::{Sought, first_found};
-use decimal_rank::{Chains, Memory, Secret};
+use decimal_rank::{Chains, Memory, Secret, Sought, first_found};
 use std::alloc::Global;
 
 /// As many lines as a table numbers.

@@ -1,7 +1,7 @@
 use Rattle.std.proofs.Common.{suc}
 use Rattle.std.specs.Option.{option_map, option_map_or}
-use Rattle.trec_formats.proofs.Walks.{IsWalked}
-use Rattle.trec_formats.proofs.searches.first_found.Given as goal
+use Rattle.decimal_rank.proofs.Walks.{IsWalked}
+use Rattle.decimal_rank.proofs.searches.first_found.Given as goal
 
 abbrev pub invariant-loop-next : goal.invariant-loop-next
 invariant-loop-next g l = IsWalked (g.S.Sought.finds l.sought) l.chains l.items l.key l.next (option_map (λ item. item.now) l.found)

@@ -5,7 +5,7 @@ use Rattle.std.specs.Option.{option_map_or}
 use Rattle.std.proofs.lemmas.Bool.{false_from_ne_true}
 use Rattle.std.proofs.lemmas.List.{drop_all, drop_more}
 use Rattle.decimal_rank.specs.Buckets.{Buckets, IsNewest}
-use Rattle.trec_formats.specs.Searches.{AreUnder}
+use Rattle.decimal_rank.specs.Searches.{AreUnder}
 
 module _ {X : Type 0} (is : X → Bool) where
   -- no item between two places passes the test

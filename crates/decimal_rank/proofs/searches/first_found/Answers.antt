@@ -1,7 +1,7 @@
 use Rattle.std.proofs.Common.{◌%◌, subst}
 use Rattle.std.specs.Option.{option_map}
-use Rattle.trec_formats.proofs.Walks.{IsWalked, walk_goes_on, walk_ends, walk_shrinks}
-use Rattle.trec_formats.proofs.searches.first_found.Goals as goal
+use Rattle.decimal_rank.proofs.Walks.{IsWalked, walk_goes_on, walk_ends, walk_shrinks}
+use Rattle.decimal_rank.proofs.searches.first_found.Goals as goal
 
 pub loop-next-smaller : goal.loop-next-smaller
 loop-next-smaller g c =

@@ -1,9 +1,9 @@
 //! A search among items that a table finds by a key.
 ghost use Rattle.std.specs.Prelude.{◌≡◌, Bool, Some, find, if◌then◌else◌};
 ghost use Rattle.std.specs.Option.{option_map};
-ghost use Rattle.trec_formats.specs.Searches.{AreUnder};
+ghost use Rattle.decimal_rank.specs.Searches.{AreUnder};
 
-use decimal_rank::Chains;
+use crate::chains::Chains;
 
 /// What is looked for among items.
 pub trait Sought<T> {
