@@ -17,7 +17,7 @@ use Rattle.rulebook.specs.declared.entry.Entry.{Entry}
 use Rattle.rulebook.specs.declared.reply.Reply.{Reply}
 use Rattle.rulebook.specs.Additions.{IsAdded}
 use Rattle.rulebook.specs.Campaign.{History}
-use Rattle.rulebook.specs.Legal.{IsAccepted, IsLegal, is_built}
+use Rattle.rulebook.specs.Legal.{IsAccepted, IsLegal}
 use Rattle.rulebook.specs.Roles.{may_give}
 use Rattle.rulebook.specs.Spelling.{entry_bytes, has_spelling}
 use Rattle.rulebook.specs.Stories.{IsAddressed, IsTold, Leads, StartsWith, added_by, reply_by}
@@ -40,20 +40,20 @@ second_of_both false false is = is
 -- an accepted entry has a spelling
 pub accepted_spells : (H : History) (e : Entry) → IsAccepted H e → has_spelling e.core ≡ true
 accepted_spells H e accepted =
-    second_of_both (is_built (Act e.core.command) && may_give e.core.caller.role e.core.command) (has_spelling e.core)
-    (first_of_both (is_built (Act e.core.command) && may_give e.core.caller.role e.core.command && has_spelling e.core) (nat_le (length (entry_bytes e.core)) MAX_ENTRY_BYTES) accepted.addressed)
+    second_of_both (may_give e.core.caller.role e.core.command) (has_spelling e.core)
+    (first_of_both (may_give e.core.caller.role e.core.command && has_spelling e.core) (nat_le (length (entry_bytes e.core)) MAX_ENTRY_BYTES) accepted.addressed)
 
 -- which isn't too long
 pub accepted_short : (H : History) (e : Entry) → IsAccepted H e → length (entry_bytes e.core) ≤ MAX_ENTRY_BYTES
 accepted_short H e accepted =
     leb-true (length (entry_bytes e.core)) MAX_ENTRY_BYTES
-    (second_of_both (is_built (Act e.core.command) && may_give e.core.caller.role e.core.command && has_spelling e.core) (nat_le (length (entry_bytes e.core)) MAX_ENTRY_BYTES) accepted.addressed)
+    (second_of_both (may_give e.core.caller.role e.core.command && has_spelling e.core) (nat_le (length (entry_bytes e.core)) MAX_ENTRY_BYTES) accepted.addressed)
 
 -- and is one that its role may give
-pub accepted_givable : (H : History) (e : Entry) → IsAccepted H e → (is_built (Act e.core.command) && may_give e.core.caller.role e.core.command) ≡ true
+pub accepted_givable : (H : History) (e : Entry) → IsAccepted H e → (may_give e.core.caller.role e.core.command) ≡ true
 accepted_givable H e accepted =
-    first_of_both (is_built (Act e.core.command) && may_give e.core.caller.role e.core.command) (has_spelling e.core)
-    (first_of_both (is_built (Act e.core.command) && may_give e.core.caller.role e.core.command && has_spelling e.core) (nat_le (length (entry_bytes e.core)) MAX_ENTRY_BYTES) accepted.addressed)
+    first_of_both (may_give e.core.caller.role e.core.command) (has_spelling e.core)
+    (first_of_both (may_give e.core.caller.role e.core.command && has_spelling e.core) (nat_le (length (entry_bytes e.core)) MAX_ENTRY_BYTES) accepted.addressed)
 
 sum_spellings : (H : History) → sum_by (λ (payload : List ℕ). length payload + 5) (spellings H) ≡ sum_by (λ (e : Entry). length (entry_bytes e.core) + 5) H
 sum_spellings [] = refl

@@ -8,7 +8,7 @@ use Rattle.rulebook.specs.declared.entry.Entry.{Entry}
 use Rattle.rulebook.specs.declared.entry.EntryCore.{EntryCore}
 use Rattle.rulebook.specs.Additions.{IsAdded}
 use Rattle.rulebook.specs.Campaign.{History}
-use Rattle.rulebook.specs.Legal.{IsLegal, is_built, is_well_addressed}
+use Rattle.rulebook.specs.Legal.{IsLegal, is_well_addressed}
 use Rattle.rulebook.specs.Roles.{may_give}
 use Rattle.rulebook.specs.Spelling.{IsSpelling, entry_bytes, has_spelling}
 use Rattle.rulebook.specs.Words.{Text}
@@ -22,11 +22,11 @@ both true false e f = f
 both false t e f = e
 
 -- the core of a well addressed request
-pub addressed_core : (core : EntryCore) → (is_built (Act core.command) && may_give core.caller.role core.command) ≡ true → has_spelling core ≡ true → length (entry_bytes core) ≤ MAX_ENTRY_BYTES
+pub addressed_core : (core : EntryCore) → (may_give core.caller.role core.command) ≡ true → has_spelling core ≡ true → length (entry_bytes core) ≤ MAX_ENTRY_BYTES
     → is_well_addressed core.caller core.number (Act core.command) core.moment ≡ true
 addressed_core core givable spells short =
-    both (is_built (Act core.command) && may_give core.caller.role core.command && has_spelling core) (nat_le (length (entry_bytes core)) MAX_ENTRY_BYTES)
-    (both (is_built (Act core.command) && may_give core.caller.role core.command) (has_spelling core) givable spells) (le-leb (length (entry_bytes core)) MAX_ENTRY_BYTES short)
+    both (may_give core.caller.role core.command && has_spelling core) (nat_le (length (entry_bytes core)) MAX_ENTRY_BYTES)
+    (both (may_give core.caller.role core.command) (has_spelling core) givable spells) (le-leb (length (entry_bytes core)) MAX_ENTRY_BYTES short)
 
 -- the prepared entry was added, or another request's moment is later
 pub enters_at : (H : History) (core : EntryCore) (e : Entry) (entered : Bool) (after : History) → added_again H core ≡ e ∷ [] → AddsAt H e core.moment entered after → EntersCore H core entered after
@@ -51,12 +51,12 @@ module _ (spelling : OneSpelling) (H : History) (bytes : Text) (core : EntryCore
   same_core e follows = (spelling bytes bytes core e.core is (accepted_spells H e follows.0, sym follows.1)).0 refl
 
   -- one that no role may give
-  pub enters_ungiven : (is_built (Act core.command) && may_give core.caller.role core.command) ≡ false → Enters H bytes false H
+  pub enters_ungiven : (may_give core.caller.role core.command) ≡ false → Enters H bytes false H
   enters_ungiven not_given = (
     refl,
     λ e follows.
-        let given : (is_built (Act core.command) && may_give core.caller.role core.command) ≡ true
-        = subst (λ (c : EntryCore). (is_built (Act c.command) && may_give c.caller.role c.command) ≡ true) (sym (same_core e follows)) (accepted_givable H e follows.0) in
+        let given : (may_give core.caller.role core.command) ≡ true
+        = subst (λ (c : EntryCore). (may_give c.caller.role c.command) ≡ true) (sym (same_core e follows)) (accepted_givable H e follows.0) in
         let wrong : false ≡ true = sym not_given ∙ given in
         absurd (cc wrong),
   )

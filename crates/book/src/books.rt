@@ -1,6 +1,6 @@
 //! A book: the accepted entries, and the journal that keeps them. A request is answered by the entries;
 //! the entry that it adds joins them once it is journaled.
-ghost use Rattle.std.specs.Prelude.{◌≡◌, length, None, Some};
+ghost use Rattle.std.specs.Prelude.{◌≡◌, length, Some};
 ghost use Rattle.rulebook.specs.Campaign.{phase as phase_of};
 ghost use Rattle.rulebook.specs.Stories.{IsAddressed};
 ghost use Rattle.book.specs.Books.{Acts, IsSound};
@@ -70,8 +70,7 @@ impl<D: Disk> Book<D> {
     /// Answers a request. An entry is accepted once it is journaled; what a failed journaling left is
     /// mended first. All memory is taken before the first call on the disk.
     pub fn act(&mut self, asked: Addressed) -> Answer
-        requires addressed { IsAddressed asked }
-        requires unnumbered { asked.number ≡ None }
+        requires { IsAddressed asked }
         ensures { Acts D.images D.clock D.images_since D.fault_count self.old asked result self.new }
     {
         rule_laws();

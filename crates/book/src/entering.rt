@@ -1,8 +1,8 @@
 //! Entries from records: each is read, answered by the rules at its own moment, and added where they
 //! add that very entry.
-ghost use Rattle.std.specs.Prelude.{◌≡◌, ◌&&◌, IfOk, IsTrue, Some};
+ghost use Rattle.std.specs.Prelude.{◌≡◌, IfOk, IsTrue, Some};
 ghost use Rattle.record_codec.specs.Laws.{OneSpelling};
-ghost use Rattle.rulebook.specs.Legal.{is_built, is_well_addressed};
+ghost use Rattle.rulebook.specs.Legal.{is_well_addressed};
 ghost use Rattle.rulebook.specs.Roles.{may_give};
 ghost use Rattle.rulebook.specs.declared.ask.Ask.TheVariants.{Act};
 ghost use Rattle.journal.specs.Kept.{payloads as payloads_of};
@@ -18,18 +18,21 @@ use std::alloc::Global;
 use std::marker::Brand;
 use std::sync::ledger::Blank;
 
-// Whether a role may give a command that the rules speak of.
+// Whether a role may give a command.
 fn is_givable(role: Role, command: &Command) -> bool
-    ensures { result ≡ (is_built (Act command.now) && may_give role command.now) }
+    ensures { result ≡ may_give role command.now }
 {
     match command {
-        Command::Topics { .. } | Command::Open | Command::Rule { .. } => role == Role::Organiser,
+        Command::Topics { .. } | Command::Open | Command::Rule { .. } | Command::Publish => {
+            role == Role::Organiser
+        }
         Command::Submit { .. } => role == Role::Group,
         Command::Lease { .. }
         | Command::Grade { .. }
         | Command::Release { .. }
         | Command::Amend { .. } => role == Role::Assessor,
-        Command::Found { .. } | Command::Withdraw { .. } | Command::Publish => false,
+        Command::Withdraw { .. } => matches!(role, Role::Group | Role::Organiser),
+        Command::Found { .. } => false,
     }
 }
 
@@ -57,10 +60,6 @@ fn enter_core(state: &mut State, core: EntryCore) -> Result<bool, Memory>
         moment,
         command,
     } = core;
-    // a numbered command can't be prepared yet
-    if number.is_some() {
-        return Err(Memory);
-    }
     match state.prepare(&caller, number, Ask::Act(command), moment) {
         Ok(Verdict::Told(reply)) => {
             drop(reply);

@@ -1,4 +1,4 @@
-ghost use Rattle.std.specs.Prelude.{◌≡◌, IsTrue, None};
+ghost use Rattle.std.specs.Prelude.{IsTrue};
 ghost use Rattle.rulebook.specs.Legal.{is_well_addressed};
 ghost use Rattle.rulebook.specs.declared.answer.Answer.{Answer};
 ghost use Rattle.rulebook.specs.declared.answer.Answer.TheVariants as answers;
@@ -14,8 +14,7 @@ pub trait Teller {
     ghost tells: { Self → Addressed → Answer → Self → Type 0 };
 
     fn tell(&mut self, asked: Addressed) -> Answer
-        requires addressed { IsTrue (is_well_addressed asked.who asked.number asked.ask asked.moment) }
-        requires unnumbered { asked.number ≡ None }
+        requires { IsTrue (is_well_addressed asked.who asked.number asked.ask asked.moment) }
         ensures { tells self.old asked result self.new };
 
     /// A reply is the rules'.

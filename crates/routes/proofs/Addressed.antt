@@ -21,7 +21,7 @@ use Rattle.rulebook.specs.declared.ask.Command.TheVariants as command
 use Rattle.rulebook.specs.declared.ask.Query.{Query}
 use Rattle.rulebook.specs.declared.ask.Query.TheVariants as query
 use Rattle.rulebook.specs.declared.rules.Caller.{Caller}
-use Rattle.rulebook.specs.Legal.{is_well_addressed, is_built, is_named, core_of}
+use Rattle.rulebook.specs.Legal.{is_well_addressed, is_named, core_of}
 use Rattle.rulebook.specs.Roles.{may_give, may_see}
 use Rattle.rulebook.specs.Spelling.{entry_bytes, command_bytes, number_bytes, is_number, is_plain, is_plain_topic, has_spelling, differ, listed, list_bytes, topic_bytes}
 use Rattle.serde_json.specs.Data.{Data}
@@ -35,7 +35,7 @@ use Rattle.routes.specs.Asks.{Asks, HasSoundTopics, with_nothing}
 use Rattle.routes.specs.Bodies.{json_of, Judgement, a_docno, doc_at, grade_at, grade_in, has_members, judged, judgement_in, up_to}
 use Rattle.routes.specs.Faults.{or_fault}
 use Rattle.routes.specs.Keys.{caller}
-use Rattle.routes.specs.Places.{is_lease}
+use Rattle.routes.specs.Places.{is_path_number}
 use Rattle.routes.proofs.RunRequests.{lists_are_plain, few_items, pairs_map, differ_once}
 use Rattle.routes.proofs.TableRows.{lets, suits}
 use Rattle.routes.proofs.TopicSizes.{topics_short}
@@ -71,7 +71,6 @@ entry_short who number moment c name = simp (length-append, eight_bytes) (omega 
 
 -- the parts of a well addressed command
 record IsGiven (row : KeyRow) (c : Command) : Type 0 where
-  built : is_built (Act c) ≡ true
   role : may_give row.role c ≡ true
   plain : is_plain c ≡ true
   few : length (command_bytes c) ≤ 33000000
@@ -82,21 +81,18 @@ given row number c moment name numbered latest is =
     let named = and_from (is_name row.name) (is_number number) name numbered in
     let timed = and_from (is_name row.name && is_number number) (nat_le moment MAX_MOMENT) named (le-leb moment MAX_MOMENT latest) in
     let spelled = and_from (is_name row.name && is_number number && nat_le moment MAX_MOMENT) (is_plain c) timed is.plain in
-    let allowed = and_from (is_built (Act c)) (may_give row.role c) is.built is.role in
-    let both = and_from (is_built (Act c) && may_give row.role c) (has_spelling (core_of (caller row) number moment c)) allowed spelled in
-    and_from (is_built (Act c) && may_give row.role c && has_spelling (core_of (caller row) number moment c)) (nat_le (length (entry_bytes (core_of (caller row) number moment c))) MAX_ENTRY_BYTES) both (le-leb _ MAX_ENTRY_BYTES short)
+    let both = and_from (may_give row.role c) (has_spelling (core_of (caller row) number moment c)) is.role spelled in
+    and_from (may_give row.role c && has_spelling (core_of (caller row) number moment c)) (nat_le (length (entry_bytes (core_of (caller row) number moment c))) MAX_ENTRY_BYTES) both (le-leb _ MAX_ENTRY_BYTES short)
 
 record IsSeen (row : KeyRow) (q : Query) : Type 0 where
-  built : is_built (See q) ≡ true
   role : may_see row.role q ≡ true
   plain : is_named q ≡ true
 
 seen : (row : KeyRow) (number : Option ℕ) (q : Query) (moment : ℕ) → is_name row.name ≡ true → moment ≤ MAX_MOMENT → IsSeen row q → IsTrue (is_well_addressed (caller row) number (See q) moment)
 seen row number q moment name latest is =
-    let allowed = and_from (is_built (See q)) (may_see row.role q) is.built is.role in
-    let named = and_from (is_built (See q) && may_see row.role q) (is_name row.name) allowed name in
-    let plain = and_from (is_built (See q) && may_see row.role q && is_name row.name) (is_named q) named is.plain in
-    and_from (is_built (See q) && may_see row.role q && is_name row.name && is_named q) (nat_le moment MAX_MOMENT) plain (le-leb moment MAX_MOMENT latest)
+    let named = and_from (may_see row.role q) (is_name row.name) is.role name in
+    let plain = and_from (may_see row.role q && is_name row.name) (is_named q) named is.plain in
+    and_from (may_see row.role q && is_name row.name && is_named q) (nat_le moment MAX_MOMENT) plain (le-leb moment MAX_MOMENT latest)
 
 -- What a body gives
 
@@ -150,7 +146,7 @@ judgement_grade body j is =
     (λ two given. grade_given found.0 j.grade (judged_grade (doc_at found.0) (grade_at found.0) j given))
     (λ other wrong. absurd (none_not_some wrong)) found.1
 
-lease_given : (text : List ℕ) → is_lease text ≡ true → nat_lt (digits_value 10 text) (2 ^ 32) ≡ true
+lease_given : (text : List ℕ) → is_path_number text ≡ true → nat_lt (digits_value 10 text) (2 ^ 32) ≡ true
 lease_given text is =
     let most = and_parts (are_digits text && nat_le (length text) 10) (nat_le (digits_value 10 text) 4294967295) is in
     lt-ltb (digits_value 10 text) (2 ^ 32) (omega (arith, leb-true (digits_value 10 text) 4294967295 most.1))
@@ -175,7 +171,6 @@ judgement_doc body j is =
 
 topics_given : (row : KeyRow) (body : List ℕ) (topics : List Topic) → lets row.role question.Topics ≡ true → IsTopics body topics → AreSoundTopics topics → length body ≤ 16777216 → IsGiven row (command.Topics topics)
 topics_given row body topics role is sound few = record {
-  built = refl;
   role = role;
   plain = rw (counted, sound.each, differ_once (map (λ (t : Topic). t.id) topics) (pairs_map (λ (t : Topic). t.id) (λ a b. a ≢ b) topics sound.differ)) refl;
   few = omega (arith, few, topics_short body topics is);
@@ -194,7 +189,6 @@ submit_given : (row : KeyRow) (run body : List ℕ) (lists : List TopicList) →
 submit_given row run body lists role name ranked few =
     let plain = lists_are_plain body lists few ranked in
     record {
-      built = refl;
       role = role;
       plain = rw (name, plain.some, plain.each, plain.ascending) refl;
       few = omega (arith, few, name_short run name, plain.short, length-append run (listed list_bytes lists));
@@ -210,42 +204,56 @@ addressed_at question.Submit row number run body ask moment name numbered role f
     (given row number (command.Submit run lists) moment name numbered latest (submit_given row run body lists role fitting ranked few))
 addressed_at question.Open row number text body ask moment name numbered role fitting asks sound few latest =
     subst (λ a. IsTrue (is_well_addressed (caller row) number a moment)) (nothing_given body (Act command.Open) ask asks)
-    (given row number command.Open moment name numbered latest (record { built = refl; role = role; plain = refl; few = omega arith }))
+    (given row number command.Open moment name numbered latest (record { role = role; plain = refl; few = omega arith }))
 addressed_at question.Lease row number topic body ask moment name numbered role fitting asks sound few latest =
     subst (λ a. IsTrue (is_well_addressed (caller row) number a moment)) (nothing_given body (Act (command.Lease topic)) ask asks)
-    (given row number (command.Lease topic) moment name numbered latest (record { built = refl; role = role; plain = fitting; few = omega (arith, name_short topic fitting) }))
+    (given row number (command.Lease topic) moment name numbered latest (record { role = role; plain = fitting; few = omega (arith, name_short topic fitting) }))
 addressed_at question.Grade row number lease body ask moment name numbered role fitting asks sound few latest =
     let found = some_given (option_and_then grade_in (json_of body)) (λ grade. Act (command.Grade (digits_value 10 lease) grade)) ask asks in
     subst (λ a. IsTrue (is_well_addressed (caller row) number a moment)) found.2
-    (given row number (command.Grade (digits_value 10 lease) found.0) moment name numbered latest (record { built = refl; role = role; plain = and_from (nat_lt (digits_value 10 lease) (2 ^ 32)) (nat_lt found.0 256) (lease_given lease fitting) (grade_alone body found.0 found.1); few = omega (arith, four_bytes (digits_value 10 lease)) }))
+    (given row number (command.Grade (digits_value 10 lease) found.0) moment name numbered latest (record { role = role; plain = and_from (nat_lt (digits_value 10 lease) (2 ^ 32)) (nat_lt found.0 256) (lease_given lease fitting) (grade_alone body found.0 found.1); few = omega (arith, four_bytes (digits_value 10 lease)) }))
 addressed_at question.Release row number lease body ask moment name numbered role fitting asks sound few latest =
     subst (λ a. IsTrue (is_well_addressed (caller row) number a moment)) (nothing_given body (Act (command.Release (digits_value 10 lease))) ask asks)
-    (given row number (command.Release (digits_value 10 lease)) moment name numbered latest (record { built = refl; role = role; plain = lease_given lease fitting; few = omega (arith, four_bytes (digits_value 10 lease)) }))
+    (given row number (command.Release (digits_value 10 lease)) moment name numbered latest (record { role = role; plain = lease_given lease fitting; few = omega (arith, four_bytes (digits_value 10 lease)) }))
 addressed_at question.Amend row number topic body ask moment name numbered role fitting asks sound few latest =
     let found = some_given (option_and_then judgement_in (json_of body)) (λ (j : Judgement). Act (command.Amend topic j.doc j.grade)) ask asks in
     let doc = judgement_doc body found.0 found.1 in
     subst (λ a. IsTrue (is_well_addressed (caller row) number a moment)) found.2
-    (given row number (command.Amend topic found.0.doc found.0.grade) moment name numbered latest (record { built = refl; role = role; plain = rw (fitting, doc, judgement_grade body found.0 found.1) refl; few = doc_command_short topic found.0.doc found.0.grade (name_short topic fitting) (docno_short found.0.doc doc) }))
+    (given row number (command.Amend topic found.0.doc found.0.grade) moment name numbered latest (record { role = role; plain = rw (fitting, doc, judgement_grade body found.0 found.1) refl; few = doc_command_short topic found.0.doc found.0.grade (name_short topic fitting) (docno_short found.0.doc doc) }))
 addressed_at question.Rule row number topic body ask moment name numbered role fitting asks sound few latest =
     let found = some_given (option_and_then judgement_in (json_of body)) (λ (j : Judgement). Act (command.Rule topic j.doc j.grade)) ask asks in
     let doc = judgement_doc body found.0 found.1 in
     subst (λ a. IsTrue (is_well_addressed (caller row) number a moment)) found.2
-    (given row number (command.Rule topic found.0.doc found.0.grade) moment name numbered latest (record { built = refl; role = role; plain = rw (fitting, doc, judgement_grade body found.0 found.1) refl; few = doc_command_short topic found.0.doc found.0.grade (name_short topic fitting) (docno_short found.0.doc doc) }))
+    (given row number (command.Rule topic found.0.doc found.0.grade) moment name numbered latest (record { role = role; plain = rw (fitting, doc, judgement_grade body found.0 found.1) refl; few = doc_command_short topic found.0.doc found.0.grade (name_short topic fitting) (docno_short found.0.doc doc) }))
+addressed_at question.Withdraw row number run body ask moment name numbered role fitting asks sound few latest =
+    subst (λ a. IsTrue (is_well_addressed (caller row) number a moment)) (nothing_given body (Act (command.Withdraw run)) ask asks)
+    (given row number (command.Withdraw run) moment name numbered latest (record { role = role; plain = fitting; few = omega (arith, name_short run fitting) }))
+addressed_at question.Publish row number text body ask moment name numbered role fitting asks sound few latest =
+    subst (λ a. IsTrue (is_well_addressed (caller row) number a moment)) (nothing_given body (Act command.Publish) ask asks)
+    (given row number command.Publish moment name numbered latest (record { role = role; plain = refl; few = omega arith }))
 addressed_at question.Pool row number topic body ask moment name numbered role fitting asks sound few latest =
     let same : See (query.Pool topic) ≡ ask = cc in
-    subst (λ a. IsTrue (is_well_addressed (caller row) number a moment)) same (seen row number (query.Pool topic) moment name latest (record { built = refl; role = role; plain = fitting }))
+    subst (λ a. IsTrue (is_well_addressed (caller row) number a moment)) same (seen row number (query.Pool topic) moment name latest (record { role = role; plain = fitting }))
 addressed_at question.Qrels row number text body ask moment name numbered role fitting asks sound few latest =
     let same : See query.Qrels ≡ ask = cc in
-    subst (λ a. IsTrue (is_well_addressed (caller row) number a moment)) same (seen row number query.Qrels moment name latest (record { built = refl; role = role; plain = refl }))
+    subst (λ a. IsTrue (is_well_addressed (caller row) number a moment)) same (seen row number query.Qrels moment name latest (record { role = role; plain = refl }))
 addressed_at question.Scores row number run body ask moment name numbered role fitting asks sound few latest =
     let same : See (query.Scores run) ≡ ask = cc in
-    subst (λ a. IsTrue (is_well_addressed (caller row) number a moment)) same (seen row number (query.Scores run) moment name latest (record { built = refl; role = role; plain = fitting }))
+    subst (λ a. IsTrue (is_well_addressed (caller row) number a moment)) same (seen row number (query.Scores run) moment name latest (record { role = role; plain = fitting }))
 addressed_at question.Table row number text body ask moment name numbered role fitting asks sound few latest =
     let same : See query.Table ≡ ask = cc in
-    subst (λ a. IsTrue (is_well_addressed (caller row) number a moment)) same (seen row number query.Table moment name latest (record { built = refl; role = role; plain = refl }))
+    subst (λ a. IsTrue (is_well_addressed (caller row) number a moment)) same (seen row number query.Table moment name latest (record { role = role; plain = refl }))
 addressed_at question.Disagreements row number text body ask moment name numbered role fitting asks sound few latest =
     let same : See query.Disagreements ≡ ask = cc in
-    subst (λ a. IsTrue (is_well_addressed (caller row) number a moment)) same (seen row number query.Disagreements moment name latest (record { built = refl; role = role; plain = refl }))
+    subst (λ a. IsTrue (is_well_addressed (caller row) number a moment)) same (seen row number query.Disagreements moment name latest (record { role = role; plain = refl }))
 addressed_at question.Progress row number text body ask moment name numbered role fitting asks sound few latest =
     let same : See query.Progress ≡ ask = cc in
-    subst (λ a. IsTrue (is_well_addressed (caller row) number a moment)) same (seen row number query.Progress moment name latest (record { built = refl; role = role; plain = refl }))
+    subst (λ a. IsTrue (is_well_addressed (caller row) number a moment)) same (seen row number query.Progress moment name latest (record { role = role; plain = refl }))
+addressed_at question.ReleaseQrels row number release body ask moment name numbered role fitting asks sound few latest =
+    let given : Query = query.ReleaseQrels (digits_value 10 release) in
+    let same : See given ≡ ask = cc in
+    subst (λ a. IsTrue (is_well_addressed (caller row) number a moment)) same (seen row number given moment name latest (record { role = refl; plain = refl }))
+addressed_at question.ReleaseScores row number release body ask moment name numbered role fitting asks sound few latest =
+    let given : Query = query.ReleaseScores (digits_value 10 release) in
+    let same : See given ≡ ask = cc in
+    subst (λ a. IsTrue (is_well_addressed (caller row) number a moment)) same (seen row number given moment name latest (record { role = refl; plain = refl }))

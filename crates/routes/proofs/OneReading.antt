@@ -203,6 +203,10 @@ module _ (runs : (text : List ℕ) → ExactlyOne (IsRankableReading text)) (top
   asks_same question.Table text body a b x y = x ∙ sym y
   asks_same question.Disagreements text body a b x y = x ∙ sym y
   asks_same question.Progress text body a b x y = x ∙ sym y
+  asks_same question.Withdraw text body a b x y = x ∙ sym y
+  asks_same question.Publish text body a b x y = x ∙ sym y
+  asks_same question.ReleaseQrels text body a b x y = x ∙ sym y
+  asks_same question.ReleaseScores text body a b x y = x ∙ sym y
 
   behind_same : (opened : Result Opening RouteFault) (request : HttpRequest) (a b : Result Asked RouteFault) → ReadsBehind opened request a → ReadsBehind opened request b → a ≡ b
   behind_same (Err cause) request a b x y = x ∙ sym y

@@ -47,12 +47,21 @@ at_question question.Amend text body ask role is =
 at_question question.Rule text body ask role is =
     let (given, same) = given_some Judgement (λ given. Act (command.Rule text given.doc given.grade)) (option_and_then judgement_in (json_of body)) ask is in
     same_roles role _ (Act (command.Rule text given.doc given.grade)) ask refl same
+at_question question.Withdraw text body ask role is =
+    same_roles role _ (Act (command.Withdraw text)) ask refl (given_nothing (is_filled body) (Act (command.Withdraw text)) ask is)
+at_question question.Publish text body ask role is = same_roles role _ (Act command.Publish) ask refl (given_nothing (is_filled body) (Act command.Publish) ask is)
 at_question question.Pool text body ask role is = same_roles role _ (See (query.Pool text)) ask refl (let same : See (query.Pool text) ≡ ask = cc in same)
 at_question question.Qrels text body ask role is = same_roles role _ (See query.Qrels) ask refl (let same : See query.Qrels ≡ ask = cc in same)
 at_question question.Scores text body ask role is = same_roles role _ (See (query.Scores text)) ask refl (let same : See (query.Scores text) ≡ ask = cc in same)
 at_question question.Table text body ask role is = same_roles role _ (See query.Table) ask refl (let same : See query.Table ≡ ask = cc in same)
 at_question question.Disagreements text body ask role is = same_roles role _ (See query.Disagreements) ask refl (let same : See query.Disagreements ≡ ask = cc in same)
 at_question question.Progress text body ask role is = same_roles role _ (See query.Progress) ask refl (let same : See query.Progress ≡ ask = cc in same)
+at_question question.ReleaseQrels text body ask role is =
+    let wanted : Ask = See (query.ReleaseQrels (digits_value 10 text)) in
+    same_roles role _ wanted ask refl (let same : wanted ≡ ask = cc in same)
+at_question question.ReleaseScores text body ask role is =
+    let wanted : Ask = See (query.ReleaseScores (digits_value 10 text)) in
+    same_roles role _ wanted ask refl (let same : wanted ≡ ask = cc in same)
 
 pub roles_same : RolesAreTheRules
 roles_same place text body ask role known asks = role_is place known role ∙ at_question place.question text body ask role asks

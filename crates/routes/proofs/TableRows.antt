@@ -14,7 +14,7 @@ use Rattle.rulebook.specs.Roles.{is_organiser, is_group, is_assessor}
 use Rattle.routes.specs.declared.places.Place.{Place}
 use Rattle.routes.specs.declared.places.Question.{Question}
 use Rattle.routes.specs.declared.places.Question.TheVariants as question
-use Rattle.routes.specs.Places.{Among, IsRow, Routes, fits, is_lease, may_ask, rows, table, with_read, with_route}
+use Rattle.routes.specs.Places.{Among, IsRow, Routes, fits, is_path_number, may_ask, rows, table, with_read, with_route}
 
 -- which text the path of a question has as its parameter
 abbrev pub suits : Question → List ℕ → Bool
@@ -24,14 +24,18 @@ suits question.Lease text = is_name text
 suits question.Amend text = is_name text
 suits question.Rule text = is_name text
 suits question.Pool text = is_name text
-suits question.Grade text = is_lease text
-suits question.Release text = is_lease text
+suits question.Grade text = is_path_number text
+suits question.Release text = is_path_number text
 suits question.Topics text = true
 suits question.Open text = true
 suits question.Qrels text = true
 suits question.Table text = true
 suits question.Disagreements text = true
 suits question.Progress text = true
+suits question.Withdraw text = is_name text
+suits question.Publish text = true
+suits question.ReleaseQrels text = is_path_number text
+suits question.ReleaseScores text = is_path_number text
 
 -- which roles may ask it
 abbrev pub lets : Role → Question → Bool
@@ -49,6 +53,10 @@ lets role question.Scores = is_group role || is_organiser role
 lets role question.Table = is_organiser role
 lets role question.Disagreements = is_organiser role
 lets role question.Progress = is_organiser role
+lets role question.Withdraw = is_group role || is_organiser role
+lets role question.Publish = is_organiser role
+lets role question.ReleaseQrels = true
+lets role question.ReleaseScores = true
 
 -- what holds of each row
 
@@ -68,52 +76,10 @@ abbrev Lets : Place → Type 0
 Lets place = (role : Role) → may_ask role place.askers ≡ lets role place.question
 
 all_fit : Each Fits rows
-all_fit = (
-  λ text. refl,
-  (
-    λ text. refl,
-    (
-      λ text. refl,
-      (
-        λ text. refl,
-        (
-          λ text. refl,
-          (
-            λ text. refl,
-            (
-              λ text. refl,
-              (λ text. refl, (λ text. refl, (λ text. refl, (λ text. refl, (λ text. refl, (λ text. refl, (λ text. refl, tt))))))),
-            ),
-          ),
-        ),
-      ),
-    ),
-  ),
-)
+all_fit = (λ text. refl, (λ text. refl, (λ text. refl, (λ text. refl, (λ text. refl, (λ text. refl, (λ text. refl, (λ text. refl, (λ text. refl, (λ text. refl, (λ text. refl, (λ text. refl, (λ text. refl, (λ text. refl, (λ text. refl, (λ text. refl, (λ text. refl, (λ text. refl, tt))))))))))))))))))
 
 all_let : Each Lets rows
-all_let = (
-  λ role. refl,
-  (
-    λ role. refl,
-    (
-      λ role. refl,
-      (
-        λ role. refl,
-        (
-          λ role. refl,
-          (
-            λ role. refl,
-            (
-              λ role. refl,
-              (λ role. refl, (λ role. refl, (λ role. refl, (λ role. refl, (λ role. refl, (λ role. refl, (λ role. refl, tt))))))),
-            ),
-          ),
-        ),
-      ),
-    ),
-  ),
-)
+all_let = (λ role. refl, (λ role. refl, (λ role. refl, (λ role. refl, (λ role. refl, (λ role. refl, (λ role. refl, (λ role. refl, (λ role. refl, (λ role. refl, (λ role. refl, (λ role. refl, (λ role. refl, (λ role. refl, (λ role. refl, (λ role. refl, (λ role. refl, (λ role. refl, tt))))))))))))))))))
 
 pub parameter_is : (place : Place) → IsRow place → (text : List ℕ) → fits place.parameter text ≡ suits place.question text
 unfolding IsRow

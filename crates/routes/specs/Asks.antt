@@ -65,12 +65,16 @@ Asks question.Grade lease body result = result ≡ with_grade body (λ grade. Ac
 Asks question.Release lease body result = result ≡ with_nothing body (Act (command.Release (digits_value 10 lease)))
 Asks question.Amend topic body result = result ≡ with_judgement body (λ given. Act (command.Amend topic given.doc given.grade))
 Asks question.Rule topic body result = result ≡ with_judgement body (λ given. Act (command.Rule topic given.doc given.grade))
+Asks question.Withdraw run body result = result ≡ with_nothing body (Act (command.Withdraw run))
+Asks question.Publish text body result = result ≡ with_nothing body (Act command.Publish)
 Asks question.Pool topic body result = result ≡ Ok (See (query.Pool topic))
 Asks question.Qrels text body result = result ≡ Ok (See query.Qrels)
 Asks question.Scores run body result = result ≡ Ok (See (query.Scores run))
 Asks question.Table text body result = result ≡ Ok (See query.Table)
 Asks question.Disagreements text body result = result ≡ Ok (See query.Disagreements)
 Asks question.Progress text body result = result ≡ Ok (See query.Progress)
+Asks question.ReleaseQrels release body result = result ≡ Ok (See (query.ReleaseQrels (digits_value 10 release)))
+Asks question.ReleaseScores release body result = result ≡ Ok (See (query.ReleaseScores (digits_value 10 release)))
 
 -- a caller, the number of its request, and what it asks
 abbrev pub Asked : Type 0

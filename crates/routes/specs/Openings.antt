@@ -1,7 +1,9 @@
 -- Who asks, and where: what is read of a request before its body.
-use Rattle.std.specs.Prelude.{ℕ, List, [], ◌∷◌, Option, None, Result, Ok, Err, codes, bytes_eq, if◌then◌else◌}
+use Rattle.std.specs.Prelude.{ℕ, Bool, ◌&&◌, ◌^◌, List, [], ◌∷◌, Option, None, Some, Result, Ok, Err, codes, bytes_eq, length, nat_le, nat_lt}
+use Rattle.std.specs.Str.Parse.{digits_value}
+use Rattle.decimal_rank.specs.DecimalText.{are_digits}
 use Rattle.http_wire.specs.declared.messages.HttpField.{HttpField}
-use Rattle.http_wire.specs.Heads.{values_named, is_filled}
+use Rattle.http_wire.specs.Heads.{values_named}
 use Rattle.routes.specs.declared.faults.RouteFault.{RouteFault}
 use Rattle.routes.specs.declared.faults.RouteFault.TheVariants as faults
 use Rattle.routes.specs.declared.keys.KeyRow.{KeyRow}
@@ -39,9 +41,21 @@ row_at keys (_ ∷ _ ∷ _) = Err faults.Key
 abbrev pub with_role : Place → KeyRow → Result KeyRow RouteFault
 with_role place row = demand faults.Role (may_ask row.role place.askers) row
 
--- No number is read yet.
+-- the number of a command: 1 to 19 digits, below 2^63
+abbrev pub is_request_number : List ℕ → Bool
+is_request_number text = are_digits text && nat_le (length text) 19 && nat_lt (digits_value 10 text) (2 ^ 63)
+
+abbrev pub with_number : List ℕ → Result (Option ℕ) RouteFault
+with_number text = demand faults.Number (is_request_number text) (Some (digits_value 10 text))
+
+-- the one number that is given, or none
+abbrev pub number_of : List (List ℕ) → Result (Option ℕ) RouteFault
+number_of [] = Ok None
+number_of (text ∷ []) = with_number text
+number_of (_ ∷ _ ∷ _) = Err faults.Number
+
 abbrev pub number_in : List HttpField → Result (Option ℕ) RouteFault
-number_in fields = if is_filled (values_named (codes "x-request-number") fields) then Err faults.Number else Ok None
+number_in fields = number_of (values_named (codes "x-request-number") fields)
 
 -- the number of a command; at a query the field isn't looked at
 abbrev pub number_at : Method → List HttpField → Result (Option ℕ) RouteFault

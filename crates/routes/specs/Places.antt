@@ -76,15 +76,15 @@ is_slash b = b == 47
 abbrev pub parameter : List ℕ → List ℕ
 parameter path = before_first is_slash (after_first is_slash (drop 1 path))
 
--- the number of a lease: 1 to 10 digits, below 2^32
-abbrev pub is_lease : List ℕ → Bool
-is_lease text = are_digits text && nat_le (length text) 10 && nat_le (digits_value 10 text) 4294967295
+-- the number of a lease or a release: 1 to 10 digits, below 2^32
+abbrev pub is_path_number : List ℕ → Bool
+is_path_number text = are_digits text && nat_le (length text) 10 && nat_le (digits_value 10 text) 4294967295
 
 -- whether a text may be the parameter of a row
 abbrev pub fits : Parameter → List ℕ → Bool
 fits parameters.Nothing text = true
 fits parameters.Name text = is_name text
-fits parameters.Number text = is_lease text
+fits parameters.Number text = is_path_number text
 
 abbrev pub method_name : Method → List ℕ
 method_name methods.Get = codes "GET"
@@ -97,3 +97,4 @@ may_ask role askers.Groups = is_group role
 may_ask role askers.Assessors = is_assessor role
 may_ask role askers.NotGroups = is_organiser role || is_assessor role
 may_ask role askers.NotAssessors = is_group role || is_organiser role
+may_ask role askers.Everyone = true

@@ -1,17 +1,17 @@
-ghost use Rattle.std.specs.Prelude.{◌≡◌, ◌≤◌, ℕ, List, IsTrue, IfOk, None, length};
+ghost use Rattle.std.specs.Prelude.{◌≡◌, ◌≤◌, ℕ, List, IsTrue, IfOk, length};
 ghost use Rattle.routes.specs.declared.places.Question.TheVariants as question;
 ghost use Rattle.routes.specs.Asks.{Asks, HasSoundTopics, Reads, fault_of, with_nothing};
 ghost use Rattle.rulebook.specs.declared.ask.Ask.TheVariants.{Act};
 ghost use Rattle.rulebook.specs.declared.limits.TheConstants.{MAX_MOMENT};
 ghost use Rattle.rulebook.specs.Legal.{is_well_addressed};
 ghost use Rattle.routes.specs.Faults.{IsRead};
-ghost use Rattle.routes.specs.Places.{IsRow, fits, is_lease};
+ghost use Rattle.routes.specs.Places.{IsRow, fits, is_path_number};
 
 use crate::bodies::{read_grade, read_judgement, read_ranked_run};
 use crate::faults::RouteFault;
 use crate::keys::Keys;
 use crate::openings::read_opening;
-use crate::paths::{lease_number, parameter};
+use crate::paths::{parameter, path_number};
 use crate::places::{Paths, Place, Question};
 use decimal_rank::{Memory, Rows, Text};
 use http_wire::HttpRequest;
@@ -74,10 +74,10 @@ fn ask_lease(alloc: Global, topic: &[u8], body: &[u8]) -> Result<Ask, RouteFault
 }
 
 fn ask_grade(alloc: Global, text: &[u8], body: &[u8]) -> Result<Ask, RouteFault>
-    requires { IsTrue (is_lease text.now) }
+    requires { IsTrue (is_path_number text.now) }
     ensures { IsRead (Asks question.Grade text.now body.now) result }
 {
-    let lease = lease_number(text);
+    let lease = path_number(text);
     match read_grade(alloc, body)? {
         Some(grade) => Ok(Ask::Act(Command::Grade { lease, grade })),
         None => Err(RouteFault::Body),
@@ -85,10 +85,10 @@ fn ask_grade(alloc: Global, text: &[u8], body: &[u8]) -> Result<Ask, RouteFault>
 }
 
 fn ask_release(text: &[u8], body: &[u8]) -> Result<Ask, RouteFault>
-    requires { IsTrue (is_lease text.now) }
+    requires { IsTrue (is_path_number text.now) }
     ensures { IsRead (Asks question.Release text.now body.now) result }
 {
-    let lease = lease_number(text);
+    let lease = path_number(text);
     with_nothing(body, Command::Release { lease })
 }
 
@@ -116,6 +116,13 @@ fn ask_rule(alloc: Global, topic: &[u8], body: &[u8]) -> Result<Ask, RouteFault>
         })),
         None => Err(RouteFault::Body),
     }
+}
+
+fn ask_withdraw(alloc: Global, run: &[u8], body: &[u8]) -> Result<Ask, RouteFault>
+    ensures { IsRead (Asks question.Withdraw run.now body.now) result }
+{
+    let run = Text::from_slice(alloc, run)?;
+    with_nothing(body, Command::Withdraw { run })
 }
 
 fn ask_pool(alloc: Global, topic: &[u8]) -> Result<Ask, RouteFault>
@@ -149,12 +156,20 @@ fn ask_at(alloc: Global, place: Place, text: &[u8], body: &[u8]) -> Result<Ask, 
         Question::Release => ask_release(text, body),
         Question::Amend => ask_amend(alloc, text, body),
         Question::Rule => ask_rule(alloc, text, body),
+        Question::Withdraw => ask_withdraw(alloc, text, body),
+        Question::Publish => with_nothing(body, Command::Publish),
         Question::Pool => ask_pool(alloc, text),
         Question::Qrels => Ok(Ask::See(Query::Qrels)),
         Question::Scores => ask_scores(alloc, text),
         Question::Table => Ok(Ask::See(Query::Table)),
         Question::Disagreements => Ok(Ask::See(Query::Disagreements)),
         Question::Progress => Ok(Ask::See(Query::Progress)),
+        Question::ReleaseQrels => Ok(Ask::See(Query::ReleaseQrels {
+            release: path_number(text),
+        })),
+        Question::ReleaseScores => Ok(Ask::See(Query::ReleaseScores {
+            release: path_number(text),
+        })),
     }
 }
 
@@ -168,7 +183,6 @@ pub fn read_ask(
     ensures reading { IsRead (Reads request.now keys.now) result }
     ensures addressed { IfOk result (λ asked. (moment : ℕ) → moment ≤ MAX_MOMENT
         → IsTrue (is_well_addressed asked.0 asked.1 asked.2 moment)) }
-    ensures unnumbered { IfOk result (λ asked. asked.1 ≡ None) }
 {
     let paths = Paths::new(alloc)?;
     read_ask_by(alloc, &paths, request, keys)
@@ -185,7 +199,6 @@ pub fn read_ask_by(
     ensures reading { IsRead (Reads request.now keys.now) result }
     ensures addressed { IfOk result (λ asked. (moment : ℕ) → moment ≤ MAX_MOMENT
         → IsTrue (is_well_addressed asked.0 asked.1 asked.2 moment)) }
-    ensures unnumbered { IfOk result (λ asked. asked.1 ≡ None) }
 {
     let path = request.path.bytes();
     let opening = read_opening(

@@ -19,6 +19,3 @@ pub use faults::RouteFault;
 pub use keys::{KeyRow, Keys, are_rows};
 pub use laws::{one_request_reading, roles_are_the_rules};
 pub use places::Paths;
-
-#[cfg(test)]
-mod tests;

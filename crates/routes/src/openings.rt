@@ -1,7 +1,7 @@
-ghost use Rattle.std.specs.Prelude.{◌≡◌, ◌∷◌, [], IsTrue, IfOk, None, codes};
+ghost use Rattle.std.specs.Prelude.{◌≡◌, ◌∷◌, [], IsTrue, IfOk, codes};
 ghost use Rattle.http_wire.specs.Heads.{values_named};
 ghost use Rattle.routes.specs.Faults.{Gives};
-ghost use Rattle.routes.specs.Openings.{number_at, number_in, opening_of, place_of, row_at, with_method, with_parameter, with_role};
+ghost use Rattle.routes.specs.Openings.{is_request_number, number_at, number_in, opening_of, place_of, row_at, with_method, with_number, with_parameter, with_role};
 ghost use Rattle.routes.specs.OpeningParts.{opening_shown};
 ghost use Rattle.routes.specs.Places.{IsRow, fits, may_ask, parameter};
 ghost use Rattle.rulebook.specs.Spelling.{is_number};
@@ -11,7 +11,11 @@ use crate::faults::RouteFault;
 use crate::keys::{KeyRow, Keys};
 use crate::paths::{fits, parameter};
 use crate::places::{Method, Paths, Place, may_ask, method_name};
+use decimal_rank::{capped_number, is_number as are_digits};
 use http_wire::{HttpField, find_named};
+
+/// The numbers of commands are less than this.
+const NUMBERS: u64 = 1 << 63;
 
 /// Who asks at which row, and with which number.
 #[derive(Clone, Copy)]
@@ -95,21 +99,40 @@ fn with_role(place: Place, row: &KeyRow) -> Result<&KeyRow, RouteFault>
     }
 }
 
+fn is_request_number(text: &[u8]) -> bool
+    ensures { result ≡ is_request_number text.now }
+{
+    are_digits(text) && text.len() <= 19 && capped_number(text, NUMBERS) < NUMBERS
+}
+
+fn with_number(text: &[u8]) -> Result<Option<u64>, RouteFault>
+    ensures number { result ≡ with_number text.now }
+    ensures small { IfOk result (λ number. IsTrue (is_number number)) }
+{
+    if is_request_number(text) {
+        Ok(Some(capped_number(text, NUMBERS)))
+    } else {
+        Err(RouteFault::Number)
+    }
+}
+
+// The one number of the fields, or none.
 fn find_number(fields: &[HttpField]) -> Result<Option<u64>, RouteFault>
     ensures number { result ≡ number_in fields.now }
     ensures small { IfOk result (λ number. IsTrue (is_number number)) }
-    ensures unnumbered { IfOk result (λ number. number ≡ None) }
 {
-    match find_named(fields, "x-request-number") {
+    let Some((text, rest)) = find_named(fields, "x-request-number") else {
+        return Ok(None);
+    };
+    match find_named(rest, "x-request-number") {
+        None => with_number(text),
         Some(_) => Err(RouteFault::Number),
-        None => Ok(None),
     }
 }
 
 fn number_at(place: Place, fields: &[HttpField]) -> Result<Option<u64>, RouteFault>
     ensures number { result ≡ number_at place.method fields.now }
     ensures small { IfOk result (λ number. IsTrue (is_number number)) }
-    ensures unnumbered { IfOk result (λ number. number ≡ None) }
 {
     match place.method {
         Method::Post => find_number(fields),
@@ -132,7 +155,6 @@ pub(crate) fn read_opening<'a>(
     ensures fitting { IfOk result (λ opening. IsTrue (fits opening.place.parameter (parameter path.now))) }
     ensures known { IfOk result (λ opening. IsRow opening.place) }
     ensures number { IfOk result (λ opening. IsTrue (is_number opening.number)) }
-    ensures unnumbered { IfOk result (λ opening. opening.number ≡ None) }
 {
     let found = find_place(paths, path)?;
     let place = with_method(found, method)?;

@@ -3,14 +3,14 @@ ghost use Rattle.std.specs.List.{list_all, before_first, after_first};
 ghost use Rattle.std.specs.Str.Parse.{digits_value};
 ghost use Rattle.decimal_rank.specs.DecimalText.{is_digit, are_digits};
 ghost use Rattle.trec_formats.specs.Names.{is_name, is_name_byte};
-ghost use Rattle.routes.specs.Places.{fits, is_lease, is_slash, parameter};
+ghost use Rattle.routes.specs.Places.{fits, is_path_number, is_slash, parameter};
 
 use crate::places::Parameter;
 use decimal_rank::{capped_number, is_number};
 use trec_formats::is_name;
 
-/// The greatest number of a lease.
-const MOST_LEASE: u64 = 4_294_967_295;
+/// The greatest number of a lease or a release.
+const MOST_PATH_NUMBER: u64 = 4_294_967_295;
 
 fn find_slash(path: &[u8]) -> Option<usize>
     ensures { result ≡ position is_slash path.now }
@@ -46,18 +46,20 @@ pub(crate) fn parameter(path: &[u8]) -> &[u8]
     }
 }
 
-fn is_lease(text: &[u8]) -> bool
-    ensures { result ≡ is_lease text.now }
+fn is_path_number(text: &[u8]) -> bool
+    ensures { result ≡ is_path_number text.now }
 {
-    is_number(text) && text.len() <= 10 && capped_number(text, MOST_LEASE + 1) <= MOST_LEASE
+    is_number(text)
+        && text.len() <= 10
+        && capped_number(text, MOST_PATH_NUMBER + 1) <= MOST_PATH_NUMBER
 }
 
-/// The number of a lease.
-pub(crate) fn lease_number(text: &[u8]) -> u32
-    requires { IsTrue (is_lease text.now) }
+/// The number of a lease or a release.
+pub(crate) fn path_number(text: &[u8]) -> u32
+    requires { IsTrue (is_path_number text.now) }
     ensures { result ≡ digits_value 10 text.now }
 {
-    capped_number(text, MOST_LEASE + 1) as u32
+    capped_number(text, MOST_PATH_NUMBER + 1) as u32
 }
 
 /// Whether a text may be the parameter of a row.
@@ -67,6 +69,6 @@ pub(crate) fn fits(parameter: Parameter, text: &[u8]) -> bool
     match parameter {
         Parameter::Nothing => true,
         Parameter::Name => is_name(text),
-        Parameter::Number => is_lease(text),
+        Parameter::Number => is_path_number(text),
     }
 }

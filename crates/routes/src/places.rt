@@ -5,12 +5,12 @@ ghost use Rattle.matchit.specs.Route.{parse_route};
 ghost use Rattle.matchit.specs.Seek.{first};
 ghost use Rattle.routes.specs.Places.{are_free, is_free_route, may_ask, method_name, place_at, table, with_route};
 
-use Askers::{Assessors, Groups, NotAssessors, NotGroups, Organisers};
+use Askers::{Assessors, Everyone, Groups, NotAssessors, NotGroups, Organisers};
 use Method::{Get, Post};
 use Parameter::{Name, Nothing, Number};
 use Question::{
-    Amend, Disagreements, Grade, Lease, Open, Pool, Progress, Qrels, Release, Rule, Scores, Submit,
-    Table, Topics,
+    Amend, Disagreements, Grade, Lease, Open, Pool, Progress, Publish, Qrels, Release,
+    ReleaseQrels, ReleaseScores, Rule, Scores, Submit, Table, Topics, Withdraw,
 };
 use decimal_rank::Memory;
 use matchit::{InsertError, Router};
@@ -25,7 +25,8 @@ pub(crate) enum Method {
     Post,
 }
 
-/// What the second part of a row's path is: a name, the number of a lease, or no parameter.
+/// What the second part of a row's path is: a name, the number of a lease or a release, or no
+/// parameter.
 #[derive(Clone, Copy)]
 pub(crate) enum Parameter {
     Nothing,
@@ -41,6 +42,7 @@ pub(crate) enum Askers {
     Assessors,
     NotGroups,
     NotAssessors,
+    Everyone,
 }
 
 /// What is asked at a row.
@@ -54,12 +56,16 @@ pub(crate) enum Question {
     Release,
     Amend,
     Rule,
+    Withdraw,
+    Publish,
     Pool,
     Qrels,
     Scores,
     Table,
     Disagreements,
     Progress,
+    ReleaseQrels,
+    ReleaseScores,
 }
 
 /// A row of the table of the paths.
@@ -74,7 +80,7 @@ pub(crate) struct Place {
 type Row = (&'static str, Method, Parameter, Askers, Question);
 
 /// The table: each path, its method, its parameter, and who may ask what there.
-static ROWS: [Row; 14] = [
+static ROWS: [Row; 18] = [
     ("/topics", Post, Nothing, Organisers, Topics),
     ("/runs/{run}", Post, Name, Groups, Submit),
     ("/open", Post, Nothing, Organisers, Open),
@@ -83,12 +89,28 @@ static ROWS: [Row; 14] = [
     ("/leases/{lease}/release", Post, Number, Assessors, Release),
     ("/topics/{topic}/amend", Post, Name, Assessors, Amend),
     ("/topics/{topic}/rule", Post, Name, Organisers, Rule),
+    ("/runs/{run}/withdraw", Post, Name, NotAssessors, Withdraw),
+    ("/publish", Post, Nothing, Organisers, Publish),
     ("/topics/{topic}/pool", Get, Name, NotGroups, Pool),
     ("/qrels", Get, Nothing, Organisers, Qrels),
     ("/runs/{run}/scores", Get, Name, NotAssessors, Scores),
     ("/table", Get, Nothing, Organisers, Table),
     ("/disagreements", Get, Nothing, Organisers, Disagreements),
     ("/progress", Get, Nothing, Organisers, Progress),
+    (
+        "/releases/{release}/qrels",
+        Get,
+        Number,
+        Everyone,
+        ReleaseQrels,
+    ),
+    (
+        "/releases/{release}/scores",
+        Get,
+        Number,
+        Everyone,
+        ReleaseScores,
+    ),
 ];
 
 // Adds a path as a route that conflicts with none.
@@ -183,5 +205,6 @@ pub(crate) fn may_ask(role: Role, askers: Askers) -> bool
         Askers::Assessors => matches!(role, Role::Assessor),
         Askers::NotGroups => matches!(role, Role::Organiser | Role::Assessor),
         Askers::NotAssessors => matches!(role, Role::Group | Role::Organiser),
+        Askers::Everyone => true,
     }
 }

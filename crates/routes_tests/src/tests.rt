@@ -1,9 +1,9 @@
 ghost use Rattle.std.specs.Prelude.{◌≡◌, IfOk};
-ghost use Rattle.routes.specs.declared.keys.KeyRow.{KeyRow};
+ghost use Rattle.routes.specs.declared.KeyRow.{KeyRow};
 
-use super::*;
 use decimal_rank::{Memory, Rows, Text};
 use http_wire::{HttpField, HttpRequest, WireFault};
+use routes::{Answered, KeyRow, Keys, RouteFault, are_rows, read_ask, render};
 use rulebook::{Ask, Caller, Command, Phase, Quantity, Query, Refusal, Reply, Role};
 use std::alloc::Global;
 use std::process::Abort;
@@ -53,17 +53,26 @@ fn field(alloc: Global, name: &[u8], value: &[u8]) -> Result<HttpField, Memory> 
     })
 }
 
-// The fields of these keys, which commas part, and of a number; a minus is none.
-fn fields(alloc: Global, keys: &str, number: &str) -> Result<Rows<HttpField>, Memory> {
-    let mut fields = Vec::new(alloc);
-    for key in keys.split(',') {
-        if key != "-" {
-            fields.push(field(alloc, b"X-Campaign-Key", key.as_bytes())?)?;
+// Adds a field for each of these values, which commas part; a minus is none.
+fn add_fields<'x>(
+    alloc: Global,
+    fields: &mut Vec<HttpField>,
+    name: &'x [u8],
+    values: &'x str,
+) -> Result<(), Memory> {
+    for value in values.split(',') {
+        if value != "-" {
+            fields.push(field(alloc, name, value.as_bytes())?)?;
         }
     }
-    if number != "-" {
-        fields.push(field(alloc, b"x-request-number", number.as_bytes())?)?;
-    }
+    Ok(())
+}
+
+// The fields of these keys and numbers.
+fn fields(alloc: Global, keys: &str, numbers: &str) -> Result<Rows<HttpField>, Memory> {
+    let mut fields = Vec::new(alloc);
+    add_fields(alloc, &mut fields, b"X-Campaign-Key", keys)?;
+    add_fields(alloc, &mut fields, b"x-request-number", numbers)?;
     Ok(Rows::new(fields))
 }
 
@@ -116,6 +125,16 @@ fn tell(told: &mut Vec<u8>, word: &[u8]) -> Result<(), Memory> {
 
 fn tell_number(told: &mut Vec<u8>, number: u32) -> Result<(), Memory> {
     let mut digits = itoa::Buffer::new();
+    tell(told, digits.format(number).as_bytes())
+}
+
+// The number of a command behind a mark, where it has one.
+fn tell_numbered(told: &mut Vec<u8>, number: Option<u64>) -> Result<(), Memory> {
+    let Some(number) = number else {
+        return Ok(());
+    };
+    let mut digits = itoa::Buffer::new();
+    tell(told, b"#")?;
     tell(told, digits.format(number).as_bytes())
 }
 
@@ -188,7 +207,9 @@ fn tell_command(told: &mut Vec<u8>, command: &Command) -> Result<(), Memory> {
         Command::Rule { topic, doc, grade } => {
             tell_judgement(told, b"rule", topic.bytes(), doc.bytes(), *grade)
         }
-        _ => tell(told, b"another"),
+        Command::Withdraw { run } => tell_named(told, b"withdraw", run.bytes()),
+        Command::Publish => tell(told, b"publish"),
+        Command::Found { .. } => tell(told, b"found"),
     }
 }
 
@@ -200,12 +221,14 @@ fn tell_query(told: &mut Vec<u8>, query: &Query) -> Result<(), Memory> {
         Query::Table => tell(told, b"table"),
         Query::Disagreements => tell(told, b"disagreements"),
         Query::Progress => tell(told, b"progress"),
-        _ => tell(told, b"another"),
+        Query::ReleaseQrels { release } => tell_lease(told, b"released qrels", *release),
+        Query::ReleaseScores { release } => tell_lease(told, b"released scores", *release),
     }
 }
 
 fn tell_asked(told: &mut Vec<u8>, asked: &(Caller, Option<u64>, Ask)) -> Result<(), Memory> {
     told.extend_from_slice(asked.0.name.bytes())?;
+    tell_numbered(told, asked.1)?;
     match &asked.2 {
         Ask::Act(command) => tell_command(told, command),
         Ask::See(query) => tell_query(told, query),
@@ -273,14 +296,34 @@ GET /progress o - - => org progress
 POST /nope o - - => {"fault":"route"}
 GET /table?x o - - => {"fault":"route"}
 GET /topics/é/pool o - - => {"fault":"route"}
-POST /runs/X/withdraw g - - => {"fault":"route"}
-GET /releases/1/qrels o - - => {"fault":"route"}
+POST /runs/X/withdraw g - - => grp withdraw X
+POST /runs/X/withdraw o - - => org withdraw X
+POST /runs/X/withdraw a - - => {"fault":"role"}
+POST /runs/X/withdraw g - x => {"fault":"body"}
+POST /publish o - - => org publish
+POST /publish g - - => {"fault":"role"}
+GET /releases/1/qrels o - - => org released qrels 1
+GET /releases/2/scores a - - => ann released scores 2
+GET /releases/1/scores g - - => grp released scores 1
+GET /releases/4294967296/qrels o - - => {"fault":"route"}
+GET /releases/1 o - - => {"fault":"route"}
 PUT /open - - - => {"fault":"method"}
 POST /open - - - => {"fault":"key"}
 POST /open z - - => {"fault":"key"}
 POST /open o,o - - => {"fault":"key"}
 POST /open a 1 - => {"fault":"role"}
-POST /open o 1 x => {"fault":"number"}"#;
+POST /open o x x => {"fault":"number"}
+POST /open o 1 x => {"fault":"body"}
+POST /open o 1 - => org # 1 open
+POST /open o 0 - => org # 0 open
+POST /open o 0000000000000000007 - => org # 7 open
+POST /open o 00000000000000000007 - => {"fault":"number"}
+POST /open o 9223372036854775807 - => org # 9223372036854775807 open
+POST /open o 9223372036854775808 - => {"fault":"number"}
+POST /open o 9999999999999999999 - => {"fault":"number"}
+POST /open o +1 - => {"fault":"number"}
+POST /open o 1,1 - => {"fault":"number"}
+GET /qrels o 1,x - => org qrels"#;
 
 #[test]
 fn each_request_is_read_by_its_row(rt: HostRuntime) -> Result<(), Fail> {

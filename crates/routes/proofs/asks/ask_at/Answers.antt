@@ -16,3 +16,9 @@ ask_grade-requires c = rw c.in-Grade.is at (sym (parameter_is c.args.place c.req
 
 pub ask_release-requires : goal.ask_release-requires
 ask_release-requires c = rw c.in-Release.is at (sym (parameter_is c.args.place c.requires.known c.args.text.now) ∙ c.requires.fitting)
+
+pub path_number-requires : goal.path_number-requires
+path_number-requires c = rw c.in-ReleaseQrels.is at (sym (parameter_is c.args.place c.requires.known c.args.text.now) ∙ c.requires.fitting)
+
+pub path_number-requires-in-ReleaseScores : goal.path_number-requires-in-ReleaseScores
+path_number-requires-in-ReleaseScores c = rw c.in-ReleaseScores.is at (sym (parameter_is c.args.place c.requires.known c.args.text.now) ∙ c.requires.fitting)

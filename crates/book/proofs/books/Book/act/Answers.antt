@@ -28,7 +28,7 @@ accept-answer-requires-clause-room g c =
     let asked = c.args.asked in
     let e = c.in-Ok-Ready.prepared in
     let added : added_by H asked ≡ e ∷ [] = search rules in
-    let is : IsAdded H asked.who asked.number asked.ask asked.moment e = c.rule_laws.ensures.added H asked.who asked.number asked.ask asked.moment e c.entries-legal.ensures.legal c.requires.addressed added in
+    let is : IsAdded H asked.who asked.number asked.ask asked.moment e = c.rule_laws.ensures.added H asked.who asked.number asked.ask asked.moment e c.entries-legal.ensures.legal c.requires added in
     subst (λ (H : History). HasRoom H e) (sym c.prepare.ensures.history) (room_for c.rule_laws.ensures H e is.accepted is.legal)
 
 pub invariant_of-self-in-Ok-Ready : goal.invariant_of-self-in-Ok-Ready
@@ -41,7 +41,7 @@ invariant_of-self-in-Ok-Ready g c =
     let old : Parts g.row.D.Denot = record { journal = s.journal; history = H; pending = s.pending } in
     let new : Parts g.row.D.Denot = record { journal = c.accept-answer.new.journal; history = c.accept-answer.new.state.history; pending = c.accept-answer.new.pending } in
     let added : added_by H asked ≡ e ∷ [] = search rules in
-    let is : IsAdded H asked.who asked.number asked.ask asked.moment e = c.rule_laws.ensures.added H asked.who asked.number asked.ask asked.moment e c.entries-legal.ensures.legal c.requires.addressed added in
+    let is : IsAdded H asked.who asked.number asked.ask asked.moment e = c.rule_laws.ensures.added H asked.who asked.number asked.ask asked.moment e c.entries-legal.ensures.legal c.requires added in
     let accepts = subst (λ (H : History). Accepts D.images D.clock D.images_since D.fault_count (let p : Parts g.row.D.Denot = record { journal = s.journal; history = H; pending = s.pending } in p) e c.accept-answer.result new)
     c.prepare.ensures.history c.accept-answer.ensures in
     kept_after D.images D.clock D.images_since D.fault_count g.met.D.Disk.only_now old new s.opening c.self.invariant asked e added is c.accept-answer.result accepts
@@ -56,7 +56,7 @@ returns-in-Ok-Ready g c =
     let old : Parts g.row.D.Denot = record { journal = s.journal; history = H; pending = s.pending } in
     let new : Parts g.row.D.Denot = record { journal = c.accept-answer.new.journal; history = c.accept-answer.new.state.history; pending = c.accept-answer.new.pending } in
     let added : added_by H asked ≡ e ∷ [] = search rules in
-    let is : IsAdded H asked.who asked.number asked.ask asked.moment e = c.rule_laws.ensures.added H asked.who asked.number asked.ask asked.moment e c.entries-legal.ensures.legal c.requires.addressed added in
+    let is : IsAdded H asked.who asked.number asked.ask asked.moment e = c.rule_laws.ensures.added H asked.who asked.number asked.ask asked.moment e c.entries-legal.ensures.legal c.requires added in
     let accepts = subst (λ (H : History). Accepts D.images D.clock D.images_since D.fault_count (let p : Parts g.row.D.Denot = record { journal = s.journal; history = H; pending = s.pending } in p) e c.accept-answer.result new)
     c.prepare.ensures.history c.accept-answer.ensures in
     acts_before D.images D.clock D.images_since D.fault_count c.args.self.now old s.opening asked c.accept-answer.result

@@ -1,0 +1,5 @@
+//! Tests of what requests are read as, and of the texts of answers.
+#![tactic(auto)]
+
+#[cfg(test)]
+mod tests;
