@@ -1,5 +1,5 @@
 -- What an answer adds is accepted: its moment is in time, its spelling as long as the request's, and there was room.
-use Rattle.std.proofs.Common.{◌≡◌, ℕ, ◌+◌, ◌-◌, ◌≤◌, Bool, true, false, [], ◌∷◌, ◌++◌, Option, Some, Ok, Err, length, max, refl, sym, ap, ◌∙◌, arith, subst, length-append, leb-true, le-leb}
+use Rattle.std.proofs.Common.{◌≡◌, ℕ, ◌+◌, ◌-◌, ◌≤◌, Bool, true, false, [], ◌∷◌, ◌++◌, Option, Some, Ok, Err, length, max, refl, sym, ap, ◌∙◌, arith, length-append, leb-true, le-leb}
 use Rattle.std.specs.Prelude.{◌&&◌, ◌==◌, if◌then◌else◌, nat_le, slice_get}
 use Rattle.std.specs.Int.{to_le_bytes, w64}
 use Rattle.std.specs.Option.{option_map_or}
@@ -20,7 +20,7 @@ use Rattle.rulebook.specs.Campaign.{History}
 use Rattle.rulebook.specs.Legal.{IsAccepted, IsFounding, IsLegal, core_of, is_well_addressed}
 use Rattle.rulebook.specs.Refusals.{Ruling}
 use Rattle.rulebook.specs.Roles.{may_give}
-use Rattle.rulebook.specs.Spelling.{command_bytes, entry_bytes, has_spelling, is_number, is_plain, number_bytes, short}
+use Rattle.rulebook.specs.Spelling.{command_bytes, entry_bytes, has_spelling, is_number, is_plain, number_bytes}
 use Rattle.rulebook.proofs.AllPass.{both, first_of_both, second_of_both}
 use Rattle.rulebook.proofs.LegalWalk.{IsUnused, legal_induction, legal_more, unused_of}
 
@@ -164,3 +164,11 @@ accepted_room H e accepted =
     let unused = unused_of H e.core.caller e.core.number e.core.command e.core.moment e accepted.added in
     let added = ap (λ (a : Answer). a.added) (sym unused.acted_is) ∙ accepted.added in
     (made_of H (core_of e.core.caller e.core.number (moment_after H e.core.moment) e.core.command) e added).room
+
+-- and has the answer's reply
+pub accepted_reply : (H : History) (e : Entry) → IsAccepted H e → (answer H e.core.caller e.core.number (Act e.core.command) e.core.moment).reply ≡ e.reply
+accepted_reply H e accepted =
+    let core = core_of e.core.caller e.core.number (moment_after H e.core.moment) e.core.command in
+    let unused = unused_of H e.core.caller e.core.number e.core.command e.core.moment e accepted.added in
+    let added = ap (λ (a : Answer). a.added) (sym unused.acted_is) ∙ accepted.added in
+    ap (λ (a : Answer). a.reply) unused.acted_is ∙ (made_of H core e added).reply_is

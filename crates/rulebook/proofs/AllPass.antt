@@ -61,6 +61,14 @@ module _ {X : Type 0} (p : X → Bool) where
       step true rest = both (p x) (list_all p (filter q xs)) (all_head x xs all) rest
       step false rest = rest
 
+  pub all_passed : (xs : List X) → list_all p (filter p xs) ≡ true
+  all_passed [] = refl
+  all_passed (x ∷ xs) = step (p x) refl (all_passed xs)
+    where
+      step : (t : Bool) → p x ≡ t → list_all p (filter p xs) ≡ true → list_all p (filter p (x ∷ xs)) ≡ true
+      step true is rest = rw is (both (p x) (list_all p (filter p xs)) is rest)
+      step false is rest = rw is rest
+
   pub all_numbered : (n : ℕ) (xs : List X) → list_all p xs ≡ true → list_all (λ x. p x.1) (enumerate_from n xs) ≡ true
   all_numbered n [] all = refl
   all_numbered n (x ∷ xs) all =

@@ -1,22 +1,19 @@
 -- Answers of a small campaign to numbered requests, to a withdrawal and to its end.
 use Rattle.std.specs.Fmt.{digits}
-use Rattle.std.specs.Prelude.{◌≡◌, ℕ, [], ◌∷◌, ◌++◌, List, None, Some, Option, refl, codes, length, map}
-use Rattle.rulebook.specs.declared.rules.Caller.{Caller}
+use Rattle.std.specs.Prelude.{◌≡◌, ℕ, [], ◌∷◌, ◌++◌, Some, refl, codes, length, map}
 use Rattle.rulebook.specs.declared.ask.Command.{Command}
 use Rattle.rulebook.specs.declared.ask.Command.TheVariants as command
-use Rattle.rulebook.specs.declared.ask.Query.{Query}
 use Rattle.rulebook.specs.declared.ask.Query.TheVariants as query
-use Rattle.rulebook.specs.declared.ask.Ask.TheVariants.{Act, See}
+use Rattle.rulebook.specs.declared.ask.Ask.TheVariants.{Act}
 use Rattle.rulebook.specs.declared.reply.Refusal.TheVariants as refusal
-use Rattle.rulebook.specs.declared.reply.Reply.{Reply}
 use Rattle.rulebook.specs.declared.reply.Reply.TheVariants as reply
-use Rattle.rulebook.specs.declared.rules.Phase.TheVariants.{Judging, Published}
+use Rattle.rulebook.specs.declared.rules.Phase.TheVariants.{Published}
 use Rattle.rulebook.specs.Words.{Text}
 use Rattle.rulebook.specs.Answers.{Answer, answer}
 use Rattle.rulebook.specs.Campaign.{History, live, phase, pool}
 use Rattle.rulebook.specs.Grades.{relevant_count, non_relevant_count}
 use Rattle.rulebook.proofs.SmallCampaign.{X, group, organiser, with_topic}
-use Rattle.rulebook.proofs.JudgedCampaign.{after, all_graded, c_leased, first_run, lease, leased, p, q, refused, replied, told_at}
+use Rattle.rulebook.proofs.JudgedCampaign.{after, all_graded, c_leased, lease, leased, p, q, refused, replied, told_at}
 
 -- Numbered requests: the sixth entry is a grade under the number 7.
 

@@ -15,7 +15,7 @@ use Rattle.decimal_rank.specs.Names.{with_name}
 use Rattle.labels.specs.declared.given.Given.{Given}
 use Rattle.labels.specs.Grades.{effective_grade}
 use Rattle.labels.specs.Labelled.{grades_of, with_label}
-use Rattle.rulebook.specs.Words.{Text, contains_text, each_once, prefixes}
+use Rattle.rulebook.specs.Words.{Text, contains_text, each_once, last_given, prefixes}
 use Rattle.rulebook.specs.Campaign.{History, need, needed, rules_of}
 use Rattle.rulebook.specs.Entries.{LabelsJoin, QuietEntriesKeepGrades, RulingsJoin}
 use Rattle.rulebook.specs.declared.rules.Rules.{Rules}
@@ -67,10 +67,12 @@ ruling-step : (given : List ℕ) (o : Option ℕ) → last_or None (given ++ fil
 ruling-step given None = ap (last_or None) (append-nil given)
 ruling-step given (Some grade) = last-push None given grade
 
+-- the last of what f gives, with one more entry
+pub last-given-pushed : (f : Entry → Option ℕ) (H : History) (e : Entry) → last_given f (H ++ e ∷ []) ≡ option_or (f e) (last_given f H)
+last-given-pushed f H e = ap (last_or None) (filter_map-append f H (e ∷ [])) ∙ ruling-step (filter_map f H) (f e)
+
 pub rulings-follow : (H : History) (e : Entry) (topic doc : Text) → ruling (H ++ e ∷ []) topic doc ≡ option_or (ruling_in topic doc e.core.command) (ruling H topic doc)
-rulings-follow H e topic doc =
-    let f : Entry → Option ℕ = λ e. ruling_in topic doc e.core.command in
-    ap (last_or None) (filter_map-append f H (e ∷ [])) ∙ ruling-step (filter_map f H) (f e)
+rulings-follow H e topic doc = last-given-pushed (λ e. ruling_in topic doc e.core.command) H e
 
 -- The trail
 

@@ -1,7 +1,7 @@
 -- A legal list has room in a journal: Topics come once, runs are few, and the other entries are short.
-use Rattle.std.proofs.Common.{◌≡◌, ℕ, ◌+◌, ◌*◌, ◌<◌, ◌≤◌, ◌^◌, ◌||◌, Bool, true, false, List, [], ◌∷◌, ◌++◌, Option, None, Some, Ok, Err, length, refl, sym, ap, ◌∙◌, arith, subst, length-append, leb-true}
-use Rattle.std.specs.Prelude.{◌&&◌, ◌==◌, is_some, nat_le, nat_lt, sum_by}
-use Rattle.std.specs.List.{cons_option, filter_map, flat_map, list_all, list_any}
+use Rattle.std.proofs.Common.{◌≡◌, ℕ, ◌+◌, ◌*◌, ◌<◌, ◌≤◌, ◌^◌, ◌||◌, Bool, true, false, List, [], ◌∷◌, ◌++◌, Option, None, Some, Ok, length, refl, ap, ◌∙◌, arith, length-append, leb-true}
+use Rattle.std.specs.Prelude.{◌&&◌, is_some, nat_le, nat_lt, sum_by}
+use Rattle.std.specs.List.{cons_option, flat_map, list_all}
 use Rattle.std.specs.Option.{option_map}
 use Rattle.std.specs.Int.{to_le_bytes, w16, w32, w64}
 use Rattle.std.proofs.lemmas.Bool.{leb-false}
@@ -18,20 +18,21 @@ use Rattle.rulebook.specs.declared.rules.Rules.{Rules}
 use Rattle.rulebook.specs.declared.ask.Command.{Command}
 use Rattle.rulebook.specs.declared.ask.Command.TheVariants as command
 use Rattle.rulebook.specs.declared.entry.Entry.{Entry}
-use Rattle.rulebook.specs.declared.entry.EntryCore.{EntryCore}
 use Rattle.rulebook.specs.declared.reply.Quantity.TheVariants as quantity
 use Rattle.rulebook.specs.declared.reply.Refusal.{Refusal}
 use Rattle.rulebook.specs.declared.reply.Refusal.TheVariants as refusal
 use Rattle.rulebook.specs.declared.reply.Reply.{Reply}
 use Rattle.rulebook.specs.declared.reply.Reply.TheVariants as reply
 use Rattle.rulebook.specs.Answers.{moment_after, submit_ruling, topics_ruling, ruled, unknown_line}
+use Rattle.rulebook.specs.Facts.{given_topics}
 use Rattle.rulebook.specs.Campaign.{History, docnos_with, has_topics, is_taken, line_count, lines_with, run_in, runs, topics_in}
-use Rattle.rulebook.specs.Legal.{IsAccepted, IsFounding, IsLegal, founding}
+use Rattle.rulebook.specs.Legal.{IsAccepted, IsLegal, founding}
 use Rattle.rulebook.specs.Refusals.{Ruling, ◌when◌, unless, wrong_phase_unless}
 use Rattle.rulebook.specs.Spelling.{are_rules, command_bytes, entry_bytes, is_ascending, is_number, is_plain, number_bytes, rules_bytes, short}
 use Rattle.rulebook.specs.Words.{Text}
-use Rattle.rulebook.proofs.Added.{IsGiven, accepted_room, entry_size, given_of}
+use Rattle.rulebook.proofs.Added.{accepted_room, entry_size, given_of}
 use Rattle.rulebook.proofs.AllPass.{all_head, all_tail, first_of_both, second_of_both}
+use Rattle.rulebook.proofs.GrantedLeases.{passed}
 use Rattle.rulebook.proofs.LegalWalk.{accepted_of, legal_induction}
 
 pub entries_few : (H : History) → IsLegal H → length H ≤ MAX_ENTRIES
@@ -44,12 +45,6 @@ entries_few =
     (λ first is. omega arith)
 
 -- The tests that an accepted command passed
-
--- behind a first test that holds nothing is told
-passed : (r : Refusal) (test : Bool) (tests : List (Option Refusal)) (ruling : Ruling) (told : Reply) → unless ((r when test) ∷ tests) ruling ≡ Ok told
-    → (test ≡ false) × (unless tests ruling ≡ Ok told)
-passed r true tests ruling told is = cc is
-passed r false tests ruling told is = (refl, is)
 
 passed_other : (o : Option Refusal) (tests : List (Option Refusal)) (ruling : Ruling) (told : Reply) → unless (o ∷ tests) ruling ≡ Ok told → unless tests ruling ≡ Ok told
 passed_other None tests ruling told is = is
@@ -89,9 +84,6 @@ runs_room H run lists told is =
     last = (refusal.Limit quantity.Lines when nat_lt MAX_LINES (lines_with H lists)) ∷ (refusal.Limit quantity.Docnos when nat_lt MAX_DOCNOS (length (docnos_with H lists))) ∷ []
 
 -- Counts of the long entries
-
-abbrev given_topics : History → List (List Topic)
-given_topics H = filter_map (λ e. topics_in e.core.command) H
 
 no_topics : (H : History) → has_topics H ≡ false → given_topics H ≡ []
 no_topics [] none = refl
@@ -143,7 +135,7 @@ module _ (H : History) (who : Caller) (now : ℕ) where
   runs_step (command.Withdraw run) told is few = omega (arith, few)
   runs_step command.Publish told is few = omega (arith, few)
 
-topics_once : (H : History) → IsLegal H → length (given_topics H) ≤ 1
+pub topics_once : (H : History) → IsLegal H → length (given_topics H) ≤ 1
 topics_once =
     legal_induction (λ H. length (given_topics H) ≤ 1)
     (λ before e legal once accepted.

@@ -9,3 +9,9 @@ pub mod Added
 pub mod AllPass
 pub mod LegalWalk
 pub mod PlainReplies
+pub mod Passing
+pub mod UsedNumbers
+pub mod LastGrades
+pub mod GrantedLeases
+pub mod FewLabels
+pub mod LiveRuns

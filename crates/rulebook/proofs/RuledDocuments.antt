@@ -26,7 +26,7 @@ use Rattle.rulebook.proofs.Entering.{graded-on-trail, passes-among, rulings-foll
 use Rattle.rulebook.proofs.Listing.{labelled-grow, listed-labelled}
 
 -- what is accepted passed its third test
-third-passes : (a b : Option Refusal) (r : Refusal) (t : Bool) (rest : List (Option Refusal)) (ruling : Ruling) (told : Reply) → unless (a ∷ b ∷ (r when not t) ∷ rest) ruling ≡ Ok told → t ≡ true
+pub third-passes : (a b : Option Refusal) (r : Refusal) (t : Bool) (rest : List (Option Refusal)) (ruling : Ruling) (told : Reply) → unless (a ∷ b ∷ (r when not t) ∷ rest) ruling ≡ Ok told → t ≡ true
 third-passes (Some s) b r t rest ruling told is = cc is
 third-passes None (Some s) r t rest ruling told is = cc is
 third-passes None None r true rest ruling told is = refl

@@ -1,5 +1,5 @@
 -- Well addressed requests, and the lists of entries that can come about.
-use Rattle.std.specs.Prelude.{◌≡◌, ℕ, Bool, true, false, ◌&&◌, [], ◌∷◌, ◌++◌, Option, None, length, nat_le, IsTrue, codes}
+use Rattle.std.specs.Prelude.{◌≡◌, ℕ, Bool, true, ◌&&◌, [], ◌∷◌, ◌++◌, Option, None, length, nat_le, IsTrue, codes}
 use Rattle.trec_formats.specs.Names.{is_name}
 use Rattle.rulebook.specs.declared.limits.TheConstants.{MAX_MOMENT, MAX_ENTRY_BYTES}
 use Rattle.rulebook.specs.declared.rules.Role.TheVariants.{Organiser}

@@ -16,3 +16,4 @@ pub mod Scores
 pub mod Plain
 pub mod Stories
 pub mod Additions
+pub mod Facts

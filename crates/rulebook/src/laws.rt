@@ -1,5 +1,6 @@
 ghost use Rattle.rulebook.specs.Additions.{AddedAreAccepted, EntriesAreFew, FoundingFits, LegalFit, MomentsAreInTime, RunsAreFew};
 ghost use Rattle.rulebook.specs.Entries.{GradedAreOnTrail, GradedAreThere, LabelledAreListed, LabelsJoin, QuietEntriesKeepGrades, RulingsJoin};
+ghost use Rattle.rulebook.specs.Facts.{GradesTellTheirLeases, KeptRepliesAreFirst, LabelsAreFew, LabelsAreTheLastGrades, LabelsGoByLeases, LeasesEndOnce, LiveRunsAreNotWithdrawn, NumbersAreUsedOnce, TopicsAreGivenOnce};
 ghost use Rattle.rulebook.specs.Plain.{CommandsAreAnsweredShort, EntriesArePlain, RepliesArePlain};
 
 /// An entry that gives no label and no ruling leaves each label, ruling, effective grade and trail.
@@ -74,4 +75,49 @@ pub fn founding_fits()
 /// A journal of a legal list has room in 2^40 bytes.
 pub fn legal_fit()
     ensures { LegalFit }
+{}
+
+/// A campaign gets its topics once.
+pub fn topics_are_given_once()
+    ensures { TopicsAreGivenOnce }
+{}
+
+/// No two entries have one caller's name and one number.
+pub fn numbers_are_used_once()
+    ensures { NumbersAreUsedOnce }
+{}
+
+/// The reply that is kept for a number is the one that its entry was first given.
+pub fn kept_replies_are_first()
+    ensures { KeptRepliesAreFirst }
+{}
+
+/// A lease ends once, by its grade or its release.
+pub fn leases_end_once()
+    ensures { LeasesEndOnce }
+{}
+
+/// A Grade entry is told the topic and the document of the lease that it names.
+pub fn grades_tell_their_leases()
+    ensures { GradesTellTheirLeases }
+{}
+
+/// Labels go by the leases that Grade entries name.
+pub fn labels_go_by_leases()
+    ensures { LabelsGoByLeases }
+{}
+
+/// The label of an assessor on a document is the last grade that they gave it, by Grade or Amend.
+pub fn labels_are_the_last_grades()
+    ensures { LabelsAreTheLastGrades }
+{}
+
+/// A document never has more labels and live leases together than its topic needs labels.
+pub fn labels_are_few()
+    ensures { LabelsAreFew }
+{}
+
+/// A withdrawn run is no live run, so it holds nothing.
+pub fn live_runs_are_not_withdrawn()
+    ensures { LiveRunsAreNotWithdrawn }
 {}

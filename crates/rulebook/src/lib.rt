@@ -9,17 +9,17 @@ mod laws;
 mod limits;
 mod reply;
 mod rules;
-#[cfg(test)]
-mod tests;
 
 pub use answer::Answer;
 pub use ask::{Addressed, Ask, Command, Query};
 pub use entry::{Entry, EntryCore};
 pub use laws::{
     added_are_accepted, commands_are_answered_short, entries_are_few, entries_are_plain,
-    founding_fits, graded_are_on_trail, graded_are_there, labelled_are_listed, labels_join,
-    legal_fit, moments_are_in_time, quiet_entries_keep_grades, replies_are_plain, rulings_join,
-    runs_are_few,
+    founding_fits, graded_are_on_trail, graded_are_there, grades_tell_their_leases,
+    kept_replies_are_first, labelled_are_listed, labels_are_few, labels_are_the_last_grades,
+    labels_go_by_leases, labels_join, leases_end_once, legal_fit, live_runs_are_not_withdrawn,
+    moments_are_in_time, numbers_are_used_once, quiet_entries_keep_grades, replies_are_plain,
+    rulings_join, runs_are_few, topics_are_given_once,
 };
 pub use limits::{
     MAX_DOCNOS, MAX_ENTRIES, MAX_ENTRY_BYTES, MAX_LINES, MAX_MOMENT, MAX_RUNS, MAX_TOPICS,

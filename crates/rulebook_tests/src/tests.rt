@@ -1,8 +1,8 @@
-use crate::reply::{Quantity, Refusal, Reply};
-use crate::rules::{Caller, Role};
 use decimal_rank::{Memory, Rows, Text};
+use rulebook::{Caller, Command, Quantity, Refusal, Reply, Role};
 use std::alloc::Global;
 use std::test::Fail;
+use trec_formats::TopicList;
 
 fn text(alloc: Global, bytes: &[u8]) -> Result<Text, Memory> {
     Text::from_slice(alloc, bytes)
@@ -49,5 +49,32 @@ fn a_pool_is_copied(rt: HostRuntime) -> Result<(), Fail> {
         Reply::Pool { docs, .. } => assert_eq!(rt; docs.items().len(), 2),
         _ => return Err(Fail::from("no pool")),
     }
+    Ok(())
+}
+
+fn submission(alloc: Global, line: u32, doc: &[u8]) -> Result<Command, Memory> {
+    let mut docs = Vec::new(alloc);
+    docs.push(text(alloc, doc)?)?;
+    let mut lists = Vec::new(alloc);
+    lists.push(TopicList {
+        topic: text(alloc, b"1")?,
+        line,
+        docs: Rows::new(docs),
+    })?;
+    Ok(Command::Submit {
+        run: text(alloc, b"X")?,
+        lists: Rows::new(lists),
+    })
+}
+
+#[test]
+fn commands_are_the_same_by_all_their_fields(rt: HostRuntime) -> Result<(), Fail> {
+    let alloc = rt.alloc();
+    let first = submission(alloc, 1, b"a")?;
+    assert!(rt; first.is_same(&submission(alloc, 1, b"a")?));
+    assert!(rt; !first.is_same(&submission(alloc, 2, b"a")?));
+    assert!(rt; !first.is_same(&submission(alloc, 1, b"b")?));
+    assert!(rt; !first.is_same(&Command::Open));
+    assert!(rt; Command::Publish.is_same(&Command::Publish));
     Ok(())
 }

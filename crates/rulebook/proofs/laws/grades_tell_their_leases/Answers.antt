@@ -1,0 +1,5 @@
+use Rattle.rulebook.proofs.GrantedLeases.{grades_told}
+use Rattle.rulebook.proofs.laws.grades_tell_their_leases.Goals as goal
+
+pub returns : goal.returns
+returns c = grades_told

@@ -1,0 +1,5 @@
+use Rattle.rulebook.proofs.UsedNumbers.{kept_first}
+use Rattle.rulebook.proofs.laws.kept_replies_are_first.Goals as goal
+
+pub returns : goal.returns
+returns c = kept_first

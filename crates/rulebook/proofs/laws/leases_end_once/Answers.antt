@@ -1,0 +1,5 @@
+use Rattle.rulebook.proofs.GrantedLeases.{ended_once}
+use Rattle.rulebook.proofs.laws.leases_end_once.Goals as goal
+
+pub returns : goal.returns
+returns c = ended_once

@@ -1,0 +1,5 @@
+use Rattle.rulebook.proofs.UsedNumbers.{used_once}
+use Rattle.rulebook.proofs.laws.numbers_are_used_once.Goals as goal
+
+pub returns : goal.returns
+returns c = used_once

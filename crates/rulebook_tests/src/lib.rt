@@ -1,0 +1,5 @@
+//! Tests of callers, replies and commands.
+#![tactic(auto)]
+
+#[cfg(test)]
+mod tests;
