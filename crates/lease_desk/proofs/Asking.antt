@@ -1,11 +1,13 @@
--- What is counted along a chain is what is asked for.
+-- What is counted along a series is what is asked for.
 use Rattle.std.proofs.Common.{◌≡◌, ℕ, ◌+◌, Bool, true, false, ◌&&◌, ◌||◌, eqb, nat_lt, List, [], ◌∷◌, Some, None, count_by, refl, sym, ap, ◌∙◌, arith}
 use Rattle.std.specs.List.{list_any}
 use Rattle.std.proofs.lemmas.Bool.{eq-eqb, lt-ltb}
 use Rattle.std.proofs.lemmas.Bool.Decides.{nat_tests}
 use Rattle.std.proofs.lemmas.Slice.Eq.{bytes_eq-Decides}
+use Rattle.decimal_rank.specs.TextKeys.{text_key}
 use Rattle.decimal_rank.specs.declared.naming.DocId.{DocId}
-use Rattle.lease_desk.specs.Chained.{document_of, is_asked, name_hash, same_document}
+use Rattle.decimal_rank.specs.declared.secrets.Secret.{Secret}
+use Rattle.lease_desk.specs.Series.{document_of, is_asked, same_document}
 use Rattle.lease_desk.specs.Leases.{has_live, is_live, is_of, is_on, live_of, live_on, live_on_topic}
 use Rattle.lease_desk.specs.declared.leases.Lease.{Lease}
 use Rattle.lease_desk.proofs.Counting.{as_number, count-cons}
@@ -49,15 +51,15 @@ on_document leases topic doc now = count_alike _ _ (λ lease. ap (λ t. t && is_
     whole true = refl
     whole false = refl
 
-pub of_assessor : (leases : List Lease) (assessor : List ℕ) (now : ℕ)
-    → count_by (λ lease. eqb (name_hash assessor) (name_hash lease.assessor) && is_asked (Some assessor) lease && is_live lease now) leases ≡ live_of leases assessor now
-of_assessor leases assessor now = count_alike _ _ (λ lease. ap (λ t. t && is_live lease now) (step lease (is_of assessor lease) refl)) leases
+pub of_assessor : (secret : Secret) (leases : List Lease) (assessor : List ℕ) (now : ℕ)
+    → count_by (λ lease. eqb (text_key secret assessor) (text_key secret lease.assessor) && is_asked (Some assessor) lease && is_live lease now) leases ≡ live_of leases assessor now
+of_assessor secret leases assessor now = count_alike _ _ (λ lease. ap (λ t. t && is_live lease now) (step lease (is_of assessor lease) refl)) leases
   where
-    step : (lease : Lease) (t : Bool) → is_of assessor lease ≡ t → (eqb (name_hash assessor) (name_hash lease.assessor) && is_of assessor lease) ≡ is_of assessor lease
+    step : (lease : Lease) (t : Bool) → is_of assessor lease ≡ t → (eqb (text_key secret assessor) (text_key secret lease.assessor) && is_of assessor lease) ≡ is_of assessor lease
     step lease true e =
         let same : lease.assessor ≡ assessor = (bytes_eq-Decides lease.assessor assessor).0 e in
-        ap (λ t. t && is_of assessor lease) (eq-eqb _ _ (ap name_hash (sym same)))
-    step lease false e = ap (λ t. eqb (name_hash assessor) (name_hash lease.assessor) && t) e ∙ none (eqb (name_hash assessor) (name_hash lease.assessor)) ∙ sym e
+        ap (λ t. t && is_of assessor lease) (eq-eqb _ _ (ap (text_key secret) (sym same)))
+    step lease false e = ap (λ t. eqb (text_key secret assessor) (text_key secret lease.assessor) && t) e ∙ none (eqb (text_key secret assessor) (text_key secret lease.assessor)) ∙ sym e
       where
         none : (t : Bool) → (t && false) ≡ false
         none true = refl

@@ -1,13 +1,13 @@
--- A count along a chain, from its newest lease on backwards.
+-- A count along a series, from its newest lease on backwards.
 use Rattle.std.proofs.Common.{◌≡◌, ℕ, ◌+◌, ◌<◌, ◌≤◌, Bool, true, false, cond, ◌&&◌, nat_lt, List, [], ◌∷◌, Option, Some, None, count_by, length, take, refl, sym, ap, subst, ◌∙◌, arith, get_or, is_none, suc, zero}
 use Rattle.std.proofs.lemmas.Bool.{false≢true, ltb-true}
 use Rattle.std.proofs.lemmas.List.{take-take, length-take, get_or-take}
 use Rattle.std.proofs.lemmas.List.Sums.{count_by_more_yes, count_by_more_no, sum_by-cons}
-use Rattle.lease_desk.specs.Chained.{IsChainOf, is_asked, last_of, last_place, up_to}
+use Rattle.lease_desk.specs.Series.{IsSeriesOf, is_asked, last_of, last_place, up_to}
 use Rattle.lease_desk.specs.Leases.{is_live}
-use Rattle.lease_desk.specs.declared.chains.Link.{Link}
+use Rattle.lease_desk.specs.declared.series.Link.{Link}
 use Rattle.lease_desk.specs.declared.leases.Lease.{Lease}
-use Rattle.lease_desk.proofs.Chaining.{last_place-within, last_passes}
+use Rattle.lease_desk.proofs.LastPlaces.{last_place-within, last_passes}
 
 -- ---- tests
 
@@ -28,7 +28,7 @@ as_cond : (t : Bool) → cond t 1 0 ≡ as_number t
 as_cond true = refl
 as_cond false = refl
 
--- ---- what no lease of the chain behind the last one adds
+-- ---- what no lease of the series behind the last one adds
 
 pub count-cons : {X : Type 0} (f : X → Bool) (x : X) (xs : List X) → count_by f (x ∷ xs) ≡ as_number (f x) + count_by f xs
 count-cons f x xs = sum_by-cons (λ y. cond (f y) 1 0) x xs ∙ ap (λ n. n + count_by f xs) (as_cond (f x))
@@ -72,7 +72,7 @@ count_none f xs d (suc n) h none =
     let below : (i : ℕ) → i < n → f (get_or xs i d) ≡ false = λ i lt. none i (omega arith) in
     ap (λ m. count_by f (take m xs)) more ∙ count_by_more_no f xs n d within (none n (omega arith)) ∙ count_none f xs d n lower below
 
--- ---- the count of a chain
+-- ---- the count of a series
 
 -- a live lease with a key, and of the assessor that is asked for
 abbrev pub is_counted : (Lease → Bool) → Option (List ℕ) → ℕ → Lease → Bool
@@ -90,7 +90,7 @@ some_lease = record { number = 0; assessor = []; topic = 0; doc = record { 0 = 0
 abbrev pub some_link : Link
 some_link = record { previous = None; latest_until = 0 }
 
--- so many leases were counted, and those up to a place of the chain are left
+-- so many leases were counted, and those up to a place of the series are left
 pub record IsCounted (key : Lease → Bool) (assessor : Option (List ℕ)) (now : ℕ) (leases : List Lease) (count : ℕ) (next : Option ℕ) : Type 0 where
   pub so_far : count + count_by (is_counted key assessor now) (take (up_to next) leases) ≡ count_by (is_counted key assessor now) leases
   pub passes : (place : ℕ) (lease : Lease) → next ≡ Some place → key (get_or leases place lease) ≡ true
@@ -104,14 +104,14 @@ module _ (key : Lease → Bool) (assessor : Option (List ℕ)) (now : ℕ) (leas
       let live = (both_then (key lease && is_asked assessor lease) (is_live lease now) e).1 in
       ltb-true now lease.until (both_then (is_none lease.end) (nat_lt now lease.until) live).1
 
-  pub starts : (links : List Link) (newest : Option ℕ) → IsChainOf key leases links newest → IsCounted key assessor now leases 0 newest
-  starts links newest chain = record {
+  pub starts : (links : List Link) (newest : Option ℕ) → IsSeriesOf key leases links newest → IsCounted key assessor now leases 0 newest
+  starts links newest series = record {
     so_far =
         let whole = count_up_to_last key (is_counted key assessor now) only leases in
         let here : count_by (is_counted key assessor now) (take (up_to newest) leases) ≡ count_by (is_counted key assessor now) leases
-        = ap (λ last. count_by (is_counted key assessor now) (take (up_to last) leases)) chain.newest_is ∙ whole in
+        = ap (λ last. count_by (is_counted key assessor now) (take (up_to last) leases)) series.newest_is ∙ whole in
         omega (arith, here);
-    passes = λ place lease e. last_passes key leases place lease (sym chain.newest_is ∙ e);
+    passes = λ place lease e. last_passes key leases place lease (sym series.newest_is ∙ e);
   }
 
   pub done : (count : ℕ) → IsCounted key assessor now leases count None → count ≡ count_by (is_counted key assessor now) leases
@@ -120,7 +120,7 @@ module _ (key : Lease → Bool) (assessor : Option (List ℕ)) (now : ℕ) (leas
       let all = counted.so_far in
       omega (arith, none, all)
 
-  module _ (links : List Link) (newest : Option ℕ) (chain : IsChainOf key leases links newest) where
+  module _ (links : List Link) (newest : Option ℕ) (series : IsSeriesOf key leases links newest) where
     pub stops : (count place : ℕ) (lease : Lease) (link : Link) → place < length leases → (get_or links place link).latest_until ≤ now → IsCounted key assessor now leases count (Some place)
         → count ≡ count_by (is_counted key assessor now) leases
     stops count place lease link within late counted =
@@ -132,7 +132,7 @@ module _ (key : Lease → Bool) (assessor : Option (List ℕ)) (now : ℕ) (leas
       where
         out : (i : ℕ) → i ≤ place → key (get_or leases place lease) ≡ true → (t : Bool) → is_counted key assessor now (get_or leases i lease) ≡ t → is_counted key assessor now (get_or leases i lease) ≡ false
         out i h here true e =
-            let until = chain.latest_is place i lease link within h here (only (get_or leases i lease) e) in
+            let until = series.latest_is place i lease link within h here (only (get_or leases i lease) e) in
             let live = lives (get_or leases i lease) e in
             absurd (omega (arith, until, live))
         out i h here false e = e
@@ -141,7 +141,7 @@ module _ (key : Lease → Bool) (assessor : Option (List ℕ)) (now : ℕ) (leas
         → IsCounted key assessor now leases count (Some place) → IsCounted key assessor now leases more (get_or links place link).previous
     goes_on count more place lease link within is_more counted =
         let here : key (get_or leases place lease) ≡ true = counted.passes place lease refl in
-        let previous_is = chain.previous_is place lease link within here in
+        let previous_is = series.previous_is place lease link within here in
         let f = is_counted key assessor now in
         let rest : count_by f (take (up_to (get_or links place link).previous) leases) ≡ count_by f (take place leases)
         = ap (λ last. count_by f (take (up_to last) leases)) previous_is ∙ count_up_to_last_of key f only leases place in

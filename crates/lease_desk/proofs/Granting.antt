@@ -1,13 +1,13 @@
--- What one more lease, and a lease's end, do to a chain.
+-- What one more lease, and a lease's end, do to a series.
 use Rattle.std.proofs.Common.{◌≡◌, ℕ, ◌+◌, ◌<◌, ◌≤◌, ◌⊎◌, Bool, true, false, cond, List, [], ◌∷◌, ◌++◌, Option, Some, None, length, take, max, map, refl, sym, ap, subst, ◌∙◌, arith, get_or, inl, inr, suc, zero}
 use Rattle.std.proofs.Math.Nat.{le-max_left, le-max_right}
 use Rattle.std.proofs.lemmas.Bool.{false≢true}
 use Rattle.std.proofs.lemmas.List.{get_or-map, get_or_append_left, get_or_push, length-map, length_push, take-append-le, take-map, take_all}
 use Rattle.std.proofs.lemmas.Option.{slice_get-get_or}
-use Rattle.lease_desk.specs.Chained.{AreChained, IsChainOf, last_of, last_place, latest_at, up_to}
-use Rattle.lease_desk.specs.declared.chains.Link.{Link}
+use Rattle.lease_desk.specs.Series.{AreInSeries, IsSeriesOf, last_of, last_place, latest_at, up_to}
+use Rattle.lease_desk.specs.declared.series.Link.{Link}
 use Rattle.lease_desk.specs.declared.leases.Lease.{Lease}
-use Rattle.lease_desk.proofs.Chaining.{last_passes, last_place-push, last_place-within}
+use Rattle.lease_desk.proofs.LastPlaces.{last_passes, last_place-push, last_place-within}
 
 -- ---- the last place
 
@@ -40,10 +40,10 @@ latest_is_at links place link h = rw (slice_get-get_or links place link h) refl
 pub below_or_last : (i n : ℕ) → i < n + 1 → (i < n) ⊎ (i ≡ n)
 below_or_last i n h = grind arith
 
--- the moment of the chain covers each of its leases
-covered : (passes : Lease → Bool) (leases : List Lease) (links : List Link) (newest : Option ℕ) → length links ≡ length leases → IsChainOf passes leases links newest
+-- the moment of the series covers each of its leases
+covered : (passes : Lease → Bool) (leases : List Lease) (links : List Link) (newest : Option ℕ) → length links ≡ length leases → IsSeriesOf passes leases links newest
     → (i : ℕ) (lease : Lease) (link : Link) → i < length leases → passes (get_or leases i lease) ≡ true → (get_or leases i lease).until ≤ latest_at links newest
-covered passes leases links newest long chain i lease link h e = step newest chain.newest_is
+covered passes leases links newest long series i lease link h e = step newest series.newest_is
   where
     step : (last : Option ℕ) → last ≡ last_place passes leases → (get_or leases i lease).until ≤ latest_at links last
     step None is = let lt = last_is_last passes leases i lease h e in let none : up_to None ≡ up_to (last_place passes leases) = ap up_to is in absurd (omega (arith, lt, none))
@@ -55,16 +55,16 @@ covered passes leases links newest long chain i lease link h e = step newest cha
         let within_links : place < length links = omega arith in
         let earlier : i ≤ place = omega (arith, lt, upper) in
         let here : passes (get_or leases place lease) ≡ true = last_passes passes leases place lease (sym is) in
-        let at_most = chain.latest_is place i lease link within earlier here e in
+        let at_most = series.latest_is place i lease link within earlier here e in
         let at = latest_is_at links place link within_links in
         omega (arith, at_most, at)
 
-module _ (passes : Lease → Bool) (leases : List Lease) (links : List Link) (newest : Option ℕ) (long : length links ≡ length leases) (chain : IsChainOf passes leases links newest) (new : Lease) where
+module _ (passes : Lease → Bool) (leases : List Lease) (links : List Link) (newest : Option ℕ) (long : length links ≡ length leases) (series : IsSeriesOf passes leases links newest) (new : Lease) where
   old_lease : (i : ℕ) (d : Lease) → i < length leases → get_or (leases ++ new ∷ []) i d ≡ get_or leases i d
   old_lease i d h = get_or_append_left leases (new ∷ []) d i h
 
-  -- a lease of the chain
-  pub grows_at : passes new ≡ true → IsChainOf passes (leases ++ new ∷ []) (links ++ record { previous = newest; latest_until = max new.until (latest_at links newest) } ∷ []) (Some (length leases))
+  -- a lease of the series
+  pub grows_at : passes new ≡ true → IsSeriesOf passes (leases ++ new ∷ []) (links ++ record { previous = newest; latest_until = max new.until (latest_at links newest) } ∷ []) (Some (length leases))
   grows_at here = record {
     newest_is = sym (last_place-push passes leases new ∙ ap (λ t. cond t (Some (length leases)) (last_place passes leases)) here);
     previous_is = λ place lease other h e. previous place lease other (below_or_last place (length leases) (omega (arith, length_push leases new))) e;
@@ -83,20 +83,20 @@ module _ (passes : Lease → Bool) (leases : List Lease) (links : List Link) (ne
           let within : place < length links = omega arith in
           let upto : place ≤ length leases = omega arith in
           ap (λ (l : Link). l.previous) (get_or_append_left links (link ∷ []) other place within)
-          ∙ chain.previous_is place lease other h (ap passes (sym (old_lease place lease h)) ∙ e)
+          ∙ series.previous_is place lease other h (ap passes (sym (old_lease place lease h)) ∙ e)
           ∙ ap (last_place passes) (sym (take-append-le place leases (new ∷ []) upto))
       previous place lease other (inr h) e =
           let at : length links ≡ place = long ∙ sym h in
           let upto : place ≤ length leases = omega arith in
           let whole : length leases ≤ place = omega arith in
-          ap (λ (l : Link). l.previous) (get_or_push links link other place at) ∙ chain.newest_is
+          ap (λ (l : Link). l.previous) (get_or_push links link other place at) ∙ series.newest_is
           ∙ ap (last_place passes) (sym (take-append-le place leases (new ∷ []) upto ∙ take_all place leases whole))
 
       until_of : (i : ℕ) (lease : Lease) → (i < length leases) ⊎ (i ≡ length leases) → passes (get_or (leases ++ new ∷ []) i lease) ≡ true
           → (get_or (leases ++ new ∷ []) i lease).until ≤ max new.until (latest_at links newest)
       until_of i lease (inl h) e =
           let same = ap (λ (l : Lease). l.until) (old_lease i lease h) in
-          let at_most = covered passes leases links newest long chain i lease link h (ap passes (sym (old_lease i lease h)) ∙ e) in
+          let at_most = covered passes leases links newest long series i lease link h (ap passes (sym (old_lease i lease h)) ∙ e) in
           omega (arith, same, at_most, le-max_right new.until (latest_at links newest))
       until_of i lease (inr h) e =
           let same = ap (λ (l : Lease). l.until) (get_or_push leases new lease i (sym h)) in
@@ -109,7 +109,7 @@ module _ (passes : Lease → Bool) (leases : List Lease) (links : List Link) (ne
           let before : earlier < length leases = omega arith in
           let same = ap (λ (l : Lease). l.until) (old_lease earlier lease before) in
           let linked = ap (λ (l : Link). l.latest_until) (get_or_append_left links (link ∷ []) other place within) in
-          let at_most = chain.latest_is place earlier lease other h le (ap passes (sym (old_lease place lease h)) ∙ e) (ap passes (sym (old_lease earlier lease before)) ∙ f) in
+          let at_most = series.latest_is place earlier lease other h le (ap passes (sym (old_lease place lease h)) ∙ e) (ap passes (sym (old_lease earlier lease before)) ∙ f) in
           omega (arith, same, linked, at_most)
       latest place earlier lease other (inr h) le e f =
           let at : length links ≡ place = long ∙ sym h in
@@ -117,10 +117,10 @@ module _ (passes : Lease → Bool) (leases : List Lease) (links : List Link) (ne
           let until = until_of earlier lease (below_or_last earlier (length leases) (omega arith)) f in
           omega (arith, linked, until)
 
-  -- a lease of another chain
-  pub grows_beside : (link : Link) → passes new ≡ false → IsChainOf passes (leases ++ new ∷ []) (links ++ link ∷ []) newest
+  -- a lease of another series
+  pub grows_beside : (link : Link) → passes new ≡ false → IsSeriesOf passes (leases ++ new ∷ []) (links ++ link ∷ []) newest
   grows_beside link apart = record {
-    newest_is = chain.newest_is ∙ sym (last_place-push passes leases new ∙ ap (λ t. cond t (Some (length leases)) (last_place passes leases)) apart);
+    newest_is = series.newest_is ∙ sym (last_place-push passes leases new ∙ ap (λ t. cond t (Some (length leases)) (last_place passes leases)) apart);
     previous_is = λ place lease other h e. previous place lease other (below_or_last place (length leases) (omega (arith, length_push leases new))) e;
     latest_is = λ place earlier lease other h le e f. latest place earlier lease other (below_or_last place (length leases) (omega (arith, length_push leases new))) le e f;
   }
@@ -134,7 +134,7 @@ module _ (passes : Lease → Bool) (leases : List Lease) (links : List Link) (ne
           let within : place < length links = omega arith in
           let upto : place ≤ length leases = omega arith in
           ap (λ (l : Link). l.previous) (get_or_append_left links (link ∷ []) other place within)
-          ∙ chain.previous_is place lease other h (ap passes (sym (old_lease place lease h)) ∙ e)
+          ∙ series.previous_is place lease other h (ap passes (sym (old_lease place lease h)) ∙ e)
           ∙ ap (last_place passes) (sym (take-append-le place leases (new ∷ []) upto))
       previous place lease other (inr h) e = absurd (fails place lease h e)
 
@@ -145,11 +145,11 @@ module _ (passes : Lease → Bool) (leases : List Lease) (links : List Link) (ne
           let before : earlier < length leases = omega arith in
           let same = ap (λ (l : Lease). l.until) (old_lease earlier lease before) in
           let linked = ap (λ (l : Link). l.latest_until) (get_or_append_left links (link ∷ []) other place within) in
-          let at_most = chain.latest_is place earlier lease other h le (ap passes (sym (old_lease place lease h)) ∙ e) (ap passes (sym (old_lease earlier lease before)) ∙ f) in
+          let at_most = series.latest_is place earlier lease other h le (ap passes (sym (old_lease place lease h)) ∙ e) (ap passes (sym (old_lease earlier lease before)) ∙ f) in
           omega (arith, same, linked, at_most)
       latest place earlier lease other (inr h) le e f = absurd (fails place lease h e)
 
--- ---- a chain for each key
+-- ---- a series for each key
 
 -- whether two keys are the same
 pub record IsSame {K : Type 0} (same : K → K → Bool) : Type 0 where
@@ -158,32 +158,32 @@ pub record IsSame {K : Type 0} (same : K → K → Bool) : Type 0 where
 
 module _ {K : Type 0} (same : K → K → Bool) (key_of : Lease → K) (laws : IsSame same) where
   pub grows : (leases : List Lease) (links after : List Link) (newest told : K → Option ℕ) (new : Lease)
-      → AreChained same key_of leases links newest
+      → AreInSeries same key_of leases links newest
       → after ≡ links ++ record { previous = newest (key_of new); latest_until = max new.until (latest_at links (newest (key_of new))) } ∷ []
       → ((key : K) → told key ≡ cond (same (key_of new) key) (Some (length leases)) (newest key))
-      → AreChained same key_of (leases ++ new ∷ []) after told
-  grows leases links after newest told new chains is_after is_told =
+      → AreInSeries same key_of (leases ++ new ∷ []) after told
+  grows leases links after newest told new by_key is_after is_told =
       let link : Link = record { previous = newest (key_of new); latest_until = max new.until (latest_at links (newest (key_of new))) } in
       record {
-        as_many = ap length is_after ∙ length_push links link ∙ ap (λ n. n + 1) chains.as_many ∙ sym (length_push leases new);
-        each = λ key. subst (λ ls. IsChainOf (λ lease. same key (key_of lease)) (leases ++ new ∷ []) ls (told key)) (sym is_after) (step key (same (key_of new) key) refl);
+        as_many = ap length is_after ∙ length_push links link ∙ ap (λ n. n + 1) by_key.as_many ∙ sym (length_push leases new);
+        each = λ key. subst (λ ls. IsSeriesOf (λ lease. same key (key_of lease)) (leases ++ new ∷ []) ls (told key)) (sym is_after) (step key (same (key_of new) key) refl);
       }
     where
       step : (key : K) (t : Bool) → same (key_of new) key ≡ t
-          → IsChainOf (λ lease. same key (key_of lease)) (leases ++ new ∷ []) (links ++ record { previous = newest (key_of new); latest_until = max new.until (latest_at links (newest (key_of new))) } ∷ []) (told key)
+          → IsSeriesOf (λ lease. same key (key_of lease)) (leases ++ new ∷ []) (links ++ record { previous = newest (key_of new); latest_until = max new.until (latest_at links (newest (key_of new))) } ∷ []) (told key)
       step key true e =
           let key_is : key_of new ≡ key = laws.sound (key_of new) key e in
           let here : same key (key_of new) ≡ true = ap (same key) key_is ∙ laws.complete key in
           let link_at : K → Link = λ k. record { previous = newest k; latest_until = max new.until (latest_at links (newest k)) } in
-          let grown = grows_at (λ lease. same key (key_of lease)) leases links (newest key) chains.as_many (chains.each key) new here in
+          let grown = grows_at (λ lease. same key (key_of lease)) leases links (newest key) by_key.as_many (by_key.each key) new here in
           let told_is : told key ≡ Some (length leases) = is_told key ∙ ap (λ t. cond t (Some (length leases)) (newest key)) e in
-          subst (λ n. IsChainOf (λ lease. same key (key_of lease)) (leases ++ new ∷ []) (links ++ link_at (key_of new) ∷ []) n) (sym told_is)
-          (subst (λ k. IsChainOf (λ lease. same key (key_of lease)) (leases ++ new ∷ []) (links ++ link_at k ∷ []) (Some (length leases))) (sym key_is) grown)
+          subst (λ n. IsSeriesOf (λ lease. same key (key_of lease)) (leases ++ new ∷ []) (links ++ link_at (key_of new) ∷ []) n) (sym told_is)
+          (subst (λ k. IsSeriesOf (λ lease. same key (key_of lease)) (leases ++ new ∷ []) (links ++ link_at k ∷ []) (Some (length leases))) (sym key_is) grown)
       step key false e =
           let told_is : told key ≡ newest key = is_told key ∙ ap (λ t. cond t (Some (length leases)) (newest key)) e in
           let link : Link = record { previous = newest (key_of new); latest_until = max new.until (latest_at links (newest (key_of new))) } in
-          subst (λ n. IsChainOf (λ lease. same key (key_of lease)) (leases ++ new ∷ []) (links ++ link ∷ []) n) (sym told_is)
-          (grows_beside (λ lease. same key (key_of lease)) leases links (newest key) chains.as_many (chains.each key) new link (apart (same key (key_of new)) refl))
+          subst (λ n. IsSeriesOf (λ lease. same key (key_of lease)) (leases ++ new ∷ []) (links ++ link ∷ []) n) (sym told_is)
+          (grows_beside (λ lease. same key (key_of lease)) leases links (newest key) by_key.as_many (by_key.each key) new link (apart (same key (key_of new)) refl))
         where
           apart : (t : Bool) → same key (key_of new) ≡ t → same key (key_of new) ≡ false
           apart true f = absurd (false≢true (sym e ∙ ap (same (key_of new)) (laws.sound key (key_of new) f) ∙ laws.complete (key_of new)))
@@ -191,29 +191,29 @@ module _ {K : Type 0} (same : K → K → Bool) (key_of : Lease → K) (laws : I
 
   -- leases that change, and keep their key and their moment
   pub outlasts : (leases : List Lease) (links : List Link) (newest : K → Option ℕ) (g : Lease → Lease) → ((lease : Lease) → key_of (g lease) ≡ key_of lease) → ((lease : Lease) → (g lease).until ≡ lease.until)
-      → AreChained same key_of leases links newest → AreChained same key_of (map g leases) links newest
-  outlasts leases links newest g keeps_key keeps_until chains = record {
-    as_many = chains.as_many ∙ sym (length-map leases g);
-    each = λ key. each key (chains.each key);
+      → AreInSeries same key_of leases links newest → AreInSeries same key_of (map g leases) links newest
+  outlasts leases links newest g keeps_key keeps_until by_key = record {
+    as_many = by_key.as_many ∙ sym (length-map leases g);
+    each = λ key. each key (by_key.each key);
   }
     where
-      each : (key : K) → IsChainOf (λ lease. same key (key_of lease)) leases links (newest key) → IsChainOf (λ lease. same key (key_of lease)) (map g leases) links (newest key)
-      each key chain =
+      each : (key : K) → IsSeriesOf (λ lease. same key (key_of lease)) leases links (newest key) → IsSeriesOf (λ lease. same key (key_of lease)) (map g leases) links (newest key)
+      each key series =
           let passes : Lease → Bool = λ lease. same key (key_of lease) in
           let kept : (lease : Lease) → passes (g lease) ≡ passes lease = λ lease. ap (same key) (keeps_key lease) in
           let here : (i : ℕ) (lease : Lease) → i < length leases → passes (get_or (map g leases) i lease) ≡ true → passes (get_or leases i lease) ≡ true
           = λ i lease h e. sym (ap passes (get_or-map g leases i lease lease h) ∙ kept (get_or leases i lease)) ∙ e in
           record {
-            newest_is = chain.newest_is ∙ sym (last_place-map passes g kept leases);
+            newest_is = series.newest_is ∙ sym (last_place-map passes g kept leases);
             previous_is = λ place lease link h e.
                 let long : length (map g leases) ≡ length leases = length-map leases g in
                 let within : place < length leases = omega (arith, long) in
-                chain.previous_is place lease link within (here place lease within e) ∙ sym (ap (last_place passes) (take-map g place leases) ∙ last_place-map passes g kept (take place leases));
+                series.previous_is place lease link within (here place lease within e) ∙ sym (ap (last_place passes) (take-map g place leases) ∙ last_place-map passes g kept (take place leases));
             latest_is = λ place earlier lease link h le e f.
                 let long : length (map g leases) ≡ length leases = length-map leases g in
                 let within : place < length leases = omega (arith, long) in
                 let before : earlier < length leases = omega arith in
                 let until = ap (λ (l : Lease). l.until) (get_or-map g leases earlier lease lease before) ∙ keeps_until (get_or leases earlier lease) in
-                let at_most = chain.latest_is place earlier lease link within le (here place lease within e) (here earlier lease before f) in
+                let at_most = series.latest_is place earlier lease link within le (here place lease within e) (here earlier lease before f) in
                 omega (arith, until, at_most);
           }

@@ -2,14 +2,16 @@
 use Rattle.std.proofs.Common.{◌≡◌, ℕ, ◌+◌, ◌<◌, ◌≤◌, ◌^◌, Bool, cond, ◌&&◌, eqb, List, [], ◌∷◌, ◌++◌, Option, Some, length, map, max, take, refl, sym, ap, subst, ◌∙◌, arith, get_or}
 use Rattle.std.proofs.lemmas.Bool.{eq-eqb, eqb-true}
 use Rattle.std.proofs.lemmas.List.{length-map, length-take, length_push}
+use Rattle.decimal_rank.specs.TextKeys.{text_key}
 use Rattle.decimal_rank.specs.declared.naming.DocId.{DocId}
-use Rattle.lease_desk.specs.Chained.{AreChained, IsChainOf, LeadBack, document_of, latest_at, name_hash, same_document, up_to}
+use Rattle.decimal_rank.specs.declared.secrets.Secret.{Secret}
+use Rattle.lease_desk.specs.Series.{AreInSeries, IsSeriesOf, LeadBack, document_of, latest_at, same_document, up_to}
 use Rattle.lease_desk.specs.DeskView.{IsKept}
 use Rattle.lease_desk.specs.Leases.{granted, next_lease, with_end}
-use Rattle.lease_desk.specs.declared.chains.Link.{Link}
+use Rattle.lease_desk.specs.declared.series.Link.{Link}
 use Rattle.lease_desk.specs.declared.leases.Lease.{Lease}
 use Rattle.lease_desk.specs.declared.leases.LeaseEnd.{LeaseEnd}
-use Rattle.lease_desk.proofs.Chaining.{last_place-within}
+use Rattle.lease_desk.proofs.LastPlaces.{last_place-within}
 use Rattle.lease_desk.proofs.Counting.{both_then, some_lease}
 use Rattle.lease_desk.proofs.Granting.{IsSame, grows, outlasts}
 use Rattle.lease_desk.proofs.Numbers.{end_keeps, end_numbered, end_of, granted_numbered}
@@ -28,37 +30,37 @@ documents_same = record {
     two : (a b : ℕ × ℕ) → a.0 ≡ b.0 → a.1 ≡ b.1 → a ≡ b
     two a b e f = ap (λ x. (x, a.1)) e ∙ ap (λ y. (b.0, y)) f
 
-module _ {K : Type 0} (same : K → K → Bool) (key_of : Lease → K) (leases : List Lease) (links : List Link) (newest : K → Option ℕ) (chains : AreChained same key_of leases links newest) where
+module _ {K : Type 0} (same : K → K → Bool) (key_of : Lease → K) (leases : List Lease) (links : List Link) (newest : K → Option ℕ) (by_key : AreInSeries same key_of leases links newest) where
   -- the newest lease of a key stands within the list
   pub newest_within : (key : K) → up_to (newest key) ≤ length leases
   newest_within key =
-      let upper = ap up_to ((chains.each key).newest_is) in
+      let upper = ap up_to ((by_key.each key).newest_is) in
       omega (arith, upper, last_place-within (λ lease. same key (key_of lease)) leases)
 
   pub newest_linked : (key : K) → up_to (newest key) ≤ length links
-  newest_linked key = let h = newest_within key in let e = chains.as_many in omega arith
+  newest_linked key = let h = newest_within key in let e = by_key.as_many in omega arith
 
-  -- the chain of a key, as it was read
-  pub chain_read : (key : K) (read_leases : List Lease) (read_links : List Link) (read_newest : Option ℕ) → read_leases ≡ leases → read_links ≡ links → read_newest ≡ newest key
-      → IsChainOf (λ lease. same key (key_of lease)) read_leases read_links read_newest
-  chain_read key read_leases read_links read_newest leases_are links_are newest_is =
+  -- the series of a key, as it was read
+  pub series_read : (key : K) (read_leases : List Lease) (read_links : List Link) (read_newest : Option ℕ) → read_leases ≡ leases → read_links ≡ links → read_newest ≡ newest key
+      → IsSeriesOf (λ lease. same key (key_of lease)) read_leases read_links read_newest
+  series_read key read_leases read_links read_newest leases_are links_are newest_is =
       let passes : Lease → Bool = λ lease. same key (key_of lease) in
-      subst (λ xs. IsChainOf passes xs read_links read_newest) (sym leases_are)
-      (subst (λ ls. IsChainOf passes leases ls read_newest) (sym links_are) (subst (IsChainOf passes leases links) (sym newest_is) (chains.each key)))
+      subst (λ xs. IsSeriesOf passes xs read_links read_newest) (sym leases_are)
+      (subst (λ ls. IsSeriesOf passes leases ls read_newest) (sym links_are) (subst (IsSeriesOf passes leases links) (sym newest_is) (by_key.each key)))
 
   -- links lead back
   pub lead_back : IsSame same → LeadBack links
   lead_back laws place link h =
-      let within : place < length leases = let e = chains.as_many in omega arith in
+      let within : place < length leases = let e = by_key.as_many in omega arith in
       let key = key_of (get_or leases place some_lease) in
-      let previous = ap up_to ((chains.each key).previous_is place some_lease link within (laws.complete key)) in
+      let previous = ap up_to ((by_key.each key).previous_is place some_lease link within (laws.complete key)) in
       omega (arith, previous, last_place-within (λ lease. same key (key_of lease)) (take place leases), length-take place leases)
 
 -- ---- one more lease, and an end
 
-module _ (leases : List Lease) (assessor_links document_links topic_links : List Link) (assessors : ℕ → Option ℕ) (documents : ℕ × ℕ → Option ℕ) (topics : ℕ → Option ℕ)
-    (kept : IsKept leases assessor_links document_links topic_links assessors documents topics) where
-  pub kept_end : (number : ℕ) (how : LeaseEnd) → IsKept (with_end leases number how) assessor_links document_links topic_links assessors documents topics
+module _ (secret : Secret) (leases : List Lease) (assessor_links document_links topic_links : List Link) (assessors : ℕ → Option ℕ) (documents : ℕ × ℕ → Option ℕ) (topics : ℕ → Option ℕ)
+    (kept : IsKept secret leases assessor_links document_links topic_links assessors documents topics) where
+  pub kept_end : (number : ℕ) (how : LeaseEnd) → IsKept secret (with_end leases number how) assessor_links document_links topic_links assessors documents topics
   kept_end number how =
       let until_stays : (lease : Lease) → (end_of number how lease).until ≡ lease.until = end_keeps (λ lease. lease.until) number how (λ lease. refl) in
       let long : length (map (end_of number how) leases) ≡ length leases = length-map leases (end_of number how) in
@@ -66,8 +68,8 @@ module _ (leases : List Lease) (assessor_links document_links topic_links : List
       record {
         few = omega arith;
         numbered = end_numbered leases number how kept.numbered;
-        by_assessor = outlasts eqb (λ lease. name_hash lease.assessor) numbers_same leases assessor_links assessors (end_of number how)
-            (end_keeps (λ lease. name_hash lease.assessor) number how (λ lease. refl)) until_stays kept.by_assessor;
+        by_assessor = outlasts eqb (λ lease. text_key secret lease.assessor) numbers_same leases assessor_links assessors (end_of number how)
+            (end_keeps (λ lease. text_key secret lease.assessor) number how (λ lease. refl)) until_stays kept.by_assessor;
         by_document = outlasts same_document document_of documents_same leases document_links documents (end_of number how)
             (end_keeps document_of number how (λ lease. refl)) until_stays kept.by_document;
         by_topic = outlasts eqb (λ lease. lease.topic) numbers_same leases topic_links topics (end_of number how)
@@ -77,19 +79,19 @@ module _ (leases : List Lease) (assessor_links document_links topic_links : List
   pub kept_grant : (assessor : List ℕ) (topic : ℕ) (doc : DocId) (until : ℕ) (after_assessor after_document after_topic : List Link)
       (told_assessors : ℕ → Option ℕ) (told_documents : ℕ × ℕ → Option ℕ) (told_topics : ℕ → Option ℕ)
       → length leases + 1 < 2 ^ 32
-      → after_assessor ≡ assessor_links ++ record { previous = assessors (name_hash assessor); latest_until = max until (latest_at assessor_links (assessors (name_hash assessor))) } ∷ []
+      → after_assessor ≡ assessor_links ++ record { previous = assessors (text_key secret assessor); latest_until = max until (latest_at assessor_links (assessors (text_key secret assessor))) } ∷ []
       → after_document ≡ document_links ++ record { previous = documents (topic, doc.0); latest_until = max until (latest_at document_links (documents (topic, doc.0))) } ∷ []
       → after_topic ≡ topic_links ++ record { previous = topics topic; latest_until = max until (latest_at topic_links (topics topic)) } ∷ []
-      → ((key : ℕ) → told_assessors key ≡ cond (eqb (name_hash assessor) key) (Some (length leases)) (assessors key))
+      → ((key : ℕ) → told_assessors key ≡ cond (eqb (text_key secret assessor) key) (Some (length leases)) (assessors key))
       → ((key : ℕ × ℕ) → told_documents key ≡ cond (same_document (topic, doc.0) key) (Some (length leases)) (documents key))
       → ((key : ℕ) → told_topics key ≡ cond (eqb topic key) (Some (length leases)) (topics key))
-      → IsKept (granted leases assessor topic doc until) after_assessor after_document after_topic told_assessors told_documents told_topics
+      → IsKept secret (granted leases assessor topic doc until) after_assessor after_document after_topic told_assessors told_documents told_topics
   kept_grant assessor topic doc until after_assessor after_document after_topic told_assessors told_documents told_topics room by_assessor by_document by_topic is_assessor is_document is_topic =
       let new : Lease = next_lease leases assessor topic doc until in
       record {
         few = omega (arith, length_push leases new);
         numbered = granted_numbered leases assessor topic doc until kept.numbered;
-        by_assessor = grows eqb (λ lease. name_hash lease.assessor) numbers_same leases assessor_links after_assessor assessors told_assessors new kept.by_assessor by_assessor is_assessor;
+        by_assessor = grows eqb (λ lease. text_key secret lease.assessor) numbers_same leases assessor_links after_assessor assessors told_assessors new kept.by_assessor by_assessor is_assessor;
         by_document = grows same_document document_of documents_same leases document_links after_document documents told_documents new kept.by_document by_document is_document;
         by_topic = grows eqb (λ lease. lease.topic) numbers_same leases topic_links after_topic topics told_topics new kept.by_topic by_topic is_topic;
       }

@@ -1,6 +1,6 @@
 pub mod Asking
-pub mod Chaining
 pub mod Counting
 pub mod Granting
 pub mod Keeping
+pub mod LastPlaces
 pub mod Numbers

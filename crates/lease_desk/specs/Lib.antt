@@ -1,3 +1,3 @@
-pub mod Chained
+pub mod Series
 pub mod DeskView
 pub mod Leases

@@ -1,12 +1,12 @@
+//! The leases of a campaign by number, and the counts of those that are live.
 ghost use Rattle.std.specs.Prelude.{◌≡◌, ◌+◌, ◌-◌, ◌<◌, ◌≤◌, ◌^◌, [], None, OnOk, length};
 ghost use Rattle.std.specs.Option.{IsSomeAnd, option_copied};
 ghost use Rattle.lease_desk.specs.Leases.{AreNumbered, granted, has_live, lease_numbered, live_of, live_on, live_on_topic, with_end};
 
-use crate::chains::Chains;
-use crate::hashing::name_hash;
 use crate::leases::{Lease, LeaseEnd};
+use crate::series::Series;
 use crate::walking::count_live;
-use decimal_rank::{DocId, Memory, Text};
+use decimal_rank::{DocId, Memory, Secret, Text};
 use std::alloc::Global;
 use std::marker::Model;
 
@@ -15,17 +15,18 @@ use std::marker::Model;
 #[derive(Drop)]
 pub struct Desk {
     leases: Vec<Lease>,
-    // by the hash of the assessor's name: room for a name's entry then needs no name
-    assessors: Chains<u64>,
+    secret: Secret,
+    // by the key of the assessor's name: room for a name's entry then needs no name
+    assessors: Series<u64>,
     // by topic and document
-    documents: Chains<(u16, u32)>,
-    topics: Chains<u16>,
+    documents: Series<(u16, u32)>,
+    topics: Series<u16>,
 }
 
 impl Model for Desk {
     ghost use Rattle.std.specs.Prelude.{◌-◌, eqb, min, vec_len, vec_capacity};
     ghost use Rattle.indexmap.specs.IndexMap.{get, spare};
-    ghost use Rattle.lease_desk.specs.Chained.{same_document};
+    ghost use Rattle.lease_desk.specs.Series.{same_document};
     ghost use Rattle.lease_desk.specs.DeskView.{DeskView, IsKept};
 
     ghost Value = { DeskView };
@@ -38,7 +39,7 @@ impl Model for Desk {
           (min (vec_capacity desk.topics.links - vec_len desk.topics.links) (spare desk.topics.newest))));
     } };
 
-    ghost invariant = { λ desk. IsKept desk.leases.items desk.assessors.links.items desk.documents.links.items desk.topics.links.items
+    ghost invariant = { λ desk. IsKept desk.secret desk.leases.items desk.assessors.links.items desk.documents.links.items desk.topics.links.items
         (get eqb desk.assessors.newest) (get same_document desk.documents.newest) (get eqb desk.topics.newest) };
 }
 
@@ -47,11 +48,13 @@ impl Desk {
     pub fn new(alloc: Global) -> Desk
         ensures { result.leases ≡ [] }
     {
+        let secret = Secret::drawn();
         Desk {
             leases: Vec::new(alloc),
-            assessors: Chains::new(alloc),
-            documents: Chains::new(alloc),
-            topics: Chains::new(alloc),
+            secret,
+            assessors: Series::new(alloc, secret),
+            documents: Series::new(alloc, secret),
+            topics: Series::new(alloc, secret),
         }
     }
 
@@ -83,7 +86,8 @@ impl Desk {
         ensures leases { self.new.leases ≡ granted self.old.leases assessor topic doc until }
     {
         let number = self.leases.len() as u32 + 1;
-        self.assessors.add(name_hash(assessor.bytes()), until);
+        self.assessors
+            .add(self.secret.key_of(assessor.bytes()), until);
         self.documents.add((topic, doc.0), until);
         self.topics.add(topic, until);
         let lease = Lease {
@@ -140,7 +144,11 @@ impl Desk {
     pub fn live_of(&self, assessor: &[u8], now: u64) -> u32
         ensures { result ≡ live_of self.now.leases assessor.now now }
     {
-        let newest = self.assessors.newest.get(&name_hash(assessor)).copied();
+        let newest = self
+            .assessors
+            .newest
+            .get(&self.secret.key_of(assessor))
+            .copied();
         let links = self.assessors.links.as_slice();
         count_live(self.leases.as_slice(), links, newest, Some(assessor), now)
     }

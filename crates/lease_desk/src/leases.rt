@@ -1,3 +1,4 @@
+//! A lease, and how it ends.
 use decimal_rank::{DocId, Text};
 
 /// How a lease came to its end.

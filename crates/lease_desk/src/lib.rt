@@ -2,10 +2,9 @@
 //! document, on a topic and of an assessor.
 #![tactic(auto)]
 
-mod chains;
 mod desk;
-mod hashing;
 mod leases;
+mod series;
 mod walking;
 
 pub use desk::Desk;

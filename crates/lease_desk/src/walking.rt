@@ -1,11 +1,12 @@
+//! The walk over the leases of one key, from the newest back.
 ghost use Rattle.std.specs.Prelude.{◌≡◌, ◌<◌, ◌≤◌, ◌^◌, ◌&&◌, Bool, count_by, length};
 ghost use Rattle.std.specs.Option.{option_map};
-ghost use Rattle.lease_desk.specs.Chained.{IsChainOf, LeadBack, is_asked, up_to};
+ghost use Rattle.lease_desk.specs.Series.{IsSeriesOf, LeadBack, is_asked, up_to};
 ghost use Rattle.lease_desk.specs.Leases.{is_live};
 ghost use Rattle.lease_desk.specs.declared.leases.Lease.{Lease};
 
-use crate::chains::Link;
 use crate::leases::Lease;
+use crate::series::Link;
 
 // How many leases of one key are live: of one assessor, or of all. The walk goes from the newest
 // back to where no earlier one can be live.
@@ -20,7 +21,7 @@ pub(crate) fn count_live(
     requires within { up_to newest ≤ length leases.now }
     requires back { LeadBack links.now }
     requires few { length leases.now < 2 ^ 32 }
-    ensures { (key : Lease → Bool) → IsChainOf key leases.now links.now newest
+    ensures { (key : Lease → Bool) → IsSeriesOf key leases.now links.now newest
         → result ≡ count_by (λ lease. key lease && is_asked (option_map (λ name. name.now) assessor.entry) lease && is_live lease now) leases.now }
 {
     let mut count = 0;

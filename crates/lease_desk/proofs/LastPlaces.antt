@@ -1,6 +1,6 @@
--- What a chain tells of the leases that pass a test.
+-- What a series tells of the leases that pass a test.
 use Rattle.std.proofs.Common.{◌≡◌, ℕ, ◌+◌, ◌≤◌, Bool, true, false, cond, List, [], ◌∷◌, ◌++◌, Option, Some, None, length, refl, ap, subst, ◌∙◌, arith, get_or, suc}
-use Rattle.lease_desk.specs.Chained.{last_of, last_place, up_to}
+use Rattle.lease_desk.specs.Series.{last_of, last_place, up_to}
 
 -- ---- the last place
 

@@ -1,9 +1,10 @@
+//! The leases of one key, found from the newest back, by links. What a link tells lets a walk stop early.
 ghost use Rattle.std.specs.Prelude.{◌≡◌, ◌+◌, ◌<◌, ◌≤◌, ◌^◌, max, None, Some, IfOk, IfSome, OnOk, List, [], ◌∷◌, ◌++◌, length, vec_len, vec_capacity};
 ghost use Rattle.std.specs.Option.{option_copied};
 ghost use Rattle.indexmap.specs.IndexMap.{Updates, get, spare};
-ghost use Rattle.lease_desk.specs.Chained.{latest_at, up_to};
+ghost use Rattle.lease_desk.specs.Series.{latest_at, up_to};
 
-use decimal_rank::Memory;
+use decimal_rank::{Memory, Secret};
 use indexmap::IndexMap;
 use std::alloc::Global;
 use std::hash::Hash;
@@ -18,18 +19,18 @@ pub(crate) struct Link {
 
 // A link for each lease in their order, and the place of the newest lease of each key.
 #[derive(Drop)]
-pub(crate) struct Chains<K: Eq + Hash + Drop> {
-    pub(crate) newest: IndexMap<K, u32>,
+pub(crate) struct Series<K: Eq + Hash + Drop> {
+    pub(crate) newest: IndexMap<K, u32, Secret>,
     pub(crate) links: Vec<Link>,
 }
 
-impl<K: Eq + Hash + Drop> Chains<K> {
-    pub(crate) fn new(alloc: Global) -> Chains<K>
+impl<K: Eq + Hash + Drop> Series<K> {
+    pub(crate) fn new(alloc: Global, secret: Secret) -> Series<K>
         ensures newest { result.newest.entries ≡ [] }
         ensures links { result.links.items ≡ [] }
     {
-        Chains {
-            newest: IndexMap::new(alloc),
+        Series {
+            newest: IndexMap::with_hasher(alloc, secret),
             links: Vec::new(alloc),
         }
     }

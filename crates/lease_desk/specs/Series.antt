@@ -1,14 +1,9 @@
--- The leases of one key, from the newest to the oldest: of a document, of a topic, or of the names with one hash.
+-- The leases of one key, from the newest to the oldest: of a document, of a topic, or of the names with one key.
 use Rattle.std.specs.Prelude.{◌≡◌, ℕ, ◌+◌, ◌<◌, ◌≤◌, Bool, true, false, List, [], ◌∷◌, Option, Some, None, length, take, slice_get, slice_index_or, ◌==◌, ◌&&◌}
 use Rattle.std.specs.Option.{option_map_or}
-use Rattle.std.specs.Hash.DefaultHasher.{initial, write, finish}
-use Rattle.lease_desk.specs.declared.chains.Link.{Link}
+use Rattle.lease_desk.specs.declared.series.Link.{Link}
 use Rattle.lease_desk.specs.declared.leases.Lease.{Lease}
 use Rattle.lease_desk.specs.Leases.{is_of}
-
--- the number by which the leases of a name are looked up; two names may have the same one
-unfoldable pub name_hash : List ℕ → ℕ
-name_hash name = finish (write initial name)
 
 -- the place of the last element that passes, from the last one behind the first and from whether the first passes
 abbrev pub last_of : Option ℕ → Bool → Option ℕ
@@ -31,17 +26,17 @@ abbrev pub LeadBack : List Link → Type 0
 LeadBack links = (place : ℕ) (link : Link) → place < length links → up_to (slice_index_or links place link).previous ≤ place
 
 -- the leases that pass a test, from the newest on: each one's link leads to the last of them before it, and none of them up to it has a later `until` than the link
-pub record IsChainOf (passes : Lease → Bool) (leases : List Lease) (links : List Link) (newest : Option ℕ) : Type 0 where
+pub record IsSeriesOf (passes : Lease → Bool) (leases : List Lease) (links : List Link) (newest : Option ℕ) : Type 0 where
   pub newest_is : newest ≡ last_place passes leases
   pub previous_is : (place : ℕ) (lease : Lease) (link : Link) → place < length leases → passes (slice_index_or leases place lease) ≡ true
       → (slice_index_or links place link).previous ≡ last_place passes (take place leases)
   pub latest_is : (place earlier : ℕ) (lease : Lease) (link : Link) → place < length leases → earlier ≤ place → passes (slice_index_or leases place lease) ≡ true
       → passes (slice_index_or leases earlier lease) ≡ true → (slice_index_or leases earlier lease).until ≤ (slice_index_or links place link).latest_until
 
--- a chain for each key
-pub record AreChained {K : Type 0} (same : K → K → Bool) (key_of : Lease → K) (leases : List Lease) (links : List Link) (newest : K → Option ℕ) : Type 0 where
+-- a series for each key
+pub record AreInSeries {K : Type 0} (same : K → K → Bool) (key_of : Lease → K) (leases : List Lease) (links : List Link) (newest : K → Option ℕ) : Type 0 where
   pub as_many : length links ≡ length leases
-  pub each : (key : K) → IsChainOf (λ lease. same key (key_of lease)) leases links (newest key)
+  pub each : (key : K) → IsSeriesOf (λ lease. same key (key_of lease)) leases links (newest key)
 
 -- the greatest `until` at a place, and 0 where there is no place
 abbrev pub latest_at : List Link → Option ℕ → ℕ
