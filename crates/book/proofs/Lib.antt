@@ -4,3 +4,5 @@ mod Following
 mod Storied
 mod Founders
 mod TakenUps
+mod AddedEntries
+pub mod Sending

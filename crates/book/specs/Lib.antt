@@ -1,4 +1,5 @@
 pub mod Stories
+pub mod Halls
 pub mod Images
 pub mod Books
 pub mod RunLaws

@@ -5,6 +5,7 @@
 //!   the entry that may be on the disk though its journaling failed (`pending`).
 //! - `opening`: a book from what a disk holds. `replaying`: its records as entries. `entering`: an entry
 //!   from a record. `founding`: the first entry. `commits`: the last step of an accepted one.
+//! - `halls`: a book as what a hall holds, on which many callers act one at a time.
 //! - `faults`: why a disk isn't opened. `laws`: what the rules promise of the entries that they add.
 #![tactic(auto)]
 
@@ -13,6 +14,7 @@ mod commits;
 mod entering;
 mod faults;
 mod founding;
+mod halls;
 mod journaling;
 mod laws;
 mod opening;

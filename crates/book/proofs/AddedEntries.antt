@@ -1,0 +1,40 @@
+-- One request adds one entry at most.
+use Rattle.std.proofs.Common.{◌≡◌, ℕ, ◌+◌, ◌≤◌, ◌==◌, Bool, true, false, cond, Option, [], ◌∷◌, ◌++◌, Ok, Err, ap, arith, length, length-append}
+use Rattle.rulebook.specs.declared.limits.TheConstants.{MAX_ENTRIES}
+use Rattle.rulebook.specs.declared.rules.Caller.{Caller}
+use Rattle.rulebook.specs.declared.answer.Answer.{Answer}
+use Rattle.rulebook.specs.declared.answer.Answer.TheVariants as answered
+use Rattle.rulebook.specs.declared.ask.Addressed.{Addressed}
+use Rattle.rulebook.specs.declared.ask.Ask.{Ask}
+use Rattle.rulebook.specs.declared.ask.Ask.TheVariants.{Act, See}
+use Rattle.rulebook.specs.declared.entry.EntryCore.{EntryCore}
+use Rattle.rulebook.specs.declared.reply.Quantity.TheVariants as quantity
+use Rattle.rulebook.specs.declared.reply.Refusal.TheVariants as refusal
+use Rattle.rulebook.specs.declared.reply.Reply.TheVariants as reply
+use Rattle.rulebook.specs.Answers.{acting, adding_nothing, answer, moment_after, ruled}
+use Rattle.rulebook.specs.Campaign.{History}
+use Rattle.rulebook.specs.Refusals.{Ruling}
+use Rattle.rulebook.specs.Stories.{IsTold, Story, added_by}
+
+acting-few : (core : EntryCore) (r : Ruling) → length (acting core r).added ≤ 1
+acting-few core (Err r) = omega arith
+acting-few core (Ok r) = omega arith
+
+acted-few : (full : Bool) (core : EntryCore) (r : Ruling) → length (cond full (adding_nothing (reply.Refused (refusal.Limit quantity.Entries))) (acting core r)).added ≤ 1
+acted-few true core r = omega arith
+acted-few false core r = acting-few core r
+
+added-few : (H : History) (who : Caller) (number : Option ℕ) (ask : Ask) (moment : ℕ) → length (answer H who number ask moment).added ≤ 1
+added-few H who number (See q) moment = omega arith
+added-few H who number (Act c) moment =
+    let core : EntryCore = record { caller = who; number = number; moment = moment_after H moment; command = c } in
+    acted-few (length H == MAX_ENTRIES) core (ruled H who (moment_after H moment) c)
+
+pub few_more : (before : Story) (asked : Addressed) (told : Answer) (after : Story) → IsTold before asked told after → length after.list ≤ length before.list + 1
+few_more before asked (answered.Reply r) after is =
+    let few = added-few before.list asked.who asked.number asked.ask asked.moment in
+    let same = ap length is.leads.1 in
+    let joined = length-append before.list (added_by before.list asked) in
+    omega (arith, few, same, joined)
+few_more before asked answered.DiskFault after is = let same = ap length is.leads.1 in omega (arith, same)
+few_more before asked answered.Memory after is = let same = ap length is.leads in omega (arith, same)

@@ -1,0 +1,24 @@
+-- A book in a hall: its state as the hall has it, and what an answer says of it.
+use Rattle.std.specs.Prelude.{◌≡◌, ℕ, None}
+use Rattle.hall.specs.declared.stories.Story.{Story as HallStory}
+use Rattle.rulebook.specs.declared.answer.Answer.{Answer}
+use Rattle.rulebook.specs.declared.ask.Addressed.{Addressed}
+use Rattle.rulebook.specs.declared.entry.Entry.{Entry}
+use Rattle.rulebook.specs.Stories.{IsAddressed, IsTold, Story}
+use Rattle.book.specs.Books.{Seen}
+
+-- the accepted entries, with the disk's counts
+abbrev pub story_in : {D : Type 0} → (D → ℕ) → Seen D → HallStory Entry
+story_in faults book = record { list = book.history; faults = faults book.disk; opening = book.opening }
+
+-- a state as the rules speak of it
+abbrev pub seen_as : HallStory Entry → Story
+seen_as story = record { list = story.list; faults = story.faults; opening = story.opening }
+
+-- a request that may be answered; none has a number yet
+abbrev pub Fits : Addressed → Type 0
+Fits asked = IsAddressed asked × (asked.number ≡ None)
+
+-- what an answer says of the states before and after
+abbrev pub Tells : HallStory Entry → Addressed → Answer → HallStory Entry → Type 0
+Tells before asked answer after = IsTold (seen_as before) asked answer (seen_as after)
