@@ -1,5 +1,6 @@
 -- One request adds one entry at most.
-use Rattle.std.proofs.Common.{◌≡◌, ℕ, ◌+◌, ◌≤◌, ◌==◌, Bool, true, false, cond, Option, [], ◌∷◌, ◌++◌, Ok, Err, ap, arith, length, length-append}
+use Rattle.std.proofs.Common.{◌≡◌, ℕ, ◌+◌, ◌≤◌, ◌==◌, Bool, true, false, cond, Option, None, Some, [], ◌∷◌, ◌++◌, Ok, Err, ap, arith, length, length-append}
+use Rattle.std.specs.Option.{option_map_or}
 use Rattle.rulebook.specs.declared.limits.TheConstants.{MAX_ENTRIES}
 use Rattle.rulebook.specs.declared.rules.Caller.{Caller}
 use Rattle.rulebook.specs.declared.answer.Answer.{Answer}
@@ -7,12 +8,14 @@ use Rattle.rulebook.specs.declared.answer.Answer.TheVariants as answered
 use Rattle.rulebook.specs.declared.ask.Addressed.{Addressed}
 use Rattle.rulebook.specs.declared.ask.Ask.{Ask}
 use Rattle.rulebook.specs.declared.ask.Ask.TheVariants.{Act, See}
+use Rattle.rulebook.specs.declared.entry.Entry.{Entry}
 use Rattle.rulebook.specs.declared.entry.EntryCore.{EntryCore}
 use Rattle.rulebook.specs.declared.reply.Quantity.TheVariants as quantity
 use Rattle.rulebook.specs.declared.reply.Refusal.TheVariants as refusal
 use Rattle.rulebook.specs.declared.reply.Reply.TheVariants as reply
-use Rattle.rulebook.specs.Answers.{acting, adding_nothing, answer, moment_after, ruled}
+use Rattle.rulebook.specs.Answers.{acted, acting, adding_nothing, answer, moment_after, repeated, ruled}
 use Rattle.rulebook.specs.Campaign.{History}
+use Rattle.rulebook.specs.Numbers.{used}
 use Rattle.rulebook.specs.Refusals.{Ruling}
 use Rattle.rulebook.specs.Stories.{IsTold, Story, added_by}
 
@@ -26,9 +29,14 @@ acted-few false core r = acting-few core r
 
 added-few : (H : History) (who : Caller) (number : Option ℕ) (ask : Ask) (moment : ℕ) → length (answer H who number ask moment).added ≤ 1
 added-few H who number (See q) moment = omega arith
-added-few H who number (Act c) moment =
-    let core : EntryCore = record { caller = who; number = number; moment = moment_after H moment; command = c } in
-    acted-few (length H == MAX_ENTRIES) core (ruled H who (moment_after H moment) c)
+added-few H who number (Act c) moment = by_use (used H who.name number)
+  where
+    core : EntryCore
+    core = record { caller = who; number = number; moment = moment_after H moment; command = c }
+
+    by_use : (kept : Option (ℕ × Entry)) → length (option_map_or (repeated c) kept (acted H core)).added ≤ 1
+    by_use None = acted-few (length H == MAX_ENTRIES) core (ruled H who (moment_after H moment) c)
+    by_use (Some placed) = omega arith
 
 pub few_more : (before : Story) (asked : Addressed) (told : Answer) (after : Story) → IsTold before asked told after → length after.list ≤ length before.list + 1
 few_more before asked (answered.Reply r) after is =

@@ -1,5 +1,5 @@
 -- A book in a hall: its state as the hall has it, and what an answer says of it.
-use Rattle.std.specs.Prelude.{◌≡◌, ℕ, None}
+use Rattle.std.specs.Prelude.{ℕ}
 use Rattle.hall.specs.declared.stories.Story.{Story as HallStory}
 use Rattle.rulebook.specs.declared.answer.Answer.{Answer}
 use Rattle.rulebook.specs.declared.ask.Addressed.{Addressed}
@@ -15,9 +15,9 @@ story_in faults book = record { list = book.history; faults = faults book.disk; 
 abbrev pub seen_as : HallStory Entry → Story
 seen_as story = record { list = story.list; faults = story.faults; opening = story.opening }
 
--- a request that may be answered; none has a number yet
+-- a request that may be answered
 abbrev pub Fits : Addressed → Type 0
-Fits asked = IsAddressed asked × (asked.number ≡ None)
+Fits asked = IsAddressed asked
 
 -- what an answer says of the states before and after
 abbrev pub Tells : HallStory Entry → Addressed → Answer → HallStory Entry → Type 0
