@@ -8,7 +8,6 @@ use Rattle.trec_formats.specs.Qrels.{IsQrels, IsQrelsFault, IsQrelsReading}
 use Rattle.trec_formats.specs.Lists.{IsRankableReading, IsRankedRun, IsRankedRunFault}
 use Rattle.eval.specs.declared.evaluation.Finding.{Finding}
 use Rattle.eval.specs.declared.evaluation.Finding.TheVariants as finding
-use Rattle.eval.specs.Evaluations.{IsInputFault}
 use Rattle.eval.specs.Findings.{Finds, IsRefusal, AreExclusive}
 
 -- two readings of one text are one

@@ -1,5 +1,5 @@
 -- Documents that differ are judged by lines that differ.
-use Rattle.std.proofs.Common.{◌≡◌, ◌≢◌, ◌≤◌, ◌+◌, ℕ, suc, Bool, true, false, cond, List, [], ◌∷◌, Option, Some, None, length, map, refl, sym, ap, ◌∙◌, arith}
+use Rattle.std.proofs.Common.{◌≡◌, ◌≢◌, ◌≤◌, ◌+◌, ℕ, suc, ◌&&◌, Bool, true, false, cond, List, [], ◌∷◌, Option, Some, None, length, map, refl, sym, ap, ◌∙◌, arith}
 use Rattle.std.specs.Prelude.{All, AllPairs, bytes_eq}
 use Rattle.std.specs.List.{count_by}
 use Rattle.std.proofs.lemmas.Bool.{false_from_ne_true}
@@ -7,9 +7,11 @@ use Rattle.std.proofs.lemmas.List.Sums.{sum_by-cons}
 use Rattle.std.proofs.lemmas.Slice.Eq.{bytes_eq-Decides}
 use Rattle.trec_formats.specs.declared.qrels.QrelLine.{QrelLine}
 use Rattle.trec_formats.specs.declared.lists.TopicList.{TopicList}
+use Rattle.trec_formats.specs.Qrels.{grade_on}
 use Rattle.eval.specs.Evaluations.{docs_on}
-use Rattle.eval.specs.Tables.{AreRankedLists, grade_in}
+use Rattle.eval.specs.Tables.{AreRankedLists}
 use Rattle.eval.proofs.Listed.{docs_on-all}
+use Rattle.eval.proofs.OnTopic.{count-filter, grade_in, grades_in, lines_on}
 
 count-cons : {X : Type 0} (p : X → Bool) (x : X) (xs : List X) → count_by p (x ∷ xs) ≡ cond (p x) 1 0 + count_by p xs
 count-cons p x xs = sum_by-cons (λ y. cond (p y) 1 0) x xs
@@ -66,11 +68,22 @@ module _ (p : Option ℕ → Bool) (q : ℕ → Bool) (at_some : (grade : ℕ) �
             omega (arith, more, count-cons p (was doc) (map was docs), rest_le)
 
   -- among documents that differ no more have a property than there are lines that give it
-  pub judged_le : (lines : List QrelLine) (docs : List (List ℕ)) → AllPairs (λ a b. a ≢ b) docs → count_by p (map (grade_in lines) docs) ≤ count_by (λ line. q line.grade) lines
+  judged_le : (lines : List QrelLine) (docs : List (List ℕ)) → AllPairs (λ a b. a ≢ b) docs → count_by p (map (grade_in lines) docs) ≤ count_by (λ line. q line.grade) lines
   judged_le [] docs differ = omega (arith, nothing_judged docs)
   judged_le (line ∷ lines) docs differ =
       let more : count_by p (map (grade_in (line ∷ lines)) docs) ≤ cond (q line.grade) 1 0 + count_by p (map (grade_in lines) docs) = one_more line lines docs differ in
       omega (arith, more, judged_le lines docs differ, count-cons (λ (l : QrelLine). q l.grade) line lines)
+
+  -- among documents of a topic that differ no more have a property than there are lines of the topic that give it
+  pub judged_on_le : (qrels : List QrelLine) (topic : List ℕ) (docs : List (List ℕ)) → AllPairs (λ a b. a ≢ b) docs
+      → count_by p (map (grade_on qrels topic) docs) ≤ count_by (λ line. bytes_eq line.topic topic && q line.grade) qrels
+  judged_on_le qrels topic docs differ =
+      omega (
+        arith,
+        ap (count_by p) (grades_in qrels topic docs),
+        judged_le (lines_on topic qrels) docs differ,
+        count-filter (λ (line : QrelLine). bytes_eq line.topic topic) (λ line. q line.grade) qrels,
+      )
 
 -- a topic's documents differ
 pub docs_differ : (lists : List TopicList) (topic : List ℕ) → AreRankedLists lists → AllPairs (λ a b. a ≢ b) (docs_on lists topic)

@@ -1,10 +1,7 @@
 pub mod Exclusive
 pub mod Judged
-pub mod Judging
 pub mod Listed
 pub mod OnTopic
-pub mod Order
-pub mod Places
 pub mod Ranked
 pub mod Tallies
 pub mod Topics

@@ -1,15 +1,10 @@
--- The lines of a topic.
-use Rattle.std.proofs.Common.{◌≡◌, ◌≤◌, ◌+◌, ℕ, ◌&&◌, Bool, true, false, cond, List, [], ◌∷◌, map, filter, length, arith, refl, zero-add, ap, ◌∙◌, sym, bytes_eq}
-use Rattle.std.specs.Prelude.{count_by, find, nat_le, nat_lt}
+-- The lines of a topic among all lines.
+use Rattle.std.proofs.Common.{◌≡◌, ◌+◌, ℕ, ◌&&◌, Bool, true, false, cond, Option, List, [], ◌∷◌, map, filter, refl, zero-add, ap, ◌∙◌, sym, bytes_eq}
+use Rattle.std.specs.Prelude.{count_by, find}
 use Rattle.std.specs.Option.{option_map}
-use Rattle.std.proofs.lemmas.List.{length-map}
-use Rattle.std.proofs.lemmas.List.Sums.{sum_by-cons, length-filter, count_by-le-length}
-use denote.Ref.{Bor}
+use Rattle.std.proofs.lemmas.List.Sums.{sum_by-cons}
 use Rattle.trec_formats.specs.declared.qrels.QrelLine.{QrelLine}
-use Rattle.trec_formats.specs.declared.lists.TopicList.{TopicList}
-use Rattle.measures.specs.Cells.{cell_of}
-use Rattle.eval.specs.Evaluations.{level, cell_on, docs_on, grade_on, relevant_on, non_relevant_on}
-use Rattle.eval.specs.Tables.{shown, lines_on, AreByTopic, tally_in, grade_in, cell_in}
+use Rattle.trec_formats.specs.Qrels.{grade_on}
 
 module _ {X : Type 0} (f g : X → Bool) where
   -- what passes two tests passes the second among what passes the first
@@ -30,28 +25,16 @@ module _ {X : Type 0} (f g : X → Bool) where
       by true is false are rest = rw (is, are) rest
       by false is u are rest = rw is rest
 
-grades_in : (qrels : List QrelLine) (topic : List ℕ) (docs : List (List ℕ)) → map (grade_on qrels topic) docs ≡ map (grade_in (lines_on topic qrels)) docs
+-- the lines of a topic
+abbrev pub lines_on : List ℕ → List QrelLine → List QrelLine
+lines_on topic qrels = filter (λ line. bytes_eq line.topic topic) qrels
+
+-- the grade of a document in the lines of its topic, of which the first counts
+abbrev pub grade_in : List QrelLine → List ℕ → Option ℕ
+grade_in lines doc = option_map (λ line. line.grade) (find (λ line. bytes_eq line.doc doc) lines)
+
+pub grades_in : (qrels : List QrelLine) (topic : List ℕ) (docs : List (List ℕ)) → map (grade_on qrels topic) docs ≡ map (grade_in (lines_on topic qrels)) docs
 grades_in qrels topic [] = refl
 grades_in qrels topic (doc ∷ docs) =
     ap (λ o. option_map (λ (line : QrelLine). line.grade) o ∷ map (grade_on qrels topic) docs) (find-filter (λ (line : QrelLine). bytes_eq line.topic topic) (λ line. bytes_eq line.doc doc) qrels)
     ∙ ap (λ gs. grade_in (lines_on topic qrels) doc ∷ gs) (grades_in qrels topic docs)
-
--- the cell of a topic is that of its documents and its lines
-pub cell_on-lines : (lists : List TopicList) (qrels : List QrelLine) (topic : List ℕ) → cell_in (docs_on lists topic) (lines_on topic qrels) ≡ cell_on lists qrels topic
-cell_on-lines lists qrels topic =
-    let on = λ (line : QrelLine). bytes_eq line.topic topic in
-    sym (
-    ap (λ grades. cell_of grades (relevant_on qrels topic) (non_relevant_on qrels topic) level) (grades_in qrels topic (docs_on lists topic))
-    ∙ ap (λ n. cell_of (map (grade_in (lines_on topic qrels)) (docs_on lists topic)) n (non_relevant_on qrels topic) level) (count-filter on (λ line. nat_le level line.grade) qrels)
-    ∙ ap (λ n. cell_of (map (grade_in (lines_on topic qrels)) (docs_on lists topic)) (tally_in (lines_on topic qrels)).relevant n level) (count-filter on (λ line. nat_lt line.grade level) qrels)
-    )
-
-module _ (qrels : List QrelLine) (order lent judged : List (Bor QrelLine)) (topic : List ℕ) (by_topic : AreByTopic qrels (shown order)) (lent_is : lent ≡ order) (judged_is : shown judged ≡ lines_on topic (shown lent)) where
-  -- the lines that are found for a topic are those of the qrels
-  pub judged_lines : shown judged ≡ lines_on topic qrels
-  judged_lines = judged_is ∙ ap (λ lines. lines_on topic (shown lines)) lent_is ∙ by_topic.same topic
-
-  pub judged_few : length judged ≤ length qrels
-  judged_few =
-      let on = λ (line : QrelLine). bytes_eq line.topic topic in
-      omega (arith, ap length judged_lines, length-map judged (λ (line : Bor QrelLine). line.now), length-filter on qrels, count_by-le-length on qrels)

@@ -1,5 +1,5 @@
 -- What a run scores against qrels, from the bytes of the two files.
-use Rattle.std.specs.Prelude.{◌≡◌, ◌⊎◌, ℕ, ◌&&◌, List, [], ◌++◌, Option, map, find, option_map, count_by, bytes_eq, nat_le, nat_lt, codes, decimal, ◌∷◌}
+use Rattle.std.specs.Prelude.{◌≡◌, ◌⊎◌, ℕ, ◌&&◌, List, [], ◌++◌, map, find, count_by, bytes_eq, nat_le, nat_lt, codes, decimal, ◌∷◌}
 use Rattle.std.specs.List.{concat, fold}
 use Rattle.std.specs.Option.{option_map_or}
 use Rattle.decimal_rank.specs.Names.{with_name}
@@ -14,16 +14,11 @@ use Rattle.trec_formats.specs.declared.faults.Kind.{Kind}
 use Rattle.trec_formats.specs.declared.faults.Kind.TheVariants as kind
 use Rattle.trec_formats.specs.FaultNames.{cause_name, kind_name}
 use Rattle.trec_formats.specs.Lists.{IsRankedRun, IsRankedRunFault}
-use Rattle.trec_formats.specs.Qrels.{IsQrels, IsQrelsFault}
+use Rattle.trec_formats.specs.Qrels.{grade_on, IsQrels, IsQrelsFault}
 
 -- the grade from which on a document is relevant
 abbrev pub level : ℕ
 level = 1
-
--- the grade of a document on a topic; none where the qrels don't judge it
-abbrev pub grade_on : List QrelLine → List ℕ → List ℕ → Option ℕ
-grade_on qrels topic doc =
-    option_map (λ line. line.grade) (find (λ line. bytes_eq line.topic topic && bytes_eq line.doc doc) qrels)
 
 -- how many documents of a topic are relevant
 abbrev pub relevant_on : List QrelLine → List ℕ → ℕ

@@ -1,53 +1,32 @@
--- The lines of qrels by topic, and in the buckets of their docnos.
-use Rattle.std.specs.Prelude.{◌≡◌, ◌≢◌, ◌≤◌, ◌%◌, ℕ, Bool, true, false, List, Option, length, map, filter, find, option_map, count_by, All, AllPairs, bytes_eq, nat_le, nat_lt}
+-- How the documents of a topic are judged, its cell, and lists that are looked up.
+use Rattle.std.specs.Prelude.{◌≡◌, ◌≢◌, ◌≤◌, ◌+◌, ℕ, true, if◌then◌else◌, List, length, map, All, AllPairs, nat_le}
 use Rattle.std.specs.Cmp.Lexicographic.{slice_cmp}
 use Rattle.std.specs.Ordering.{nat_cmp, is_lt}
-use denote.Ref.{Bor}
-use Rattle.decimal_rank.specs.Buckets.{Buckets}
-use Rattle.decimal_rank.specs.TextKeys.{text_key}
-use Rattle.decimal_rank.specs.declared.secrets.Secret.{Secret}
 use Rattle.trec_formats.specs.declared.lists.TopicList.{TopicList}
 use Rattle.trec_formats.specs.declared.qrels.QrelLine.{QrelLine}
+use Rattle.trec_formats.specs.Qrels.{grade_on}
 use Rattle.measures.specs.declared.cells.Cell.{Cell}
 use Rattle.measures.specs.Cells.{cell_of}
 use Rattle.eval.specs.declared.judgements.Tally.{Tally}
-use Rattle.eval.specs.Evaluations.{level}
+use Rattle.eval.specs.Evaluations.{level, relevant_on, non_relevant_on}
 
--- the lines that references lead to
-abbrev pub shown : List (Bor QrelLine) → List QrelLine
-shown lines = map (λ line. line.now) lines
+-- no document is judged
+abbrev pub no_tally : Tally
+no_tally = record { relevant = 0; others = 0 }
 
--- the lines of a topic
-abbrev pub lines_on : List ℕ → List QrelLine → List QrelLine
-lines_on topic qrels = filter (λ line. bytes_eq line.topic topic) qrels
+-- one more document is judged
+abbrev pub tally_more : Tally → ℕ → Tally
+tally_more tally grade = if nat_le level grade
+    then record { relevant = tally.relevant + 1; others = tally.others }
+    else record { relevant = tally.relevant; others = tally.others + 1 }
 
-abbrev pub topic_lt : QrelLine → QrelLine → Bool
-topic_lt a b = is_lt (slice_cmp nat_cmp a.topic b.topic)
+-- how the documents of a topic are judged
+abbrev pub tally_on : List QrelLine → List ℕ → Tally
+tally_on qrels topic = record { relevant = relevant_on qrels topic; others = non_relevant_on qrels topic }
 
--- no line's topic is below that of an earlier line
-abbrev pub IsAscending : List QrelLine → Type 0
-IsAscending lines = AllPairs (λ a b. topic_lt b a ≡ false) lines
-
--- the lines by ascending topic, those of each topic in their order
-pub record AreByTopic (qrels order : List QrelLine) : Type 0 where
-  pub ascending : IsAscending order
-  pub same : (topic : List ℕ) → lines_on topic order ≡ lines_on topic qrels
-
--- how the documents of some lines are judged
-abbrev pub tally_in : List QrelLine → Tally
-tally_in lines = record { relevant = count_by (λ line. nat_le level line.grade) lines; others = count_by (λ line. nat_lt line.grade level) lines }
-
--- the grade of a document in some lines, of which the first counts
-abbrev pub grade_in : List QrelLine → List ℕ → Option ℕ
-grade_in lines doc = option_map (λ line. line.grade) (find (λ line. bytes_eq line.doc doc) lines)
-
--- the cell of a topic, by its documents and its lines
-abbrev pub cell_in : List (List ℕ) → List QrelLine → Cell
-cell_in docs lines = cell_of (map (grade_in lines) docs) (tally_in lines).relevant (tally_in lines).others level
-
--- each of these lines is in the bucket of its docno
-abbrev pub AreByDocno : Secret → Buckets → List (Bor QrelLine) → Type 0
-AreByDocno secret table lines = table.items ≡ map (λ line. text_key secret line.now.doc % table.room) lines
+-- the cell of a topic, by its documents
+abbrev pub cell_in : List (List ℕ) → List QrelLine → List ℕ → Cell
+cell_in docs qrels topic = cell_of (map (grade_on qrels topic) docs) (relevant_on qrels topic) (non_relevant_on qrels topic) level
 
 -- ranked lists by ascending topic, each of at most 1,000 documents that differ
 pub record AreRankedLists (lists : List TopicList) : Type 0 where

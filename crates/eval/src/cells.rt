@@ -1,60 +1,69 @@
+//! The cells of a run, one for each topic of the qrels.
 ghost use Rattle.std.specs.Prelude.{◌≡◌, ◌≢◌, ◌≤◌, length, map, All, AllPairs, IfOk};
 ghost use Rattle.measures.specs.Cells.{IsSound};
-ghost use Rattle.eval.specs.Evaluations.{docs_on as listed_on, cell_on, topics_of as qrels_topics};
-ghost use Rattle.eval.specs.Tables.{shown, cell_in, grade_in, AreRankedLists};
+ghost use Rattle.eval.specs.Evaluations.{docs_on as listed_on, cell_on, topics_of};
+ghost use Rattle.eval.specs.Tables.{AreRankedLists, cell_in, tally_on};
 
-use crate::judgements::{LEVEL, by_docno, by_topic, grade_at, judged_on, tally_of, topics_of};
-use decimal_rank::{DocId, Memory, Names, Secret, Text};
+use crate::judgements::{Judgements, LEVEL, Tally, judgements_of};
+use decimal_rank::{DocId, Memory, Text};
 use measures::{Cell, scratch};
 use std::alloc::Global;
-use trec_formats::{QrelLine, TopicList};
+use trec_formats::{QrelTable, TopicList};
 
 /// The cells of a run on the topics of the qrels.
 pub(crate) fn cells_of(
     alloc: Global,
     lists: &[TopicList],
-    qrels: &[QrelLine],
+    qrels: &QrelTable,
 ) -> Result<Vec<Cell>, Memory>
     requires lists { AreRankedLists lists.now }
     requires few { length qrels.now ≤ 268435456 }
-    ensures cells { IfOk result (λ cells. cells.items ≡ map (cell_on lists.now qrels.now) (qrels_topics qrels.now)) }
+    ensures cells { IfOk result (λ cells. cells.items ≡ map (cell_on lists.now qrels.now) (topics_of qrels.now)) }
     ensures sound { IfOk result (λ cells. All IsSound cells.items) }
 {
-    let topics = topics_of(alloc, qrels)?;
-    cells_on(alloc, lists, qrels, &topics)
+    let judgements = judgements_of(alloc, qrels.lines())?;
+    cells_on(alloc, lists, qrels, &judgements)
 }
 
-/// The cells of a run on some topics.
-fn cells_on<'a>(
+/// The cells of a run on the topics that are judged.
+fn cells_on(
     alloc: Global,
-    lists: &'a [TopicList],
-    qrels: &'a [QrelLine],
-    topics: &Names,
+    lists: &[TopicList],
+    qrels: &QrelTable,
+    judgements: &Judgements,
 ) -> Result<Vec<Cell>, Memory>
     requires lists { AreRankedLists lists.now }
     requires few { length qrels.now ≤ 268435456 }
-    ensures cells { IfOk result (λ cells. cells.items ≡ map (cell_on lists.now qrels.now) topics.now) }
+    requires tallies { judgements.now.tallies.items ≡ map (tally_on qrels.now) judgements.now.topics }
+    ensures cells { IfOk result (λ cells. cells.items ≡ map (cell_on lists.now qrels.now) judgements.now.topics) }
     ensures sound { IfOk result (λ cells. All IsSound cells.items) }
 {
-    let order = by_topic(alloc, qrels)?;
-    let mut cells = Vec::with_capacity(alloc, topics.len() as usize)?;
-    for number in 0..topics.len() {
-        let topic = topics.name(DocId(number));
-        cells.push(topic_cell(alloc, docs_on(lists, topic), judged_on(&order, topic))?)?;
+    let count = judgements.topics.len();
+    let mut cells = Vec::with_capacity(alloc, count as usize)?;
+    for number in 0..count {
+        let topic = judgements.topics.name(DocId(number));
+        let tally = judgements.tallies[number as usize];
+        cells.push(topic_cell(alloc, docs_on(lists, topic), qrels, topic, tally)?)?;
     }
     Ok(cells)
 }
 
 /// The cell of a topic, by its documents and its judgements.
-fn topic_cell<'a>(alloc: Global, docs: &'a [Text], judged: &[&'a QrelLine]) -> Result<Cell, Memory>
+fn topic_cell(
+    alloc: Global,
+    docs: &[Text],
+    qrels: &QrelTable,
+    topic: &[u8],
+    tally: Tally,
+) -> Result<Cell, Memory>
     requires differ { AllPairs (λ a b. a ≢ b) docs.now }
     requires short { length docs.now ≤ 1000 }
-    requires few { length judged.now ≤ 268435456 }
-    ensures cell { IfOk result (λ cell. cell ≡ cell_in docs.now (shown judged.now)) }
+    requires few { length qrels.now ≤ 268435456 }
+    requires tally { tally ≡ tally_on qrels.now topic.now }
+    ensures cell { IfOk result (λ cell. cell ≡ cell_in docs.now qrels.now topic.now) }
     ensures sound { IfOk result IsSound }
 {
-    let graded = graded(alloc, judged, docs)?;
-    let tally = tally_of(judged);
+    let graded = qrels.grades(alloc, topic, docs)?;
     Ok(scratch(&graded, tally.relevant, tally.others, LEVEL))
 }
 
@@ -67,18 +76,4 @@ fn docs_on<'a>(lists: &'a [TopicList], topic: &[u8]) -> &'a [Text]
         Ok(place) => lists[place].docs.items(),
         Err(_) => &[],
     }
-}
-
-/// The grades of documents by the judgements of their topic.
-fn graded(alloc: Global, judged: &[&QrelLine], docs: &[Text]) -> Result<Vec<Option<u8>>, Memory>
-    requires { length judged.now ≤ 268435456 }
-    ensures { IfOk result (λ graded. graded.items ≡ map (grade_in (shown judged.now)) docs.now) }
-{
-    let secret = Secret::drawn();
-    let chains = by_docno(alloc, &secret, judged)?;
-    let mut graded = Vec::with_capacity(alloc, docs.len())?;
-    for doc in docs {
-        graded.push(grade_at(&secret, &chains, judged, doc.bytes()))?;
-    }
-    Ok(graded)
 }

@@ -1,3 +1,4 @@
+//! What the bytes of a run and of qrels come to: scores, or the file that is refused.
 ghost use Rattle.std.specs.Prelude.{◌≡◌, ◌≤◌, ◌++◌, length, IfOk, OnOk};
 ghost use Rattle.trec_formats.specs.Faults.{IfFault};
 ghost use Rattle.trec_formats.specs.Lists.{IsRankedRun, IsRankedRunFault};
@@ -11,8 +12,8 @@ use itoa::Buffer as Digits;
 use measures::{mean, write_summary};
 use std::alloc::Global;
 use trec_formats::{
-    FormatEnd, FormatFault, Kind, QrelLine, TopicList, cause_name, one_qrels_reading,
-    one_rankable_reading, rank_run, read_qrels, read_run,
+    FormatEnd, FormatFault, Kind, QrelTable, TopicList, cause_name, one_qrels_reading,
+    one_rankable_reading, rank_run, read_qrel_table, read_run,
 };
 
 /// What two files come to.
@@ -42,7 +43,7 @@ pub fn evaluate(
         Err(FormatEnd::Fault(fault)) => return refusal(alloc, run, fault),
         Err(FormatEnd::Memory) => return Err(Memory),
     };
-    let judged = match read_qrels(alloc, qrels_bytes) {
+    let judged = match read_qrel_table(alloc, qrels_bytes) {
         Ok(judged) => judged,
         Err(FormatEnd::Fault(fault)) => return refusal(alloc, qrels, fault),
         Err(FormatEnd::Memory) => return Err(Memory),
@@ -77,7 +78,7 @@ fn report(
     alloc: Global,
     run: &[u8],
     lists: &[TopicList],
-    qrels: &[QrelLine],
+    qrels: &QrelTable,
 ) -> Result<Vec<u8>, Memory>
     requires lists { AreRankedLists lists.now }
     requires few { length qrels.now ≤ 268435456 }

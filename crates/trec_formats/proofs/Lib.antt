@@ -3,8 +3,10 @@ pub mod BlockTexts
 pub mod CountIn
 pub mod Cuts
 pub mod Differing
+pub mod FirstBytes
 pub mod Grades
 pub mod Grouping
+pub mod JudgedLines
 pub mod KeptFields
 pub mod LineNumbers
 pub mod Listing

@@ -8,7 +8,7 @@ use Rattle.std.proofs.lemmas.Slice.Eq.{bytes_eq-Decides}
 use Rattle.decimal_rank.specs.Buckets.{Buckets, with_item}
 use Rattle.decimal_rank.specs.declared.secrets.Secret.{Secret}
 use Rattle.trec_formats.specs.declared.faults.Kind.TheVariants.{Twice}
-use Rattle.trec_formats.specs.Documents.{same_by, document_key}
+use Rattle.trec_formats.specs.Documents.{names, same_by, document_key, AreByDocument}
 use Rattle.decimal_rank.specs.Searches.{AreUnder}
 use Rattle.trec_formats.specs.Faults.{IsDistinct, IsTwice}
 use Rattle.trec_formats.proofs.Readings.{distinct_push, distinct_nil}
@@ -30,31 +30,30 @@ module _ {L : Type 0} (topic doc : L → List ℕ) (number : L → ℕ) where
   abbrev same : L → L → Bool
   same = same_by topic doc
 
-  -- whether a line names a document
-  abbrev pub is_of : List ℕ → List ℕ → L → Bool
-  is_of t d line = bytes_eq t (topic line) && bytes_eq d (doc line)
+  abbrev is_of : List ℕ → List ℕ → L → Bool
+  is_of = names topic doc
 
   abbrev bucket : Secret → ℕ → L → ℕ
   bucket secret room line = document_key secret (topic line) (doc line) % room
 
   -- these lines are distinct, and each is in the bucket of its document
   pub record HaveSeen (secret : Secret) (table : Buckets) (lines : List L) : Type 0 where
-    pub items_are : table.items ≡ map (bucket secret table.room) lines
+    pub items_are : AreByDocument topic doc secret table lines
     pub distinct : IsDistinct same lines
 
   pub seen_none : (secret : Secret) (table : Buckets) → table.items ≡ [] → HaveSeen secret table []
   seen_none secret table empty = record { items_are = empty; distinct = distinct_nil same number }
 
   -- lines of a document are in the bucket of its key
-  pub seen_under : (secret : Secret) (table : Buckets) (lines : List L) (t d : List ℕ) (key : ℕ) → HaveSeen secret table lines → key ≡ document_key secret t d → AreUnder (is_of t d) table lines key
-  seen_under secret table lines t d key w keyed = record {
-    sized = ap length w.items_are ∙ length-map lines (bucket secret table.room);
+  pub seen_under : (secret : Secret) (table : Buckets) (lines : List L) (t d : List ℕ) (key : ℕ) → AreByDocument topic doc secret table lines → key ≡ document_key secret t d → AreUnder (is_of t d) table lines key
+  seen_under secret table lines t d key items_are keyed = record {
+    sized = ap length items_are ∙ length-map lines (bucket secret table.room);
     each = λ i line got yes.
         let parts = both (bytes_eq t (topic line)) (bytes_eq d (doc line)) yes in
         let topics : topic line ≡ t = sym ((bytes_eq-Decides _ _).0 parts.0) in
         let docs : doc line ≡ d = sym ((bytes_eq-Decides _ _).0 parts.1) in
         let keys : document_key secret (topic line) (doc line) ≡ key = ap (λ a. document_key secret a (doc line)) topics ∙ ap (λ b. document_key secret t b) docs ∙ sym keyed in
-        ap (λ items. slice_get items i) w.items_are
+        ap (λ items. slice_get items i) items_are
         ∙ slice_get-map (bucket secret table.room) lines i
         ∙ ap (option_map (bucket secret table.room)) got
         ∙ ap (λ k. Some (k % table.room)) keys;
@@ -96,5 +95,5 @@ module _ {L : Type 0} (topic doc : L → List ℕ) (number : L → ℕ) where
     kind = refl;
   }
 
-  pub seen_all : (secret : Secret) (table : Buckets) (lines : List L) (i : ℕ) → length lines ≤ i → HaveSeen secret table (take i lines) → IsDistinct same lines
-  seen_all secret table lines i all w = rw (← take_all i lines all) w.distinct
+  pub seen_all : (secret : Secret) (table : Buckets) (lines : List L) (i : ℕ) → length lines ≤ i → HaveSeen secret table (take i lines) → HaveSeen secret table lines
+  seen_all secret table lines i all w = rw (← take_all i lines all) w

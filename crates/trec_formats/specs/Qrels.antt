@@ -1,5 +1,5 @@
 -- The qrels format: a line is a topic, a field that isn't looked at, a docno and a grade.
-use Rattle.std.specs.Prelude.{◌&&◌, ℕ, Bool, if◌then◌else◌, List, [], ◌∷◌, Option, Some, None, Ok, Err, Result, bytes_eq}
+use Rattle.std.specs.Prelude.{◌&&◌, ℕ, Bool, if◌then◌else◌, List, [], ◌∷◌, Option, Some, None, Ok, Err, Result, bytes_eq, find, option_map}
 use Rattle.trec_formats.specs.declared.qrels.QrelLine.{QrelLine}
 use Rattle.trec_formats.specs.declared.faults.Kind.{Kind}
 use Rattle.trec_formats.specs.declared.faults.Kind.TheVariants.{Fields, Topic, Docno, Grade}
@@ -19,6 +19,11 @@ qrel_of (number, _) = Err Fields
 
 abbrev pub same_document : QrelLine → QrelLine → Bool
 same_document a b = bytes_eq a.topic b.topic && bytes_eq a.doc b.doc
+
+-- the grade of a document on a topic; none where the lines don't judge it
+abbrev pub grade_on : List QrelLine → List ℕ → List ℕ → Option ℕ
+grade_on lines topic doc =
+    option_map (λ line. line.grade) (find (λ line. bytes_eq line.topic topic && bytes_eq line.doc doc) lines)
 
 -- what the lines of a text are read as, one by one
 abbrev pub IsEachRead : List ℕ → Result (List QrelLine) FormatFault → Type 0

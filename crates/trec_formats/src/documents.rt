@@ -1,12 +1,13 @@
-//! Lines that name a document of a topic, and the first that names the document of an earlier one. A
-//! table finds the earlier lines by a key of both texts.
-ghost use Rattle.std.specs.Prelude.{◌≡◌, ◌&&◌, ℕ, List, IfOk, MatchOption, bytes_eq};
+//! Lines that name a document of a topic, and a table that finds them by a key of both texts, where none
+//! names the document of an earlier one.
+ghost use Rattle.std.specs.Prelude.{◌≡◌, ℕ, List, find, IfOk, OnOk};
+ghost use Rattle.std.specs.Option.{option_map};
 ghost use Rattle.decimal_rank.specs.TextKeys.{text_key};
-ghost use Rattle.trec_formats.specs.Documents.{same_by};
-ghost use Rattle.trec_formats.specs.Faults.{IsDistinct, IsTwice};
+ghost use Rattle.trec_formats.specs.Documents.{names, same_by, AreByDocument};
+ghost use Rattle.trec_formats.specs.Faults.{IsDistinct, IsTwice, IfFault};
 
-use crate::faults::{FormatFault, Kind};
-use decimal_rank::{Chains, Memory, Secret, Sought, first_found};
+use crate::faults::{FormatEnd, Kind};
+use decimal_rank::{Chains, Secret, Sought, first_found};
 use std::alloc::Global;
 
 /// As many lines as a table numbers.
@@ -33,31 +34,38 @@ pub(crate) trait DocumentLine {
 
 /// A document of a topic, as it's looked for among lines.
 #[derive(Clone, Copy)]
-struct Document<'a> {
-    topic: &'a [u8],
-    doc: &'a [u8],
+pub(crate) struct Document<'a> {
+    pub(crate) topic: &'a [u8],
+    pub(crate) doc: &'a [u8],
 }
 
 impl<'a, L: DocumentLine> Sought<L> for Document<'a> {
-    ghost finds = { λ document line. bytes_eq document.topic.now (L.topic_of line) && bytes_eq document.doc.now (L.doc_of line) };
+    ghost finds = { λ document. names L.topic_of L.doc_of document.topic.now document.doc.now };
 
     fn finds(&self, line: &L) -> bool {
         self.topic == line.topic() && self.doc == line.doc()
     }
 }
 
-/// The first line that names the topic and docno of an earlier one. More lines than a table numbers
-/// are as want of memory.
-pub(crate) fn first_repeat<L: DocumentLine>(
+/// A table that finds lines by the documents that they name.
+#[derive(Drop)]
+pub(crate) struct DocumentTable {
+    pub(crate) secret: Secret,
+    pub(crate) chains: Chains,
+}
+
+/// The table of lines that name different documents, or the first line that names the topic and docno of
+/// an earlier one. More lines than a table numbers are as want of memory.
+pub(crate) fn table_of<L: DocumentLine>(
     alloc: Global,
     lines: &[L],
-) -> Result<Option<FormatFault>, Memory>
-    ensures { IfOk result (λ found. MatchOption found
-        (IsDistinct (same_by L.topic_of L.doc_of) lines.now)
-        (IsTwice (same_by L.topic_of L.doc_of) L.number_of lines.now)) }
+) -> Result<DocumentTable, FormatEnd>
+    ensures distinct { OnOk result (IsDistinct (same_by L.topic_of L.doc_of) lines.now) }
+    ensures found { IfOk result (λ table. AreByDocument L.topic_of L.doc_of table.secret table.chains lines.now) }
+    ensures fault { IfFault result (IsTwice (same_by L.topic_of L.doc_of) L.number_of lines.now) }
 {
     if lines.len() > MOST_LINES {
-        return Err(Memory);
+        return Err(FormatEnd::Memory);
     }
     let secret = Secret::drawn();
     let mut chains = Chains::with_room(alloc, lines.len() as u32)?;
@@ -72,16 +80,29 @@ pub(crate) fn first_repeat<L: DocumentLine>(
         newest = document.topic;
         let key = newest_key.wrapping_add(secret.key_of(document.doc));
         if let Some(first) = first_found(&chains, &lines[..i], key, &document) {
-            return Ok(Some(FormatFault {
-                line: line.number(),
-                kind: Kind::Twice {
-                    first: first.number(),
-                },
-            }));
+            let kind = Kind::Twice {
+                first: first.number(),
+            };
+            return Err(FormatEnd::at(line.number(), kind));
         }
         chains.push(key)?;
     }
-    Ok(None)
+    Ok(DocumentTable { secret, chains })
+}
+
+/// The line of a document, in lines of which the table is, by the key of its topic.
+pub(crate) fn line_of<'a, L: DocumentLine>(
+    table: &DocumentTable,
+    lines: &'a [L],
+    document: Document<'_>,
+    topic_key: u64,
+) -> Option<&'a L>
+    requires found { AreByDocument L.topic_of L.doc_of table.now.secret table.now.chains lines.now }
+    requires key { topic_key ≡ text_key table.now.secret document.topic.now }
+    ensures { option_map (λ line. line.now) result ≡ find (names L.topic_of L.doc_of document.entry.topic.now document.entry.doc.now) lines.now }
+{
+    let key = topic_key.wrapping_add(table.secret.key_of(document.doc));
+    first_found(&table.chains, lines, key, &document)
 }
 
 /// The key of a topic, which is at hand where it's the newest, as mostly, since the lines of a topic
@@ -93,5 +114,13 @@ fn topic_key(secret: &Secret, newest: &[u8], newest_key: u64, topic: &[u8]) -> u
     if topic == newest {
         return newest_key;
     }
+    new_key(secret, topic)
+}
+
+// apart, since it's rarely called
+#[inline(never)]
+fn new_key(secret: &Secret, topic: &[u8]) -> u64
+    ensures { result ≡ text_key secret.now topic.now }
+{
     secret.key_of(topic)
 }

@@ -1,5 +1,8 @@
+//! The lines of a text, and the fields of a line.
 ghost use Rattle.std.specs.Prelude.{◌≡◌, ◌==◌, ◌<◌, ◌≤◌, ◌+◌, List, [], ◌∷◌, length, not, position, MatchOption, IfSome};
 ghost use Rattle.trec_formats.specs.Lines.{is_white_space, is_filled, lines_of, fields_of, rows_from};
+
+use memchr::memchr;
 
 pub(crate) fn is_white_space(byte: u8) -> bool
     ensures { result ≡ is_white_space byte }
@@ -10,7 +13,7 @@ pub(crate) fn is_white_space(byte: u8) -> bool
 fn line_feed(text: &[u8]) -> Option<usize>
     ensures { result ≡ position (λ b. b == 10) text.now }
 {
-    text.iter().position(|byte| *byte == b'\n')
+    memchr(b'\n', text)
 }
 
 /// The first line, without its line feed, and the text behind it.

@@ -6,7 +6,7 @@ ghost use Rattle.trec_formats.specs.Groups.{shown, AreByRank, AreByTopic, IsAsce
 ghost use Rattle.trec_formats.specs.Lists.{same_document, standing, AreLists, AreRanked, IsListsFault};
 ghost use Rattle.trec_formats.specs.Runs.{count_on};
 
-use crate::documents::first_repeat;
+use crate::documents::table_of;
 use crate::faults::FormatEnd;
 use crate::runs::RunLine;
 use decimal_rank::{Memory, Rows, Text, decimals_have_an_order};
@@ -135,9 +135,7 @@ pub fn rank_run(alloc: Global, lines: &[RunLine]) -> Result<Vec<TopicList>, Form
     ensures lists { IfOk result (λ lists. AreLists lines.now lists.items) }
     ensures fault { IfFault result (IsListsFault lines.now) }
 {
-    if let Some(fault) = first_repeat(alloc, lines)? {
-        return Err(FormatEnd::Fault(fault));
-    }
+    table_of(alloc, lines)?;
     let order = by_topic(alloc, lines)?;
     Ok(lists_of(alloc, order.as_slice())?)
 }

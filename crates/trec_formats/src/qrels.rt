@@ -1,12 +1,14 @@
+//! Judgements in the format of qrels, each on a line of four fields.
 ghost use Rattle.std.specs.Prelude.{◌≡◌, ◌≢◌, ◌≤◌, ℕ, [], ◌∷◌, length, Ok, Err, IfOk, MatchOption, MatchResult};
 ghost use Rattle.trec_formats.specs.Lines.{fields_of};
-ghost use Rattle.trec_formats.specs.Faults.{IsDistinct, IsTwice, IfFault};
-ghost use Rattle.trec_formats.specs.Qrels.{qrel_of, same_document, IsEachRead, IsQrels, IsQrelsFault};
+ghost use Rattle.trec_formats.specs.Faults.{IfFault};
+ghost use Rattle.trec_formats.specs.Qrels.{qrel_of, IsEachRead, IsQrels, IsQrelsFault};
 
-use crate::documents::{DocumentLine, first_repeat};
+use crate::documents::DocumentLine;
 use crate::faults::{FormatEnd, Kind};
 use crate::lines::{cut_field, next_row};
 use crate::names::{grade_of, is_docno, is_name};
+use crate::qrel_tables::read_qrel_table;
 use decimal_rank::Text;
 use std::alloc::Global;
 
@@ -85,7 +87,7 @@ fn qrel_fields(line: &[u8]) -> Result<QrelFields<'_>, Kind>
 }
 
 /// The lines of a text, of which some may say the same.
-fn read_lines(alloc: Global, bytes: &[u8]) -> Result<Vec<QrelLine>, FormatEnd>
+pub(crate) fn read_lines(alloc: Global, bytes: &[u8]) -> Result<Vec<QrelLine>, FormatEnd>
     requires { length bytes.now ≤ 268435456 }
     ensures lines { IfOk result (λ lines. IsEachRead bytes.now (Ok lines.items)) }
     ensures few { IfOk result (λ lines. length lines.items ≤ length bytes.now) }
@@ -121,9 +123,6 @@ pub fn read_qrels(alloc: Global, bytes: &[u8]) -> Result<Vec<QrelLine>, FormatEn
     ensures few { IfOk result (λ lines. length lines.items ≤ length bytes.now) }
     ensures fault { IfFault result (IsQrelsFault bytes.now) }
 {
-    let lines = read_lines(alloc, bytes)?;
-    match first_repeat(alloc, lines.as_slice())? {
-        Some(fault) => Err(FormatEnd::Fault(fault)),
-        None => Ok(lines),
-    }
+    let table = read_qrel_table(alloc, bytes)?;
+    Ok(table.into_lines())
 }

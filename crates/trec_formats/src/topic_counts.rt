@@ -1,9 +1,10 @@
 //! How many lines of a run each topic has.
-ghost use Rattle.std.specs.Prelude.{◌≡◌, ◌≢◌, ◌≤◌, ◌<◌, ◌+◌, ◌^◌, ℕ, List, Some, length, IfOk, IfSome, OnOk, MatchBool, if◌then◌else◌, bytes_eq};
+ghost use Rattle.std.specs.Prelude.{◌≡◌, ◌≢◌, ◌≤◌, ◌<◌, ◌+◌, ◌^◌, ℕ, List, Some, length, IfOk, OnOk, MatchBool, if◌then◌else◌, bytes_eq};
 ghost use Rattle.decimal_rank.specs.Names.{number_of};
 ghost use Rattle.trec_formats.specs.Counts.{count_in, count_at, IsOneMore, IsTally};
 
-use decimal_rank::{DocId, Memory, Names, Text};
+use crate::topic_numbers::topic_number;
+use decimal_rank::{Memory, Names, Text};
 use std::alloc::Global;
 
 /// The most lines of a topic.
@@ -29,17 +30,6 @@ impl TopicCounts {
     }
 }
 
-/// The place of the newest topic where it is this one, as mostly, since the lines of a topic stand together.
-fn newest_place(topics: &Names, topic: &[u8]) -> Option<usize>
-    ensures { IfSome result (λ place. number_of topics.now topic.now ≡ Some place) }
-{
-    let count = topics.len();
-    if count > 0 && topics.name(DocId(count - 1)) == topic {
-        return Some(count as usize - 1);
-    }
-    None
-}
-
 /// The place of a topic among the counts, where it has no line so far with the count 0.
 fn place_of(
     alloc: Global,
@@ -54,15 +44,12 @@ fn place_of(
     ensures few { OnOk result (length topics.new ≤ length topics.old + 1) }
     ensures same { OnOk result ((other : List ℕ) → count_in topics.new counts.new.items other ≡ count_in topics.old counts.old.items other) }
 {
-    if let Some(place) = newest_place(topics, topic) {
-        return Ok(place);
+    if let Some(number) = topic_number(topics, topic) {
+        return Ok(number.0 as usize);
     }
-    if let Some(doc) = topics.find(topic) {
-        return Ok(doc.0 as usize);
-    }
-    let doc = topics.add(Text::from_slice(alloc, topic)?)?;
+    let number = topics.add(Text::from_slice(alloc, topic)?)?;
     counts.push(0)?;
-    Ok(doc.0 as usize)
+    Ok(number.0 as usize)
 }
 
 /// Counts one more line at a place, where there are fewer than the most. Whether there were.

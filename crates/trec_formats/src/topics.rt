@@ -1,19 +1,19 @@
-ghost use Rattle.std.specs.Prelude.{◌≡◌, ◌≤◌, ℕ, List, length, map, Ok, Err, IfOk, MatchOption, MatchResult, true};
+ghost use Rattle.std.specs.Prelude.{◌≡◌, ◌≤◌, ℕ, List, [], length, map, Ok, Err, IfOk, MatchOption, MatchResult, true};
 ghost use Rattle.std.specs.List.{list_all};
-ghost use Rattle.trec_formats.specs.Faults.{IfFault, IsDistinct, IsTwice, OfFault};
+ghost use Rattle.trec_formats.specs.Faults.{IfFault, OfFault};
 ghost use Rattle.trec_formats.specs.Marks.{Closes};
 ghost use Rattle.trec_formats.specs.MarkViews.{mark_seen};
 ghost use Rattle.trec_formats.specs.SoundTopics.{AreSoundTopics, is_sound};
 ghost use Rattle.trec_formats.specs.TopicBlocks.{finished_as, progress_behind, TellsBy};
-ghost use Rattle.trec_formats.specs.Topics.{Numbered, IsEachBlockRead, IsTopics, IsTopicsFault, same_id};
+ghost use Rattle.trec_formats.specs.Topics.{Numbered, IsEachBlockRead, IsTopics, IsTopicsFault};
 
-use crate::faults::{FormatEnd, FormatFault, Kind};
+use crate::documents::{DocumentLine, table_of};
+use crate::faults::{FormatEnd, Kind};
 use crate::lines::cut_line;
 use crate::topic_blocks::Block;
 use crate::topic_marks::{Mark, mark_of, strip};
-use decimal_rank::{Memory, Secret, Text};
+use decimal_rank::{Memory, Text};
 use std::alloc::Global;
-use std::collections::HashMap;
 
 /// A topic of a campaign: its name, and what is sought in three fields.
 #[derive(Debug, Drop, PartialEq)]
@@ -22,6 +22,27 @@ pub struct Topic {
     pub title: Text,
     pub desc: Text,
     pub narr: Text,
+}
+
+/// A topic with the line of its number. It is told by its id, and names no document.
+impl DocumentLine for (u32, Topic) {
+    ghost topic_of = { λ topic. topic.1.id };
+
+    ghost doc_of = { λ _. [] };
+
+    ghost number_of = { λ topic. topic.0 };
+
+    fn topic(&self) -> &[u8] {
+        self.1.id.bytes()
+    }
+
+    fn doc(&self) -> &[u8] {
+        &[]
+    }
+
+    fn number(&self) -> u32 {
+        self.0
+    }
 }
 
 /// Reads a line where no block is open.
@@ -114,24 +135,6 @@ fn read_blocks(alloc: Global, bytes: &[u8]) -> Result<Vec<(u32, Topic)>, FormatE
     finished(topics, open_block, number)
 }
 
-/// The fault of the first topic that has the id of an earlier one.
-fn first_repeat(alloc: Global, topics: &[(u32, Topic)]) -> Result<Option<FormatFault>, Memory>
-    ensures { IfOk result (λ found. MatchOption found
-        (IsDistinct same_id topics.now)
-        (IsTwice same_id (λ topic. topic.0) topics.now)) }
-{
-    let mut firsts = HashMap::with_capacity_and_hasher(alloc, topics.len(), Secret::drawn())?;
-    for topic in topics {
-        if let Some(first) = firsts.insert(&topic.1.id, topic.0)? {
-            return Ok(Some(FormatFault {
-                line: topic.0,
-                kind: Kind::Twice { first },
-            }));
-        }
-    }
-    Ok(None)
-}
-
 /// The topics without the lines of their numbers.
 fn without_lines(alloc: Global, found: Vec<(u32, Topic)>) -> Result<Vec<Topic>, Memory>
     ensures { IfOk result (λ topics. topics.items ≡ map (λ topic. topic.1) found.items) }
@@ -148,8 +151,6 @@ pub fn read_topics(alloc: Global, bytes: &[u8]) -> Result<Vec<Topic>, FormatEnd>
     ensures fault { IfFault result (IsTopicsFault bytes.now) }
 {
     let found = read_blocks(alloc, bytes)?;
-    match first_repeat(alloc, found.as_slice())? {
-        Some(fault) => Err(FormatEnd::Fault(fault)),
-        None => Ok(without_lines(alloc, found)?),
-    }
+    table_of(alloc, found.as_slice())?;
+    Ok(without_lines(alloc, found)?)
 }

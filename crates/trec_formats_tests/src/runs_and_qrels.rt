@@ -1,10 +1,12 @@
-use decimal_rank::{Decimal, DecimalFault, Text};
+//! Runs and qrels, read and ranked.
+use decimal_rank::{Decimal, DecimalFault, Memory, Text};
 use std::alloc::Global;
 use std::cmp::Ordering;
 use std::fmt::Write;
 use std::test::Fail;
 use trec_formats::{
-    FormatEnd, FormatFault, Kind, QrelLine, RunLine, TopicList, rank_run, read_qrels, read_run,
+    FormatEnd, FormatFault, Kind, QrelLine, QrelTable, RunLine, TopicList, rank_run,
+    read_qrel_table, read_qrels, read_run,
 };
 
 fn run_of(alloc: Global, text: &str) -> Result<Vec<RunLine>, FormatEnd> {
@@ -19,6 +21,23 @@ fn qrels_of(alloc: Global, text: &str) -> Result<Vec<QrelLine>, FormatEnd> {
         return Err(FormatEnd::Memory);
     }
     read_qrels(alloc, text.as_bytes())
+}
+
+fn table_of(alloc: Global, text: &str) -> Result<QrelTable, FormatEnd> {
+    if text.len() > 1_000_000 {
+        return Err(FormatEnd::Memory);
+    }
+    read_qrel_table(alloc, text.as_bytes())
+}
+
+/// The grades of three documents on a topic.
+fn grades_on(alloc: Global, table: &QrelTable, topic: &str) -> Result<Vec<Option<u8>>, Memory> {
+    let docs = [
+        Text::from_slice(alloc, b"A")?,
+        Text::from_slice(alloc, b"B")?,
+        Text::from_slice(alloc, b"C")?,
+    ];
+    table.grades(alloc, topic.as_bytes(), &docs)
 }
 
 fn lists_of(alloc: Global, text: &str) -> Result<Vec<TopicList>, FormatEnd> {
@@ -257,4 +276,23 @@ fn a_document_stands_once(rt: HostRuntime) {
             Kind::Twice { first: 1 }
         )
     );
+}
+
+#[test]
+fn grades_are_found_by_topic_and_docno(rt: HostRuntime) -> Result<(), Fail> {
+    let alloc = rt.alloc();
+    let table = table_of(alloc, "1 0 A 1\n2 0 A 0\n1 0 B 3\n")?;
+    let cases = [
+        ("1", [Some(1), Some(3), None]),
+        ("2", [Some(0), None, None]),
+        ("3", [None, None, None]),
+    ];
+    for (topic, wanted) in cases {
+        assert_eq!(rt;
+            grades_on(alloc, &table, topic)?.as_slice(),
+            wanted.as_slice()
+        );
+    }
+    assert_eq!(rt; table.lines().len(), 3);
+    Ok(())
 }

@@ -6,6 +6,6 @@ use Rattle.eval.proofs.cells.cells_on.Given as goal
 
 abbrev pub invariant-loop-number : goal.invariant-loop-number
 invariant-loop-number l = record {
-  cells : l.cells.items ≡ map (cell_on l.lists l.qrels) (take l.number l.topics);
+  cells : l.cells.items ≡ map (cell_on l.lists l.qrels) (take l.number l.judgements.topics);
   sound : All IsSound l.cells.items;
 }

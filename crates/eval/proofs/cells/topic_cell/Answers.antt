@@ -3,44 +3,47 @@ use Rattle.std.specs.Prelude.{count_by, nat_le, nat_lt}
 use Rattle.std.proofs.lemmas.List.{length-map}
 use Rattle.measures.specs.Cells.{cell_of}
 use Rattle.measures.specs.Grades.{is_relevant, is_non_relevant}
+use Rattle.trec_formats.specs.Qrels.{grade_on}
 use Rattle.eval.specs.declared.judgements.Tally.{Tally}
 use Rattle.eval.specs.Evaluations.{level}
-use Rattle.eval.specs.Tables.{shown, grade_in}
-use Rattle.eval.proofs.Judged.{judged_le}
+use Rattle.eval.proofs.Judged.{judged_on_le}
+use Rattle.eval.proofs.Tallies.{most_others, most_relevant}
 use Rattle.eval.proofs.cells.topic_cell.Goals as goal
 
 pub scratch-requires-clause-length : goal.scratch-requires-clause-length
 scratch-requires-clause-length c =
-    let lines = shown c.args.judged.now in
     let graded = c.deref.ensures.value ∙ c.in_ok-graded.ensures in
-    omega (arith, ap length graded, length-map c.args.docs.now (grade_in lines), c.requires.short)
+    omega (arith, ap length graded, length-map c.args.docs.now (grade_on c.args.qrels.now c.args.topic.now), c.requires.short)
+
+pub scratch-requires-clause-few : goal.scratch-requires-clause-few
+scratch-requires-clause-few c = omega (arith, ap (λ (tally : Tally). tally.relevant) c.requires.tally, most_relevant c.args.qrels.now c.args.topic.now, c.requires.few)
+
+pub scratch-requires-clause-few_others : goal.scratch-requires-clause-few_others
+scratch-requires-clause-few_others c = omega (arith, ap (λ (tally : Tally). tally.others) c.requires.tally, most_others c.args.qrels.now c.args.topic.now, c.requires.few)
 
 pub scratch-requires-clause-relevant : goal.scratch-requires-clause-relevant
 scratch-requires-clause-relevant c =
-    let lines = shown c.args.judged.now in
     let graded = c.deref.ensures.value ∙ c.in_ok-graded.ensures in
     omega (
       arith,
       ap (count_by (is_relevant level)) graded,
-      ap (λ (tally : Tally). tally.relevant) c.tally_of-tally.ensures,
-      judged_le (is_relevant level) (nat_le level) (λ grade. refl) refl lines c.args.docs.now c.requires.differ,
+      ap (λ (tally : Tally). tally.relevant) c.requires.tally,
+      judged_on_le (is_relevant level) (nat_le level) (λ grade. refl) refl c.args.qrels.now c.args.topic.now c.args.docs.now c.requires.differ,
     )
 
 pub scratch-requires-clause-non_relevant : goal.scratch-requires-clause-non_relevant
 scratch-requires-clause-non_relevant c =
-    let lines = shown c.args.judged.now in
     let graded = c.deref.ensures.value ∙ c.in_ok-graded.ensures in
     omega (
       arith,
       ap (count_by (is_non_relevant level)) graded,
-      ap (λ (tally : Tally). tally.others) c.tally_of-tally.ensures,
-      judged_le (is_non_relevant level) (λ grade. nat_lt grade level) (λ grade. refl) refl lines c.args.docs.now c.requires.differ,
+      ap (λ (tally : Tally). tally.others) c.requires.tally,
+      judged_on_le (is_non_relevant level) (λ grade. nat_lt grade level) (λ grade. refl) refl c.args.qrels.now c.args.topic.now c.args.docs.now c.requires.differ,
     )
 
 pub returns-clause-cell : goal.returns-clause-cell
 returns-clause-cell c =
-    let lines = shown c.args.judged.now in
     let graded = c.deref.ensures.value ∙ c.in_ok-graded.ensures in
     c.scratch.ensures.cell
-    ∙ ap (λ grades. cell_of grades c.tally_of-tally.result.relevant c.tally_of-tally.result.others level) graded
-    ∙ ap (λ (tally : Tally). cell_of (map (grade_in lines) c.args.docs.now) tally.relevant tally.others level) c.tally_of-tally.ensures
+    ∙ ap (λ grades. cell_of grades c.args.tally.relevant c.args.tally.others level) graded
+    ∙ ap (λ (tally : Tally). cell_of (map (grade_on c.args.qrels.now c.args.topic.now) c.args.docs.now) tally.relevant tally.others level) c.requires.tally

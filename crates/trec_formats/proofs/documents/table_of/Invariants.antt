@@ -1,7 +1,7 @@
 use Rattle.std.proofs.Common.{◌≡◌, take}
 use Rattle.decimal_rank.specs.TextKeys.{text_key}
 use Rattle.trec_formats.proofs.Repeats.{HaveSeen}
-use Rattle.trec_formats.proofs.documents.first_repeat.Given as goal
+use Rattle.trec_formats.proofs.documents.table_of.Given as goal
 
 abbrev pub invariant-loop-i : goal.invariant-loop-i
 invariant-loop-i g l = record {
