@@ -15,7 +15,7 @@ use Rattle.campaign_server.specs.declared.asks.AskStep.TheVariants.{Whole, Need,
 
 -- what is read may be asked at each moment
 abbrev pub MayBeAsked : Result Asked RouteFault → Type 0
-MayBeAsked reading = IfOk reading (λ asked. (asked.1 ≡ None) × ((moment : ℕ) → moment ≤ MAX_MOMENT → IsTrue (is_well_addressed asked.0 asked.1 asked.2 moment)))
+MayBeAsked reading = IfOk reading (λ asked. (moment : ℕ) → moment ≤ MAX_MOMENT → IsTrue (is_well_addressed asked.0 asked.1 asked.2 moment))
 
 -- what a request asks or its first fault, and whether it closes
 pub record IsReading (keys : List KeyRow) (request : HttpRequest) (reading : Result Asked RouteFault) (close : Bool) : Type 0 where
