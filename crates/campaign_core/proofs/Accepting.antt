@@ -15,7 +15,7 @@ use Rattle.rulebook.specs.declared.reply.Reply.TheVariants as reply
 use Rattle.trec_formats.specs.declared.Topic.{Topic}
 use Rattle.rulebook.specs.Words.{Text, contains_text}
 use Rattle.rulebook.specs.Refusals.{Ruling, ◌when◌, given, is_phase, unless, wrong_phase_unless}
-use Rattle.rulebook.specs.Answers.{amend_ruling, grade_range, grade_ruling, lease_refusals, lease_ruling, open_ruling, release_ruling, rule_ruling, submit_ruling, topics_ruling, unknown_line}
+use Rattle.rulebook.specs.Answers.{amend_ruling, grade_range, grade_ruling, lease_refusals, lease_ruling, open_ruling, publish_ruling, release_ruling, rule_ruling, run_refusals, submit_ruling, topics_ruling, unknown_line, withdraw_ruling}
 use Rattle.rulebook.specs.Spelling.{differ, is_plain, is_plain_topic}
 use Rattle.rulebook.specs.declared.ask.Command.TheVariants as command
 use Rattle.rulebook.specs.declared.limits.TheConstants.{MAX_DOCNOS, MAX_LINES, MAX_RUNS, MAX_TOPICS}
@@ -23,10 +23,12 @@ use Rattle.rulebook.specs.declared.reply.Quantity.TheVariants as quantity
 use Rattle.trec_formats.specs.declared.TopicList.{TopicList}
 use Rattle.campaign_core.proofs.Accepted.{collecting-from}
 use Rattle.campaign_core.proofs.ListFacts.{both_true}
-use Rattle.rulebook.specs.Campaign.{History, docnos_with, has_topics, is_taken, is_topic, line_count, lines_with, phase, rules_of, runs, title}
+use Rattle.rulebook.specs.Campaign.{History, Run, docnos_with, has_topics, is_taken, is_topic, is_withdrawn, line_count, lines_with, phase, rules_of, runs, title}
 use Rattle.rulebook.specs.Grades.{is_labelled, is_labelled_by}
 use Rattle.rulebook.specs.JudgingOrder.{named}
 use Rattle.rulebook.specs.Leases.{Lease, is_ended, lease_numbered, leases, live_leases_of}
+use Rattle.rulebook.specs.Roles.{is_group}
+use Rattle.rulebook.specs.Scores.{is_submitter, run_named}
 use Rattle.campaign_core.proofs.LabelSteps.{bytes-swap}
 use Rattle.campaign_core.proofs.Quiet.{given-ok, unless-ok}
 
@@ -215,3 +217,25 @@ amend-told H who topic doc grade answer is = on-doc H topic (is_labelled_by H to
 
 pub rule-told : (H : History) (topic doc : Text) (grade : ℕ) (answer : Reply) → rule_ruling H topic doc grade ≡ Ok answer → OnDoc H topic (is_labelled H topic doc) answer
 rule-told H topic doc grade answer is = on-doc H topic (is_labelled H topic doc) grade answer is
+
+-- Withdraw and Publish
+
+-- an accepted withdrawal is of a live run
+pub record WithdrawTold (H : History) (name : Text) (answer : Reply) : Type 0 where
+  pub run : Run
+  pub found : run_named H name ≡ Some run
+  pub live : is_withdrawn H name ≡ false
+  pub reply_is : answer ≡ reply.Done
+
+pub withdraw-told : (H : History) (who : Caller) (name : Text) (answer : Reply) → withdraw_ruling H who name ≡ Ok answer → WithdrawTold H name answer
+withdraw-told H who name answer is =
+    let done : Ruling = Ok reply.Done in
+    let follows : Run → Ruling = λ run. unless (run_refusals H who name) done in
+    let a = first-test (refusal.WrongPhase (phase H)) (is_phase Published (phase H)) [] (given (run_named H name) refusal.UnknownRun follows) answer is in
+    let b = given-ok (run_named H name) refusal.UnknownRun follows answer a.1 in
+    let c = first-test refusal.NotYours (is_group who.role && not (is_submitter H who.name name)) ((refusal.Withdrawn when is_withdrawn H name) ∷ []) done answer b.2 in
+    let d = first-test refusal.Withdrawn (is_withdrawn H name) [] done answer c.1 in
+    record { run = b.0; found = b.1; live = d.0; reply_is = same-reply answer reply.Done d.1 }
+
+pub publish-told : (H : History) (answer : Reply) → publish_ruling H ≡ Ok answer → answer ≡ reply.Done
+publish-told H answer is = same-reply answer reply.Done (unless-ok (wrong_phase_unless Judging H ∷ []) (Ok reply.Done) answer is)

@@ -1,8 +1,8 @@
 -- What a state keeps true when its prepared entry joins the history.
-use Rattle.std.proofs.Common.{◌≡◌, ◌≢◌, ◌||◌, ◌<◌, ◌≤◌, ◌+◌, ◌^◌, ℕ, suc, zero, Bool, true, false, List, ◌++◌, ◌∷◌, [], Option, None, Some, Ok, length, map, take, get_or, set, length-append, subst, arith, refl, sym, ap, ◌∙◌, lit≤, cond, not}
-use Rattle.std.specs.Prelude.{All, MatchOption, if◌then◌else◌, is_some}
-use Rattle.std.specs.List.{filter_map}
-use Rattle.std.specs.Option.{option_map}
+use Rattle.std.proofs.Common.{◌≡◌, ◌≢◌, inl, inr, ◌||◌, ◌<◌, ◌≤◌, ◌+◌, ℕ, suc, zero, Bool, true, false, List, ◌++◌, ◌∷◌, [], Option, None, Some, Ok, filter, length, map, get_or, set, length-append, subst, arith, refl, sym, ap, ◌∙◌, lit≤, cond, not}
+use Rattle.std.specs.Prelude.{All, MatchOption, slice_get}
+use Rattle.std.specs.List.{enumerate_from, filter_map}
+use Rattle.std.specs.Option.{option_and_then, option_map}
 use Rattle.std.proofs.Math.Seq.{take-length}
 use Rattle.std.proofs.lemmas.Cmp.{nat_list_eq_equiv}
 use Rattle.std.proofs.lemmas.List.{append-nil, length-map}
@@ -11,23 +11,22 @@ use Rattle.std.proofs.lemmas.Slice.Eq.{bytes_eq-Decides}
 use Rattle.std.specs.Str.{bytes_eq}
 use Rattle.decimal_rank.specs.declared.naming.DocId.{DocId}
 use Rattle.depth_pool.specs.declared.runs.RunId.{RunId}
-use Rattle.depth_pool.specs.Holdings.{Held, has_run, with_run}
+use Rattle.depth_pool.specs.Holdings.{Held, with_run}
 use Rattle.labels.specs.Marked.{Marked, effective_at, is_marked, with_label_at, with_ruling_at}
 use Rattle.lease_desk.specs.declared.leases.LeaseEnd.TheVariants.{Graded, Released}
 use Rattle.qrels_view.specs.Grades.{with_grade}
 use Rattle.trec_formats.specs.declared.Topic.{Topic}
-use Rattle.trec_formats.specs.declared.TopicList.{TopicList}
-use Rattle.rulebook.specs.declared.limits.TheConstants.{MAX_ENTRIES, MAX_RUNS, MAX_TOPICS}
+use Rattle.rulebook.specs.declared.limits.TheConstants.{MAX_LINES, MAX_RUNS}
 use Rattle.rulebook.specs.declared.ask.Command.TheVariants as command
 use Rattle.rulebook.specs.declared.entry.Entry.{Entry}
 use Rattle.rulebook.specs.declared.reply.Reply.{Reply}
 use Rattle.rulebook.specs.declared.reply.Reply.TheVariants as reply
 use Rattle.rulebook.specs.declared.rules.Rules.{Rules}
 use Rattle.rulebook.specs.declared.rules.Phase.{Phase}
-use Rattle.rulebook.specs.declared.rules.Phase.TheVariants.{Collecting, Judging}
+use Rattle.rulebook.specs.declared.rules.Phase.TheVariants.{Collecting, Judging, Published}
 use Rattle.rulebook.specs.Words.{Text, contains_text, each_once}
 use Rattle.rulebook.specs.Answers.{moment_after}
-use Rattle.rulebook.specs.Campaign.{History, Run, docnos, docs_on, has_topics, line_count, need, needed, opens, phase, publishes, rules_of, run_in, runs, submitted_docnos, topics, topics_in}
+use Rattle.rulebook.specs.Campaign.{History, Run, docnos, docs_on, has_topics, is_withdrawn, line_count, need, needed, numbered, opens, phase, publishes, rules_of, run_in, runs, submitted_docnos, submitted_lines, topics, topics_in, withdraws}
 use Rattle.rulebook.specs.Entries.{AreKept, AreWithLabel, AreWithRuling, GivesLabel, GivesRuling, IsQuiet, LabelsJoin, QuietEntriesKeepGrades, RulingsJoin}
 use Rattle.rulebook.specs.Grades.{Label, given_labels, is_labelled, label_in, label_of, ruling_in}
 use Rattle.rulebook.specs.Refusals.{Ruling}
@@ -38,34 +37,36 @@ use Rattle.campaign_core.specs.Kept.{IsAssessmentOf, IsFew, IsKept, IsReady, IsU
 use Rattle.campaign_core.specs.Labelling.{IsLabelled, graded_in}
 use Rattle.campaign_core.specs.Leasing.{IsLeased, is_known, topic_in}
 use Rattle.campaign_core.specs.Numbers.{doc_in, docs_in, names_of}
-use Rattle.campaign_core.specs.Changes.{CarriesOut, phase_after, places_after}
-use Rattle.campaign_core.specs.Scoring.{list_in}
-use Rattle.campaign_core.specs.Submissions.{AreSubmissions}
-use Rattle.campaign_core.specs.Topics.{KeptTopic, LabelledTopic, kept, kept_of, labelled_of, pool_of, topic_ids, unlabelled}
+use Rattle.campaign_core.specs.Changes.{CarriesOut, phase_after}
+use Rattle.campaign_core.specs.NumberedRequests.{numbers_of}
+use Rattle.campaign_core.specs.Scoring.{list_in, run_at, unless_withdrawn}
+use Rattle.campaign_core.specs.Submissions.{AreSubmissions, RunsAreKnown}
+use Rattle.campaign_core.specs.Topics.{KeptTopic, LabelledTopic, kept, kept_of, labelled_of, topic_ids, unlabelled}
 use Rattle.campaign_core.specs.declared.state.State.TheInside.{Inside}
 use Rattle.assessment.specs.Changes.{Facts, after, facts}
 use Rattle.assessment.specs.RunLists.{RankedLists, each_with_list, with_lists}
-use Rattle.assessment.specs.TopicFacts.{TopicFacts, with_label, with_ruling}
+use Rattle.assessment.specs.TopicFacts.{TopicFacts, with_label, with_ruling, without_list}
 use Rattle.assessment.specs.TopicsFacts.{at_place}
 use Rattle.assessment.specs.declared.change.Change.{Change}
 use Rattle.assessment.specs.declared.change.Change.TheVariants as change
 use Rattle.lease_desk.specs.Leases.{granted, with_end}
 use Rattle.lease_desk.specs.declared.leases.Lease.{Lease as DeskLease}
 use Rattle.rulebook.specs.declared.ask.Command.{Command}
-use Rattle.campaign_core.proofs.Accepting.{amend-told, grade-told, lease-told, listed-id, numbered-all, numbered-within, open-reply, release-told, rule-told, some-same, submit-collecting, submit-reply, topics-few, topics-plain, topics-reply}
-use Rattle.campaign_core.proofs.HistoryGrowth.{submitted_docnos-push}
+use Rattle.campaign_core.proofs.Accepting.{amend-told, grade-told, lease-told, listed-id, numbered-all, numbered-within, open-reply, publish-told, release-told, rule-told, some-same, submit-collecting, submit-reply, topics-few, topics-plain, topics-reply, withdraw-told}
+use Rattle.campaign_core.proofs.HistoryGrowth.{submitted_docnos-push, submitted_lines-push}
 use Rattle.campaign_core.proofs.LabelSteps.{GivenFollow, GivenStay, RulingsFollow, RulingsStay, few-here, few-more, few-ruled, labelled-elsewhere, labelled-here, marked-there, ruled-elsewhere, ruled-here}
-use Rattle.campaign_core.proofs.LeaseSteps.{desk-long, leased-ended, leased-granted}
+use Rattle.campaign_core.proofs.LeaseSteps.{leased-ended, leased-granted}
 use Rattle.campaign_core.proofs.Legality.{IsLegal-push, moment_after-push}
 use Rattle.campaign_core.proofs.ListFacts.{both_true, each_cons, get-map, map-at_place, map-at_same}
 use Rattle.campaign_core.proofs.Fitting.{as-many, some-topic, topic-at, within-topics}
-use Rattle.campaign_core.proofs.Listing.{none-listed, run-lists}
+use Rattle.campaign_core.proofs.Listing.{lists-without, none-listed, run-lists}
+use Rattle.campaign_core.proofs.LiveRuns.{known-fewer, known-more, known-stays, none-withdrawn, not-withdrawn, number-place, numbered-fewer, numbered-more, numbered-stays, run-at-stays, withdrawn-push}
 use Rattle.campaign_core.proofs.Planning.{state-ids}
-use Rattle.campaign_core.proofs.Submitted.{places-grow, places-stay}
-use Rattle.campaign_core.proofs.Naming.{docno-back, number-within}
-use Rattle.campaign_core.proofs.PoolSteps.{not-in, numbers-below, runs-added, topics-made, topics-stay}
+use Rattle.campaign_core.proofs.Naming.{docno-back}
+use Rattle.campaign_core.proofs.PoolSteps.{runs-added, runs-gone, topics-made, topics-stay}
+use Rattle.campaign_core.proofs.ScoresTold.{taken-named}
 use Rattle.campaign_core.proofs.Quiet.{labelled-none, labelled-stays, leased-none, leased-stays, no-lease, none-ended, unjudged-stays}
-use Rattle.campaign_core.proofs.Steps.{first-topics, had-none, no-run, one-run, phase-opens, phase-stays, rules-stay, same-topics}
+use Rattle.campaign_core.proofs.Steps.{first-topics, had-none, no-run, one-run, phase-opens, phase-publishes, phase-stays, rules-stay, same-topics}
 use Rattle.campaign_core.proofs.Told.{open-told, plain-of, ruled_ok, some_lists, submit-told, topics-told, topics_known}
 
 -- the topics that a state keeps
@@ -79,6 +80,10 @@ ready-of (Some p) value Holds e seen holds = let shown : value p ≡ e = cc seen
 
 pub is-ready : (s : Inside) (e : Entry) → option_map (λ p. p.value) s.prepared ≡ Some e → IsKept s → IsReady s e
 is-ready s e seen kept_s = ready-of s.prepared (λ p. p.value) (IsReady s) e seen kept_s.ready
+
+-- the lines of all runs stay within the limit
+pub lines-fit : (s : Inside) (e : Entry) → IsKept s → IsReady s e → s.lines + line_count (lists_in e.core.command) ≤ MAX_LINES
+lines-fit s e kept_s ready = omega (arith, kept_s.lines_are, submitted_lines-push s.history.items e, ready.joins.lines_fit)
 
 -- The laws that the crates below tell.
 pub record Laws : Type 0 where
@@ -96,20 +101,31 @@ pub record IsCarriedOut (s : Inside) (e : Entry) (c : Change) : Type 0 where
   pub phase_is : phase_after e.core.command s.phase ≡ phase (s.history.items ++ e ∷ [])
   pub runs_fit : length (runs (s.history.items ++ e ∷ [])) ≤ MAX_RUNS
   pub topics_first : has_topics (s.history.items ++ e ∷ []) ≡ false → runs (s.history.items ++ e ∷ []) ≡ []
+  pub runs_known : RunsAreKnown (s.history.items ++ e ∷ [])
   pub assessed : IsAssessmentOf (s.history.items ++ e ∷ []) (after c (facts s.assessment))
   pub unjudged : phase (s.history.items ++ e ∷ []) ≡ Collecting → IsUnjudged (s.history.items ++ e ∷ []) (map labelled_of (after c (facts s.assessment)).topics.topics)
 
--- a command that gives no topics, no run and no docnos
+-- a command that gives no topics, no run and no docnos, and withdraws no run
 record IsPlain (c : Command) : Type 0 where
   pub no_topics : topics_in c ≡ None
   pub no_run : run_in c ≡ None
   pub no_docnos : docnos (lists_in c) ≡ []
+  pub no_withdrawal : (name : Text) → withdraws name c ≡ false
 
-plain-by : (c d : Command) → c ≡ d → topics_in d ≡ None → run_in d ≡ None → docnos (lists_in d) ≡ [] → IsPlain c
-plain-by c d is no_topics no_run no_docnos = record { no_topics = ap topics_in is ∙ no_topics; no_run = ap run_in is ∙ no_run; no_docnos = ap (λ c. docnos (lists_in c)) is ∙ no_docnos }
+plain-by : (c d : Command) → c ≡ d → topics_in d ≡ None → run_in d ≡ None → docnos (lists_in d) ≡ [] → ((name : Text) → withdraws name d ≡ false) → IsPlain c
+plain-by c d is no_topics no_run no_docnos no_withdrawal = record {
+  no_topics = ap topics_in is ∙ no_topics;
+  no_run = ap run_in is ∙ no_run;
+  no_docnos = ap (λ c. docnos (lists_in c)) is ∙ no_docnos;
+  no_withdrawal = λ name. ap (withdraws name) is ∙ no_withdrawal name;
+}
 
 one-longer : (H : History) (e : Entry) → length H + 1 ≡ length (H ++ e ∷ [])
 one-longer H e = omega (arith, length-append H (e ∷ []))
+
+without-labelled : (run : RunId) (ts : List TopicFacts) → map labelled_of (map (without_list run) ts) ≡ map labelled_of ts
+without-labelled run [] = refl
+without-labelled run (t ∷ ts) = ap (λ ls. labelled_of t ∷ ls) (without-labelled run ts)
 
 each-labelled : (run : RunId) (lists : List (List DocId)) (ts : List TopicFacts) → map labelled_of (each_with_list run lists ts) ≡ map labelled_of ts
 each-labelled run [] ts = refl
@@ -133,8 +149,11 @@ labels-none H e none =
 same-answer : (answer r : Reply) → (let told : Ruling = Ok r in let wanted : Ruling = Ok answer in told ≡ wanted) → answer ≡ r
 same-answer answer r e = let back : r ≡ answer = cc e in sym back
 
-not-collecting : {X : Type 0} (p : Phase) → p ≡ Judging → p ≡ Collecting → X
+not-collecting : (p : Phase) → p ≡ Judging → p ≢ Collecting
 not-collecting p judging collecting = let both : ◌≡◌ {A = Phase} Judging Collecting = sym judging ∙ collecting in cc both
+
+not-published : (p : Phase) → p ≡ Published → p ≢ Collecting
+not-published p published collecting = let both : ◌≡◌ {A = Phase} Published Collecting = sym published ∙ collecting in cc both
 
 -- The topics by their places.
 
@@ -205,11 +224,17 @@ module _ (laws : Laws) where
       let later = unjudged-stays s.history.items (s.history.items ++ e ∷ []) (map labelled_of (topics_of s)) keeps labels_are leases_are none in
       labelled-none (s.history.items ++ e ∷ []) (get_or after k d) later.no_label later.no_ruling later.no_trail (no_mark k d within) (no_grade k d within)
 
-  -- the pools where the entry gives no topics and no run
-  pools-stay : (s : Inside) (e : Entry) → IsKept s → topics_in e.core.command ≡ None → run_in e.core.command ≡ None → map kept (topics_of s) ≡ map (kept_of (s.history.items ++ e ∷ [])) (topic_ids (s.history.items ++ e ∷ []))
-  pools-stay s e kept_s no_topics no_runs =
+  same-withdrawn : (s : Inside) (e : Entry) → IsPlain e.core.command → (name : Text) → is_withdrawn (s.history.items ++ e ∷ []) name ≡ is_withdrawn s.history.items name
+  same-withdrawn s e plain = none-withdrawn s.history.items e plain.no_withdrawal
+
+  -- the pools where the entry is plain
+  pools-stay : (s : Inside) (e : Entry) → IsKept s → IsPlain e.core.command → map kept (topics_of s) ≡ map (kept_of (s.history.items ++ e ∷ [])) (topic_ids (s.history.items ++ e ∷ []))
+  pools-stay s e kept_s plain =
       let H = s.history.items in
-      kept_s.assessed.knows.topics_are ∙ topics-stay H (H ++ e ∷ []) (topic_ids H) (rules-stay H e kept_s.legal) (no-run H e no_runs) ∙ ap (map (kept_of (H ++ e ∷ []))) (sym (ids-stay H e no_topics))
+      let J : History = H ++ e ∷ [] in
+      kept_s.assessed.knows.topics_are
+      ∙ topics-stay H J (topic_ids H) (rules-stay H e kept_s.legal) (names-stay H e plain.no_docnos) (numbered-stays H J (no-run H e plain.no_run) (same-withdrawn s e plain))
+      ∙ ap (map (kept_of J)) (sym (ids-stay H e plain.no_topics))
 
   -- the labels of all topics after one of them has changed
   topic-after : (s : Inside) (e : Entry) (id : Text) (number : ℕ) (new : TopicFacts → LabelledTopic) → IsKept s → number ≡ topic_in (topic_ids s.history.items) id → contains_text (topic_ids s.history.items) id ≡ true
@@ -313,14 +338,14 @@ module _ (laws : Laws) where
   same-level s e kept_s = kept_s.assessed.level_is ∙ ap (λ (r : Rules). r.level) (sym (rules-stay s.history.items e kept_s.legal))
 
   same-lists : (s : Inside) (e : Entry) → IsKept s → IsPlain e.core.command → (run : RunId) (on : ℕ)
-      → (facts s.assessment).topics.lists run on ≡ list_in (names_of (s.history.items ++ e ∷ [])) (topic_ids (s.history.items ++ e ∷ [])) (runs (s.history.items ++ e ∷ [])) run on
+      → (facts s.assessment).topics.lists run on ≡ list_in (names_of (s.history.items ++ e ∷ [])) (topic_ids (s.history.items ++ e ∷ [])) (run_at (s.history.items ++ e ∷ []) run) on
   same-lists s e kept_s plain run on =
       let H = s.history.items in
       let J : History = H ++ e ∷ [] in
       kept_s.assessed.lists_are run on
-      ∙ ap (λ (names : List Text). list_in names (topic_ids H) (runs H) run on) (sym (names-stay H e plain.no_docnos))
-      ∙ ap (λ (ids : List Text). list_in (names_of J) ids (runs H) run on) (sym (ids-stay H e plain.no_topics))
-      ∙ ap (λ (rs : List Run). list_in (names_of J) (topic_ids J) rs run on) (sym (no-run H e plain.no_run))
+      ∙ ap (λ (names : List Text). list_in names (topic_ids H) (run_at H run) on) (sym (names-stay H e plain.no_docnos))
+      ∙ ap (λ (ids : List Text). list_in (names_of J) ids (run_at H run) on) (sym (ids-stay H e plain.no_topics))
+      ∙ ap (λ (o : Option Run). list_in (names_of J) (topic_ids J) o on) (sym (run-at-stays H J (no-run H e plain.no_run) (same-withdrawn s e plain) run))
 
   -- where the entry changes leases alone
   quiet-assessed : (s : Inside) (e : Entry) (later : List DeskLease) → IsKept s → IsPlain e.core.command → IsQuiet e → IsLeased (s.history.items ++ e ∷ []) (names_of (s.history.items ++ e ∷ [])) later
@@ -331,7 +356,7 @@ module _ (laws : Laws) where
       let ids_are = ids-stay H e plain.no_topics in
       record {
         knows = record {
-          topics_are = pools-stay s e kept_s plain.no_topics plain.no_run;
+          topics_are = pools-stay s e kept_s plain;
           labels_are = same-labels s e (map labelled_of (topics_of s)) kept_s (keeps-all s e kept_s quiet) (names-stay H e plain.no_docnos) refl;
           leased = leased;
           topics_differ = ap differ ids_are ∙ kept_s.assessed.knows.topics_differ;
@@ -356,7 +381,7 @@ module _ (laws : Laws) where
       let now_is : (d : TopicFacts) → now ≡ set (map labelled_of (topics_of s)) number (labelled_of (step (get_or (topics_of s) number d))) = λ d. map-at_place labelled_of step (topics_of s) number d in
       record {
         knows = record {
-          topics_are = map-at_same kept step (topics_of s) number same ∙ pools-stay s e kept_s plain.no_topics plain.no_run;
+          topics_are = map-at_same kept step (topics_of s) number same ∙ pools-stay s e kept_s plain;
           labels_are = labels.0 now now_is;
           leased = leased;
           topics_differ = ap differ ids_are ∙ kept_s.assessed.knows.topics_differ;
@@ -367,17 +392,29 @@ module _ (laws : Laws) where
         lists_are = same-lists s e kept_s plain;
       }
 
-  plain-carried : (s : Inside) (e : Entry) (c : Change) → IsKept s → IsPlain e.core.command → phase_after e.core.command s.phase ≡ phase (s.history.items ++ e ∷ []) → phase (s.history.items ++ e ∷ []) ≡ Judging
+  plain-carried : (s : Inside) (e : Entry) (c : Change) → IsKept s → IsPlain e.core.command → phase_after e.core.command s.phase ≡ phase (s.history.items ++ e ∷ []) → phase (s.history.items ++ e ∷ []) ≢ Collecting
       → IsAssessmentOf (s.history.items ++ e ∷ []) (after c (facts s.assessment)) → IsCarriedOut s e c
-  plain-carried s e c kept_s plain phase_is judging assessed =
+  plain-carried s e c kept_s plain phase_is opened assessed =
       let H = s.history.items in
       record {
         phase_is = phase_is;
         runs_fit = rw (no-run H e plain.no_run) kept_s.runs_fit;
         topics_first = λ none. no-run H e plain.no_run ∙ kept_s.topics_first (had-none H e none);
+        runs_known = known-stays H (H ++ e ∷ []) kept_s.runs_known (no-run H e plain.no_run) (same-withdrawn s e plain);
         assessed = assessed;
-        unjudged = not-collecting (phase (H ++ e ∷ [])) judging;
+        unjudged = λ collecting. absurd (opened collecting);
       }
+
+  -- where the entry changes nothing but the phase
+  still-assessed : (s : Inside) (e : Entry) (c : Command) → IsKept s → IsPlain e.core.command → e.core.command ≡ c → e.reply ≡ reply.Done → label_in e.core.caller.name c e.reply ≡ None
+      → ((topic doc : Text) → ruling_in topic doc c ≡ None) → ((number : ℕ) → ends number c ≡ false) → IsAssessmentOf (s.history.items ++ e ∷ []) (facts s.assessment)
+  still-assessed s e c kept_s plain is reply_is no_label no_ruling no_end =
+      let H = s.history.items in
+      let J : History = H ++ e ∷ [] in
+      let quiet : IsQuiet e = record { no_label = ap (λ c. label_in e.core.caller.name c e.reply) is ∙ no_label; no_ruling = λ topic doc. ap (ruling_in topic doc) is ∙ no_ruling topic doc } in
+      let no_lease : leases J ≡ leases H = no-lease H e (ap (lease_in e.core.caller.name) reply_is) in
+      quiet-assessed s e s.assessment.leases kept_s plain quiet
+      (leased-stays H J s.assessment.leases no_lease (none-ended H e (λ n. ap (ends n) is ∙ no_end n)) (ids-stay H e plain.no_topics) (names-stay H e plain.no_docnos) kept_s.assessed.knows.leased)
 
   pub carried-out : (s : Inside) (e : Entry) (c : Change) → IsKept s → IsReady s e → CarriesOut s.history.items s.docnos (topics_of s) s.assessment.leases e c → IsCarriedOut s e c
   carried-out s e (change.Topics made) kept_s ready (given, is, made_is, labelled_is, is_new) =
@@ -397,13 +434,16 @@ module _ (laws : Laws) where
       let none = kept_s.unjudged told.0 in
       let labels_are = labels-none H e quiet.no_label in
       let new : List LabelledTopic = map (λ (topic : Topic). unlabelled topic.id) given in
+      let withdrawn_are = none-withdrawn H e (λ name. ap (withdraws name) is) in
+      let none_numbered : numbered J ≡ [] = ap (λ (rs : List Run). filter (λ (p : ℕ × Run). not (is_withdrawn J p.1.name)) (enumerate_from 0 rs)) none_run in
       record {
         phase_is = ap (λ c. phase_after c s.phase) is ∙ kept_s.phase_is ∙ sym (phase-stays H e (ap publishes is) (ap opens is));
         runs_fit = rw none_run (lit≤ tt);
         topics_first = λ _. none_run;
+        runs_known = known-stays H J kept_s.runs_known (no-run H e (ap run_in is)) withdrawn_are;
         assessed = record {
           knows = record {
-            topics_are = made_is ∙ topics-made J given (rules_of H) (sym rules_are) none_run ∙ ap (λ (ts : List Topic). map (kept_of J) (map (λ (t : Topic). t.id) ts)) (sym given_is);
+            topics_are = made_is ∙ topics-made J given (rules_of H) (sym rules_are) none_numbered ∙ ap (λ (ts : List Topic). map (kept_of J) (map (λ (t : Topic). t.id) ts)) (sym given_is);
             labels_are = subst (All (IsLabelled J (names_of J))) (sym labelled_is) (fresh-labels s e new keeps labels_are no_lease none (new-marks given) (new-grades given));
             leased = leased-none H J s.assessment.leases none.no_lease no_lease (none-ended H e (λ n. ap (ends n) is)) kept_s.assessed.knows.leased;
             topics_differ = ap differ ids_are ∙ topics-plain given plain;
@@ -412,7 +452,7 @@ module _ (laws : Laws) where
           few = subst (All (IsFew (length J))) (sym labelled_is) (new-few (length J) given);
           level_is = is_new.level_is ∙ ap (λ (r : Rules). r.level) (sym rules_are);
           lists_are = λ run on.
-              ap (λ (lists : RankedLists). lists run on) is_new.empty ∙ sym (ap (λ (rs : List Run). list_in (names_of J) (topic_ids J) rs run on) none_run ∙ none-listed (names_of J) (topic_ids J) run on);
+              ap (λ (lists : RankedLists). lists run on) is_new.empty ∙ sym (ap (λ (rs : List Run). list_in (names_of J) (topic_ids J) (option_and_then (unless_withdrawn J) (slice_get rs run.0)) on) none_run ∙ none-listed (names_of J) (topic_ids J) on);
         };
         unjudged = λ collecting. subst (IsUnjudged J) (sym labelled_is) (fresh-after s e new keeps labels_are no_lease none (new-marks given));
       }
@@ -425,6 +465,8 @@ module _ (laws : Laws) where
       let plain = rw is at (plain-of e.core.caller e.core.number e.core.command e.core.moment ready.joins.accepted.addressed) in
       let new : Run = record { name = name; lists = lists } in
       let run_is : runs J ≡ runs H ++ new ∷ [] = one-run H e new (ap run_in is) in
+      let withdrawn_are = none-withdrawn H e (λ other. ap (withdraws other) is) in
+      let live : is_withdrawn H name ≡ false = not-withdrawn H name kept_s.runs_known told.0 in
       let rules_are = rules-stay H e kept_s.legal in
       let grown : BeginsWith (names_of H) (names_of J) = rw (← ready.joins.docnos_are) kept_s.docnos_are in
       let same : topics J ≡ topics H = same-topics H e (ap topics_in is) in
@@ -439,12 +481,13 @@ module _ (laws : Laws) where
       let listed : entered.items ≡ map (λ (t : TopicFacts). docs_in (names_of J) (docs_on lists t.id)) ts = entered_is ∙ ap (λ (names : List Text). map (λ (t : TopicFacts). docs_in names (docs_on lists t.id)) ts) ready.joins.docnos_are in
       record {
         phase_is = ap (λ c. phase_after c s.phase) is ∙ kept_s.phase_is ∙ sym (phase-stays H e (ap publishes is) (ap opens is));
-        runs_fit = rw run_is (omega (arith, length-append (runs H) (new ∷ []), told.1));
-        topics_first = λ none. absurd (topics_known H lists (had-none H e none) (some_lists name lists plain) told.0);
+        runs_fit = rw run_is (omega (arith, length-append (runs H) (new ∷ []), told.2));
+        topics_first = λ none. absurd (topics_known H lists (had-none H e none) (some_lists name lists plain) told.1);
+        runs_known = known-more H J kept_s.runs_known new run_is withdrawn_are told.0;
         assessed = record {
           knows = record {
             topics_are = ap (λ (ls : List (List DocId)). map kept (each_with_list run ls ts)) entered_is
-                ∙ runs-added H J name lists run s.docnos ts (topic_ids H) laws.goes_last rules_are grown run_is ready.joins.docnos_are number kept_s.assessed.knows.topics_are
+                ∙ runs-added H J name lists run s.docnos ts (topic_ids H) laws.goes_last rules_are grown (numbered-more H J new run_is withdrawn_are live) ready.joins.docnos_are number kept_s.assessed.knows.topics_are
                 ∙ ap (λ (ts : List Topic). map (kept_of J) (map (λ (t : Topic). t.id) ts)) (sym same);
             labels_are = subst (All (IsLabelled J (names_of J))) (sym labelled_is) (fresh-labels s e (map labelled_of ts) keeps labels_are no_lease none none.no_mark (no-grade s kept_s none));
             leased = leased-none H J s.assessment.leases none.no_lease no_lease (none-ended H e (λ n. ap (ends n) is)) kept_s.assessed.knows.leased;
@@ -455,30 +498,72 @@ module _ (laws : Laws) where
           level_is = same-level s e kept_s;
           lists_are = λ other on.
               ap (λ (ls : List (List DocId)). with_lists run ls (facts s.assessment).topics.lists other on) listed
-              ∙ run-lists H J new run ts (facts s.assessment).topics.lists number run_is grown (state-ids H ts (topic_ids H) kept_s.assessed.knows.topics_are) ids_are kept_s.assessed.lists_are other on;
+              ∙ run-lists H J new run ts (facts s.assessment).topics.lists number run_is withdrawn_are live grown (state-ids H ts (topic_ids H) kept_s.assessed.knows.topics_are) ids_are kept_s.assessed.lists_are other on;
         };
         unjudged = λ collecting. subst (IsUnjudged J) (sym labelled_is) (fresh-after s e (map labelled_of ts) keeps labels_are no_lease none none.no_mark);
       }
-  carried-out s e (change.Withdraw run) kept_s ready out = absurd out
-  carried-out s e change.Nothing kept_s ready is =
+  carried-out s e (change.Withdraw run) kept_s ready (name, is, number) =
+      let H = s.history.items in
+      let J : History = H ++ e ∷ [] in
+      let ts = topics_of s in
+      let told = withdraw-told H e.core.caller name e.reply (rw is at (ruled_ok H e ready.joins.accepted)) in
+      let runs_are = no-run H e (ap run_in is) in
+      let names_are = names-stay H e (ap (λ c. docnos (lists_in c)) is) in
+      let ids_are = ids-stay H e (ap topics_in is) in
+      let rules_are = rules-stay H e kept_s.legal in
+      let phases = phase-stays H e (ap publishes is) (ap opens is) in
+      let withdrawn_are : (other : Text) → is_withdrawn J other ≡ (is_withdrawn H other || bytes_eq name other) = λ other. withdrawn-push H e other ∙ ap (λ c. is_withdrawn H other || withdraws other c) is in
+      let place = number-place H name run.0 number in
+      let quiet : IsQuiet e = record { no_label = ap (λ c. label_in e.core.caller.name c e.reply) is; no_ruling = λ topic doc. ap (ruling_in topic doc) is } in
+      let keeps = keeps-all s e kept_s quiet in
+      let no_lease : leases J ≡ leases H = no-lease H e (ap (lease_in e.core.caller.name) told.reply_is) in
+      let leased = leased-stays H J s.assessment.leases no_lease (none-ended H e (λ n. ap (ends n) is)) ids_are names_are kept_s.assessed.knows.leased in
+      let labelled_is = without-labelled run ts in
+      record {
+        phase_is = ap (λ c. phase_after c s.phase) is ∙ kept_s.phase_is ∙ sym phases;
+        runs_fit = rw runs_are kept_s.runs_fit;
+        topics_first = λ none. runs_are ∙ kept_s.topics_first (had-none H e none);
+        runs_known = known-fewer H J kept_s.runs_known name runs_are withdrawn_are (taken-named H name told.run told.found);
+        assessed = record {
+          knows = record {
+            topics_are = runs-gone H J run ts (topic_ids H) rules_are names_are (numbered-fewer H J name run.0 runs_are withdrawn_are kept_s.runs_known.names_differ place) kept_s.assessed.knows.topics_are
+                ∙ ap (map (kept_of J)) (sym ids_are);
+            labels_are = same-labels s e (map labelled_of (map (without_list run) ts)) kept_s keeps names_are labelled_is;
+            leased = leased;
+            topics_differ = ap differ ids_are ∙ kept_s.assessed.knows.topics_differ;
+            topics_fit = rw ids_are kept_s.assessed.knows.topics_fit;
+          };
+          few = subst (All (IsFew (length J))) (sym labelled_is) (subst (λ n. All (IsFew n) (map labelled_of ts)) (one-longer H e) (all-few (length H) (map labelled_of ts) kept_s.assessed.few));
+          level_is = same-level s e kept_s;
+          lists_are = lists-without H J name run (facts s.assessment).topics.lists runs_are withdrawn_are kept_s.runs_known.names_differ place names_are ids_are kept_s.assessed.lists_are;
+        };
+        unjudged = λ collecting.
+            let none = kept_s.unjudged (sym phases ∙ collecting) in
+            subst (IsUnjudged J) (sym labelled_is) (fresh-after s e (map labelled_of ts) keeps (labels-none H e quiet.no_label) no_lease none none.no_mark);
+      }
+  carried-out s e change.Nothing kept_s ready (inl is) =
       let H = s.history.items in
       let J : History = H ++ e ∷ [] in
       let ruled = rw is at (ruled_ok H e ready.joins.accepted) in
-      let was = open-told H e.reply ruled in
-      let plain : IsPlain e.core.command = plain-by e.core.command command.Open is refl refl refl in
-      let quiet : IsQuiet e = record { no_label = ap (λ c. label_in e.core.caller.name c e.reply) is; no_ruling = λ topic doc. ap (ruling_in topic doc) is } in
-      let reply_is : e.reply ≡ reply.Done = open-reply H e.reply ruled in
-      let no_lease : leases J ≡ leases H = no-lease H e (ap (lease_in e.core.caller.name) reply_is) in
-      let opened = phase-opens H e was (ap publishes is) (ap opens is) in
-      let leased = leased-stays H J s.assessment.leases no_lease (none-ended H e (λ n. ap (ends n) is)) (ids-stay H e plain.no_topics) (names-stay H e plain.no_docnos) kept_s.assessed.knows.leased in
-      plain-carried s e change.Nothing kept_s plain (ap (λ c. phase_after c s.phase) is ∙ sym opened) opened (quiet-assessed s e s.assessment.leases kept_s plain quiet leased)
+      let plain : IsPlain e.core.command = plain-by e.core.command command.Open is refl refl refl (λ name. refl) in
+      let opened = phase-opens H e (open-told H e.reply ruled) (ap publishes is) (ap opens is) in
+      plain-carried s e change.Nothing kept_s plain (ap (λ c. phase_after c s.phase) is ∙ sym opened) (not-collecting (phase J) opened)
+      (still-assessed s e command.Open kept_s plain is (open-reply H e.reply ruled) refl (λ topic doc. refl) (λ n. refl))
+  carried-out s e change.Nothing kept_s ready (inr is) =
+      let H = s.history.items in
+      let J : History = H ++ e ∷ [] in
+      let ruled = rw is at (ruled_ok H e ready.joins.accepted) in
+      let plain : IsPlain e.core.command = plain-by e.core.command command.Publish is refl refl refl (λ name. refl) in
+      let published = phase-publishes H e (ap publishes is) in
+      plain-carried s e change.Nothing kept_s plain (ap (λ c. phase_after c s.phase) is ∙ sym published) (not-published (phase J) published)
+      (still-assessed s e command.Publish kept_s plain is (publish-told H e.reply ruled) refl (λ topic doc. refl) (λ n. refl))
   carried-out s e (change.Lease grant) kept_s ready w =
       let H = s.history.items in
       let J : History = H ++ e ∷ [] in
       let wanted : Text = w.command_is.0 in
       let is : e.core.command ≡ command.Lease wanted = w.command_is.1 in
       let told = lease-told H e.core.caller (moment_after H e.core.moment) wanted e.reply (rw is at (ruled_ok H e ready.joins.accepted)) in
-      let plain : IsPlain e.core.command = plain-by e.core.command (command.Lease wanted) is refl refl refl in
+      let plain : IsPlain e.core.command = plain-by e.core.command (command.Lease wanted) is refl refl refl (λ name. refl) in
       let quiet : IsQuiet e = record { no_label = ap (λ c. label_in e.core.caller.name c e.reply) is; no_ruling = λ topic doc. ap (ruling_in topic doc) is } in
       let names_are = names-stay H e plain.no_docnos in
       let ids_are = ids-stay H e plain.no_topics in
@@ -489,7 +574,7 @@ module _ (laws : Laws) where
       let listed : contains_text (topic_ids H) w.lease.topic ≡ true = ap (λ (l : Lease). contains_text (topic_ids H) l.topic) lease_is ∙ sym (listed-id (topics H) wanted) ∙ told.listed in
       let leased = leased-granted H e w.lease s.assessment.leases grant.topic grant.doc grant.until grant.assessor w.told (ap (λ (l : Lease). l.number) lease_is) (λ n. ap (ends n) is) ids_are names_are
       w.topic_is (w.doc_is ∙ ap (λ names. doc_in names w.lease.doc) docnos_are) w.until_is w.assessor_is (ap (λ names. contains_text names w.lease.doc) (sym docnos_are) ∙ w.doc_named) listed kept_s.assessed.knows.leased in
-      plain-carried s e (change.Lease grant) kept_s plain (ap (λ c. phase_after c s.phase) is ∙ kept_s.phase_is ∙ sym phases) (phases ∙ told.judging)
+      plain-carried s e (change.Lease grant) kept_s plain (ap (λ c. phase_after c s.phase) is ∙ kept_s.phase_is ∙ sym phases) (not-collecting (phase J) (phases ∙ told.judging))
       (quiet-assessed s e (granted s.assessment.leases grant.assessor grant.topic grant.doc grant.until) kept_s plain quiet leased)
   carried-out s e (change.Grade number label) kept_s ready w =
       let H = s.history.items in
@@ -499,7 +584,7 @@ module _ (laws : Laws) where
       let l : Lease = told.0.lease in
       let lease_is : w.lease ≡ l = some-same w.lease l (sym w.found ∙ told.0.found) in
       let no_lease : leases J ≡ leases H = no-lease H e (ap (lease_in e.core.caller.name) told.1) in
-      let plain : IsPlain e.core.command = plain-by e.core.command (command.Grade number label.grade) is refl refl refl in
+      let plain : IsPlain e.core.command = plain-by e.core.command (command.Grade number label.grade) is refl refl refl (λ name. refl) in
       let names_are = names-stay H e plain.no_docnos in
       let ids_are = ids-stay H e plain.no_topics in
       let phases = phase-stays H e (ap publishes is) (ap opens is) in
@@ -515,14 +600,14 @@ module _ (laws : Laws) where
       let doc_is : label.doc ≡ doc_in (names_of H) l.doc = w.doc_is ∙ ap (λ (l : Lease). doc_in s.docnos l.doc) lease_is ∙ ap (λ names. doc_in names l.doc) docnos_are in
       let labels = label-after s e given label.topic label.doc label.assessor kept_s joined needs names_are topic_is doc_is w.assessor_is both.0 both.1 in
       let leased = leased-ended H e number Graded (λ n. ap (ends n) is) ids_are names_are s.assessment.leases no_lease (numbered-within H number l told.0.found) kept_s.assessed.knows.leased in
-      plain-carried s e (change.Grade number label) kept_s plain (ap (λ c. phase_after c s.phase) is ∙ kept_s.phase_is ∙ sym phases) (phases ∙ told.0.judging)
+      plain-carried s e (change.Grade number label) kept_s plain (ap (λ c. phase_after c s.phase) is ∙ kept_s.phase_is ∙ sym phases) (not-collecting (phase J) (phases ∙ told.0.judging))
       (marked-assessed s e label.topic (with_label label.doc label.assessor label.grade) (with_end s.assessment.leases number Graded) kept_s plain (λ t. refl) labels leased)
   carried-out s e (change.Amend label) kept_s ready (topic, doc, is, assessor_is, w) =
       let H = s.history.items in
       let J : History = H ++ e ∷ [] in
       let told = amend-told H e.core.caller topic doc label.grade e.reply (rw is at (ruled_ok H e ready.joins.accepted)) in
       let no_lease : leases J ≡ leases H = no-lease H e (ap (lease_in e.core.caller.name) told.reply_is) in
-      let plain : IsPlain e.core.command = plain-by e.core.command (command.Amend topic doc label.grade) is refl refl refl in
+      let plain : IsPlain e.core.command = plain-by e.core.command (command.Amend topic doc label.grade) is refl refl refl (λ name. refl) in
       let names_are = names-stay H e plain.no_docnos in
       let ids_are = ids-stay H e plain.no_topics in
       let phases = phase-stays H e (ap publishes is) (ap opens is) in
@@ -533,14 +618,14 @@ module _ (laws : Laws) where
       let labels = label-after s e given label.topic label.doc label.assessor kept_s (laws.labels_join H e given rules_are gives) (λ id. ap (λ (r : Rules). needed r id) rules_are) names_are
       w.number_is (w.at_is ∙ ap (λ names. doc_in names doc) docnos_are) assessor_is (ap (λ names. contains_text names doc) (sym docnos_are) ∙ w.doc_named) w.listed in
       let leased = leased-stays H J s.assessment.leases no_lease (none-ended H e (λ n. ap (ends n) is)) ids_are names_are kept_s.assessed.knows.leased in
-      plain-carried s e (change.Amend label) kept_s plain (ap (λ c. phase_after c s.phase) is ∙ kept_s.phase_is ∙ sym phases) (phases ∙ told.judging)
+      plain-carried s e (change.Amend label) kept_s plain (ap (λ c. phase_after c s.phase) is ∙ kept_s.phase_is ∙ sym phases) (not-collecting (phase J) (phases ∙ told.judging))
       (marked-assessed s e label.topic (with_label label.doc label.assessor label.grade) s.assessment.leases kept_s plain (λ t. refl) labels leased)
   carried-out s e (change.Rule ruling) kept_s ready (topic, doc, is, w) =
       let H = s.history.items in
       let J : History = H ++ e ∷ [] in
       let told = rule-told H topic doc ruling.grade e.reply (rw is at (ruled_ok H e ready.joins.accepted)) in
       let no_lease : leases J ≡ leases H = no-lease H e (ap (lease_in e.core.caller.name) told.reply_is) in
-      let plain : IsPlain e.core.command = plain-by e.core.command (command.Rule topic doc ruling.grade) is refl refl refl in
+      let plain : IsPlain e.core.command = plain-by e.core.command (command.Rule topic doc ruling.grade) is refl refl refl (λ name. refl) in
       let names_are = names-stay H e plain.no_docnos in
       let ids_are = ids-stay H e plain.no_topics in
       let phases = phase-stays H e (ap publishes is) (ap opens is) in
@@ -550,38 +635,33 @@ module _ (laws : Laws) where
       let labels = ruling-after s e topic doc ruling.topic ruling.doc ruling.grade kept_s (laws.rulings_join H e topic doc ruling.grade rules_are gives told.has_label) (λ id. ap (λ (r : Rules). needed r id) rules_are) names_are
       w.number_is (w.at_is ∙ ap (λ names. doc_in names doc) docnos_are) (ap (λ names. contains_text names doc) (sym docnos_are) ∙ w.doc_named) w.listed told.has_label in
       let leased = leased-stays H J s.assessment.leases no_lease (none-ended H e (λ n. ap (ends n) is)) ids_are names_are kept_s.assessed.knows.leased in
-      plain-carried s e (change.Rule ruling) kept_s plain (ap (λ c. phase_after c s.phase) is ∙ kept_s.phase_is ∙ sym phases) (phases ∙ told.judging)
+      plain-carried s e (change.Rule ruling) kept_s plain (ap (λ c. phase_after c s.phase) is ∙ kept_s.phase_is ∙ sym phases) (not-collecting (phase J) (phases ∙ told.judging))
       (marked-assessed s e ruling.topic (with_ruling ruling.doc ruling.grade) s.assessment.leases kept_s plain (λ t. refl) labels leased)
   carried-out s e (change.Release number) kept_s ready (is, unended) =
       let H = s.history.items in
       let J : History = H ++ e ∷ [] in
       let told = release-told H e.core.caller (moment_after H e.core.moment) number e.reply (rw is at (ruled_ok H e ready.joins.accepted)) in
-      let plain : IsPlain e.core.command = plain-by e.core.command (command.Release number) is refl refl refl in
+      let plain : IsPlain e.core.command = plain-by e.core.command (command.Release number) is refl refl refl (λ name. refl) in
       let quiet : IsQuiet e = record { no_label = ap (λ c. label_in e.core.caller.name c e.reply) is; no_ruling = λ topic doc. ap (ruling_in topic doc) is } in
       let no_lease : leases J ≡ leases H = no-lease H e (ap (lease_in e.core.caller.name) told.1) in
       let phases = phase-stays H e (ap publishes is) (ap opens is) in
       let leased = leased-ended H e number Released (λ n. ap (ends n) is) (ids-stay H e plain.no_topics) (names-stay H e plain.no_docnos) s.assessment.leases no_lease (numbered-within H number told.0.lease told.0.found) kept_s.assessed.knows.leased in
-      plain-carried s e (change.Release number) kept_s plain (ap (λ c. phase_after c s.phase) is ∙ kept_s.phase_is ∙ sym phases) (phases ∙ told.0.judging)
+      plain-carried s e (change.Release number) kept_s plain (ap (λ c. phase_after c s.phase) is ∙ kept_s.phase_is ∙ sym phases) (not-collecting (phase J) (phases ∙ told.0.judging))
       (quiet-assessed s e (with_end s.assessment.leases number Released) kept_s plain quiet leased)
-
--- the places of the entries that submit runs, after one more entry
-pub places-follow : (H : History) (e : Entry) (places : List ℕ) → AreSubmissions H places → AreSubmissions (H ++ e ∷ []) (places_after e.core.command (length H) places)
-places-follow H e places are = step (run_in e.core.command) refl
-  where
-    step : (o : Option Run) → run_in e.core.command ≡ o → AreSubmissions (H ++ e ∷ []) (if is_some (run_in e.core.command) then places ++ length H ∷ [] else places)
-    step None is = rw is (places-stay H e places is are)
-    step (Some run) is = rw is (places-grow H e places run is are)
 
 pub kept-after : (s later : Inside) (e : Entry) (c : Change) → IsKept s → IsReady s e → IsCarriedOut s e c
     → later.history.items ≡ s.history.items ++ e ∷ []
     → later.phase ≡ phase_after e.core.command s.phase
     → later.docnos ≡ s.docnos
     → later.docnos_kept ≡ length s.docnos
+    → later.numbers ≡ s.numbers
+    → later.numbers_kept ≡ length s.numbers
+    → later.lines ≡ s.lines + line_count (lists_in e.core.command)
     → facts later.assessment ≡ after c (facts s.assessment)
-    → AreSubmissions (s.history.items ++ e ∷ []) later.places.items
+    → AreSubmissions (s.history.items ++ e ∷ []) later.submissions.items
     → later.prepared ≡ None
     → IsKept later
-kept-after s later e c kept_s ready done grown phase_is docnos_is docnos_kept_is facts_are places_are forgotten =
+kept-after s later e c kept_s ready done grown phase_is docnos_is docnos_kept_is numbers_is numbers_kept_is lines_is facts_are submissions_are forgotten =
     let J : History = s.history.items ++ e ∷ [] in
     record {
       legal = rw grown (IsLegal-push s.history.items e kept_s.legal ready.joins.accepted);
@@ -594,7 +674,11 @@ kept-after s later e c kept_s ready done grown phase_is docnos_is docnos_kept_is
       docnos_fit = rw docnos_kept_is ready.joins.docnos_fit;
       docnos_are = rw (grown, docnos_is, ready.joins.docnos_are) (take-length (each_once (submitted_docnos J)));
       docnos_kept_are = rw (docnos_kept_is, ready.joins.docnos_are, grown) refl;
-      places_are = subst (λ (J : History). AreSubmissions J later.places.items) (sym grown) places_are;
+      numbers_are = rw (grown, numbers_is, ready.joins.numbers_are) (take-length (numbers_of J));
+      numbers_kept_are = rw (numbers_kept_is, ready.joins.numbers_are, grown) refl;
+      submissions_are = subst (λ (J : History). AreSubmissions J later.submissions.items) (sym grown) submissions_are;
+      runs_known = rw grown done.runs_known;
+      lines_are = lines_is ∙ ap (λ n. n + line_count (lists_in e.core.command)) kept_s.lines_are ∙ sym (submitted_lines-push s.history.items e) ∙ ap submitted_lines (sym grown);
       assessed = subst (λ (J : History). IsAssessmentOf J (facts later.assessment)) (sym grown) (subst (IsAssessmentOf J) (sym facts_are) done.assessed);
       unjudged = subst (λ (J : History). phase J ≡ Collecting → IsUnjudged J (map labelled_of (topics_of later))) (sym grown)
           (λ collecting. subst (λ (known : Facts). IsUnjudged J (map labelled_of known.topics.topics)) (sym facts_are) (done.unjudged collecting));

@@ -1,22 +1,21 @@
 -- What a change rests on that carries out an accepted entry.
-use Rattle.std.proofs.Common.{◌≡◌, ◌<◌, ◌≤◌, ◌+◌, ◌-◌, ◌^◌, ℕ, suc, zero, true, false, List, ◌∷◌, ◌++◌, [], Option, None, Some, Ok, length, map, get_or, subst, arith, refl, sym, ap, ◌∙◌, lit≤}
+use Rattle.std.proofs.Common.{◌≡◌, ◌<◌, ◌≤◌, ◌+◌, ◌^◌, ℕ, suc, zero, true, false, List, ◌∷◌, [], Option, None, Some, Ok, length, map, get_or, subst, arith, refl, sym, ap, ◌∙◌, lit≤}
 use Rattle.std.specs.Prelude.{All, slice_get}
-use Rattle.std.specs.Option.{IsSomeAnd, option_map_or}
+use Rattle.std.specs.Option.{IsSomeAnd, option_and_then}
 use Rattle.std.proofs.lemmas.List.{length-map}
 use Rattle.decimal_rank.specs.declared.naming.DocId.{DocId}
 use Rattle.depth_pool.specs.declared.runs.RunId.{RunId}
-use Rattle.depth_pool.specs.Holdings.{Held, has_run}
+use Rattle.depth_pool.specs.Holdings.{has_run}
 use Rattle.labels.specs.Marked.{is_marked}
 use Rattle.assessment.specs.Changes.{Facts, Fits}
 use Rattle.assessment.specs.TopicFacts.{MayLabel, MayRule, TopicFacts}
 use Rattle.assessment.specs.declared.change.Change.{Change}
 use Rattle.assessment.specs.declared.change.Change.TheVariants as change
-use Rattle.rulebook.specs.declared.ask.Command.TheVariants as command
 use Rattle.rulebook.specs.declared.entry.Entry.{Entry}
 use Rattle.rulebook.specs.declared.limits.TheConstants.{MAX_ENTRIES}
 use Rattle.rulebook.specs.Answers.{ruled}
-use Rattle.rulebook.specs.Words.{Text, contains_text, each_once}
-use Rattle.rulebook.specs.Campaign.{History, Run, docnos_with, runs, submitted_docnos}
+use Rattle.rulebook.specs.Words.{Text, contains_text}
+use Rattle.rulebook.specs.Campaign.{History, Run, docnos_with, is_withdrawn, runs}
 use Rattle.rulebook.specs.Grades.{is_labelled}
 use Rattle.rulebook.specs.Leases.{Lease, lease_in, leases}
 use Rattle.campaign_core.specs.Changes.{CarriesOut}
@@ -25,15 +24,18 @@ use Rattle.campaign_core.specs.Kept.{IsAssessmentOf, IsFew}
 use Rattle.campaign_core.specs.Labelling.{IsLabelled}
 use Rattle.campaign_core.specs.Leasing.{is_known, topic_in}
 use Rattle.campaign_core.specs.Numbers.{doc_in, names_of}
-use Rattle.campaign_core.specs.Scoring.{ranked_on}
-use Rattle.campaign_core.specs.Topics.{KeptTopic, LabelledTopic, kept, kept_of, labelled_of, pool_of, topic_ids}
-use Rattle.campaign_core.proofs.Accepting.{numbered-all, rule-told}
+use Rattle.campaign_core.specs.Scoring.{list_in, run_at, unless_withdrawn}
+use Rattle.campaign_core.specs.Topics.{KeptTopic, kept, kept_of, labelled_of, pool_of, topic_ids}
+use Rattle.campaign_core.proofs.Accepting.{numbered-all, rule-told, withdraw-told}
 use Rattle.campaign_core.proofs.LabelSteps.{marked-there}
 use Rattle.campaign_core.proofs.LeaseSteps.{desk-long}
 use Rattle.campaign_core.proofs.ListFacts.{at-some, both_true, each_cons, get-map, slice-past}
 use Rattle.campaign_core.proofs.Naming.{docno-back, number-within}
 use Rattle.campaign_core.proofs.Planning.{same-names}
-use Rattle.campaign_core.proofs.PoolSteps.{not-in, numbers-below}
+use Rattle.campaign_core.proofs.Listing.{none-listed}
+use Rattle.campaign_core.proofs.PoolSteps.{not-in, numbers-below, pool-has}
+use Rattle.campaign_core.proofs.ScoresTold.{run-found}
+use Rattle.campaign_core.proofs.Submitted.{no_run}
 
 pub topic-at : (H : History) (ts : List TopicFacts) (ids : List Text) (k : ℕ) (d : TopicFacts) → map kept ts ≡ map (kept_of H) ids → k < length ts → kept (get_or ts k d) ≡ kept_of H (get_or ids k [])
 topic-at H [] ids k d same within = absurd (omega (arith, within))
@@ -56,8 +58,19 @@ runs-below H (t ∷ ts) (id ∷ ids) run same number =
     let tail : map kept ts ≡ map (kept_of H) ids = cc same in
     let runs_are : t.pool ≡ pool_of H id = ap (λ (k : KeptTopic). k.runs) head in
     each_cons (λ (t : TopicFacts). has_run run t.pool ≡ false) t ts
-    (ap (has_run run) runs_are ∙ not-in run (pool_of H id) (numbers-below H id (runs H) 0 run.0 (omega (arith, number))))
+    (ap (has_run run) runs_are ∙ not-in run (pool_of H id) (numbers-below H id run number))
     (runs-below H ts ids run tail number)
+
+-- a live run is on each topic
+runs-entered : (H : History) (ts : List TopicFacts) (ids : List Text) (run : RunId) (r : Run) → map kept ts ≡ map (kept_of H) ids → slice_get (runs H) run.0 ≡ Some r → is_withdrawn H r.name ≡ false
+    → All (λ t. has_run run t.pool ≡ true) ts
+runs-entered H [] ids run r same there live = λ k d within. absurd (omega (arith, within))
+runs-entered H (t ∷ ts) [] run r same there live = cc same
+runs-entered H (t ∷ ts) (id ∷ ids) run r same there live =
+    let head : kept t ≡ kept_of H id = cc same in
+    let tail : map kept ts ≡ map (kept_of H) ids = cc same in
+    let runs_are : t.pool ≡ pool_of H id = ap (λ (k : KeptTopic). k.runs) head in
+    each_cons (λ (t : TopicFacts). has_run run t.pool ≡ true) t ts (ap (has_run run) runs_are ∙ pool-has H id run r there live) (runs-entered H ts ids run r tail there live)
 
 leases-few : (H : History) → length (leases H) ≤ length H
 leases-few [] = omega arith
@@ -85,13 +98,8 @@ module _ (H : History) (known : Facts) (is : IsAssessmentOf H known) where
   -- the next run has no list yet
   no-list : (run : RunId) → run.0 ≡ length (runs H) → (on : ℕ) → known.topics.lists run on ≡ None
   no-list run number on =
-      is.lists_are run on
-      ∙ ap (λ (o : Option Run). option_map_or (λ id. option_map_or (ranked_on (names_of H) id) o None) (slice_get (topic_ids H) on) None) (slice-past (runs H) run.0 (omega (arith, number)))
-      ∙ none (slice_get (topic_ids H) on)
-    where
-      none : (o : Option Text) → (let no : Option (List DocId) = None in option_map_or (λ (id : Text). no) o no ≡ no)
-      none None = refl
-      none (Some id) = refl
+      let none : run_at H run ≡ None = ap (option_and_then (unless_withdrawn H)) (slice-past (runs H) run.0 (omega (arith, number))) in
+      is.lists_are run on ∙ ap (λ (o : Option Run). list_in (names_of H) (topic_ids H) o on) none ∙ none-listed (names_of H) (topic_ids H) on
 
   module _ (entries_fit : length H < MAX_ENTRIES) where
     may-label : (number : ℕ) (id : Text) (at : DocId) → number ≡ topic_in (topic_ids H) id → contains_text (topic_ids H) id ≡ true → IsSomeAnd (slice_get ts number) (MayLabel at)
@@ -121,7 +129,10 @@ module _ (H : History) (known : Facts) (is : IsAssessmentOf H known) where
       record { on_topics = runs-below H ts (topic_ids H) run is.knows.topics_are number; on_board = no-list run number },
       ap length lists_are ∙ length-map ts _,
     )
-    fits names e (change.Withdraw run) accepted names_are out = absurd out
+    fits names e (change.Withdraw run) accepted names_are (name, command_is, number) =
+        let told = withdraw-told H e.core.caller name e.reply (rw command_is at accepted) in
+        let found = run-found H name run.0 number in
+        runs-entered H ts (topic_ids H) run (get_or (runs H) run.0 no_run) is.knows.topics_are found.there (ap (is_withdrawn H) found.name_is ∙ told.live)
     fits names e (change.Lease grant) accepted names_are w = omega (arith, few-entries, entries_fit, leases-few H, desk-long H known.leases is.knows.leased)
     fits names e (change.Grade number label) accepted names_are w =
         let all = numbered-all (is_known H (names_of H)) H number w.lease is.knows.leased.are_known w.found in

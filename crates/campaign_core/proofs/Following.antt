@@ -1,6 +1,6 @@
 -- The order of a topic's runs by numbers is the order by texts.
-use Rattle.std.proofs.Common.{◌≡◌, ◌||◌, ◌&&◌, ◌<◌, ◌+◌, ◌==◌, ℕ, Bool, true, false, cond, List, [], ◌∷◌, ◌++◌, Option, Some, map, filter, find, reverse, refl, sym, ap, ◌∙◌, arith, eq-eqb, is_some, subst}
-use Rattle.std.specs.List.{enumerate_from, flat_map, list_all, list_any}
+use Rattle.std.proofs.Common.{◌≡◌, ◌||◌, ◌&&◌, ◌<◌, ◌==◌, ℕ, Bool, true, false, cond, List, [], ◌∷◌, ◌++◌, Option, Some, map, find, reverse, refl, sym, ap, ◌∙◌, arith, eq-eqb, is_some}
+use Rattle.std.specs.List.{list_all, list_any}
 use Rattle.std.specs.Option.{option_map}
 use Rattle.std.specs.Str.{bytes_eq}
 use Rattle.std.proofs.lemmas.Bool.Decides.{nat_tests}
@@ -12,7 +12,7 @@ use Rattle.depth_pool.specs.declared.runs.RunId.{RunId}
 use Rattle.mtf_queue.specs.Rule.{comes_before as comes_before_by, is_first_side, is_one_of, puts_first, tells_apart, first_of as first_there}
 use Rattle.mtf_queue.specs.declared.rule.Judged.{Judged}
 use Rattle.rulebook.specs.Words.{Text, contains_text}
-use Rattle.rulebook.specs.Campaign.{History, Run, docnos, held, holds, live, numbered, rules_of, submitted_docnos}
+use Rattle.rulebook.specs.Campaign.{History, Run, docnos, held, holds, numbered, rules_of}
 use Rattle.rulebook.specs.Grades.{trail}
 use Rattle.rulebook.specs.JudgingOrder.{comes_before, first_of, relevance}
 use Rattle.campaign_core.specs.Labelling.{graded_in}
@@ -21,39 +21,9 @@ use Rattle.campaign_core.specs.Topics.{held_of, pool_of}
 use Rattle.assessment.specs.TopicFacts.{judged_of}
 use Rattle.campaign_core.proofs.Desks.{same-number}
 use Rattle.campaign_core.proofs.LabelSteps.{bytes-swap}
-use Rattle.campaign_core.proofs.ListFacts.{all_back, all_front, all_head, all_tail, and_true}
-use Rattle.campaign_core.proofs.Naming.{each_named}
+use Rattle.campaign_core.proofs.ListFacts.{Each, all_head, all_tail, and_true, each-both, each-more}
+use Rattle.campaign_core.proofs.LiveRuns.{Ascends, numbered-ascends, numbered-named}
 use Rattle.campaign_core.proofs.PoolFacts.{held-named}
-
--- Each element of a list.
-abbrev pub Each : {X : Type 0} → (X → Type 0) → List X → Type 0
-Each P [] = Unit {0}
-Each P (x ∷ xs) = P x × Each P xs
-
-pub each-more : {X : Type 0} (P Q : X → Type 0) (xs : List X) → ((x : X) → P x → Q x) → Each P xs → Each Q xs
-each-more P Q [] more all = tt
-each-more P Q (x ∷ xs) more all = (more x all.0, each-more P Q xs more all.1)
-
-pub each-both : {X : Type 0} (P Q : X → Type 0) (xs : List X) → Each P xs → Each Q xs → Each (λ x. P x × Q x) xs
-each-both P Q [] one two = tt
-each-both P Q (x ∷ xs) one two = ((one.0, two.0), each-both P Q xs one.1 two.1)
-
-pub each-filter : {X : Type 0} (P : X → Type 0) (p : X → Bool) (xs : List X) → Each P xs → Each P (filter p xs)
-each-filter P p [] all = tt
-each-filter P p (x ∷ xs) all = step (p x) (each-filter P p xs all.1)
-  where
-    step : (t : Bool) → Each P (filter p xs) → Each P (cond t (x ∷ filter p xs) (filter p xs))
-    step true rest = (all.0, rest)
-    step false rest = rest
-
--- what is found is one of the list
-pub each-found : {X : Type 0} (P : X → Type 0) (p : X → Bool) (xs : List X) (x : X) → Each P xs → find p xs ≡ Some x → P x
-each-found P p [] x all found = cc found
-each-found P p (y ∷ ys) x all found = step (p y) found (each-found P p ys x all.1)
-  where
-    step : (t : Bool) → cond t (Some y) (find p ys) ≡ Some x → (find p ys ≡ Some x → P x) → P x
-    step true is rest = let same : y ≡ x = cc is in subst P same all.0
-    step false is rest = rest is
 
 abbrev pub number_of_run : ℕ × Run → RunId
 number_of_run p = record { 0 = p.0 }
@@ -72,10 +42,6 @@ pub record IsRunOf (H : History) (topic : Text) (pool : List Held) (p : ℕ × R
   pub docs_named : are_named (names_of H) (held H topic p.1) ≡ true
 
 module _ (H : History) (topic : Text) where
-  above : (n m : ℕ) (rs : List Run) → n < m → Each (λ p. n < p.0) (enumerate_from m rs)
-  above n m [] less = tt
-  above n m (r ∷ rs) less = (less, above n (m + 1) rs (omega (arith, less)))
-
   unequal : (a b : ℕ) → a < b → (a == b) ≡ false
   unequal a b less = grind (arith, nat_tests)
 
@@ -114,20 +80,17 @@ module _ (H : History) (topic : Text) where
       docs_named = is.1.docs_named;
     }
 
-  each-run : (n : ℕ) (rs : List Run) → are_named (names_of H) (flat_map (λ run. docnos run.lists) rs) ≡ true
-      → Each (IsRunOf H topic (map (held_of H topic) (enumerate_from n rs))) (enumerate_from n rs)
-  each-run n [] named = tt
-  each-run n (r ∷ rs) named =
-      let ps : List (ℕ × Run) = enumerate_from (n + 1) rs in
-      let later : Each (λ (p : ℕ × Run). n < p.0) ps = above n (n + 1) rs (omega arith) in
-      let rest = each-run (n + 1) rs (all_back (contains_text (names_of H)) (docnos r.lists) (flat_map (λ run. docnos run.lists) rs) named) in (
-        first-run n r ps later (held-named H (names_of H) topic r (all_front (contains_text (names_of H)) (docnos r.lists) (flat_map (λ run. docnos run.lists) rs) named)),
-        each-more (λ (p : ℕ × Run). (n < p.0) × IsRunOf H topic (map (held_of H topic) ps) p) (IsRunOf H topic (map (held_of H topic) ((n, r) ∷ ps))) ps (later-run n r ps)
-            (each-both (λ (p : ℕ × Run). n < p.0) (IsRunOf H topic (map (held_of H topic) ps)) ps later rest),
+  each-run : (ps : List (ℕ × Run)) → Ascends ps → Each (λ p. are_named (names_of H) (docnos p.1.lists) ≡ true) ps → Each (IsRunOf H topic (map (held_of H topic) ps)) ps
+  each-run [] up named = tt
+  each-run (p ∷ ps) up named =
+      let rest = each-run ps up.1 named.1 in (
+        first-run p.0 p.1 ps up.0 (held-named H (names_of H) topic p.1 named.0),
+        each-more (λ (q : ℕ × Run). (p.0 < q.0) × IsRunOf H topic (map (held_of H topic) ps) q) (IsRunOf H topic (map (held_of H topic) (p ∷ ps))) ps (later-run p.0 p.1 ps)
+            (each-both (λ (q : ℕ × Run). p.0 < q.0) (IsRunOf H topic (map (held_of H topic) ps)) ps up.0 rest),
       )
 
   pub runs-of-pool : Each (IsRunOf H topic (pool_of H topic)) (numbered H)
-  runs-of-pool = each-run 0 (live H) (each_named (submitted_docnos H))
+  runs-of-pool = each-run (numbered H) (numbered-ascends H) (numbered-named H)
 
 -- the numbers of a topic's runs
 pub run-numbers : (H : History) (topic : Text) (ps : List (ℕ × Run)) → map (λ (h : Held). h.run) (map (held_of H topic) ps) ≡ map number_of_run ps

@@ -2,7 +2,6 @@
 use Rattle.std.proofs.Common.{◌≡◌, ◌∙◌, List, Some, ap, map, subst, sym}
 use Rattle.depth_pool.specs.declared.runs.RunId.{RunId}
 use Rattle.lease_desk.specs.declared.leases.Lease.{Lease}
-use Rattle.qrels_view.specs.declared.grades.Graded.{Graded}
 use Rattle.score_index.specs.Scores.{Scores, docs_at}
 use Rattle.score_index.specs.Standing.{StandsFor}
 use Rattle.assessment.specs.TopicFacts.{TopicView, facts_of, graded_of as graded_in}

@@ -43,7 +43,7 @@ bytes-swap a b = decided (bytes_eq a b) (bytes_eq b a) (λ e. (bytes_eq-Decides 
 not-false : (t : Bool) → t ≡ false → not t ≡ true
 not-false t e = ap not e
 
-differ-push : (names : List Text) (name : Text) → differ names ≡ true → contains_text names name ≡ false → differ (names ++ name ∷ []) ≡ true
+pub differ-push : (names : List Text) (name : Text) → differ names ≡ true → contains_text names name ≡ false → differ (names ++ name ∷ []) ≡ true
 differ-push [] name differs absent = refl
 differ-push (x ∷ names) name differs absent =
     let parts = both_true (not (contains_text names x)) (differ names) differs in

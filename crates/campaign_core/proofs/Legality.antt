@@ -1,5 +1,5 @@
 -- What keeps a history legal.
-use Rattle.std.proofs.Common.{◌≡◌, ℕ, ◌-◌, ◌<◌, true, false, [], ◌∷◌, ◌++◌, Some, Ok, length, refl, ap, sym, subst, arith, append_assoc, max, length-append}
+use Rattle.std.proofs.Common.{◌≡◌, ℕ, ◌-◌, ◌<◌, true, false, [], ◌∷◌, ◌++◌, None, Some, Ok, length, refl, ap, sym, subst, arith, append_assoc, max, length-append}
 use Rattle.std.proofs.lemmas.List.{append-nil}
 use Rattle.std.proofs.lemmas.Bool.Decides.{nat_tests}
 use Rattle.std.specs.Prelude.{slice_get, ◌==◌}
@@ -10,6 +10,7 @@ use Rattle.rulebook.specs.declared.entry.Entry.{Entry}
 use Rattle.rulebook.specs.declared.entry.EntryCore.{EntryCore}
 use Rattle.rulebook.specs.Campaign.{History}
 use Rattle.rulebook.specs.Answers.{ruled, moment_after}
+use Rattle.rulebook.specs.Numbers.{used}
 use Rattle.rulebook.specs.Legal.{is_well_addressed, IsAccepted, AreAccepted, IsLegal}
 
 AreAccepted-push : (before later : History) (e : Entry) → AreAccepted before later → IsAccepted (before ++ later) e → AreAccepted before (later ++ e ∷ [])
@@ -25,15 +26,16 @@ IsLegal-push (first ∷ later) e legal accepted = (legal.0, AreAccepted-push (fi
 -- the entry of a core that the rules accept at its own moment
 pub accepted-by : (H : History) (e : Entry) (core : EntryCore) → e.core ≡ core
     → is_well_addressed core.caller core.number (Act core.command) core.moment ≡ true
+    → used H core.caller.name core.number ≡ None
     → moment_after H core.moment ≡ core.moment
     → length H < MAX_ENTRIES
     → ruled H core.caller core.moment core.command ≡ Ok e.reply
     → IsAccepted H e
-accepted-by H e core is addressed latest entries_fit accepted =
+accepted-by H e core is addressed unused latest entries_fit accepted =
     let room : (length H == MAX_ENTRIES) ≡ false = grind (arith, nat_tests) in
     record {
       addressed = rw is addressed;
-      added = rw (is, latest, room, accepted, ← is) refl;
+      added = rw (is, unused, latest, room, accepted, ← is) refl;
     }
 
 at-length : (H : History) (e : Entry) → slice_get (H ++ e ∷ []) (length H) ≡ Some e

@@ -3,6 +3,8 @@ pub mod Commits
 pub mod HistoryGrowth
 pub mod Legality
 pub mod ListFacts
+pub mod LiveRuns
+pub mod RequestFacts
 pub mod Naming
 pub mod Ordered
 pub mod PoolFacts
@@ -36,3 +38,5 @@ mod ScoresTold
 mod Listing
 mod Fitting
 mod KnownRuns
+mod NumberTables
+mod Withdrawals

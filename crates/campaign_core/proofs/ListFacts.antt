@@ -1,7 +1,7 @@
 -- Facts of lists.
-use Rattle.std.proofs.Common.{◌≡◌, ◌&&◌, ◌||◌, ◌<◌, ◌+◌, ℕ, cond, not, ltb, suc, zero, ◌≢◌, ◌≤◌, Bool, true, false, List, [], ◌∷◌, ◌++◌, None, Some, length, map, take, set, get_or, refl, sym, ap, ◌∙◌, arith}
+use Rattle.std.proofs.Common.{◌≡◌, ◌&&◌, ◌||◌, ◌<◌, ◌+◌, ℕ, cond, not, ltb, suc, zero, ◌≢◌, ◌≤◌, Bool, true, false, List, [], ◌∷◌, ◌++◌, None, Some, filter, length, map, take, set, get_or, refl, sym, subst, ap, ◌∙◌, arith}
 use Rattle.std.specs.Prelude.{All, AllPairs, find, slice_get}
-use Rattle.std.specs.List.{list_all, list_any, flat_map, position, position_or_len}
+use Rattle.std.specs.List.{enumerate_from, list_all, list_any, flat_map, position, position_or_len}
 use Rattle.std.specs.Option.{IsSomeAnd, option_map}
 use Rattle.std.proofs.lemmas.List.{length-map}
 use Rattle.assessment.specs.TopicsFacts.{at_place}
@@ -127,6 +127,11 @@ map-at_place f change [] i d = refl
 map-at_place f change (x ∷ xs) zero d = refl
 map-at_place f change (x ∷ xs) (suc i) d = ap (λ ys. f x ∷ ys) (map-at_place f change xs i d)
 
+pub set-at_place : {X : Type 0} (change : X → X) (xs : List X) (i : ℕ) (d : X) → set xs i (change (get_or xs i d)) ≡ at_place i change xs
+set-at_place change [] i d = refl
+set-at_place change (x ∷ xs) zero d = refl
+set-at_place change (x ∷ xs) (suc i) d = ap (λ ys. x ∷ ys) (set-at_place change xs i d)
+
 pub map-at_same : {X Y : Type 0} (f : X → Y) (change : X → X) (xs : List X) (i : ℕ) → ((x : X) → f (change x) ≡ f x) → map f (at_place i change xs) ≡ map f xs
 map-at_same f change [] i same = refl
 map-at_same f change (x ∷ xs) zero same = ap (λ y. y ∷ map f xs) (same x)
@@ -174,3 +179,85 @@ slice-other [] x zero other = absurd (other refl)
 slice-other [] x (suc i) other = refl
 slice-other (y ∷ xs) x zero other = refl
 slice-other (y ∷ xs) x (suc i) other = slice-other xs x i (λ same. other (omega (arith, same)))
+
+-- Each element of a list.
+abbrev pub Each : {X : Type 0} → (X → Type 0) → List X → Type 0
+Each P [] = Unit {0}
+Each P (x ∷ xs) = P x × Each P xs
+
+pub each-more : {X : Type 0} (P Q : X → Type 0) (xs : List X) → ((x : X) → P x → Q x) → Each P xs → Each Q xs
+each-more P Q [] more all = tt
+each-more P Q (x ∷ xs) more all = (more x all.0, each-more P Q xs more all.1)
+
+pub each-both : {X : Type 0} (P Q : X → Type 0) (xs : List X) → Each P xs → Each Q xs → Each (λ x. P x × Q x) xs
+each-both P Q [] one two = tt
+each-both P Q (x ∷ xs) one two = ((one.0, two.0), each-both P Q xs one.1 two.1)
+
+pub each-filter : {X : Type 0} (P : X → Type 0) (p : X → Bool) (xs : List X) → Each P xs → Each P (filter p xs)
+each-filter P p [] all = tt
+each-filter P p (x ∷ xs) all = step (p x) (each-filter P p xs all.1)
+  where
+    step : (t : Bool) → Each P (filter p xs) → Each P (cond t (x ∷ filter p xs) (filter p xs))
+    step true rest = (all.0, rest)
+    step false rest = rest
+
+-- what is found is one of the list
+pub each-found : {X : Type 0} (P : X → Type 0) (p : X → Bool) (xs : List X) (x : X) → Each P xs → find p xs ≡ Some x → P x
+each-found P p [] x all found = cc found
+each-found P p (y ∷ ys) x all found = step (p y) found (each-found P p ys x all.1)
+  where
+    step : (t : Bool) → cond t (Some y) (find p ys) ≡ Some x → (find p ys ≡ Some x → P x) → P x
+    step true is rest = let same : y ≡ x = cc is in subst P same all.0
+    step false is rest = rest is
+
+-- tests that agree on each element keep the same ones
+pub filter-each : {X : Type 0} (p q : X → Bool) (xs : List X) → Each (λ x. p x ≡ q x) xs → filter p xs ≡ filter q xs
+filter-each p q [] same = refl
+filter-each p q (x ∷ xs) same = ap (λ t. cond t (x ∷ filter p xs) (filter p xs)) same.0 ∙ ap (λ ys. cond (q x) (x ∷ ys) ys) (filter-each p q xs same.1)
+
+pub each-all : {X : Type 0} (P : X → Type 0) (xs : List X) → ((x : X) → P x) → Each P xs
+each-all P [] every = tt
+each-all P (x ∷ xs) every = (every x, each-all P xs every)
+
+-- what passes two tests, one after the other
+pub filter-twice : {X : Type 0} (f g : X → Bool) (xs : List X) → filter (λ x. not (f x || g x)) xs ≡ filter (λ x. not (g x)) (filter (λ x. not (f x)) xs)
+filter-twice f g [] = refl
+filter-twice f g (x ∷ xs) = step (f x) (g x) refl (filter-twice f g xs)
+  where
+    step : (s t : Bool) → g x ≡ t → filter (λ x. not (f x || g x)) xs ≡ filter (λ x. not (g x)) (filter (λ x. not (f x)) xs)
+        → cond (not (s || t)) (x ∷ filter (λ x. not (f x || g x)) xs) (filter (λ x. not (f x || g x)) xs) ≡ filter (λ x. not (g x)) (cond (not s) (x ∷ filter (λ x. not (f x)) xs) (filter (λ x. not (f x)) xs))
+    step true t is rest = rest
+    step false true is rest = rest ∙ ap (λ t. cond (not t) (x ∷ filter (λ x. not (g x)) (filter (λ x. not (f x)) xs)) (filter (λ x. not (g x)) (filter (λ x. not (f x)) xs))) (sym is)
+    step false false is rest =
+        ap (λ ys. x ∷ ys) rest ∙ ap (λ t. cond (not t) (x ∷ filter (λ x. not (g x)) (filter (λ x. not (f x)) xs)) (filter (λ x. not (g x)) (filter (λ x. not (f x)) xs))) (sym is)
+
+pub filter-map : {X Y : Type 0} (q : Y → Bool) (f : X → Y) (xs : List X) → map f (filter (λ x. q (f x)) xs) ≡ filter q (map f xs)
+filter-map q f [] = refl
+filter-map q f (x ∷ xs) = step (q (f x)) (filter-map q f xs)
+  where
+    step : (t : Bool) → map f (filter (λ x. q (f x)) xs) ≡ filter q (map f xs) → map f (cond t (x ∷ filter (λ x. q (f x)) xs) (filter (λ x. q (f x)) xs)) ≡ cond t (f x ∷ filter q (map f xs)) (filter q (map f xs))
+    step true rest = ap (λ ys. f x ∷ ys) rest
+    step false rest = rest
+
+-- the numbers of the elements of a list with one more
+pub enumerate-push : {X : Type 0} (n : ℕ) (xs : List X) (x : X) → enumerate_from n (xs ++ x ∷ []) ≡ enumerate_from n xs ++ (n + length xs, x) ∷ []
+enumerate-push n [] x = ap (λ k. (k, x) ∷ []) (let e : n ≡ n + 0 = omega arith in e)
+enumerate-push n (y ∷ ys) x = ap (λ rest. (n, y) ∷ rest) (enumerate-push (n + 1) ys x ∙ ap (λ k. enumerate_from (n + 1) ys ++ (k, x) ∷ []) (let e : n + 1 + length ys ≡ n + suc (length ys) = omega arith in e))
+
+pub map-each : {X Y : Type 0} (f g : X → Y) (xs : List X) → ((x : X) → f x ≡ g x) → map f xs ≡ map g xs
+map-each f g [] same = refl
+map-each f g (x ∷ xs) same = ap (λ y. y ∷ map f xs) (same x) ∙ ap (λ ys. g x ∷ ys) (map-each f g xs same)
+
+-- two tests that agree but for one place, where the first one passes
+pub map-set_one : {X : Type 0} (f g : X → Bool) (xs : List X) (n : ℕ) → ((i : ℕ) (x : X) → slice_get xs i ≡ Some x → i ≡ n → f x ≡ true) → ((i : ℕ) (x : X) → slice_get xs i ≡ Some x → i ≢ n → f x ≡ g x)
+    → map f xs ≡ set (map g xs) n true
+map-set_one f g [] n here others = refl
+map-set_one {X} f g (x ∷ xs) zero here others =
+    ap (λ b. b ∷ map f xs) (here 0 x refl refl) ∙ ap (λ bs. true ∷ bs) (alike xs (λ i y there. others (suc i) y there (λ e. absurd (omega (arith, e)))))
+  where
+    alike : (ys : List X) → ((i : ℕ) (y : X) → slice_get ys i ≡ Some y → f y ≡ g y) → map f ys ≡ map g ys
+    alike [] same = refl
+    alike (y ∷ ys) same = ap (λ b. b ∷ map f ys) (same 0 y refl) ∙ ap (λ bs. g y ∷ bs) (alike ys (λ i z there. same (suc i) z there))
+map-set_one f g (x ∷ xs) (suc n) here others =
+    ap (λ b. b ∷ map f xs) (others 0 x refl (λ e. absurd (omega (arith, e))))
+    ∙ ap (λ bs. g x ∷ bs) (map-set_one f g xs n (λ i y there same. here (suc i) y there (ap suc same)) (λ i y there differs. others (suc i) y there (λ e. differs (omega (arith, e)))))

@@ -26,8 +26,8 @@ use Rattle.campaign_core.specs.Numbers.{are_named, doc_in, docs_in, names_of}
 use Rattle.campaign_core.specs.Topics.{pool_of, topic_ids}
 use Rattle.assessment.specs.TopicFacts.{judged_of}
 use Rattle.campaign_core.proofs.Desks.{has-lease-same, live-on-same}
-use Rattle.campaign_core.proofs.Following.{Each, IsRunOf, each-filter, each-found, first-same, number_of_run, run-numbers, runs-of-pool}
-use Rattle.campaign_core.proofs.ListFacts.{all_head, all_tail}
+use Rattle.campaign_core.proofs.Following.{IsRunOf, first-same, number_of_run, run-numbers, runs-of-pool}
+use Rattle.campaign_core.proofs.ListFacts.{Each, all_head, all_tail, each-filter, each-found}
 
 -- Of documents the first one that passes a test.
 

@@ -7,7 +7,8 @@ use Rattle.rulebook.specs.Campaign.{History, Run, held, numbered}
 use Rattle.rulebook.specs.JudgingOrder.{first_of, holds_open, is_open_to, named}
 use Rattle.campaign_core.specs.Numbers.{names_of}
 use Rattle.campaign_core.specs.Topics.{pool_of}
-use Rattle.campaign_core.proofs.Following.{Each, IsRunOf, each-filter, each-found, runs-of-pool}
+use Rattle.campaign_core.proofs.Following.{IsRunOf, runs-of-pool}
+use Rattle.campaign_core.proofs.ListFacts.{Each, each-filter, each-found}
 use Rattle.campaign_core.proofs.Named.{found-named}
 
 pub doc-named : (H : History) (now : ℕ) (assessor topic doc : Text) → named H now assessor topic ≡ Some doc → contains_text (names_of H) doc ≡ true

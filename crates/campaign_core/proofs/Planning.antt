@@ -3,7 +3,7 @@ use Rattle.std.proofs.Common.{◌≡◌, ◌<◌, ◌+◌, ◌-◌, ◌∷◌, [
 use Rattle.std.specs.Prelude.{if◌then◌else◌, nat_lt, slice_get}
 use Rattle.std.specs.Option.{IsSomeAnd}
 use Rattle.std.proofs.lemmas.Bool.{lt-ltb}
-use Rattle.std.proofs.lemmas.List.{append-nil, length-map}
+use Rattle.std.proofs.lemmas.List.{append-nil}
 use Rattle.lease_desk.specs.Leases.{lease_numbered as desk_lease}
 use Rattle.lease_desk.specs.declared.leases.Lease.{Lease as DeskLease}
 use Rattle.lease_desk.specs.declared.leases.LeaseEnd.{LeaseEnd}
@@ -29,7 +29,6 @@ use Rattle.assessment.specs.TopicFacts.{TopicFacts}
 use Rattle.campaign_core.proofs.Accepting.{amend-told, grade-told, lease-told, listed-id, numbered-all, numbered-at, release-told, rule-told}
 use Rattle.campaign_core.proofs.LeaseFacts.{Standing, stands-at, within-states}
 use Rattle.campaign_core.proofs.ListFacts.{both_true, get_or_default}
-use Rattle.campaign_core.proofs.Naming.{number-within}
 
 -- a named document is among the names
 abbrev pub NamedKnown : Type 0

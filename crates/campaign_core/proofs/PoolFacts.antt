@@ -1,8 +1,8 @@
 -- The pool of a topic, by the numbers of its documents.
-use Rattle.std.proofs.Common.{◌≡◌, ◌||◌, ◌<◌, ◌+◌, ◌==◌, ℕ, Bool, true, false, cond, List, [], ◌∷◌, length, map, find, refl, sym, ap, ◌∙◌, arith, subst, Option, None, Some}
+use Rattle.std.proofs.Common.{◌≡◌, ◌||◌, ◌<◌, ◌==◌, ℕ, Bool, true, false, cond, List, [], ◌∷◌, length, map, find, refl, sym, ap, ◌∙◌, arith, subst, Option, None, Some}
 use Rattle.std.specs.Prelude.{All}
 use Rattle.std.specs.Cmp.Lexicographic.{slice_cmp}
-use Rattle.std.specs.List.{list_all, list_any, flat_map, enumerate_from}
+use Rattle.std.specs.List.{list_all, list_any, flat_map}
 use Rattle.std.specs.Option.{option_map_or}
 use Rattle.std.specs.Ordering.{nat_cmp, is_lt}
 use Rattle.std.specs.Str.{bytes_eq}
@@ -16,14 +16,15 @@ use Rattle.trec_formats.specs.declared.TopicList.{TopicList}
 use Rattle.rulebook.specs.declared.reply.Reply.TheVariants as reply
 use Rattle.rulebook.specs.declared.reply.Refusal.TheVariants as refusal
 use Rattle.rulebook.specs.Answers.{pool_ruling, reply_of}
-use Rattle.rulebook.specs.Campaign.{History, Run, docnos, docs_on, held, is_topic, live, pool, rules_of, submitted_docnos}
+use Rattle.rulebook.specs.Campaign.{History, Run, docnos, docs_on, held, is_topic, live, numbered, pool, rules_of}
 use Rattle.rulebook.specs.Words.{Text, contains_text}
 use Rattle.campaign_core.specs.Numbers.{are_named, doc_in, docs_in, names_of}
 use Rattle.campaign_core.specs.Topics.{KeptTopic, held_of, kept, kept_of, pool_of}
 use Rattle.assessment.specs.TopicFacts.{TopicFacts}
-use Rattle.campaign_core.proofs.Naming.{docno-back, docnos-back, each_named, numbers-within}
+use Rattle.campaign_core.proofs.LiveRuns.{numbered-named}
+use Rattle.campaign_core.proofs.Naming.{docno-back, docnos-back, numbers-within}
 use Rattle.campaign_core.proofs.Ordered.{Rises, below, in_order-all, in_order-any, in_order-rises}
-use Rattle.campaign_core.proofs.ListFacts.{all_back, all_front, all_head, all_tail, all_take, and_true, any_map, each_cons, pairs_cons}
+use Rattle.campaign_core.proofs.ListFacts.{Each, all_back, all_front, all_head, all_tail, all_take, and_true, any_map, each_cons, pairs_cons}
 
 -- What a run holds is named.
 
@@ -41,44 +42,43 @@ lists-named names lists named topic = docs_on-named names lists topic named
 pub held-named : (H : History) (names : List Text) (topic : Text) (run : Run) → are_named names (docnos run.lists) ≡ true → are_named names (held H topic run) ≡ true
 held-named H names topic run named = all_take (contains_text names) (rules_of H).depth (docs_on run.lists topic) (docs_on-named names run.lists topic named)
 
-all-held : (H : History) (names : List Text) (topic : Text) (rs : List Run) → are_named names (flat_map (λ run. docnos run.lists) rs) ≡ true → are_named names (flat_map (held H topic) rs) ≡ true
+all-held : (H : History) (names : List Text) (topic : Text) (ps : List (ℕ × Run)) → Each (λ p. are_named names (docnos p.1.lists) ≡ true) ps → are_named names (flat_map (held H topic) (map (λ p. p.1) ps)) ≡ true
 all-held H names topic [] named = refl
-all-held H names topic (run ∷ rs) named =
-    let first = held-named H names topic run (all_front (contains_text names) (docnos run.lists) (flat_map (λ run. docnos run.lists) rs) named) in
-    let rest = all-held H names topic rs (all_back (contains_text names) (docnos run.lists) (flat_map (λ run. docnos run.lists) rs) named) in
-    list_all-append (contains_text names) (held H topic run) (flat_map (held H topic) rs) ∙ and_true _ _ first rest
+all-held H names topic (p ∷ ps) named =
+    list_all-append (contains_text names) (held H topic p.1) (flat_map (held H topic) (map (λ (p : ℕ × Run). p.1) ps))
+    ∙ and_true _ _ (held-named H names topic p.1 named.0) (all-held H names topic ps named.1)
 
 all-named : (H : History) (topic : Text) → are_named (names_of H) (flat_map (held H topic) (live H)) ≡ true
-all-named H topic = all-held H (names_of H) topic (live H) (each_named (submitted_docnos H))
+all-named H topic = all-held H (names_of H) topic (numbered H) (numbered-named H)
 
 -- The numbers of a pool are those of names.
 
-numbered : (H : History) (topic : Text) (rs : List Run) (n : ℕ) → are_named (names_of H) (flat_map (λ run. docnos run.lists) rs) ≡ true
-    → All (λ h. All (λ doc. doc.0 < length (names_of H)) h.docs) (map (held_of H topic) (enumerate_from n rs))
-numbered H topic [] n named = λ k d within. absurd (omega (arith, within))
-numbered H topic (run ∷ rs) n named =
-    each_cons (λ (h : Held). All (λ doc. doc.0 < length (names_of H)) h.docs) (held_of H topic (n, run)) (map (held_of H topic) (enumerate_from (n + 1) rs))
-    (numbers-within (names_of H) (held H topic run) (held-named H (names_of H) topic run (all_front (contains_text (names_of H)) (docnos run.lists) (flat_map (λ run. docnos run.lists) rs) named)))
-    (numbered H topic rs (n + 1) (all_back (contains_text (names_of H)) (docnos run.lists) (flat_map (λ run. docnos run.lists) rs) named))
+numbers-there : (H : History) (topic : Text) (ps : List (ℕ × Run)) → Each (λ p. are_named (names_of H) (docnos p.1.lists) ≡ true) ps
+    → All (λ h. All (λ doc. doc.0 < length (names_of H)) h.docs) (map (held_of H topic) ps)
+numbers-there H topic [] named = λ k d within. absurd (omega (arith, within))
+numbers-there H topic (p ∷ ps) named =
+    each_cons (λ (h : Held). All (λ doc. doc.0 < length (names_of H)) h.docs) (held_of H topic p) (map (held_of H topic) ps)
+    (numbers-within (names_of H) (held H topic p.1) (held-named H (names_of H) topic p.1 named.0))
+    (numbers-there H topic ps named.1)
 
 pub pool-numbers : (H : History) (topic : Text) → All (λ h. All (λ doc. doc.0 < length (names_of H)) h.docs) (pool_of H topic)
-pool-numbers H topic = numbered H topic (live H) 0 (each_named (submitted_docnos H))
+pool-numbers H topic = numbers-there H topic (numbered H) (numbered-named H)
 
 -- The documents of a pool are those of the rules' pool.
 
 abbrev is_doc : List Text → DocId → Text → Bool
 is_doc names doc text = (doc_in names text).0 == doc.0
 
-held_by : (H : History) (topic : Text) (doc : DocId) (rs : List Run) (n : ℕ) → some_run_holds doc (map (held_of H topic) (enumerate_from n rs)) ≡ list_any (is_doc (names_of H) doc) (flat_map (held H topic) rs)
-held_by H topic doc [] n = refl
-held_by H topic doc (run ∷ rs) n =
-    ap (λ t. t || some_run_holds doc (map (held_of H topic) (enumerate_from (n + 1) rs))) (any_map (λ (other : DocId). other.0 == doc.0) (doc_in (names_of H)) (held H topic run))
-    ∙ ap (λ t. list_any (is_doc (names_of H) doc) (held H topic run) || t) (held_by H topic doc rs (n + 1))
-    ∙ sym (list_any-append (is_doc (names_of H) doc) (held H topic run) (flat_map (held H topic) rs))
+held_by : (H : History) (topic : Text) (doc : DocId) (ps : List (ℕ × Run)) → some_run_holds doc (map (held_of H topic) ps) ≡ list_any (is_doc (names_of H) doc) (flat_map (held H topic) (map (λ p. p.1) ps))
+held_by H topic doc [] = refl
+held_by H topic doc (p ∷ ps) =
+    ap (λ t. t || some_run_holds doc (map (held_of H topic) ps)) (any_map (λ (other : DocId). other.0 == doc.0) (doc_in (names_of H)) (held H topic p.1))
+    ∙ ap (λ t. list_any (is_doc (names_of H) doc) (held H topic p.1) || t) (held_by H topic doc ps)
+    ∙ sym (list_any-append (is_doc (names_of H) doc) (held H topic p.1) (flat_map (held H topic) (map (λ (p : ℕ × Run). p.1) ps)))
 
 pub same-docs : (H : History) (topic : Text) (doc : DocId) → some_run_holds doc (pool_of H topic) ≡ has_doc doc (docs_in (names_of H) (pool H topic))
 same-docs H topic doc =
-    held_by H topic doc (live H) 0
+    held_by H topic doc (numbered H)
     ∙ sym (in_order-any (is_doc (names_of H) doc) (flat_map (held H topic) (live H)))
     ∙ sym (any_map (λ (other : DocId). other.0 == doc.0) (doc_in (names_of H)) (pool H topic))
 

@@ -1,6 +1,6 @@
 -- What a state keeps true when an entry is prepared.
-use Rattle.std.proofs.Common.{◌≡◌, ◌∙◌, ◌∷◌, [], ℕ, Option, None, Some, arith, length, map, refl, subst, ap, sym, List}
-use Rattle.std.specs.Prelude.{All, MatchOption}
+use Rattle.std.proofs.Common.{◌≡◌, ◌∙◌, ◌∷◌, [], Option, None, Some, arith, map, refl, subst, ap, sym, true, List}
+use Rattle.std.specs.Prelude.{MatchOption}
 use Rattle.std.specs.Option.{option_map}
 use Rattle.assessment.specs.Changes.{Facts, facts}
 use Rattle.assessment.specs.TopicsFacts.{new_topics}
@@ -8,21 +8,25 @@ use Rattle.rulebook.specs.declared.entry.Entry.{Entry}
 use Rattle.rulebook.specs.declared.rules.Phase.TheVariants.{Collecting}
 use Rattle.rulebook.specs.Words.{each_once}
 use Rattle.rulebook.specs.declared.rules.Rules.{Rules}
-use Rattle.rulebook.specs.Campaign.{History, phase, submitted_docnos}
-use Rattle.rulebook.specs.Legal.{founding}
+use Rattle.rulebook.specs.Campaign.{History, phase, submitted_docnos, submitted_lines}
+use Rattle.rulebook.specs.Legal.{IsLegal, founding}
+use Rattle.rulebook.specs.Spelling.{are_rules}
 use Rattle.campaign_core.specs.Growth.{BeginsWith}
 use Rattle.campaign_core.specs.Kept.{IsAssessmentOf, IsKept, IsReady, IsUnjudged}
-use Rattle.campaign_core.specs.Submissions.{AreSubmissions}
+use Rattle.campaign_core.specs.NumberedRequests.{numbers_of}
+use Rattle.campaign_core.specs.Submissions.{AreSubmissions, RunsAreKnown}
+use Rattle.campaign_core.specs.declared.submissions.Submission.{Submission}
 use Rattle.campaign_core.specs.Topics.{labelled_of}
 use Rattle.campaign_core.specs.declared.state.State.TheInside.{Inside}
 
 -- the history and all that is known of it stay; the entry that is ready may be another
 pub still-kept : (s later : Inside) → IsKept s → later.history.items ≡ s.history.items → later.phase ≡ s.phase
     → BeginsWith (each_once (submitted_docnos s.history.items)) later.docnos → later.docnos_kept ≡ s.docnos_kept
-    → facts later.assessment ≡ facts s.assessment → later.places.items ≡ s.places.items
+    → BeginsWith (numbers_of s.history.items) later.numbers → later.numbers_kept ≡ s.numbers_kept
+    → facts later.assessment ≡ facts s.assessment → later.submissions.items ≡ s.submissions.items → later.lines ≡ s.lines
     → MatchOption later.prepared (Unit {0}) (λ p. IsReady later p.value)
     → IsKept later
-still-kept s later kept_s same phase_is docnos_are docnos_kept_is facts_are places_are ready =
+still-kept s later kept_s same phase_is docnos_are docnos_kept_is numbers_are numbers_kept_is facts_are submissions_are lines_is ready =
     let H = s.history.items in
     record {
       legal = rw same kept_s.legal;
@@ -35,7 +39,11 @@ still-kept s later kept_s same phase_is docnos_are docnos_kept_is facts_are plac
       docnos_fit = rw docnos_kept_is kept_s.docnos_fit;
       docnos_are = rw same docnos_are;
       docnos_kept_are = rw (docnos_kept_is, same) kept_s.docnos_kept_are;
-      places_are = subst (λ (H : History). AreSubmissions H later.places.items) (sym same) (subst (AreSubmissions H) (sym places_are) kept_s.places_are);
+      numbers_are = rw same numbers_are;
+      numbers_kept_are = rw (numbers_kept_is, same) kept_s.numbers_kept_are;
+      submissions_are = subst (λ (H : History). AreSubmissions H later.submissions.items) (sym same) (subst (AreSubmissions H) (sym submissions_are) kept_s.submissions_are);
+      runs_known = rw same kept_s.runs_known;
+      lines_are = lines_is ∙ kept_s.lines_are ∙ ap submitted_lines (sym same);
       assessed = subst (λ (H : History). IsAssessmentOf H (facts later.assessment)) (sym same) (subst (IsAssessmentOf H) (sym facts_are) kept_s.assessed);
       unjudged = subst (λ (H : History). phase H ≡ Collecting → IsUnjudged H (map labelled_of (facts later.assessment).topics.topics)) (sym same)
           (λ collecting. subst (λ (known : Facts). IsUnjudged H (map labelled_of known.topics.topics)) (sym facts_are) (kept_s.unjudged collecting));
@@ -44,8 +52,11 @@ still-kept s later kept_s same phase_is docnos_are docnos_kept_is facts_are plac
 
 -- a founded campaign has no runs and no topics
 
-pub founded-places : (H : History) (rules : Rules) (places : List ℕ) → H ≡ founding rules ∷ [] → places ≡ [] → AreSubmissions H places
-founded-places H rules places is none = rw (is, none) refl
+pub founded-submissions : (H : History) (rules : Rules) (all : List Submission) → H ≡ founding rules ∷ [] → all ≡ [] → AreSubmissions H all
+founded-submissions H rules all is none = rw (is, none) (record { places_are = refl; withdrawn_are = refl })
+
+pub founded-runs : (H : History) (rules : Rules) → H ≡ founding rules ∷ [] → RunsAreKnown H
+founded-runs H rules is = rw is (record { names_differ = refl; withdrawn_taken = λ name away. cc away })
 
 pub founded-assessed : (H : History) (rules : Rules) (known : Facts) → H ≡ founding rules ∷ [] → known ≡ record { topics = new_topics [] rules.level; leases = [] } → IsAssessmentOf H known
 founded-assessed H rules known is known_is =
@@ -80,3 +91,7 @@ founded-unjudged H rules known is known_is =
 pub none-ready : {P : Type 0} (o : Option P) (value : P → Entry) (Holds : P → Type 0) → option_map value o ≡ None → MatchOption o (Unit {0}) Holds
 none-ready None value Holds none = tt
 none-ready (Some p) value Holds none = cc none
+
+-- a campaign begins with its founding entry
+pub founded-legal : (H : History) (rules : Rules) → H ≡ founding rules ∷ [] → are_rules rules ≡ true → IsLegal H
+founded-legal H rules is allowed = rw is ((rules, allowed, refl), tt)

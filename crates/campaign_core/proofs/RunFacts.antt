@@ -27,6 +27,7 @@ use Rattle.assessment.specs.TopicFacts.{TopicFacts}
 use Rattle.campaign_core.proofs.CellFacts.{cell-same, judged-count, run-named}
 use Rattle.campaign_core.proofs.LeaseFacts.{known-topic, states-long, topic-back}
 use Rattle.campaign_core.proofs.ListFacts.{get_or-of, get_or_default}
+use Rattle.campaign_core.proofs.LiveRuns.{live-at}
 use Rattle.campaign_core.proofs.Naming.{each_named, number-within}
 use Rattle.campaign_core.proofs.Numbering.{docno-there, first-place}
 use Rattle.campaign_core.proofs.Paging.{ids-kept, page-topic}
@@ -70,7 +71,7 @@ module _ (H : History) (topics : List TopicFacts) (board : Scores) (number : Run
   as-many = sym (AllZip-long (TopicStandsFor board.level) board.topics (map graded topics) knows.scored.stands) ∙ length-map topics graded
 
   named : (topic : Text) → are_named (names_of H) (docs_on run.lists topic) ≡ true
-  named topic = lists-named (names_of H) run.lists (run-named (names_of H) (runs H) number.0 run (each_named (submitted_docnos H)) knows.run_is) topic
+  named topic = lists-named (names_of H) run.lists (run-named (names_of H) (runs H) number.0 run (each_named (submitted_docnos H)) (live-at H number run knows.run_is).there) topic
 
   listed : (at : ℕ) → at < length (topic_ids H) → listed_in number (topic_at board at) ≡ list_on (names_of H) (get_or (topic_ids H) at []) run
   listed at within =

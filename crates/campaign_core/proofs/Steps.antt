@@ -87,3 +87,9 @@ phase-opens H e was unpublished opened =
     ∙ ap (λ t. phase_if (t || (false || false)) (list_any (λ (e : Entry). opens e.core.command) H || (opens e.core.command || false))) (unpublished-step _ (list_any (λ (e : Entry). opens e.core.command) H) was)
     ∙ ap (λ t. phase_if false (list_any (λ (e : Entry). opens e.core.command) H || (t || false))) opened
     ∙ ap (phase_if false) (or_true (list_any (λ (e : Entry). opens e.core.command) H))
+
+pub phase-publishes : (H : History) (e : Entry) → publishes e.core.command ≡ true → phase (H ++ e ∷ []) ≡ Published
+phase-publishes H e published =
+    phase-push H e
+    ∙ ap (λ t. phase_if (list_any (λ (e : Entry). publishes e.core.command) H || (t || false)) (list_any (λ (e : Entry). opens e.core.command) H || (opens e.core.command || false))) published
+    ∙ ap (λ t. phase_if t (list_any (λ (e : Entry). opens e.core.command) H || (opens e.core.command || false))) (or_true (list_any (λ (e : Entry). publishes e.core.command) H))

@@ -1,21 +1,20 @@
 -- The runs of a history by the places of the entries that submit them.
-use Rattle.std.proofs.Common.{◌≡◌, ◌||◌, ◌&&◌, ◌<◌, ◌+◌, ℕ, zero, suc, Bool, true, false, cond, List, [], ◌∷◌, ◌++◌, Option, None, Some, is_some, length, map, drop, get_or, refl, sym, ap, ◌∙◌, arith}
-use Rattle.std.specs.Prelude.{slice_get, sum_by}
+use Rattle.std.proofs.Common.{◌≡◌, ◌||◌, ◌&&◌, ◌<◌, ◌+◌, ℕ, zero, suc, Bool, true, false, cond, List, [], ◌∷◌, ◌++◌, Option, None, Some, is_some, length, map, drop, get_or, refl, sym, subst, ap, ◌∙◌, arith}
+use Rattle.std.specs.Prelude.{slice_get}
 use Rattle.std.specs.List.{list_any}
 use Rattle.std.specs.Option.{option_map_or}
 use Rattle.std.specs.Str.{bytes_eq}
-use Rattle.std.proofs.lemmas.List.{append-nil, drop_more, map-append}
+use Rattle.std.proofs.lemmas.List.{append-nil, drop_more, length-map, map-append}
 use Rattle.std.proofs.lemmas.List.Elements.{filter-append}
-use Rattle.std.proofs.lemmas.List.Sums.{sum_by-cons}
 use Rattle.rulebook.specs.declared.ask.Command.TheVariants as command
 use Rattle.rulebook.specs.declared.entry.Entry.{Entry}
 use Rattle.rulebook.specs.declared.reply.Reply.TheVariants as reply
 use Rattle.rulebook.specs.declared.rules.Role.TheVariants.{Organiser}
-use Rattle.rulebook.specs.Campaign.{History, Run, line_count, run_in, runs, submitted_lines}
+use Rattle.rulebook.specs.Campaign.{History, Run, run_in, runs}
 use Rattle.rulebook.specs.Scores.{submits}
 use Rattle.rulebook.specs.Words.{Text}
-use Rattle.campaign_core.specs.Growth.{lists_in}
-use Rattle.campaign_core.specs.Submissions.{AreSubmissions, any_at, is_submission, is_submitted_by, lines_at, submissions}
+use Rattle.campaign_core.specs.Submissions.{ArePlaces, AreSubmissions, any_at, entry_place, is_submission, is_submitted_by, submissions}
+use Rattle.campaign_core.specs.declared.submissions.Submission.{Submission}
 use Rattle.campaign_core.proofs.ListFacts.{get-map, slice-front, slice-last, slice-there}
 
 -- Values that are all there.
@@ -52,7 +51,7 @@ runs-long (x ∷ H) = step (run_in x.core.command) refl (runs-long H)
     step None is rest = rw is rest
     step (Some run) is rest = rw is (ap suc rest)
 
-pub as-many : (H : History) (places : List ℕ) → AreSubmissions H places → length places ≡ length (runs H)
+pub as-many : (H : History) (places : List ℕ) → ArePlaces H places → length places ≡ length (runs H)
 as-many H places are = as-long (slice_get H) places (submissions H) are ∙ sym (runs-long H)
 
 -- the entry at a place, and its run
@@ -62,7 +61,7 @@ pub record IsSubmission (H : History) (number : ℕ) (place : ℕ) (e : Entry) (
   pub entry_is : get_or H place e ≡ get_or (submissions H) number e
   pub run_is : run_in (get_or H place e).core.command ≡ Some (get_or (runs H) number r)
 
-pub submission-at : (H : History) (places : List ℕ) (number : ℕ) (d : ℕ) (e : Entry) (r : Run) → AreSubmissions H places → number < length places → IsSubmission H number (get_or places number d) e r
+pub submission-at : (H : History) (places : List ℕ) (number : ℕ) (d : ℕ) (e : Entry) (r : Run) → ArePlaces H places → number < length places → IsSubmission H number (get_or places number d) e r
 submission-at H places number d e r are within =
     let place : ℕ = get_or places number d in
     let long : length places ≡ length (submissions H) = as-long (slice_get H) places (submissions H) are in
@@ -89,7 +88,7 @@ abbrev some_entry : Entry
 some_entry = record { core = record { caller = record { name = []; role = Organiser }; number = None; moment = 0; command = command.Open }; reply = reply.Done }
 
 -- the places are within the history
-pub place-within : (H : History) (places : List ℕ) (number : ℕ) → AreSubmissions H places → number < length places → get_or places number 0 < length H
+pub place-within : (H : History) (places : List ℕ) (number : ℕ) → ArePlaces H places → number < length places → get_or places number 0 < length H
 place-within H places number are within = (submission-at H places number 0 some_entry no_run are within).within
 
 -- Tests of entries.
@@ -117,49 +116,18 @@ any-mapped p f [] = refl
 any-mapped p f (x ∷ places) = ap (λ b. p (f x) || b) (any-mapped p f places)
 
 -- a test that an entry passes only where it submits a run
-pub any-entry : (f : Entry → Bool) (H : History) (places : List ℕ) → AreSubmissions H places → ((e : Entry) → f e ≡ true → is_submission e ≡ true) → any_at f H places ≡ list_any f H
+pub any-entry : (f : Entry → Bool) (H : History) (places : List ℕ) → ArePlaces H places → ((e : Entry) → f e ≡ true → is_submission e ≡ true) → any_at f H places ≡ list_any f H
 any-entry f H places are only =
     any-mapped (λ (o : Option Entry). option_map_or f o false) (slice_get H) places
     ∙ any-there f (map (slice_get H) places) (submissions H) are
     ∙ any-submissions f H only
 
 -- from a place on
-pub any-from : (f : Entry → Bool) (H : History) (places : List ℕ) (number : ℕ) (e : Entry) → AreSubmissions H places → number < length places
+pub any-from : (f : Entry → Bool) (H : History) (places : List ℕ) (number : ℕ) (e : Entry) → ArePlaces H places → number < length places
     → any_at f H (drop number places) ≡ (f (get_or H (get_or places number 0) e) || any_at f H (drop (number + 1) places))
 any-from f H places number e are within =
     let at = submission-at H places number 0 e no_run are within in
     ap (any_at f H) (drop_more places number 0 within) ∙ ap (λ (o : Option Entry). option_map_or f o false || any_at f H (drop (number + 1) places)) at.there
-
--- The lines.
-
-abbrev pub lines_of : Entry → ℕ
-lines_of e = line_count (lists_in e.core.command)
-
-sum-mapped : {X Y : Type 0} (g : Y → ℕ) (f : X → Y) (xs : List X) → sum_by (λ x. g (f x)) xs ≡ sum_by g (map f xs)
-sum-mapped g f [] = refl
-sum-mapped g f (x ∷ xs) = sum_by-cons (λ x. g (f x)) x xs ∙ ap (λ n. g (f x) + n) (sum-mapped g f xs) ∙ sym (sum_by-cons g (f x) (map f xs))
-
-lines-submitted : (H : History) → sum_by lines_of (submissions H) ≡ submitted_lines H
-lines-submitted [] = refl
-lines-submitted (x ∷ H) = step (run_in x.core.command) refl (lines-submitted H)
-  where
-    step : (o : Option Run) → run_in x.core.command ≡ o → sum_by lines_of (submissions H) ≡ submitted_lines H → sum_by lines_of (submissions (x ∷ H)) ≡ submitted_lines (x ∷ H)
-    step None is rest = rw is rest
-    step (Some run) is rest =
-        let lines : lines_of x ≡ line_count run.lists = ap (λ (o : Option Run). line_count (option_map_or (λ run. run.lists) o [])) is in
-        rw is (sum_by-cons lines_of x (submissions H) ∙ ap (λ n. n + sum_by lines_of (submissions H)) lines ∙ ap (λ n. line_count run.lists + n) rest ∙ sym (sum_by-cons (λ (run : Run). line_count run.lists) run (runs H)))
-
-pub lines-are : (H : History) (places : List ℕ) → AreSubmissions H places → lines_at H places ≡ submitted_lines H
-lines-are H places are =
-    let some : Option Entry → ℕ = λ o. option_map_or lines_of o 0 in
-    sum-mapped some (slice_get H) places ∙ ap (sum_by some) are ∙ sym (sum-mapped some (λ (e : Entry). let o : Option Entry = Some e in o) (submissions H)) ∙ lines-submitted H
-
-pub lines-from : (H : History) (places : List ℕ) (number : ℕ) (e : Entry) → AreSubmissions H places → number < length places
-    → lines_at H (drop number places) ≡ lines_of (get_or H (get_or places number 0) e) + lines_at H (drop (number + 1) places)
-lines-from H places number e are within =
-    let at = submission-at H places number 0 e no_run are within in
-    let some : ℕ → ℕ = λ place. option_map_or lines_of (slice_get H place) 0 in
-    ap (sum_by some) (drop_more places number 0 within) ∙ sum_by-cons some (get_or places number 0) (drop (number + 1) places) ∙ ap (λ (o : Option Entry). option_map_or lines_of o 0 + lines_at H (drop (number + 1) places)) at.there
 
 -- One more entry.
 
@@ -172,14 +140,14 @@ still-there H e (p ∷ places) (x ∷ es) same =
     ap (λ (o : Option Entry). o ∷ map (slice_get (H ++ e ∷ [])) places) (slice-front H (e ∷ []) p x head) ∙ ap (λ (os : List (Option Entry)). Some x ∷ os) (still-there H e places es tail)
 
 -- an entry that submits no run
-pub places-stay : (H : History) (e : Entry) (places : List ℕ) → run_in e.core.command ≡ None → AreSubmissions H places → AreSubmissions (H ++ e ∷ []) places
+pub places-stay : (H : History) (e : Entry) (places : List ℕ) → run_in e.core.command ≡ None → ArePlaces H places → ArePlaces (H ++ e ∷ []) places
 places-stay H e places none are =
     let one : submissions (e ∷ []) ≡ [] = ap (λ (o : Option Run). cond (is_some o) (e ∷ []) []) none in
     let same : submissions (H ++ e ∷ []) ≡ submissions H = filter-append is_submission H (e ∷ []) ∙ ap (λ es. submissions H ++ es) one ∙ append-nil (submissions H) in
     still-there H e places (submissions H) are ∙ ap (map Some) (sym same)
 
 -- an entry that submits one
-pub places-grow : (H : History) (e : Entry) (places : List ℕ) (run : Run) → run_in e.core.command ≡ Some run → AreSubmissions H places → AreSubmissions (H ++ e ∷ []) (places ++ length H ∷ [])
+pub places-grow : (H : History) (e : Entry) (places : List ℕ) (run : Run) → run_in e.core.command ≡ Some run → ArePlaces H places → ArePlaces (H ++ e ∷ []) (places ++ length H ∷ [])
 places-grow H e places run some are =
     let one : submissions (e ∷ []) ≡ e ∷ [] = ap (λ (o : Option Run). cond (is_some o) (e ∷ []) []) some in
     let more : submissions (H ++ e ∷ []) ≡ submissions H ++ e ∷ [] = filter-append is_submission H (e ∷ []) ∙ ap (λ es. submissions H ++ es) one in
@@ -200,3 +168,17 @@ submits-only caller name e passes = step (run_in e.core.command) refl (bytes_eq 
     step : (o : Option Run) → run_in e.core.command ≡ o → (t : Bool) → (option_map_or (λ (run : Run). bytes_eq run.name name) (run_in e.core.command) false && t) ≡ true → is_some (run_in e.core.command) ≡ true
     step None is t passes = cc (rw is at passes)
     step (Some run) is t passes = ap is_some is
+
+-- The same of the entries that submit runs, as they are kept.
+
+pub runs-many : (H : History) (all : List Submission) → AreSubmissions H all → length all ≡ length (runs H)
+runs-many H all are = sym (length-map all entry_place) ∙ as-many H (map entry_place all) are.places_are
+
+-- the entry at a place, and its run
+pub entry-at : (H : History) (all : List Submission) (number : ℕ) (d : Submission) (e : Entry) (r : Run) → AreSubmissions H all → number < length all → IsSubmission H number (get_or all number d).place e r
+entry-at H all number d e r are within =
+    subst (λ place. IsSubmission H number place e r) (get-map entry_place all number d)
+    (submission-at H (map entry_place all) number (entry_place d) e r are.places_are (omega (arith, within, length-map all entry_place)))
+
+pub entry-within : (H : History) (all : List Submission) (number : ℕ) (d : Submission) → AreSubmissions H all → number < length all → (get_or all number d).place < length H
+entry-within H all number d are within = (entry-at H all number d some_entry no_run are within).within

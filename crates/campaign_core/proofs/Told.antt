@@ -22,9 +22,10 @@ use Rattle.trec_formats.specs.declared.Topic.{Topic}
 use Rattle.trec_formats.specs.declared.TopicList.{TopicList}
 use Rattle.rulebook.specs.Words.{Text}
 use Rattle.rulebook.specs.Refusals.{Ruling, ◌when◌, unless, is_phase}
-use Rattle.rulebook.specs.Answers.{acting, adding_nothing, moment_after, open_ruling, ruled, submit_ruling, topics_ruling, unknown_line}
+use Rattle.rulebook.specs.Answers.{acted, acting, adding_nothing, moment_after, open_ruling, repeated, ruled, submit_ruling, topics_ruling, unknown_line}
 use Rattle.rulebook.specs.Campaign.{History, docnos_with, docs_on, has_topics, is_taken, line_count, lines_with, phase, runs, topics, topics_in}
-use Rattle.rulebook.specs.Legal.{IsAccepted, core_of, is_built, is_well_addressed}
+use Rattle.rulebook.specs.Legal.{IsAccepted, core_of, is_well_addressed}
+use Rattle.rulebook.specs.Numbers.{used}
 use Rattle.rulebook.specs.Roles.{may_give}
 use Rattle.trec_formats.specs.Names.{is_between, is_docno, is_name}
 use Rattle.rulebook.specs.Spelling.{differ, entry_bytes, has_spelling, is_ascending, is_number, is_plain, is_plain_list}
@@ -48,31 +49,42 @@ three_tests r s u false true t3 ruling answer is = cc is
 three_tests r s u false false t3 ruling answer is = (refl, refl)
 
 six_tests : (r s u v w : Refusal) (t1 t2 : Bool) (o : Option Refusal) (t3 t4 t5 : Bool) (ruling : Ruling) (answer : Reply)
-    → unless ((r when t1) ∷ (s when t2) ∷ o ∷ (u when t3) ∷ (v when t4) ∷ (w when t5) ∷ []) ruling ≡ Ok answer → (o ≡ None) × (t3 ≡ false)
+    → unless ((r when t1) ∷ (s when t2) ∷ o ∷ (u when t3) ∷ (v when t4) ∷ (w when t5) ∷ []) ruling ≡ Ok answer → (t2 ≡ false) × (o ≡ None) × (t3 ≡ false)
 six_tests r s u v w true t2 o t3 t4 t5 ruling answer is = cc is
 six_tests r s u v w false true o t3 t4 t5 ruling answer is = cc is
 six_tests r s u v w false false (Some x) t3 t4 t5 ruling answer is = cc is
 six_tests r s u v w false false None true t4 t5 ruling answer is = cc is
-six_tests r s u v w false false None false t4 t5 ruling answer is = (refl, refl)
+six_tests r s u v w false false None false t4 t5 ruling answer is = (refl, refl, refl)
 
 none_mapped : {X Y : Type 0} (f : X → Y) (o : Option X) → option_map f o ≡ None → o ≡ None
 none_mapped f None is = refl
 none_mapped f (Some x) is = cc is
 
--- what is ruled on an accepted entry
-pub ruled_ok : (H : History) (e : Entry) → IsAccepted H e → ruled H e.core.caller (moment_after H e.core.moment) e.core.command ≡ Ok e.reply
-ruled_ok H e w = step (length H == MAX_ENTRIES) (ruled H e.core.caller (moment_after H e.core.moment) e.core.command) w.added
+-- an accepted entry has a number that its caller didn't use, and what is ruled on it
+pub record OnEntry (H : History) (e : Entry) : Type 0 where
+  pub unused : used H e.core.caller.name e.core.number ≡ None
+  pub ruled_is : ruled H e.core.caller (moment_after H e.core.moment) e.core.command ≡ Ok e.reply
+
+pub on-entry : (H : History) (e : Entry) → IsAccepted H e → OnEntry H e
+on-entry H e w = step (used H e.core.caller.name e.core.number) refl w.added
   where
     core : EntryCore
     core = core_of e.core.caller e.core.number (moment_after H e.core.moment) e.core.command
 
-    step : (full : Bool) (r : Ruling) → (if full then adding_nothing (reply.Refused (refusal.Limit quantity.Entries)) else acting core r).added ≡ e ∷ [] → r ≡ Ok e.reply
-    step true r is = cc is
-    step false (Err x) is = cc is
-    step false (Ok x) is =
+    ruled-by : (full : Bool) (r : Ruling) → (if full then adding_nothing (reply.Refused (refusal.Limit quantity.Entries)) else acting core r).added ≡ e ∷ [] → r ≡ Ok e.reply
+    ruled-by true r is = cc is
+    ruled-by false (Err x) is = cc is
+    ruled-by false (Ok x) is =
         let made : Entry = record { core = core; reply = x } in
         let whole : made ≡ e = cc is in
         ap (λ (entry : Entry). let r : Ruling = Ok entry.reply in r) whole
+
+    step : (o : Option (ℕ × Entry)) → used H e.core.caller.name e.core.number ≡ o → (option_map_or (repeated e.core.command) o (acted H core)).added ≡ e ∷ [] → OnEntry H e
+    step None unused is = record { unused = unused; ruled_is = ruled-by (length H == MAX_ENTRIES) (ruled H e.core.caller (moment_after H e.core.moment) e.core.command) is }
+    step (Some placed) unused is = cc is
+
+pub ruled_ok : (H : History) (e : Entry) → IsAccepted H e → ruled H e.core.caller (moment_after H e.core.moment) e.core.command ≡ Ok e.reply
+ruled_ok H e w = (on-entry H e w).ruled_is
 
 collecting : (H : History) → not (is_phase Collecting (phase H)) ≡ false → phase H ≡ Collecting
 collecting H is = collecting-from (phase H) (not_true _ is)
@@ -85,12 +97,12 @@ topics-told H given answer is =
     let w = three_tests (refusal.WrongPhase (phase H)) refusal.TopicsFixed (refusal.Limit quantity.Topics) (not_collecting H) (has_topics H) (nat_lt MAX_TOPICS (length given)) (Ok (reply.Topics (length given))) answer is in
     (collecting H w.0, w.1)
 
-pub submit-told : (H : History) (name : Text) (lists : List TopicList) (answer : Reply) → submit_ruling H name lists ≡ Ok answer → (unknown_line H lists ≡ None) × (length (runs H) < MAX_RUNS)
+pub submit-told : (H : History) (name : Text) (lists : List TopicList) (answer : Reply) → submit_ruling H name lists ≡ Ok answer → (is_taken H name ≡ false) × (unknown_line H lists ≡ None) × (length (runs H) < MAX_RUNS)
 submit-told H name lists answer is =
     let w = six_tests (refusal.WrongPhase (phase H)) refusal.TagTaken (refusal.Limit quantity.Runs) (refusal.Limit quantity.Lines) (refusal.Limit quantity.Docnos)
     (not_collecting H) (is_taken H name) (option_map refusal.LineTopic (unknown_line H lists)) (nat_le MAX_RUNS (length (runs H))) (nat_lt MAX_LINES (lines_with H lists)) (nat_lt MAX_DOCNOS (length (docnos_with H lists)))
     (Ok (reply.Submitted name (length lists) (line_count lists))) answer is in
-    (none_mapped refusal.LineTopic (unknown_line H lists) w.0, leb-false _ _ w.1)
+    (w.0, none_mapped refusal.LineTopic (unknown_line H lists) w.1, leb-false _ _ w.2)
 
 pub open-told : (H : History) (answer : Reply) → open_ruling H ≡ Ok answer → phase H ≡ Collecting
 open-told H answer is = collecting H (one_test (refusal.WrongPhase (phase H)) (not_collecting H) (Ok reply.Done) answer is)
@@ -123,16 +135,16 @@ topics_known H (l ∷ lists) without some is =
 pub plain-of : (who : Caller) (number : Option ℕ) (c : Command) (moment : ℕ) → is_well_addressed who number (Act c) moment ≡ true → is_plain c ≡ true
 plain-of who number c moment is =
     let core = core_of who number moment c in
-    let a = both_true (is_built (Act c) && may_give who.role c && has_spelling core) (nat_le (length (entry_bytes core)) MAX_ENTRY_BYTES) is in
-    let b = both_true (is_built (Act c) && may_give who.role c) (has_spelling core) a.0 in
+    let a = both_true (may_give who.role c && has_spelling core) (nat_le (length (entry_bytes core)) MAX_ENTRY_BYTES) is in
+    let b = both_true (may_give who.role c) (has_spelling core) a.0 in
     let d = both_true (is_name who.name && is_number number && nat_le moment MAX_MOMENT) (is_plain c) b.1 in
     d.1
 
 pub moment-of : (who : Caller) (number : Option ℕ) (c : Command) (moment : ℕ) → is_well_addressed who number (Act c) moment ≡ true → moment ≤ MAX_MOMENT
 moment-of who number c moment is =
     let core = core_of who number moment c in
-    let a = both_true (is_built (Act c) && may_give who.role c && has_spelling core) (nat_le (length (entry_bytes core)) MAX_ENTRY_BYTES) is in
-    let b = both_true (is_built (Act c) && may_give who.role c) (has_spelling core) a.0 in
+    let a = both_true (may_give who.role c && has_spelling core) (nat_le (length (entry_bytes core)) MAX_ENTRY_BYTES) is in
+    let b = both_true (may_give who.role c) (has_spelling core) a.0 in
     let d = both_true (is_name who.name && is_number number && nat_le moment MAX_MOMENT) (is_plain c) b.1 in
     let f = both_true (is_name who.name && is_number number) (nat_le moment MAX_MOMENT) d.0 in
     leb-true _ _ f.1

@@ -1,11 +1,11 @@
 -- What an entry that is accepted changes of what is known by numbers.
-use Rattle.std.specs.Prelude.{◌≡◌, ℕ, List, [], ◌++◌, ◌∷◌, Some, None, IsTrue, is_some, if◌then◌else◌, length, map}
-use Rattle.std.specs.Option.{IsSomeAnd}
+use Rattle.std.specs.Prelude.{◌≡◌, ◌⊎◌, ℕ, List, [], Some, None, IsTrue, if◌then◌else◌, length, map}
+use Rattle.std.specs.List.{position}
+use Rattle.std.specs.Str.{bytes_eq}
 use Rattle.decimal_rank.specs.declared.naming.DocId.{DocId}
 use Rattle.lease_desk.specs.Leases.{lease_numbered as desk_lease}
 use Rattle.lease_desk.specs.declared.leases.Lease.{Lease as DeskLease}
 use Rattle.assessment.specs.Changes.{AssessmentView, IsUnended, facts}
-use Rattle.assessment.specs.RunLists.{RankedLists}
 use Rattle.assessment.specs.TopicFacts.{TopicFacts, facts_of}
 use Rattle.assessment.specs.TopicsFacts.{TopicsFacts, told}
 use Rattle.assessment.specs.declared.change.Change.{Change}
@@ -13,7 +13,7 @@ use Rattle.assessment.specs.declared.change.Change.TheVariants as change
 use Rattle.assessment.specs.declared.change.Grant.{Grant}
 use Rattle.assessment.specs.declared.change.Label.{Label as DocLabel}
 use Rattle.rulebook.specs.declared.rules.Phase.{Phase}
-use Rattle.rulebook.specs.declared.rules.Phase.TheVariants.{Judging}
+use Rattle.rulebook.specs.declared.rules.Phase.TheVariants.{Judging, Published}
 use Rattle.trec_formats.specs.declared.Topic.{Topic}
 use Rattle.trec_formats.specs.declared.TopicList.{TopicList}
 use Rattle.rulebook.specs.declared.ask.Command.{Command}
@@ -24,9 +24,9 @@ use Rattle.rulebook.specs.declared.limits.TheConstants.{MAX_TOPICS}
 use Rattle.rulebook.specs.declared.reply.Reply.{Reply}
 use Rattle.rulebook.specs.declared.reply.Reply.TheVariants as reply
 use Rattle.rulebook.specs.Words.{Text, contains_text}
-use Rattle.rulebook.specs.Campaign.{History, docs_on, opens, rules_of, run_in, runs}
+use Rattle.rulebook.specs.Campaign.{History, docs_on, opens, publishes, rules_of, runs}
 use Rattle.rulebook.specs.Leases.{Lease, lease_in, lease_numbered}
-use Rattle.std.specs.Prelude.{◌<◌, ◌≤◌}
+use Rattle.std.specs.Prelude.{◌≤◌}
 use Rattle.campaign_core.specs.Leasing.{topic_in}
 use Rattle.campaign_core.specs.Numbers.{doc_in, docs_in}
 use Rattle.campaign_core.specs.Topics.{empty_topic, kept, labelled_of, topic_ids, unlabelled}
@@ -96,15 +96,15 @@ pub record IsNewBoard (level : ℕ) (all : TopicsFacts) (rooms : List ℕ) : Typ
   pub empty : all.lists ≡ (λ run on. None)
   pub no_room : rooms ≡ []
 
--- The change carries out the entry: the opening; the topics before any run; the next run, with its list on each topic; a lease; its grade; its release; an amendment; a ruling.
+-- The change carries out the entry: the opening or the publication; the topics before any run; the next run, with its list on each topic; the withdrawal of the run of a name; a lease; its grade; its release; an amendment; a ruling.
 abbrev pub CarriesOut : History → List Text → List TopicFacts → List DeskLease → Entry → Change → Type 0
-CarriesOut H names topics desk e change.Nothing = e.core.command ≡ command.Open
+CarriesOut H names topics desk e change.Nothing = (e.core.command ≡ command.Open) ⊎ (e.core.command ≡ command.Publish)
 CarriesOut H names topics desk e (change.Topics made) =
     (given : List Topic) × (e.core.command ≡ command.Topics given) × (map kept (map facts_of made.topics) ≡ map (λ topic. empty_topic (rules_of H) topic.id) given)
     × (map labelled_of (map facts_of made.topics) ≡ map (λ topic. unlabelled topic.id) given) × IsNewBoard (rules_of H).level (told made) made.board.rooms
 CarriesOut H names topics desk e (change.Run run lists) =
     (name : Text) × (given : List TopicList) × (e.core.command ≡ command.Submit name given) × (run.0 ≡ length (runs H)) × (lists.items ≡ map (λ topic. docs_in names (docs_on given topic.id)) topics)
-CarriesOut H names topics desk e (change.Withdraw run) = ⊥
+CarriesOut H names topics desk e (change.Withdraw run) = (name : Text) × (e.core.command ≡ command.Withdraw name) × (Some run.0 ≡ position (λ run. bytes_eq run.name name) (runs H))
 CarriesOut H names topics desk e (change.Lease grant) = IsLeaseChange H names e grant
 CarriesOut H names topics desk e (change.Grade number label) = IsGradeChange H names desk e number label
 CarriesOut H names topics desk e (change.Release number) = (e.core.command ≡ command.Release number) × IsUnended number desk
@@ -113,13 +113,9 @@ CarriesOut H names topics desk e (change.Amend label) =
 CarriesOut H names topics desk e (change.Rule ruling) =
     (topic : Text) × (doc : Text) × (e.core.command ≡ command.Rule topic doc ruling.grade) × IsPlacedAt (topic_ids H) names topic doc ruling.topic ruling.doc
 
--- the places of the entries that submit runs, after one more entry at a place
-abbrev pub places_after : Command → ℕ → List ℕ → List ℕ
-places_after command place places = if is_some (run_in command) then places ++ place ∷ [] else places
-
--- the phase after a command that doesn't publish
+-- the phase after a command
 abbrev pub phase_after : Command → Phase → Phase
-phase_after command phase = if opens command then Judging else phase
+phase_after command phase = if publishes command then Published else (if opens command then Judging else phase)
 
 -- a change waits that carries out an entry
 pub record AwaitsEntry (H : History) (names : List Text) (assessment : AssessmentView) (e : Entry) : Type 0 where

@@ -20,9 +20,10 @@ use Rattle.campaign_core.specs.Labelling.{IsLabelled}
 use Rattle.campaign_core.specs.Leasing.{IsLeased}
 use Rattle.campaign_core.specs.Growth.{BeginsWith}
 use Rattle.campaign_core.specs.Numbers.{names_of}
+use Rattle.campaign_core.specs.NumberedRequests.{numbers_of}
 use Rattle.campaign_core.specs.Changes.{AwaitsEntry}
 use Rattle.campaign_core.specs.Scoring.{IsScored, graded_of, list_in, run_at}
-use Rattle.campaign_core.specs.Submissions.{AreSubmissions}
+use Rattle.campaign_core.specs.Submissions.{AreSubmissions, RunsAreKnown}
 use Rattle.campaign_core.specs.Topics.{LabelledTopic, kept, kept_of, labelled_of, topic_ids}
 use Rattle.campaign_core.specs.declared.state.State.TheInside.{Inside}
 use Rattle.assessment.specs.Changes.{Facts, facts}
@@ -41,7 +42,7 @@ pub record KnowsAll (H : History) (topics : List TopicFacts) (desk : List Lease)
   pub topics_differ : IsTrue (differ (topic_ids H))
   pub topics_fit : length (topic_ids H) ≤ MAX_TOPICS
 
--- The board has the scores of a run of the history, whose topics are kept so.
+-- The board has the scores of a live run of the history, whose topics are kept so.
 pub record KnowsRun (H : History) (topics : List TopicFacts) (board : Scores) (number : RunId) (run : Run) : Type 0 where
   pub legal : IsLegal H
   pub desk : List Lease
@@ -67,18 +68,18 @@ pub record IsAssessmentOf (H : History) (known : Facts) : Type 0 where
   pub knows : KnowsAll H known.topics.topics known.leases
   pub few : All (IsFew (length H)) (map labelled_of known.topics.topics)
   pub level_is : known.topics.level ≡ (rules_of H).level
-  pub lists_are : (run : RunId) (on : ℕ) → known.topics.lists run on ≡ list_in (names_of H) (topic_ids H) (runs H) run on
+  pub lists_are : (run : RunId) (on : ℕ) → known.topics.lists run on ≡ list_in (names_of H) (topic_ids H) (run_at H run) on
 
--- The prepared entry may join the history, which has room for it, and the change that waits carries it out. There is room for a run's place.
+-- The prepared entry may join the history, which has room for it, and the change that waits carries it out. There is room for a run.
 pub record IsReady (s : Inside) (e : Entry) : Type 0 where
-  pub joins : MayJoin s.history.items s.docnos e
+  pub joins : MayJoin s.history.items s.docnos s.numbers e
   pub moment_fits : e.core.moment ≤ MAX_MOMENT
   pub entries_fit : length s.history.items < MAX_ENTRIES
   pub room : vec_len s.history < vec_capacity s.history
-  pub place_room : vec_len s.places < vec_capacity s.places
+  pub run_room : vec_len s.submissions < vec_capacity s.submissions
   pub awaits : AwaitsEntry s.history.items s.docnos s.assessment e
 
--- The history is legal and within the limits, and the first docnos are those of the history. Others may follow, from requests that weren't committed.
+-- The history is legal and within the limits, and the first docnos and numbers are those of the history. Others may follow, from requests that weren't committed.
 pub record IsKept (s : Inside) : Type 0 where
   pub legal : IsLegal s.history.items
   pub phase_is : s.phase ≡ phase s.history.items
@@ -91,7 +92,11 @@ pub record IsKept (s : Inside) : Type 0 where
   pub docnos_fit : s.docnos_kept ≤ MAX_DOCNOS
   pub docnos_are : BeginsWith (each_once (submitted_docnos s.history.items)) s.docnos
   pub docnos_kept_are : s.docnos_kept ≡ length (each_once (submitted_docnos s.history.items))
-  pub places_are : AreSubmissions s.history.items s.places.items
+  pub numbers_are : BeginsWith (numbers_of s.history.items) s.numbers
+  pub numbers_kept_are : s.numbers_kept ≡ length (numbers_of s.history.items)
+  pub submissions_are : AreSubmissions s.history.items s.submissions.items
+  pub runs_known : RunsAreKnown s.history.items
+  pub lines_are : s.lines ≡ submitted_lines s.history.items
   pub assessed : IsAssessmentOf s.history.items (facts s.assessment)
   -- documents are judged once the campaign is opened
   pub unjudged : phase s.history.items ≡ Collecting → IsUnjudged s.history.items (map labelled_of (facts s.assessment).topics.topics)

@@ -2,6 +2,7 @@ pub mod Growth
 pub mod Joining
 pub mod Kept
 pub mod Numbers
+pub mod NumberedRequests
 pub mod Changes
 pub mod Seen
 pub mod State

@@ -1,14 +1,14 @@
 -- What the runs' ranked lists and scores that are kept have to do with the history.
-use Rattle.std.specs.Prelude.{◌≡◌, ◌<◌, ℕ, List, Option, None, length, slice_get}
+use Rattle.std.specs.Prelude.{◌≡◌, ◌<◌, ℕ, List, Option, None, Some, if◌then◌else◌, length, slice_get}
 use Rattle.std.proofs.Common.{get_or}
-use Rattle.std.specs.Option.{option_map_or}
+use Rattle.std.specs.Option.{option_and_then, option_map_or}
 use Rattle.decimal_rank.specs.declared.naming.DocId.{DocId}
 use Rattle.depth_pool.specs.declared.runs.RunId.{RunId}
 use Rattle.qrels_view.specs.declared.grades.Graded.{Graded}
 use Rattle.assessment.specs.RunLists.{RankedLists, unless_empty}
 use Rattle.assessment.specs.TopicFacts.{TopicFacts}
 use Rattle.rulebook.specs.Words.{Text}
-use Rattle.rulebook.specs.Campaign.{History, Run, docs_on, rules_of, runs}
+use Rattle.rulebook.specs.Campaign.{History, Run, docs_on, is_withdrawn, rules_of, runs}
 use Rattle.score_index.specs.Scores.{Scores, docs_at}
 use Rattle.score_index.specs.Standing.{StandsFor}
 use Rattle.campaign_core.specs.Numbers.{docs_in}
@@ -18,9 +18,13 @@ use Rattle.campaign_core.specs.Topics.{topic_ids}
 abbrev pub graded_of : TopicFacts → List Graded
 graded_of topic = topic.graded
 
--- the run of a number of submission
+-- a run, unless it is withdrawn
+abbrev pub unless_withdrawn : History → Run → Option Run
+unless_withdrawn H run = if is_withdrawn H run.name then None else Some run
+
+-- the live run of a number of submission
 abbrev pub run_at : History → RunId → Option Run
-run_at H run = slice_get (runs H) run.0
+run_at H run = option_and_then (unless_withdrawn H) (slice_get (runs H) run.0)
 
 -- the documents of a run's ranked list on a topic, by number
 abbrev pub list_on : List Text → Text → Run → List DocId
@@ -30,15 +34,15 @@ list_on names topic run = docs_in names (docs_on run.lists topic)
 abbrev pub ranked_on : List Text → Text → Run → Option (List DocId)
 ranked_on names topic run = unless_empty (list_on names topic run)
 
--- the ranked list of a run on the topic of a number, where these are the names, the ids of the topics and the runs
-abbrev pub list_in : List Text → List Text → List Run → RunId → ℕ → Option (List DocId)
-list_in names ids rs run on = option_map_or (λ id. option_map_or (ranked_on names id) (slice_get rs run.0) None) (slice_get ids on) None
+-- the ranked list of a run, if there is one, on the topic of a number, where these are the names and the ids of the topics
+abbrev pub list_in : List Text → List Text → Option Run → ℕ → Option (List DocId)
+list_in names ids run on = option_map_or (λ id. option_map_or (ranked_on names id) run None) (slice_get ids on) None
 
--- There is the ranked list of each run on each topic, and no other.
+-- There is the ranked list of each live run on each topic, and no other.
 abbrev pub AreListed : History → List Text → RankedLists → Type 0
 AreListed H names lists = (run : RunId) (topic : ℕ) (d : Text) → topic < length (topic_ids H) → lists run topic ≡ option_map_or (ranked_on names (get_or (topic_ids H) topic d)) (run_at H run) None
 
--- The board has the level, stands for the grades of each topic, and has the ranked list of each run on each topic, and no other.
+-- The board has the level, stands for the grades of each topic, and has the ranked list of each live run on each topic, and no other.
 pub record IsScored (H : History) (names : List Text) (grades : List (List Graded)) (board : Scores) : Type 0 where
   pub level_is : board.level ≡ (rules_of H).level
   pub stands : StandsFor board grades

@@ -7,9 +7,8 @@ ghost use Rattle.rulebook.specs.Campaign.{History, docnos_with, docs_on, runs};
 ghost use Rattle.rulebook.specs.declared.entry.Entry.{Entry};
 ghost use Rattle.rulebook.specs.declared.limits.TheConstants.{MAX_TOPICS};
 ghost use Rattle.rulebook.specs.declared.reply.Reply.{Reply};
-ghost use Rattle.rulebook.specs.Legal.{IsLegal, is_built};
+ghost use Rattle.rulebook.specs.Legal.{IsLegal};
 ghost use Rattle.rulebook.specs.Spelling.{differ};
-ghost use Rattle.rulebook.specs.declared.ask.Ask.TheVariants.{Act};
 ghost use Rattle.campaign_core.specs.Growth.{lists_in};
 ghost use Rattle.campaign_core.specs.Kept.{KnowsAll};
 ghost use Rattle.campaign_core.specs.Numbers.{are_named};
@@ -17,6 +16,7 @@ ghost use Rattle.campaign_core.specs.Submissions.{AreSubmissions};
 ghost use Rattle.campaign_core.specs.Changes.{CarriesOut, IsPlace, IsPlacedAt, ToldGrade, ToldLease};
 
 use crate::looks::rules;
+use crate::submissions::{Submission, run_number};
 use crate::topics::{rankings_of, topic_number, topic_rules};
 use assessment::{Change, Grant, Label, Ruling, Topic, Topics};
 use decimal_rank::{DocId, Memory, Names, Text};
@@ -33,15 +33,14 @@ pub(crate) fn change_of(
     topics: &[Topic],
     docnos: &Names,
     desk: &Desk,
-    places: &[u32],
+    submissions: &[Submission],
     core: &EntryCore,
     reply: &Reply,
 ) -> Result<Change, Memory>
-    requires built { IsTrue (is_built (Act core.now.command)) }
     requires legal { IsLegal history.now }
     requires accepted { ruled_of history.now core.now.caller core.now.moment core.now.command ≡ Ok reply.now }
     requires stands { KnowsAll history.now (map facts_of topics.now) desk.now.leases }
-    requires places { AreSubmissions history.now places.now }
+    requires submissions { AreSubmissions history.now submissions.now }
     requires docnos_are { docnos.now ≡ docnos_with history.now (lists_in core.now.command) }
     requires few { (topic : List ℕ) → length (docs_on (lists_in core.now.command) topic) ≤ 1000 }
     requires distinct { (topic : List ℕ) → IsTrue (differ (docs_on (lists_in core.now.command) topic)) }
@@ -52,10 +51,10 @@ pub(crate) fn change_of(
     match &core.command {
         Command::Topics { topics } => topics_change(alloc, history, topics.items()),
         Command::Submit { lists, .. } => Ok(Change::Run(
-            RunId(places.len() as u16),
+            RunId(submissions.len() as u16),
             rankings_of(alloc, topics, lists.items(), docnos)?,
         )),
-        Command::Open => Ok(Change::Nothing),
+        Command::Open | Command::Publish => Ok(Change::Nothing),
         Command::Lease { topic } => lease_change(topics, docnos, core, topic, reply),
         Command::Grade { lease, grade } => grade_change(desk, core, *lease, *grade),
         Command::Release { lease } => Ok(Change::Release(*lease)),
@@ -76,7 +75,11 @@ pub(crate) fn change_of(
                 grade: *grade,
             }))
         }
-        _ => unreachable!(),
+        Command::Withdraw { run } => {
+            let number = run_number(history, submissions, run.bytes()).unwrap();
+            Ok(Change::Withdraw(RunId(number as u16)))
+        }
+        Command::Found { .. } => unreachable!(),
     }
 }
 
@@ -104,15 +107,15 @@ fn lease_change(
     ensures { (H : History) (desk : List Lease) → ToldLease H (map facts_of topics.now) docnos.now core.now topic.now reply.now
         → IfOk result (CarriesOut H docnos.now (map facts_of topics.now) desk (record { core = core.now; reply = reply.now })) }
 {
-    match reply {
-        Reply::Leased { doc, until, .. } => Ok(Change::Lease(Grant {
-            topic: topic_number(topics, topic.bytes()).unwrap() as u16,
-            doc: docnos.find(doc.bytes()).unwrap(),
-            assessor: core.caller.name.copy()?,
-            until: *until,
-        })),
-        _ => unreachable!(),
-    }
+    let Reply::Leased { doc, until, .. } = reply else {
+        unreachable!()
+    };
+    Ok(Change::Lease(Grant {
+        topic: topic_number(topics, topic.bytes()).unwrap() as u16,
+        doc: docnos.find(doc.bytes()).unwrap(),
+        assessor: core.caller.name.copy()?,
+        until: *until,
+    }))
 }
 
 /// The change by the grade of a lease.

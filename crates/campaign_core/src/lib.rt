@@ -9,6 +9,7 @@ mod looks;
 mod pages;
 mod pools;
 mod queries;
+mod request_numbers;
 mod rulings;
 mod score_pages;
 mod selection;

@@ -13,10 +13,10 @@ pub(crate) fn rules(history: &[Entry]) -> &Rules
     requires { IsLegal history.now }
     ensures { result.now ≡ rules_of history.now }
 {
-    match &history[0].core.command {
-        Command::Found { rules } => rules,
-        _ => unreachable!(),
-    }
+    let Command::Found { rules } = &history[0].core.command else {
+        unreachable!()
+    };
+    rules
 }
 
 /// Whether the campaign has its topics.

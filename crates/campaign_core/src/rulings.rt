@@ -1,29 +1,28 @@
 ghost use Rattle.std.specs.Prelude.{◌≡◌, ◌≤◌, ◌<◌, ◌^◌, ◌+◌, ◌∷◌, [], ◌++◌, length, IfOk, OnOk, IsTrue, nat_lt, map, max};
 ghost use Rattle.assessment.specs.TopicFacts.{facts_of};
 ghost use Rattle.rulebook.specs.declared.limits.TheConstants.{MAX_LINES, MAX_DOCNOS, MAX_ENTRIES, MAX_ENTRY_BYTES, MAX_MOMENT};
-ghost use Rattle.rulebook.specs.declared.ask.Ask.TheVariants.{Act};
 ghost use Rattle.rulebook.specs.Words.{each_once};
-ghost use Rattle.rulebook.specs.declared.rules.Phase.TheVariants.{Collecting};
+ghost use Rattle.rulebook.specs.declared.rules.Phase.TheVariants.{Collecting, Published};
 ghost use Rattle.rulebook.specs.Refusals.{is_phase};
-ghost use Rattle.rulebook.specs.Campaign.{History, phase as phase_of, line_count as lines_of, submitted_lines as submitted_lines_of, submitted_docnos, lines_with, docnos_with};
-ghost use Rattle.rulebook.specs.Answers.{topics_ruling, submit_ruling, open_ruling, ruled, moment_after};
+ghost use Rattle.rulebook.specs.Campaign.{History, phase as phase_of, line_count as lines_of, submitted_lines, submitted_docnos, lines_with, docnos_with};
+ghost use Rattle.rulebook.specs.Answers.{topics_ruling, submit_ruling, open_ruling, publish_ruling, ruled, moment_after, withdraw_ruling};
 ghost use Rattle.rulebook.specs.Spelling.{command_bytes};
-ghost use Rattle.rulebook.specs.Legal.{IsLegal, is_built};
+ghost use Rattle.rulebook.specs.Legal.{IsLegal};
 ghost use Rattle.campaign_core.specs.Kept.{KnowsAll};
 ghost use Rattle.campaign_core.specs.Growth.{BeginsWith, lists_in};
 ghost use Rattle.campaign_core.specs.Submissions.{AreSubmissions};
 
 use crate::amending::{amend_ruling, rule_ruling};
 use crate::docnos::add_docnos;
-use crate::leasing::{grade_ruling, lease_ruling, release_ruling};
+use crate::leasing::{grade_ruling, is_judging, lease_ruling, release_ruling};
 use crate::looks::{has_topics, unknown_line};
-use crate::submissions::{is_taken, line_count, submitted_lines};
+use crate::submissions::{Submission, is_taken, line_count, run_number, run_refusal};
 use assessment::Topic;
 use decimal_rank::{Memory, Names, Text};
 use lease_desk::Desk;
 use rulebook::{
-    Command, Entry, EntryCore, MAX_DOCNOS, MAX_LINES, MAX_RUNS, MAX_TOPICS, Phase, Quantity,
-    Refusal, Reply,
+    Caller, Command, Entry, EntryCore, MAX_DOCNOS, MAX_LINES, MAX_RUNS, MAX_TOPICS, Phase,
+    Quantity, Refusal, Reply,
 };
 use std::alloc::Global;
 use trec_formats::{Topic as GivenTopic, TopicList};
@@ -46,18 +45,19 @@ pub(crate) fn ruled(
     topics: &[Topic],
     docnos: &mut Names,
     desk: &Desk,
-    places: &[u32],
+    submissions: &[Submission],
+    lines: u64,
     core: &EntryCore,
 ) -> Result<Result<Reply, Refusal>, Memory>
-    requires built { IsTrue (is_built (Act core.now.command)) }
     requires short { length (command_bytes core.now.command) ≤ MAX_ENTRY_BYTES }
     requires phase { phase ≡ phase_of history.now }
     requires legal { IsLegal history.now }
     requires stands { KnowsAll history.now (map facts_of topics.now) desk.now.leases }
-    requires places { AreSubmissions history.now places.now }
+    requires submissions { AreSubmissions history.now submissions.now }
     requires docnos_are { docnos.old ≡ each_once (submitted_docnos history.now) }
     requires docnos_fit { length docnos.old ≤ MAX_DOCNOS }
-    requires lines_fit { submitted_lines_of history.now ≤ MAX_LINES }
+    requires lines { lines ≡ submitted_lines history.now }
+    requires lines_fit { lines ≤ MAX_LINES }
     requires entries_fit { length history.now ≤ MAX_ENTRIES }
     requires moment_fits { core.now.moment ≤ MAX_MOMENT }
     ensures ruling { let ruling = ruled history.now core.now.caller core.now.moment core.now.command in
@@ -72,7 +72,8 @@ pub(crate) fn ruled(
     match &core.command {
         Command::Topics { topics } => Ok(topics_ruling(history, phase, topics.items())),
         Command::Submit { run, lists } => {
-            submit_ruling(history, phase, docnos, places, run, lists.items())
+            let lists = lists.items();
+            submit_ruling(history, phase, docnos, submissions, lines, run, lists)
         }
         Command::Open => Ok(open_ruling(phase)),
         Command::Lease { topic } => {
@@ -88,7 +89,16 @@ pub(crate) fn ruled(
         Command::Rule { topic, doc, grade } => Ok(rule_ruling(
             history, phase, topics, docnos, topic, doc, *grade,
         )),
-        _ => unreachable!(),
+        Command::Withdraw { run } => Ok(withdraw_ruling(
+            history,
+            phase,
+            submissions,
+            &core.caller,
+            run,
+        )),
+        Command::Publish => Ok(publish_ruling(phase)),
+        // the founding entry is there from the start
+        Command::Found { .. } => Ok(Err(Refusal::WrongPhase { phase })),
     }
 }
 
@@ -120,14 +130,16 @@ fn submit_ruling(
     history: &[Entry],
     phase: Phase,
     docnos: &mut Names,
-    places: &[u32],
+    submissions: &[Submission],
+    before: u64,
     run: &Text,
     lists: &[TopicList],
 ) -> Result<Result<Reply, Refusal>, Memory>
-    requires places { AreSubmissions history.now places.now }
+    requires submissions { AreSubmissions history.now submissions.now }
     requires docnos_are { docnos.old ≡ each_once (submitted_docnos history.now) }
     requires docnos_fit { length docnos.old ≤ MAX_DOCNOS }
-    requires lines_fit { submitted_lines_of history.now ≤ MAX_LINES }
+    requires before { before ≡ submitted_lines history.now }
+    requires lines_fit { before ≤ MAX_LINES }
     requires within { length lists.now + lines_of lists.now ≤ MAX_ENTRY_BYTES }
     requires phase { phase ≡ phase_of history.now }
     ensures ruling { IfOk result (λ told. told ≡ submit_ruling history.now run.now lists.now) }
@@ -139,17 +151,17 @@ fn submit_ruling(
     if !is_collecting(phase) {
         return Ok(Err(Refusal::WrongPhase { phase }));
     }
-    if is_taken(history, places, run.bytes()) {
+    if is_taken(history, submissions, run.bytes()) {
         return Ok(Err(Refusal::TagTaken));
     }
     if let Some(line) = unknown_line(history, lists) {
         return Ok(Err(Refusal::LineTopic { line }));
     }
-    if places.len() >= MAX_RUNS as usize {
+    if submissions.len() >= MAX_RUNS as usize {
         return Ok(Err(limit(Quantity::Runs)));
     }
     let lines = line_count(lists);
-    if exceeds(MAX_LINES, submitted_lines(history, places), lines) {
+    if exceeds(MAX_LINES, before, lines) {
         return Ok(Err(limit(Quantity::Lines)));
     }
     add_docnos(docnos, lists)?;
@@ -171,6 +183,46 @@ fn open_ruling(phase: Phase) -> Result<Reply, Refusal>
     } else {
         Err(Refusal::WrongPhase { phase })
     }
+}
+
+/// What the withdrawal of a run comes to.
+fn withdraw_ruling(
+    history: &[Entry],
+    phase: Phase,
+    submissions: &[Submission],
+    who: &Caller,
+    run: &Text,
+) -> Result<Reply, Refusal>
+    requires phase { phase ≡ phase_of history.now }
+    requires submissions { AreSubmissions history.now submissions.now }
+    ensures { result ≡ withdraw_ruling history.now who.now run.now }
+{
+    if is_published(phase) {
+        return Err(Refusal::WrongPhase { phase });
+    }
+    let Some(number) = run_number(history, submissions, run.bytes()) else {
+        return Err(Refusal::UnknownRun);
+    };
+    match run_refusal(history, submissions, who, run.bytes(), number) {
+        Some(refusal) => Err(refusal),
+        None => Ok(Reply::Done),
+    }
+}
+
+fn publish_ruling(phase: Phase) -> Result<Reply, Refusal>
+    ensures { (H : History) → phase ≡ phase_of H → result ≡ publish_ruling H }
+{
+    if is_judging(phase) {
+        Ok(Reply::Done)
+    } else {
+        Err(Refusal::WrongPhase { phase })
+    }
+}
+
+pub(crate) fn is_published(phase: Phase) -> bool
+    ensures { result ≡ is_phase Published phase }
+{
+    matches!(phase, Phase::Published)
 }
 
 fn is_collecting(phase: Phase) -> bool

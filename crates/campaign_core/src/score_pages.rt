@@ -1,5 +1,5 @@
 //! The pages of the scores of runs.
-ghost use Rattle.std.specs.Prelude.{◌≡◌, ◌++◌, ◌&&◌, ◌<◌, ℕ, List, IfOk, IsTrue, OnOk, length, map, not};
+ghost use Rattle.std.specs.Prelude.{◌≡◌, ◌++◌, ◌<◌, ℕ, List, IfOk, IsTrue, OnOk, length, map};
 ghost use Rattle.assessment.specs.TopicFacts.{facts_of};
 ghost use Rattle.assessment.specs.TopicsFacts.{told};
 ghost use Rattle.lease_desk.specs.declared.leases.Lease.{Lease};
@@ -7,8 +7,7 @@ ghost use Rattle.rulebook.specs.declared.reply.Reply.TheVariants as reply;
 ghost use Rattle.rulebook.specs.Answers.{reply_of, scores_ruling};
 ghost use Rattle.rulebook.specs.Campaign.{History, Run, rules_of, runs as runs_of};
 ghost use Rattle.rulebook.specs.Legal.{IsLegal};
-ghost use Rattle.rulebook.specs.Roles.{is_group};
-ghost use Rattle.rulebook.specs.Scores.{cell_lines, is_counted as counts, is_submitter, scores_page, summary_lines, table_page};
+ghost use Rattle.rulebook.specs.Scores.{cell_lines, is_counted as counts, scores_page, summary_lines, table_page};
 ghost use Rattle.rulebook.specs.Words.{contains_text};
 ghost use Rattle.campaign_core.specs.Kept.{KnowsAll, KnowsRun};
 ghost use Rattle.campaign_core.specs.Numbers.{names_of};
@@ -16,14 +15,14 @@ ghost use Rattle.campaign_core.specs.Printed.{IsTopicOf};
 ghost use Rattle.campaign_core.specs.Scoring.{AreListed};
 ghost use Rattle.campaign_core.specs.Submissions.{AreSubmissions};
 
-use crate::submissions::{is_submitter, name_of, run_number};
+use crate::submissions::{Submission, name_of, run_number, run_refusal};
 use crate::texts::{ids_of, in_order};
 use crate::topics::topic_number;
 use assessment::{Topic, Topics};
 use decimal_rank::{Memory, Text};
 use depth_pool::RunId;
 use measures::{write_cell, write_summary};
-use rulebook::{Caller, Entry, Refusal, Reply, Role, graded_are_on_trail, graded_are_there};
+use rulebook::{Caller, Entry, Refusal, Reply, graded_are_on_trail, graded_are_there};
 use score_index::Board;
 use std::alloc::Global;
 
@@ -32,23 +31,23 @@ pub(crate) fn scores_reply(
     alloc: Global,
     history: &[Entry],
     topics: &Topics,
-    places: &[u32],
+    submissions: &[Submission],
     who: &Caller,
     name: &Text,
 ) -> Result<Reply, Memory>
     requires legal { IsLegal history.now }
     requires knows { (desk : List Lease) × KnowsAll history.now (told topics.now).topics desk }
-    requires places { AreSubmissions history.now places.now }
+    requires submissions { AreSubmissions history.now submissions.now }
     requires level { (told topics.now).level ≡ (rules_of history.now).level }
     requires lists { AreListed history.now (names_of history.now) (told topics.now).lists }
     requires few_runs { length (runs_of history.now) < 65536 }
     ensures { IfOk result (λ reply. reply ≡ reply_of (scores_ruling history.now who.now name.now)) }
 {
-    let Some(number) = run_number(history, places, name.bytes()) else {
+    let Some(number) = run_number(history, submissions, name.bytes()) else {
         return Ok(Reply::Refused(Refusal::UnknownRun));
     };
-    if is_another_group(history, places, who, name.bytes()) {
-        return Ok(Reply::Refused(Refusal::NotYours));
+    if let Some(refusal) = run_refusal(history, submissions, who, name.bytes(), number) {
+        return Ok(Reply::Refused(refusal));
     }
     let run = RunId(number as u16);
     let items = topics.items();
@@ -60,24 +59,16 @@ pub(crate) fn scores_reply(
     })
 }
 
-/// Whether a caller is a group, and not the one that submitted the run of this name.
-fn is_another_group(history: &[Entry], places: &[u32], who: &Caller, name: &[u8]) -> bool
-    requires { AreSubmissions history.now places.now }
-    ensures { result ≡ (is_group who.now.role && not (is_submitter history.now who.now.name name.now)) }
-{
-    matches!(who.role, Role::Group) && !is_submitter(history, places, who.name.bytes(), name)
-}
-
-/// The summaries of all runs, by submission.
+/// The summaries of the live runs, by submission.
 pub(crate) fn table_reply(
     alloc: Global,
     history: &[Entry],
     topics: &Topics,
-    places: &[u32],
+    submissions: &[Submission],
 ) -> Result<Reply, Memory>
     requires legal { IsLegal history.now }
     requires knows { (desk : List Lease) × KnowsAll history.now (told topics.now).topics desk }
-    requires places { AreSubmissions history.now places.now }
+    requires submissions { AreSubmissions history.now submissions.now }
     requires level { (told topics.now).level ≡ (rules_of history.now).level }
     requires lists { AreListed history.now (names_of history.now) (told topics.now).lists }
     requires few_runs { length (runs_of history.now) < 65536 }
@@ -86,8 +77,12 @@ pub(crate) fn table_reply(
     let items = topics.items();
     let board = topics.board();
     let mut out = Vec::new(alloc);
-    for (number, place) in places.iter().enumerate() {
-        let name = name_of(&history[*place as usize]);
+    for (number, submission) in submissions.iter().enumerate() {
+        let is_withdrawn = submission.is_withdrawn;
+        if is_withdrawn {
+            continue;
+        }
+        let name = name_of(&history[submission.place as usize]);
         let run = RunId(number as u16);
         write_run_summary(items, board, run, name, &mut out)?;
     }

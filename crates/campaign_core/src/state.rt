@@ -1,25 +1,29 @@
 //! The state of a campaign: its history, and what is known of it by numbers. A request is answered
 //! first; the change of an accepted one is given room then, and made when its entry joins the history.
-ghost use Rattle.std.specs.Prelude.{◌≡◌, ◌<◌, ◌≤◌, ◌∷◌, [], ◌++◌, ℕ, List, length, vec_len, vec_capacity, IfOk, OnOk, OnErr, IsTrue, None, Ok, Some, is_some};
+ghost use Rattle.std.specs.Prelude.{◌≡◌, ◌<◌, ◌≤◌, ◌∷◌, [], ◌++◌, ℕ, List, length, vec_len, vec_capacity, IfOk, OnOk, OnErr, IsTrue, None, Ok, Some};
 ghost use Rattle.assessment.specs.Changes.{facts};
 ghost use Rattle.rulebook.specs.declared.ask.Ask.TheVariants.{Act};
 ghost use Rattle.rulebook.specs.declared.limits.TheConstants.{MAX_ENTRIES, MAX_LINES, MAX_DOCNOS, MAX_RUNS};
 ghost use Rattle.rulebook.specs.Words.{each_once};
 ghost use Rattle.rulebook.specs.Spelling.{are_rules, differ};
-ghost use Rattle.rulebook.specs.Campaign.{docnos_with, docs_on, opens, phase as phase_of, run_in, runs as runs_of, submitted_lines, submitted_docnos};
+ghost use Rattle.rulebook.specs.Campaign.{docnos_with, docs_on, opens, phase as phase_of, publishes, runs as runs_of, submitted_lines, submitted_docnos};
 ghost use Rattle.rulebook.specs.Answers.{answer, moment_after as moment_of, ruled as ruled_of};
-ghost use Rattle.rulebook.specs.Legal.{is_built, is_well_addressed, founding, IsLegal};
-ghost use Rattle.campaign_core.specs.Changes.{AwaitsEntry, phase_after, places_after};
+ghost use Rattle.rulebook.specs.Legal.{is_well_addressed, founding, IsLegal};
+ghost use Rattle.rulebook.specs.Numbers.{used};
+ghost use Rattle.campaign_core.specs.Changes.{AwaitsEntry, phase_after};
 ghost use Rattle.campaign_core.specs.Growth.{BeginsWith, lists_in};
 ghost use Rattle.campaign_core.specs.Joining.{MayJoin};
 ghost use Rattle.campaign_core.specs.Numbers.{are_named};
+ghost use Rattle.campaign_core.specs.NumberedRequests.{number_in, numbers_of, place_of, repeated_reply};
 ghost use Rattle.campaign_core.specs.Kept.{IsAssessmentOf};
 ghost use Rattle.campaign_core.specs.Submissions.{AreSubmissions};
 ghost use Rattle.campaign_core.specs.State.{IsRuling, IsVerdict};
 
 use crate::changes::change_of;
 use crate::queries::told;
+use crate::request_numbers::RequestNumbers;
 use crate::rulings::{moment_after, ruled};
+use crate::submissions::{Submission, line_count, lists_of, note_run};
 use crate::verdict::{Prepared, Verdict};
 use assessment::Assessment;
 use decimal_rank::{Memory, Names, Steps, Text};
@@ -44,10 +48,16 @@ pub struct State {
     docnos: Names,
     /// How many docnos the history has.
     docnos_kept: u32,
+    /// The numbers of the history, and then that of the last command that was prepared.
+    numbers: RequestNumbers,
+    /// How many numbers the history has.
+    numbers_kept: usize,
     /// The topics, the runs' lists and the leases, and the change of the entry that is prepared.
     assessment: Assessment,
-    /// The places of the entries that submit runs, by submission.
-    places: Vec<u32>,
+    /// The entries that submit runs, by submission.
+    submissions: Vec<Submission>,
+    /// How many lines the runs have that were ever submitted.
+    lines: u64,
     prepared: Option<Snapshot<Entry>>,
 }
 
@@ -95,8 +105,11 @@ impl State {
             phase: Phase::Collecting,
             docnos: Names::new(alloc),
             docnos_kept: 0,
+            numbers: RequestNumbers::new(alloc),
+            numbers_kept: 0,
             assessment,
-            places: Vec::new(alloc),
+            submissions: Vec::new(alloc),
+            lines: 0,
             prepared: None,
         })
     }
@@ -124,7 +137,6 @@ impl State {
         moment: u64,
     ) -> Result<Verdict, Memory>
         requires addressed { IsTrue (is_well_addressed who.now number ask moment) }
-        requires unnumbered { number ≡ None }
         ensures history { self.new.history ≡ self.old.history }
         ensures verdict { let answer = answer self.old.history who.now number ask moment in
             IfOk result (λ verdict. IsVerdict answer verdict self.new.prepared) }
@@ -132,7 +144,10 @@ impl State {
     {
         self.forget();
         match ask {
-            Ask::Act(command) => self.prepare_command(who, number, command, moment),
+            Ask::Act(command) => match self.repeated(who, number, &command)? {
+                Some(reply) => Ok(Verdict::Told(reply)),
+                None => self.prepare_command(who, number, command, moment),
+            },
             Ask::See(query) => {
                 let alloc = *self.history.allocator();
                 let now = moment_after(&self.history, moment);
@@ -140,9 +155,10 @@ impl State {
                 let reply = told(
                     alloc,
                     &self.history,
+                    self.phase,
                     &self.assessment,
                     &self.docnos,
-                    &self.places,
+                    &self.submissions,
                     who,
                     now,
                     query,
@@ -161,10 +177,11 @@ impl State {
         ensures legal { IsLegal self.new.history }
     {
         let reply = p.reply;
-        let place = self.history.len() as u32;
         self.docnos_kept = self.docnos.len();
+        self.numbers_kept = self.numbers.len();
         self.phase = phase_after(&p.entry.core.command, self.phase);
-        add_place(&mut self.places, &p.entry.core.command, place);
+        self.lines += line_count(lists_of(&p.entry.core.command));
+        note_run(&self.history, &mut self.submissions, &p.entry);
         self.history.push_reserved(p.entry);
         // a run of the greatest number stands last in a pool, and an entry changes the grades of
         // one document at most
@@ -197,6 +214,24 @@ impl State {
         self.assessment.cancel();
     }
 
+    /// The reply to a command whose caller used its number before.
+    fn repeated(
+        &mut self,
+        who: &Caller,
+        number: Option<u64>,
+        command: &Command,
+    ) -> Result<Option<Reply>, Memory>
+        requires forgotten { self.old.prepared ≡ None }
+        ensures history { self.new.history ≡ self.old.history }
+        ensures prepared { self.new.prepared ≡ None }
+        ensures reply { IfOk result (λ told. told ≡ repeated_reply self.old.history who.now.name number command.now) }
+    {
+        let alloc = *self.history.allocator();
+        self.numbers.cut(self.numbers_kept);
+        kept_reply(alloc, &self.history, &self.numbers, who, number, command)
+    }
+
+    /// What a command comes to whose caller didn't use its number before.
     fn prepare_command(
         &mut self,
         who: &Caller,
@@ -205,6 +240,7 @@ impl State {
         moment: u64,
     ) -> Result<Verdict, Memory>
         requires addressed { IsTrue (is_well_addressed who.now number (Act command) moment) }
+        requires unused { used self.old.history who.now.name number ≡ None }
         requires forgotten { self.old.prepared ≡ None }
         ensures history { self.new.history ≡ self.old.history }
         ensures verdict { let answer = answer self.old.history who.now number (Act command) moment in
@@ -223,12 +259,15 @@ impl State {
             command,
         };
         self.docnos.cut(self.docnos_kept);
+        self.numbers.cut(self.numbers_kept);
         match accepted(
             &mut self.history,
             self.phase,
             &mut self.assessment,
             &mut self.docnos,
-            &mut self.places,
+            &mut self.numbers,
+            &mut self.submissions,
+            self.lines,
             core,
         )? {
             Ok(prepared) => {
@@ -244,11 +283,19 @@ impl State {
 fn phase_after(command: &Command, phase: Phase) -> Phase
     ensures { result ≡ phase_after command.now phase }
 {
-    if opens(command) {
+    if publishes(command) {
+        Phase::Published
+    } else if opens(command) {
         Phase::Judging
     } else {
         phase
     }
+}
+
+fn publishes(command: &Command) -> bool
+    ensures { result ≡ publishes command.now }
+{
+    matches!(command, Command::Publish)
 }
 
 fn opens(command: &Command) -> bool
@@ -257,54 +304,70 @@ fn opens(command: &Command) -> bool
     matches!(command, Command::Open)
 }
 
-/// Adds the place of an entry whose command submits a run.
-fn add_place(places: &mut Vec<u32>, command: &Command, place: u32)
-    requires { vec_len places.old < vec_capacity places.old }
-    ensures { places.new.items ≡ places_after command.now place places.old.items }
+/// The reply to a command whose caller used its number before: the kept one where the command is the
+/// same.
+fn kept_reply(
+    alloc: Global,
+    history: &[Entry],
+    numbers: &RequestNumbers,
+    who: &Caller,
+    number: Option<u64>,
+    command: &Command,
+) -> Result<Option<Reply>, Memory>
+    requires { numbers.now ≡ numbers_of history.now }
+    ensures { IfOk result (λ told. told ≡ repeated_reply history.now who.now.name number command.now) }
 {
-    if submits_run(command) {
-        places.push_reserved(place);
+    let Some(number) = number else {
+        return Ok(None);
+    };
+    let Some(place) = numbers.find(&who.name, number)? else {
+        return Ok(None);
+    };
+    let entry = &history[place as usize - 1];
+    if !command.is_same(&entry.core.command) {
+        return Ok(Some(Reply::Refused(Refusal::Reused { entry: place })));
     }
+    Ok(Some(entry.reply.copy(alloc)?))
 }
 
-fn submits_run(command: &Command) -> bool
-    ensures { result ≡ is_some (run_in command.now) }
-{
-    matches!(command, Command::Submit { .. })
-}
-
-/// The entry of a command, whose change then waits, with its docnos added; or the first refusal of
-/// the command.
+/// The entry of a command, whose change then waits, with its docnos and its number added; or the
+/// first refusal of the command.
 fn accepted(
     history: &mut Vec<Entry>,
     phase: Phase,
     assessment: &mut Assessment,
     docnos: &mut Names,
-    places: &mut Vec<u32>,
+    numbers: &mut RequestNumbers,
+    submissions: &mut Vec<Submission>,
+    lines: u64,
     core: EntryCore,
 ) -> Result<Result<Prepared, Refusal>, Memory>
     requires addressed { IsTrue (is_well_addressed core.caller core.number (Act core.command) core.moment) }
     requires phase { phase ≡ phase_of history.old.items }
     requires legal { IsLegal history.old.items }
     requires assessed { IsAssessmentOf history.old.items (facts assessment.old) }
-    requires places { AreSubmissions history.old.items places.old.items }
+    requires submissions { AreSubmissions history.old.items submissions.old.items }
     requires latest { moment_of history.old.items core.moment ≡ core.moment }
     requires entries_fit { length history.old.items < MAX_ENTRIES }
     requires docnos_are { docnos.old ≡ each_once (submitted_docnos history.old.items) }
     requires docnos_fit { length docnos.old ≤ MAX_DOCNOS }
-    requires lines_fit { submitted_lines history.old.items ≤ MAX_LINES }
+    requires numbers_are { numbers.old ≡ numbers_of history.old.items }
+    requires unused { used history.old.items core.caller.name core.number ≡ None }
+    requires lines_are { lines ≡ submitted_lines history.old.items }
+    requires lines_fit { lines ≤ MAX_LINES }
     requires runs_fit { length (runs_of history.old.items) ≤ MAX_RUNS }
     ensures history { history.new.items ≡ history.old.items }
     ensures facts { facts assessment.new ≡ facts assessment.old }
-    ensures places { places.new.items ≡ places.old.items }
-    ensures grown { BeginsWith docnos.old docnos.new }
+    ensures submissions { submissions.new.items ≡ submissions.old.items }
+    ensures docnos_grown { BeginsWith docnos.old docnos.new }
+    ensures numbers_grown { BeginsWith numbers.old numbers.new }
     ensures ruling { let ruling = ruled_of history.old.items core.caller core.moment core.command in
         IfOk result (IsRuling ruling) }
     ensures core { IfOk result (λ accepted. IfOk accepted (λ entry. entry.core ≡ core)) }
-    ensures joins { IfOk result (λ accepted. IfOk accepted (λ entry. MayJoin history.old.items docnos.new entry)) }
+    ensures joins { IfOk result (λ accepted. IfOk accepted (λ entry. MayJoin history.old.items docnos.new numbers.new entry)) }
     ensures room { let has_room = vec_len history.new < vec_capacity history.new in
         IfOk result (λ accepted. OnOk accepted has_room) }
-    ensures place_room { let has_room = vec_len places.new < vec_capacity places.new in
+    ensures run_room { let has_room = vec_len submissions.new < vec_capacity submissions.new in
         IfOk result (λ accepted. OnOk accepted has_room) }
     ensures waits { IfOk result (λ accepted. IfOk accepted (AwaitsEntry history.old.items docnos.new assessment.new)) }
 {
@@ -316,14 +379,30 @@ fn accepted(
         assessment.topics().items(),
         docnos,
         assessment.desk(),
-        places,
+        submissions,
+        lines,
         &core,
     )? {
-        Ok(reply) => Ok(Ok(made_ready(history, assessment, docnos, places, core, reply)?)),
+        Ok(reply) => {
+            add_number(numbers, &core, history.len() as u32 + 1)?;
+            Ok(Ok(made_ready(history, assessment, docnos, submissions, core, reply)?))
+        }
         Err(refusal) => {
             drop(core);
             Ok(Err(refusal))
         }
+    }
+}
+
+/// Adds the number of an entry at a place, from 1, if it has one.
+fn add_number(numbers: &mut RequestNumbers, core: &EntryCore, place: u32) -> Result<(), Memory>
+    requires { (number : ℕ) → core.now.number ≡ Some number → place_of core.now.caller.name number numbers.old ≡ None }
+    ensures ok { OnOk result (numbers.new ≡ numbers.old ++ number_in place core.now) }
+    ensures grown { BeginsWith numbers.old numbers.new }
+{
+    match core.number {
+        Some(number) => numbers.add(core.caller.name.copy()?, number, place),
+        None => Ok(()),
     }
 }
 
@@ -332,15 +411,14 @@ fn made_ready(
     history: &mut Vec<Entry>,
     assessment: &mut Assessment,
     docnos: &Names,
-    places: &mut Vec<u32>,
+    submissions: &mut Vec<Submission>,
     core: EntryCore,
     reply: Reply,
 ) -> Result<Prepared, Memory>
-    requires built { IsTrue (is_built (Act core.command)) }
     requires legal { IsLegal history.old.items }
     requires accepted { ruled_of history.old.items core.caller core.moment core.command ≡ Ok reply }
     requires assessed { IsAssessmentOf history.old.items (facts assessment.old) }
-    requires places { AreSubmissions history.old.items places.old.items }
+    requires submissions { AreSubmissions history.old.items submissions.old.items }
     requires entries_fit { length history.old.items < MAX_ENTRIES }
     requires docnos_are { docnos.now ≡ docnos_with history.old.items (lists_in core.command) }
     requires few { (topic : List ℕ) → length (docs_on (lists_in core.command) topic) ≤ 1000 }
@@ -349,14 +427,14 @@ fn made_ready(
     requires few_runs { length (runs_of history.old.items) < 65536 }
     ensures history { history.new.items ≡ history.old.items }
     ensures facts { facts assessment.new ≡ facts assessment.old }
-    ensures places { places.new.items ≡ places.old.items }
+    ensures submissions { submissions.new.items ≡ submissions.old.items }
     ensures room { OnOk result (vec_len history.new < vec_capacity history.new) }
-    ensures place_room { OnOk result (vec_len places.new < vec_capacity places.new) }
+    ensures run_room { OnOk result (vec_len submissions.new < vec_capacity submissions.new) }
     ensures entry { IfOk result (λ entry. entry ≡ record { core = core; reply = reply }) }
     ensures waits { IfOk result (AwaitsEntry history.old.items docnos.now assessment.new) }
 {
     history.reserve(1)?;
-    places.reserve(1)?;
+    submissions.reserve(1)?;
     let alloc = *history.allocator();
     let change = change_of(
         alloc,
@@ -364,7 +442,7 @@ fn made_ready(
         assessment.topics().items(),
         docnos,
         assessment.desk(),
-        places,
+        submissions,
         &core,
         &reply,
     )?;

@@ -82,7 +82,7 @@ fn thrown(dice: &mut Dice, plain: &Plain) -> (u8, Request) {
     let number = granted(plain).saturating_sub(dice.below(4));
     let holder = plain.holder(number).unwrap_or(assessor);
     let grade = thrown_grade(dice);
-    match dice.below(26) {
+    match dice.below(28) {
         0..=6 => (assessor, Request::Lease(b'1')),
         7..=11 => (holder, Request::Grade(number, grade)),
         12 => (assessor, Request::Grade(dice.below(9), grade)),
@@ -95,8 +95,18 @@ fn thrown(dice: &mut Dice, plain: &Plain) -> (u8, Request) {
         21 => (O, Request::Page(Page::Disagreements)),
         22 | 23 => (O, Request::Scores(letter_or_a(b'a' + dice.below(5) as u8))),
         24 => (O, Request::Table),
+        25 => (O, Request::ReleaseQrels(dice.below(2))),
+        26 => (O, thrown_withdrawal(dice)),
         _ => (O, Request::Page(Page::Progress)),
     }
+}
+
+// A withdrawal now and then, of a run or of none, and else a table.
+fn thrown_withdrawal(dice: &mut Dice) -> Request {
+    if dice.below(2) == 0 {
+        return Request::Withdraw(letter_or_a(b'a' + dice.below(5) as u8));
+    }
+    Request::Table
 }
 
 // Plays a course, and tells its first reply that the plain lists don't want.

@@ -11,10 +11,16 @@ mod courses;
 #[cfg(test)]
 mod leases;
 #[cfg(test)]
+mod numbers;
+#[cfg(test)]
 mod pages;
 #[cfg(test)]
 mod plain_walk;
 #[cfg(test)]
+mod releases;
+#[cfg(test)]
 mod requests;
 #[cfg(test)]
 mod scores;
+#[cfg(test)]
+mod withdrawals;

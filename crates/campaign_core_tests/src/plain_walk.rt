@@ -46,6 +46,8 @@ pub(crate) struct Plain {
     setting: Setting,
     // the number of each run's ranking
     runs: Vec<u32>,
+    // the places of the runs that were withdrawn
+    withdrawn: Vec<usize>,
     // the leases by number
     leases: Vec<PlainLease>,
     // one of each assessor on each document
@@ -64,6 +66,7 @@ impl Plain {
         Plain {
             setting,
             runs,
+            withdrawn: Vec::new(alloc),
             leases: Vec::new(alloc),
             labels: Vec::new(alloc),
             rulings: Vec::new(alloc),
@@ -169,6 +172,10 @@ fn comes_before(plain: &Plain, first: u32, second: u32, is_earlier: bool) -> boo
     is_before
 }
 
+fn takes_part(plain: &Plain, run: usize) -> bool {
+    !plain.withdrawn.contains(&run)
+}
+
 fn is_live(lease: &PlainLease, now: u64) -> bool {
     !lease.is_ended && now < lease.until
 }
@@ -223,6 +230,7 @@ fn first_open(plain: &Plain, ranked: u32, assessor: u8, now: u64) -> Option<u8> 
 fn is_first(plain: &Plain, run: usize, ranked: u32, assessor: u8, now: u64) -> bool {
     for (other, other_ranked) in plain.runs.iter().enumerate() {
         if other != run
+            && takes_part(plain, other)
             && first_open(plain, *other_ranked, assessor, now).is_some()
             && !comes_before(plain, ranked, *other_ranked, run < other)
         {
@@ -234,7 +242,8 @@ fn is_first(plain: &Plain, run: usize, ranked: u32, assessor: u8, now: u64) -> b
 
 fn named(plain: &Plain, assessor: u8, now: u64) -> Option<u8> {
     for (run, ranked) in plain.runs.iter().enumerate() {
-        if let Some(doc) = first_open(plain, *ranked, assessor, now)
+        if takes_part(plain, run)
+            && let Some(doc) = first_open(plain, *ranked, assessor, now)
             && is_first(plain, run, *ranked, assessor, now)
         {
             return Some(doc);
@@ -447,13 +456,22 @@ fn print_disagreements(plain: &Plain, out: &mut Vec<u8>) -> Result<(), Memory> {
     Ok(())
 }
 
+fn is_pooled(plain: &Plain, doc: u8) -> bool {
+    for (run, ranked) in plain.runs.iter().enumerate() {
+        if takes_part(plain, run) && holds(plain, *ranked, doc) {
+            return true;
+        }
+    }
+    false
+}
+
 // How many of the documents a to h are pooled, relevant and graded lower.
 fn counted(plain: &Plain) -> (usize, usize, usize) {
     let mut pooled: usize = 0;
     let mut relevant: usize = 0;
     let mut lower: usize = 0;
     for doc in b'a'..=b'h' {
-        if plain.runs.iter().any(|ranked| holds(plain, *ranked, doc)) {
+        if is_pooled(plain, doc) {
             pooled = pooled.saturating_add(1);
         }
         match effective_grade(plain, doc) {
@@ -559,6 +577,9 @@ fn run_letter(run: usize) -> u8 {
 fn plainly_scored(plain: &Plain, letter: u8) -> Result<Told, Memory> {
     for (run, ranked) in plain.runs.iter().enumerate() {
         if run_letter(run) == letter {
+            if !takes_part(plain, run) {
+                return Ok(Told::Refused(Refusal::Withdrawn));
+            }
             let mut out = Vec::new(*plain.runs.allocator());
             print_cell(plain, run, *ranked, &mut out)?;
             print_summary(plain, run, *ranked, &mut out)?;
@@ -568,10 +589,26 @@ fn plainly_scored(plain: &Plain, letter: u8) -> Result<Told, Memory> {
     Ok(Told::Refused(Refusal::UnknownRun))
 }
 
+fn plainly_withdrawn(plain: &mut Plain, letter: u8, now: u64) -> Result<Told, Memory> {
+    for run in 0..plain.runs.len() {
+        if run_letter(run) == letter {
+            if !takes_part(plain, run) {
+                return Ok(Told::Refused(Refusal::Withdrawn));
+            }
+            plain.withdrawn.push(run)?;
+            plain.now = now;
+            return Ok(Told::Done(now));
+        }
+    }
+    Ok(Told::Refused(Refusal::UnknownRun))
+}
+
 fn plainly_tabled(plain: &Plain) -> Result<Told, Memory> {
     let mut out = Vec::new(*plain.runs.allocator());
     for (run, ranked) in plain.runs.iter().enumerate() {
-        print_summary(plain, run, *ranked, &mut out)?;
+        if takes_part(plain, run) {
+            print_summary(plain, run, *ranked, &mut out)?;
+        }
     }
     Ok(printed(&out))
 }
@@ -606,5 +643,12 @@ pub(crate) fn plainly_told(
         Request::Scores(run) => plainly_scored(plain, run),
         Request::GroupScores(_) => Ok(Told::Refused(Refusal::NotYours)),
         Request::Table => plainly_tabled(plain),
+        Request::Withdraw(run) => plainly_withdrawn(plain, run, now),
+        Request::GroupWithdraw(_) => Ok(Told::Refused(Refusal::NotYours)),
+        // no campaign of the walk is published
+        Request::Publish => Ok(Told::Other),
+        Request::ReleaseQrels(_) | Request::ReleaseScores(_) => {
+            Ok(Told::Refused(Refusal::UnknownRelease))
+        }
     }
 }

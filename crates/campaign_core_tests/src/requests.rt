@@ -1,10 +1,10 @@
 //! Requests to the campaigns of the tests.
 ghost use Rattle.std.specs.Prelude.{◌≡◌, ℕ, ◌≤◌, ◌∷◌, [], None, Some, IfOk, IsTrue, codes};
-ghost use Rattle.rulebook.specs.declared.ask.Ask.TheVariants.{Act, See};
+ghost use Rattle.rulebook.specs.declared.ask.Ask.TheVariants.{Act};
 ghost use Rattle.rulebook.specs.declared.limits.TheConstants.{MAX_MOMENT};
 ghost use Rattle.rulebook.specs.declared.rules.Role.TheVariants.{Organiser};
 ghost use Rattle.rulebook.specs.declared.rules.Caller.{Caller};
-ghost use Rattle.rulebook.specs.Legal.{is_built, is_named, is_well_addressed};
+ghost use Rattle.rulebook.specs.Legal.{is_named, is_well_addressed};
 ghost use Rattle.rulebook.specs.Roles.{may_see};
 ghost use Rattle.trec_formats.specs.Names.{is_docno, is_name};
 
@@ -54,6 +54,16 @@ pub(crate) enum Request {
     GroupScores(u8),
     /// The scores of all runs, of an organiser.
     Table,
+    /// The withdrawal of the run of this one letter, of an organiser.
+    Withdraw(u8),
+    /// The same, of a group.
+    GroupWithdraw(u8),
+    /// The publication, of an organiser.
+    Publish,
+    /// The qrels of the release of this number, of a group.
+    ReleaseQrels(u32),
+    /// The scores of all runs of the release of this number, of an assessor.
+    ReleaseScores(u32),
 }
 
 /// How long a page is, its first 64 bytes with zeros behind, and a checksum of all of it.
@@ -260,7 +270,7 @@ pub(crate) fn asked(
     let (role, ask) = ask_of(alloc, request)?;
     let who = caller(alloc, &[letter_or_a(name)], role)?;
     let is_kept = !matches!(request, Request::CancelledLease);
-    told_at(state, &who, ask, moment.min(MAX_MOMENT), is_kept)
+    told_at(state, &who, None, ask, moment.min(MAX_MOMENT), is_kept)
 }
 
 // What a request asks, and the role of those who may ask it.
@@ -306,12 +316,26 @@ fn ask_of(alloc: Global, request: Request) -> Result<(Role, Ask), Memory>
             Ok((Role::Group, Ask::See(Query::Scores { run })))
         }
         Request::Table => Ok((Role::Organiser, Ask::See(Query::Table))),
+        Request::Withdraw(run) => {
+            let run = text(alloc, &[letter_or_a(run)])?;
+            Ok((Role::Organiser, Ask::Act(Command::Withdraw { run })))
+        }
+        Request::GroupWithdraw(run) => {
+            let run = text(alloc, &[letter_or_a(run)])?;
+            Ok((Role::Group, Ask::Act(Command::Withdraw { run })))
+        }
+        Request::Publish => Ok((Role::Organiser, Ask::Act(Command::Publish))),
+        Request::ReleaseQrels(release) => {
+            Ok((Role::Group, Ask::See(Query::ReleaseQrels { release })))
+        }
+        Request::ReleaseScores(release) => {
+            Ok((Role::Assessor, Ask::See(Query::ReleaseScores { release })))
+        }
     }
 }
 
 // The query of a page.
 fn query_of(page: Page) -> Query
-    ensures built { IsTrue (is_built (See result)) }
     ensures seen { IsTrue (may_see Organiser result) }
     ensures named { IsTrue (is_named result) }
 {
@@ -346,13 +370,14 @@ pub(crate) fn letter_or_a(byte: u8) -> u8
 pub(crate) fn told_at(
     state: &mut State,
     who: &Caller,
+    number: Option<u64>,
     ask: Ask,
     moment: u64,
     is_kept: bool,
 ) -> Result<Told, Memory>
-    requires { IsTrue (is_well_addressed who.now None ask moment) }
+    requires { IsTrue (is_well_addressed who.now number ask moment) }
 {
-    match state.prepare(who, None, ask, moment)? {
+    match state.prepare(who, number, ask, moment)? {
         Verdict::Told(reply) => Ok(told_by(&reply, 0)),
         Verdict::Ready(prepared) => Ok(told_after(state, prepared, is_kept)),
     }

@@ -88,7 +88,7 @@ X\tall\tP_1000\t0.0010\n\
 ";
 
 // X of a, b, e where b, c and f are relevant, and a, d and e aren't.
-const SCORES_OF_X: &str = "\
+pub(crate) const SCORES_OF_X: &str = "\
 X\t1\tnum_ret\t3\n\
 X\t1\tnum_rel\t3\n\
 X\t1\tnum_rel_ret\t1\n\
@@ -125,7 +125,7 @@ X\tall\tP_1000\t0.0010\n\
 ";
 
 // Y of c, d, f where they are so.
-const SCORES_OF_Y: &str = "\
+pub(crate) const SCORES_OF_Y: &str = "\
 Y\t1\tnum_ret\t3\n\
 Y\t1\tnum_rel\t3\n\
 Y\t1\tnum_rel_ret\t2\n\
@@ -162,7 +162,7 @@ Y\tall\tP_1000\t0.0020\n\
 ";
 
 // The summaries of both.
-const TABLE: &str = "\
+pub(crate) const TABLE: &str = "\
 X\tall\tnum_q\t1\n\
 X\tall\tnum_ret\t3\n\
 X\tall\tnum_rel\t3\n\
@@ -221,7 +221,7 @@ X\tall\tP_1000\t0.0000\n\
 ";
 
 // The requests of an assessor who grades the six documents of X and Y as they are named.
-const ALL_GRADED: [Step; 12] = [
+pub(crate) const ALL_GRADED: [Step; 12] = [
     (
         P,
         1000,
@@ -345,6 +345,20 @@ fn group_name(is_submitter: bool) -> &'static [u8]
     if is_submitter { b"grp" } else { b"gr" }
 }
 
+// What a group is told of the scores of the run of one letter.
+pub(crate) fn told_of_scores(
+    alloc: Global,
+    state: &mut State,
+    is_submitter: bool,
+    run: u8,
+) -> Result<Told, Memory> {
+    let who = caller(alloc, group_name(is_submitter), Role::Group)?;
+    let query = Query::Scores {
+        run: text(alloc, &[letter_or_a(run)])?,
+    };
+    told_at(state, &who, None, Ask::See(query), 1000, true)
+}
+
 // What a group is told of the scores of the run of one letter after the steps.
 fn told_to_group(
     alloc: Global,
@@ -386,11 +400,7 @@ fn told_by_state(
 ) -> Result<(Surprise, Told), Memory> {
     started(alloc, state, Start::TwoRuns)?;
     let surprise = first_surprise(alloc, state, steps)?;
-    let who = caller(alloc, group_name(is_submitter), Role::Group)?;
-    let query = Query::Scores {
-        run: text(alloc, &[letter_or_a(run)])?,
-    };
-    let told = told_at(state, &who, Ask::See(query), 1000, true)?;
+    let told = told_of_scores(alloc, state, is_submitter, run)?;
     Ok((surprise, told))
 }
 

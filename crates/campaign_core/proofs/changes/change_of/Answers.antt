@@ -1,11 +1,16 @@
-use Rattle.std.proofs.Common.{◌≡◌, arith, map, rules}
+use Rattle.std.proofs.Common.{◌≡◌, ◌∙◌, ap, arith, is_some, map, rules, sym}
+use Rattle.std.specs.List.{position}
+use Rattle.std.specs.Str.{bytes_eq}
 use Rattle.rulebook.specs.declared.ask.Command.TheVariants as command
 use Rattle.rulebook.specs.declared.entry.Entry.{Entry}
 use Rattle.assessment.specs.TopicFacts.{facts_of}
+use Rattle.rulebook.specs.Campaign.{Run, runs}
+use Rattle.rulebook.specs.Words.{Text}
 use Rattle.campaign_core.specs.Topics.{topic_ids}
 use Rattle.campaign_core.proofs.NamedDocs.{doc-named}
-use Rattle.campaign_core.proofs.Accepting.{topics-few}
-use Rattle.campaign_core.proofs.Submitted.{as-many}
+use Rattle.campaign_core.proofs.Accepting.{topics-few, withdraw-told}
+use Rattle.campaign_core.proofs.ScoresTold.{place-named}
+use Rattle.campaign_core.proofs.Submitted.{runs-many}
 use Rattle.campaign_core.proofs.Planning.{told-amendment, told-grade, told-lease, told-release, told-ruling}
 use Rattle.campaign_core.proofs.changes.change_of.Goals as goal
 
@@ -15,7 +20,7 @@ topics_change-requires-clause-few c =
     topics-few c.args.history.now c.items.result.now c.args.reply.now (rw is at c.requires.accepted)
 
 pub overflow_cast-result : goal.overflow_cast-result
-overflow_cast-result c = omega (arith, as-many c.args.history.now c.args.places.now c.requires.places, c.requires.runs)
+overflow_cast-result c = omega (arith, runs-many c.args.history.now c.args.submissions.now c.requires.submissions, c.requires.runs)
 
 pub returns-in-Topics : goal.returns-in-Topics
 returns-in-Topics c =
@@ -69,7 +74,7 @@ place_of-number-requires-in-Rule c =
 pub returns-in_ok-rankings_of-in-Submit : goal.returns-in_ok-rankings_of-in-Submit
 returns-in_ok-rankings_of-in-Submit c =
     let is : c.args.core.now.command ≡ command.Submit c.in-Submit.run' c.items-in-Submit.result.now = search rules in
-    (c.in-Submit.run', c.items-in-Submit.result.now, is, as-many c.args.history.now c.args.places.now c.requires.places, c.in_ok-rankings_of-in-Submit.ensures)
+    (c.in-Submit.run', c.items-in-Submit.result.now, is, runs-many c.args.history.now c.args.submissions.now c.requires.submissions, c.in_ok-rankings_of-in-Submit.ensures)
 
 pub returns-in_ok-copy-in-Amend : goal.returns-in_ok-copy-in-Amend
 returns-in_ok-copy-in-Amend c =
@@ -91,3 +96,15 @@ returns-in-Rule c =
       is,
       c.place_of-number-in-Rule.ensures (topic_ids H) (told-ruling H c.args.docnos.now (map facts_of c.args.topics.now) c.args.desk.now.leases c.args.core.now c.in-Rule.topic c.in-Rule.doc c.in-Rule.grade c.args.reply.now is c.requires.accepted c.requires.stands c.requires.docnos_are),
     )
+
+pub unwrap-number-requires : goal.unwrap-number-requires
+unwrap-number-requires c =
+    let H = c.args.history.now in
+    let name = c.in-Withdraw.run' in
+    let told = withdraw-told H c.args.core.now.caller name c.args.reply.now (rw c.in-Withdraw.is at c.requires.accepted) in
+    ap is_some (c.run_number.ensures ∙ ap (λ (name : Text). position (λ (run : Run). bytes_eq run.name name) (runs H)) c.bytes.ensures) ∙ place-named H name told.run told.found
+
+pub returns-in-Withdraw : goal.returns-in-Withdraw
+returns-in-Withdraw c =
+    let H = c.args.history.now in
+    (c.in-Withdraw.run', c.in-Withdraw.is, sym c.unwrap-number.ensures ∙ c.run_number.ensures ∙ ap (λ (name : Text). position (λ (run : Run). bytes_eq run.name name) (runs H)) c.bytes.ensures)

@@ -20,11 +20,11 @@ unwrap-requires c =
     some-there c.topic_number.result (topic_in (topic_ids H) topic)
     (c.topic_number.ensures ∙ ap (λ (id : Text). position (λ (t : TopicFacts). bytes_eq t.id id) (map facts_of c.args.topics.now)) c.bytes.ensures ∙ topic-found (map facts_of c.args.topics.now) (topic_ids H) topic told.ids_are told.listed)
 
-pub unwrap-requires-in-Leased : goal.unwrap-requires-in-Leased
-unwrap-requires-in-Leased c =
+pub unwrap-requires-2 : goal.unwrap-requires-2
+unwrap-requires-2 c =
     let told = c.requires.accepted.1 in
     let doc_is : c.in-Leased.doc ≡ told.doc = search rules in
-    is_found c.args.docnos.now told.doc c.find.result told.doc_named (c.find.ensures ∙ ap (number_of c.args.docnos.now) (c.bytes-in-Leased.ensures ∙ doc_is))
+    is_found c.args.docnos.now told.doc c.find.result told.doc_named (c.find.ensures ∙ ap (number_of c.args.docnos.now) (c.bytes-2.ensures ∙ doc_is))
 
 pub returns : goal.returns
 returns c = λ H desk told.
@@ -38,13 +38,13 @@ returns c = λ H desk told.
     let found : c.topic_number.result ≡ Some (topic_in (topic_ids H) topic) =
     c.topic_number.ensures ∙ ap (λ (id : Text). position (λ (t : TopicFacts). bytes_eq t.id id) (map facts_of c.args.topics.now)) c.bytes.ensures ∙ topic-found (map facts_of c.args.topics.now) (topic_ids H) topic told.ids_are told.listed in
     let at : c.topic_number.result ≡ Some c.unwrap.result = search rules in
-    let there : c.find.result ≡ Some c.unwrap-in-Leased.result = search rules in
+    let there : c.find.result ≡ Some c.unwrap-2.result = search rules in
     record {
       command_is = (topic, told.command_is);
       lease = lease;
       told = ap (lease_in caller) told.reply_is;
       topic_is = some-same c.unwrap.result (topic_in (topic_ids H) topic) (sym at ∙ found);
-      doc_is = found-number names told.doc c.unwrap-in-Leased.result c.find.result told.doc_named (c.find.ensures ∙ ap (number_of names) (c.bytes-in-Leased.ensures ∙ doc_is)) there;
+      doc_is = found-number names told.doc c.unwrap-2.result c.find.result told.doc_named (c.find.ensures ∙ ap (number_of names) (c.bytes-2.ensures ∙ doc_is)) there;
       until_is = until_is;
       assessor_is = search rules;
       doc_named = told.doc_named;

@@ -1,4 +1,4 @@
-use Rattle.std.proofs.Common.{◌≡◌, ◌<◌, ◌≤◌, ap, arith, get_or, length, map, sym, ◌∙◌, Ok, subst}
+use Rattle.std.proofs.Common.{◌≡◌, ◌<◌, ◌≤◌, ap, arith, get_or, map, sym, ◌∙◌, Ok, subst}
 use Rattle.std.proofs.lemmas.List.{length-map}
 use Rattle.decimal_rank.specs.Names.{docno_of}
 use Rattle.rulebook.specs.declared.reply.Reply.TheVariants as reply

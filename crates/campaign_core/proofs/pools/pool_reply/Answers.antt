@@ -3,7 +3,6 @@ use Rattle.std.specs.Prelude.{All}
 use Rattle.decimal_rank.specs.Names.{docno_of}
 use Rattle.decimal_rank.specs.declared.naming.DocId.{DocId}
 use Rattle.depth_pool.specs.Holdings.{AreByDocno, Held, some_run_holds}
-use Rattle.rulebook.specs.declared.reply.Reply.TheVariants as reply
 use Rattle.rulebook.specs.Campaign.{is_topic, pool, topics}
 use Rattle.campaign_core.specs.Numbers.{names_of}
 use Rattle.campaign_core.specs.Topics.{KeptTopic, pool_of}

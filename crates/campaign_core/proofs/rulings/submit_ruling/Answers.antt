@@ -9,7 +9,7 @@ use Rattle.rulebook.specs.Campaign.{phase, submitted_docnos, submitted_lines, do
 use Rattle.rulebook.specs.Answers.{unknown_line}
 use Rattle.std.specs.List.{fold}
 use Rattle.campaign_core.proofs.Accepted.{collecting-from, submit-accepted, submit-too-many-docnos, submit-too-many-lines, submit-too-many-runs, each_once-submitted}
-use Rattle.campaign_core.proofs.Submitted.{as-many}
+use Rattle.campaign_core.proofs.Submitted.{runs-many}
 use Rattle.campaign_core.proofs.rulings.submit_ruling.Goals as goal
 
 pub returns-clause-ruling : goal.returns-clause-ruling
@@ -19,7 +19,7 @@ returns-clause-ruling c =
     let collecting : phase H ≡ Collecting = sym c.requires.phase ∙ collecting-from c.args.phase (search rules) in
     let new : is_taken H c.args.run.now ≡ false = search rules in
     let known : unknown_line H lists ≡ None = search rules in
-    let runs_fit : length (runs H) < MAX_RUNS = omega (arith, as-many H c.args.places.now c.requires.places, c.if-places.false) in
+    let runs_fit : length (runs H) < MAX_RUNS = omega (arith, runs-many H c.args.submissions.now c.requires.submissions, c.if-submissions.false) in
     let docnos_are : c.add_docnos.new.docnos ≡ each_once (submitted_docnos H ++ docnos lists)
     = c.in_ok-add_docnos.ensures.ok ∙ ap (λ texts. fold with_name texts (docnos lists)) c.requires.docnos_are ∙ sym (each_once-submitted H lists) in
     let same = submit-accepted H c.args.run.now lists collecting new known runs_fit (search rules) (rw (← docnos_are) (search rules)) in
@@ -27,14 +27,14 @@ returns-clause-ruling c =
     ∙ ap (λ lines. Ok (reply.Submitted c.args.run.now (length lists) lines)) c.line_count-lines.ensures
     ∙ sym same
 
-pub returns-then-places-clause-ruling : goal.returns-then-places-clause-ruling
-returns-then-places-clause-ruling c =
+pub returns-then-submissions-clause-ruling : goal.returns-then-submissions-clause-ruling
+returns-then-submissions-clause-ruling c =
     let H = c.args.history.now in
     let lists = c.args.lists.now in
     let collecting : phase H ≡ Collecting = sym c.requires.phase ∙ collecting-from c.args.phase (search rules) in
     let new : is_taken H c.args.run.now ≡ false = search rules in
     let known : unknown_line H lists ≡ None = search rules in
-    let full : MAX_RUNS ≤ length (runs H) = omega (arith, as-many H c.args.places.now c.requires.places, c.if-places.true) in
+    let full : MAX_RUNS ≤ length (runs H) = omega (arith, runs-many H c.args.submissions.now c.requires.submissions, c.if-submissions.true) in
     ap Err c.limit.ensures ∙ sym (submit-too-many-runs H c.args.run.now lists collecting new known full)
 
 pub returns-then-exceeds-clause-ruling : goal.returns-then-exceeds-clause-ruling
@@ -44,7 +44,7 @@ returns-then-exceeds-clause-ruling c =
     let collecting : phase H ≡ Collecting = sym c.requires.phase ∙ collecting-from c.args.phase (search rules) in
     let new : is_taken H c.args.run.now ≡ false = search rules in
     let known : unknown_line H lists ≡ None = search rules in
-    let runs_fit : length (runs H) < MAX_RUNS = omega (arith, as-many H c.args.places.now c.requires.places, c.if-places.false) in
+    let runs_fit : length (runs H) < MAX_RUNS = omega (arith, runs-many H c.args.submissions.now c.requires.submissions, c.if-submissions.false) in
     let full : nat_lt MAX_LINES (submitted_lines H + line_count lists) ≡ true = search rules in
     ap Err c.limit-then-exceeds.ensures ∙ sym (submit-too-many-lines H c.args.run.now lists collecting new known runs_fit full)
 
@@ -55,7 +55,7 @@ returns-then-len-gt-MAX_DOCNOS-clause-ruling c =
     let collecting : phase H ≡ Collecting = sym c.requires.phase ∙ collecting-from c.args.phase (search rules) in
     let new : is_taken H c.args.run.now ≡ false = search rules in
     let known : unknown_line H lists ≡ None = search rules in
-    let runs_fit : length (runs H) < MAX_RUNS = omega (arith, as-many H c.args.places.now c.requires.places, c.if-places.false) in
+    let runs_fit : length (runs H) < MAX_RUNS = omega (arith, runs-many H c.args.submissions.now c.requires.submissions, c.if-submissions.false) in
     let docnos_are : c.add_docnos.new.docnos ≡ each_once (submitted_docnos H ++ docnos lists)
     = c.in_ok-add_docnos.ensures.ok ∙ ap (λ texts. fold with_name texts (docnos lists)) c.requires.docnos_are ∙ sym (each_once-submitted H lists) in
     ap Err c.limit-then-len-gt-MAX_DOCNOS.ensures ∙ sym (submit-too-many-docnos H c.args.run.now lists collecting new known runs_fit (search rules) (rw (← docnos_are) (search rules)))

@@ -1,43 +1,55 @@
-use Rattle.std.proofs.Common.{◌≡◌, ◌||◌, ◌∙◌, ◌+◌, ◌≤◌, Bool, true, false, ap, drop, length, sym, rules}
-use Rattle.std.proofs.lemmas.List.{drop_all}
+use Rattle.std.proofs.Common.{◌≡◌, ◌||◌, ◌∙◌, ◌+◌, ◌<◌, ◌≤◌, ℕ, List, Bool, true, false, ap, arith, drop, get_or, length, map, sym}
+use Rattle.std.proofs.lemmas.List.{drop_all, length-map}
 use Rattle.rulebook.specs.declared.entry.Entry.{Entry}
-use Rattle.campaign_core.specs.Submissions.{any_at, is_submitted_by}
-use Rattle.campaign_core.proofs.Submitted.{any-entry, any-from, place-within, submits-only}
+use Rattle.campaign_core.specs.Submissions.{any_at, entry_place, is_submitted_by}
+use Rattle.campaign_core.proofs.ListFacts.{get-map}
+use Rattle.campaign_core.proofs.Submitted.{any-entry, any-from, entry-within, submits-only}
 use Rattle.campaign_core.proofs.submissions.is_submitter.Goals as goal
 
-pub bounds-history-place : goal.bounds-history-place
-bounds-history-place c = place-within c.args.history.now c.args.places.now c.loop-place.place-index c.requires c.loop-place-test.true
+pub bounds-history-submission : goal.bounds-history-submission
+bounds-history-submission c = entry-within c.args.history.now c.args.submissions.now c.loop-submission.submission-index _ c.requires c.loop-submission-test.true
 
 pub returns-then-is_submitted_by : goal.returns-then-is_submitted_by
 returns-then-is_submitted_by c =
     let H = c.args.history.now in
-    let i = c.loop-place.place-index in
+    let all = c.args.submissions.now in
+    let places : List ℕ = map entry_place all in
+    let i = c.loop-submission.submission-index in
     let passes : Entry → Bool = is_submitted_by c.args.caller.now c.args.name.now in
-    let here : passes c.index-history-place.result ≡ true = sym c.is_submitted_by.ensures ∙ c.if-is_submitted_by.true in
+    let here : passes c.index-history-submission.result ≡ true = sym c.is_submitted_by.ensures ∙ c.if-is_submitted_by.true in
+    let within : i < length places = omega (arith, c.loop-submission-test.true, length-map all entry_place) in
+    let at : get_or places i 0 ≡ (get_or all i (record { place = 0; is_withdrawn = false })).place = get-map entry_place all i (record { place = 0; is_withdrawn = false }) in
     sym
-    (sym (any-entry passes H c.args.places.now c.requires (submits-only c.args.caller.now c.args.name.now))
-    ∙ sym c.loop-place.invariant
-    ∙ any-from passes H c.args.places.now i c.index-history-place.result c.requires c.loop-place-test.true
-    ∙ ap (λ (e : Entry). passes e || any_at passes H (drop (i + 1) c.args.places.now)) (sym c.index-history-place.is)
-    ∙ ap (λ t. t || any_at passes H (drop (i + 1) c.args.places.now)) here)
+    (sym (any-entry passes H places c.requires.places_are (submits-only c.args.caller.now c.args.name.now))
+    ∙ sym c.loop-submission.invariant
+    ∙ any-from passes H places i c.index-history-submission.result c.requires.places_are within
+    ∙ ap (λ (n : ℕ). passes (get_or H n c.index-history-submission.result) || any_at passes H (drop (i + 1) places)) at
+    ∙ ap (λ (e : Entry). passes e || any_at passes H (drop (i + 1) places)) (sym c.index-history-submission.is)
+    ∙ ap (λ t. t || any_at passes H (drop (i + 1) places)) here)
 
-pub loop-place-preserved : goal.loop-place-preserved
-loop-place-preserved c =
+pub loop-submission-preserved : goal.loop-submission-preserved
+loop-submission-preserved c =
     let H = c.args.history.now in
-    let i = c.loop-place.place-index in
+    let all = c.args.submissions.now in
+    let places : List ℕ = map entry_place all in
+    let i = c.loop-submission.submission-index in
     let passes : Entry → Bool = is_submitted_by c.args.caller.now c.args.name.now in
-    let other : passes c.index-history-place.result ≡ false = sym c.is_submitted_by.ensures ∙ c.if-is_submitted_by.false in
+    let other : passes c.index-history-submission.result ≡ false = sym c.is_submitted_by.ensures ∙ c.if-is_submitted_by.false in
+    let within : i < length places = omega (arith, c.loop-submission-test.true, length-map all entry_place) in
+    let at : get_or places i 0 ≡ (get_or all i (record { place = 0; is_withdrawn = false })).place = get-map entry_place all i (record { place = 0; is_withdrawn = false }) in
     sym
-    (any-from passes H c.args.places.now i c.index-history-place.result c.requires c.loop-place-test.true
-    ∙ ap (λ (e : Entry). passes e || any_at passes H (drop (i + 1) c.args.places.now)) (sym c.index-history-place.is)
-    ∙ ap (λ t. t || any_at passes H (drop (i + 1) c.args.places.now)) other)
-    ∙ c.loop-place.invariant
+    (any-from passes H places i c.index-history-submission.result c.requires.places_are within
+    ∙ ap (λ (n : ℕ). passes (get_or H n c.index-history-submission.result) || any_at passes H (drop (i + 1) places)) at
+    ∙ ap (λ (e : Entry). passes e || any_at passes H (drop (i + 1) places)) (sym c.index-history-submission.is)
+    ∙ ap (λ t. t || any_at passes H (drop (i + 1) places)) other)
+    ∙ c.loop-submission.invariant
 
 pub returns : goal.returns
 returns c =
     let H = c.args.history.now in
+    let places : List ℕ = map entry_place c.args.submissions.now in
     let passes : Entry → Bool = is_submitted_by c.args.caller.now c.args.name.now in
-    let past : length c.args.places.now ≤ c.loop-place.place-index = search rules in
-    ap (any_at passes H) (sym (drop_all c.loop-place.place-index c.args.places.now past))
-    ∙ c.loop-place.invariant
-    ∙ any-entry passes H c.args.places.now c.requires (submits-only c.args.caller.now c.args.name.now)
+    let past : length places ≤ c.loop-submission.submission-index = omega (arith, c.loop-submission-test.false, length-map c.args.submissions.now entry_place) in
+    ap (any_at passes H) (sym (drop_all c.loop-submission.submission-index places past))
+    ∙ c.loop-submission.invariant
+    ∙ any-entry passes H places c.requires.places_are (submits-only c.args.caller.now c.args.name.now)

@@ -1,6 +1,6 @@
-use Rattle.std.proofs.Common.{◌≡◌, drop}
-use Rattle.campaign_core.specs.Submissions.{any_at, is_submitted_by}
+use Rattle.std.proofs.Common.{◌≡◌, drop, map}
+use Rattle.campaign_core.specs.Submissions.{any_at, entry_place, is_submitted_by}
 use Rattle.campaign_core.proofs.submissions.is_submitter.Given as goal
 
-abbrev pub invariant-loop-place : goal.invariant-loop-place
-invariant-loop-place l = any_at (is_submitted_by l.caller l.name) l.history (drop l.place-index l.places) ≡ any_at (is_submitted_by l.caller l.name) l.history l.places
+abbrev pub invariant-loop-submission : goal.invariant-loop-submission
+invariant-loop-submission l = any_at (is_submitted_by l.caller l.name) l.history (drop l.submission-index (map entry_place l.submissions)) ≡ any_at (is_submitted_by l.caller l.name) l.history (map entry_place l.submissions)

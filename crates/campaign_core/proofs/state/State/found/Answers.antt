@@ -1,11 +1,11 @@
 use Rattle.std.proofs.Common.{rules}
 use Rattle.assessment.specs.Changes.{facts}
-use Rattle.campaign_core.proofs.Preparing.{founded-assessed, founded-places, founded-unjudged}
+use Rattle.campaign_core.proofs.Preparing.{founded-assessed, founded-legal, founded-runs, founded-submissions, founded-unjudged}
 use Rattle.campaign_core.proofs.state.State.found.Goals as goal
 
 pub invariant_of-result : goal.invariant_of-result
 invariant_of-result c = record {
-  legal = search rules;
+  legal = founded-legal c.push.new.self.items c.args.rules (search rules) c.requires;
   phase_is = search rules;
   moment_fits = search rules;
   entries_fit = search rules;
@@ -15,7 +15,11 @@ invariant_of-result c = record {
   docnos_fit = search rules;
   docnos_are = search rules;
   docnos_kept_are = search rules;
-  places_are = founded-places c.push.new.self.items c.args.rules _ (search rules) c.new-3.ensures.items;
+  numbers_are = search rules;
+  numbers_kept_are = search rules;
+  submissions_are = founded-submissions c.push.new.self.items c.args.rules _ (search rules) (search rules);
+  runs_known = founded-runs c.push.new.self.items c.args.rules (search rules);
+  lines_are = search rules;
   assessed = founded-assessed c.push.new.self.items c.args.rules (facts c.in_ok-assessment.assessment) (search rules) c.in_ok-assessment.ensures.facts;
   unjudged = λ collecting. founded-unjudged c.push.new.self.items c.args.rules (facts c.in_ok-assessment.assessment) (search rules) c.in_ok-assessment.ensures.facts;
   ready = search rules;
