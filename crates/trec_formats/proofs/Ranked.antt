@@ -1,6 +1,6 @@
 -- Lines of a topic in the order of their ranks.
-use Rattle.std.proofs.Common.{Ordering, Less, Equal, Greater, ◌≡◌, ◌≢◌, ℕ, zero, suc, ◌+◌, ◌-◌, ◌<◌, Bool, true, false, cond, List, [], ◌∷◌, length, map, get_or, refl, sym, ap, subst, ◌∙◌, Some, arith, pos, zero-add}
-use Rattle.std.specs.Prelude.{All, AllPairs, slice_get}
+use Rattle.std.proofs.Common.{Ordering, Less, Equal, Greater, ◌≡◌, ◌≢◌, ℕ, ◌+◌, ◌-◌, ◌<◌, Bool, true, false, cond, List, [], ◌∷◌, length, map, get_or, refl, sym, ap, subst, ◌∙◌, Some, arith, pos}
+use Rattle.std.specs.Prelude.{AllPairs, slice_get}
 use Rattle.std.specs.Cmp.{IsTotalOrder, IsStrictWeakOrder}
 use Rattle.std.specs.Cmp.Lexicographic.{slice_cmp}
 use Rattle.std.specs.List.{count_by}
@@ -20,36 +20,10 @@ use Rattle.std.specs.Str.{bytes_eq}
 use denote.Ref.{Bor}
 use Rattle.decimal_rank.specs.Decimal.{decimal_cmp}
 use Rattle.decimal_rank.specs.Ranks.{Standing, standing_cmp, stands_before, rank_in}
+use Rattle.decimal_rank.proofs.Standing.{Strictly, count-before}
 use Rattle.trec_formats.specs.declared.runs.RunLine.{RunLine}
 use Rattle.trec_formats.specs.Groups.{shown, AreByRank, DocsDiffer}
 use Rattle.trec_formats.specs.Lists.{AreRanked, standing}
-
-count-none : {X : Type 0} (p : X → Bool) (xs : List X) → All (λ x. p x ≡ false) xs → count_by p xs ≡ 0
-count-none p [] none = refl
-count-none p (x ∷ xs) none =
-    sum_by-cons (λ y. cond (p y) 1 0) x xs
-    ∙ ap (λ t. cond t 1 0 + count_by p xs) (none 0 x (omega arith))
-    ∙ zero-add (count_by p xs)
-    ∙ count-none p xs (λ k d within. none (suc k) d (omega arith))
-
--- x stands before y and y not before x
-abbrev Strictly : {X : Type 0} → (X → X → Bool) → X → X → Type 0
-Strictly R x y = (R x y ≡ true) × (R y x ≡ false)
-
--- where each element stands before each later one, k of them stand before the one at place k
-count-before : {X : Type 0} (R : X → X → Bool) (xs : List X) (k : ℕ) (d : X) → ((x : X) → R x x ≡ false) → AllPairs (Strictly R) xs → k < length xs
-    → count_by (λ e. R e (get_or xs k d)) xs ≡ k
-count-before R [] k d irr pairs within = absurd (omega arith)
-count-before R (x ∷ xs) zero d irr pairs within =
-    sum_by-cons (λ e. cond (R e x) 1 0) x xs
-    ∙ ap (λ t. cond t 1 0 + count_by (λ e. R e x) xs) (irr x)
-    ∙ zero-add (count_by (λ e. R e x) xs)
-    ∙ count-none (λ e. R e x) xs (λ j e h. (pairs 0 (suc j) e (omega arith) (omega arith)).1)
-count-before R (x ∷ xs) (suc k) d irr pairs within =
-    sum_by-cons (λ e. cond (R e (get_or xs k d)) 1 0) x xs
-    ∙ ap (λ t. cond t 1 0 + count_by (λ e. R e (get_or xs k d)) xs) (pairs 0 (suc k) d (omega arith) within).0
-    ∙ ap (λ n. 1 + n) (count-before R xs k d irr (λ i j e h l. pairs (suc i) (suc j) e (omega arith) (omega arith)) (omega arith))
-    ∙ (let e : 1 + k ≡ suc k = omega arith in e)
 
 count_by-map : {X Y : Type 0} (f : X → Y) (p : Y → Bool) (xs : List X) → count_by p (map f xs) ≡ count_by (λ x. p (f x)) xs
 count_by-map f p [] = refl
