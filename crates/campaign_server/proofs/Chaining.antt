@@ -30,7 +30,7 @@ asking_adds H who number (Act c) moment is = let wrong : false ≡ true = is in 
 query_adds : (H : History) (asked : Addressed) → is_query asked.ask ≡ true → added_by H asked ≡ []
 query_adds H asked is = asking_adds H asked.who asked.number asked.ask asked.moment is
 
-since_is : (before more after : History) → after ≡ before ++ more → added_since before after ≡ more
+pub since_is : (before more after : History) → after ≡ before ++ more → added_since before after ≡ more
 since_is before more after is = ap (drop (length before)) is ∙ drop-append_seam before more
 
 -- what stands where an earlier list stood goes on with it

@@ -6,3 +6,9 @@ pub mod PieceLemmas
 pub mod Speaking
 pub mod TalkLemmas
 pub mod Turning
+pub mod FaultCounts
+pub mod HallPlaces
+pub mod HallTalks
+pub mod WorkerLemmas
+pub mod RecordLemmas
+pub mod ServerLemmas

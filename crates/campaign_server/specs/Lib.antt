@@ -10,3 +10,10 @@ pub mod Pieces
 pub mod Stories
 pub mod Talks
 pub mod Sessions
+pub mod Doors
+pub mod MemoryDoors
+pub mod Acceptors
+pub mod HallConnections
+pub mod Records
+pub mod Workers
+pub mod Servers

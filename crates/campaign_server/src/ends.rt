@@ -16,3 +16,13 @@ pub enum End {
     /// As many bytes were taken as a connection takes.
     Worn,
 }
+
+/// How a server ended.
+#[derive(Clone, Copy, Debug, PartialEq, Eq)]
+pub enum ServeEnd {
+    /// The door gave no further link, or as many connections were taken as may be.
+    Ended,
+    /// A call on the door failed.
+    DoorFault,
+    Memory,
+}

@@ -1,9 +1,8 @@
-ghost use Rattle.std.specs.Prelude.{◌≡◌, ◌≤◌, None};
-ghost use Rattle.rulebook.specs.declared.limits.TheConstants.{MAX_MOMENT};
+ghost use Rattle.std.specs.Prelude.{◌≡◌, None};
 
 use crate::links::Link;
+use crate::watches::Watch;
 use decimal_rank::{Failed, count_more};
-use rulebook::MAX_MOMENT;
 use std::io::Read;
 use std::rt::Clock;
 
@@ -14,10 +13,7 @@ pub struct StreamLink<R: Input + Print + Clock> {
     input: R::Reader,
     read_faults: u64,
     write_faults: u64,
-    asked: u64,
-    /// The moment that was given last, which stands where the clock fails.
-    last: u64,
-    ghost bounded: { last ≤ MAX_MOMENT },
+    watch: Watch,
 }
 
 impl<R: Input + Print + Clock + Drop> StreamLink<R> {
@@ -33,8 +29,7 @@ impl<R: Input + Print + Clock + Drop> StreamLink<R> {
             runtime,
             read_faults: 0,
             write_faults: 0,
-            asked: 0,
-            last: 0,
+            watch: Watch::new(),
         }
     }
 }
@@ -43,7 +38,7 @@ impl<R: Input + Print + Clock + Drop> Link for StreamLink<R> {
     ghost seen = { λ link. record {
       reading = record { taken = None; left = None; faults = link.read_faults };
       writing = record { written = None; faults = link.write_faults };
-      clock = record { moments = None; asked = link.asked };
+      clock = record { moments = None; asked = link.watch.asked };
     } };
 
     fn read(&mut self, out: &mut [u8]) -> Result<usize, Failed> {
@@ -67,10 +62,6 @@ impl<R: Input + Print + Clock + Drop> Link for StreamLink<R> {
     }
 
     fn moment(&mut self) -> u64 {
-        self.asked = count_more(self.asked);
-        if let Ok(time) = self.runtime.since_1970() {
-            self.last = time.as_secs().min(MAX_MOMENT);
-        }
-        self.last
+        self.watch.moment(&self.runtime)
     }
 }

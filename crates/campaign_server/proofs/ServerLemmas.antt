@@ -1,0 +1,117 @@
+-- What a server leaves of its door.
+use Rattle.std.proofs.Common.{◌≡◌, ◌≢◌, ◌⊎◌, ℕ, ◌+◌, ◌-◌, ◌*◌, ◌^◌, ◌≤◌, Bool, true, false, List, [], ◌∷◌, ◌++◌, None, Some, IfSome, length, refl, sym, ap, ◌∙◌, arith, subst, inl, inr, length-append}
+use Rattle.std.specs.Prelude.{Option}
+use Rattle.decimal_rank.specs.Causes.{Rose}
+use Rattle.routes.specs.declared.keys.KeyRow.{KeyRow}
+use Rattle.rulebook.specs.Campaign.{History}
+use Rattle.rulebook.specs.Stories.{AtMost, Story}
+use Rattle.campaign_server.specs.declared.ends.ServeEnd.{ServeEnd}
+use Rattle.campaign_server.specs.declared.ends.ServeEnd.TheVariants as serve_end
+use Rattle.campaign_server.specs.Doors.{DoorState, Ended, IsShut, Told}
+use Rattle.campaign_server.specs.Acceptors.{Closes}
+use Rattle.campaign_server.specs.Records.{AreServed, NoneShort}
+use Rattle.campaign_server.specs.Servers.{Leaves, Settles}
+use Rattle.campaign_server.specs.Workers.{Worked}
+use Rattle.campaign_server.proofs.WorkerLemmas.{works_later}
+
+-- a door through which nothing came
+pub leaves_shut : (keys : List KeyRow) (workers limit port : ℕ) (start after : Story) (how : ServeEnd) (told : Option Told) → how ≢ serve_end.Ended
+    → IfSome told (λ t. (t.port ≡ None) × (t.accepted ≡ 0) × (t.served ≡ [])) → IfSome told (λ t. Leaves keys workers limit port start after how t)
+leaves_shut keys workers limit port start after how None other shut = shut
+leaves_shut keys workers limit port start after how (Some t) other shut = record {
+  opened = inr (shut.0, other);
+  few = omega (arith, shut.1);
+  none_made_up = let none = ap length shut.2 in omega (arith, none, shut.1);
+  all = λ e. ap length shut.2 ∙ sym shut.1;
+  none_short = λ e. subst NoneShort (sym shut.2) tt;
+  faults = 0;
+  served = subst (λ records. AreServed keys (length start.list) start.faults after.list after.faults records 0) (sym shut.2) refl;
+  licensed = inl (omega arith);
+  ended = λ e. absurd (other e);
+}
+
+served_front : (keys : List KeyRow) (n c : ℕ) (S : History) (last : ℕ) (part rest : List Ended) (told : ℕ) → AreServed keys n c S last (part ++ rest) told
+    → (fewer : ℕ) × AreServed keys n c S last part fewer × (fewer ≤ told)
+served_front keys n c S last [] rest told served = (0, refl, omega arith)
+served_front keys n c S last (first ∷ part) rest told (here, there, one, others, is) =
+    let (fewer, served, few) = served_front keys n c S last part rest there others in (here + fewer, (here, fewer, one, served, refl), omega (arith, is, few))
+
+-- a server ends with a fault of the door only where one is counted
+pub fault_counted : (port opening limit accepted : ℕ) (door : DoorState) (end how : ServeEnd) (records : List Ended) (short : Bool) (new : Option Told) (faults : ℕ)
+    → Closes port opening limit door accepted end → Settles door.told records short end new how → faults ≡ door.faults → how ≡ serve_end.DoorFault → Rose opening faults
+fault_counted port opening limit accepted door end how records short new faults closes (inl (not_short, same, handed)) is e = subst (Rose opening) (sym is) (closes.fault (sym same ∙ e))
+fault_counted port opening limit accepted door end how records short new faults closes (inr (memory, handed)) is e =
+    absurd (let wrong : serve_end.Memory ≡ serve_end.DoorFault = sym memory ∙ e in cc wrong)
+
+module _ (keys : List KeyRow) (workers limit port : ℕ) (start seen after : Story) (opening accepted : ℕ) (door : DoorState) (end how : ServeEnd) (records : List Ended) (short : Bool)
+    (closes : Closes port opening limit door accepted end) (all_counted : accepted ≡ length records) (worked : Worked keys start workers seen records short) (most : AtMost seen after) where
+  at_end : Worked keys start workers after records short
+  at_end = works_later keys start workers seen after records short most worked
+
+  -- what is known of a door that told
+  record Known (t : Told) : Type 0 where
+    port_is : t.port ≡ Some port
+    counted : t.accepted ≡ accepted
+    none : t.served ≡ []
+    ended : end ≡ serve_end.Ended → (t.left ≡ []) ⊎ (accepted ≡ limit)
+
+  leaves_all : (t u : Told) → Known t → short ≡ false → how ≡ end → u ≡ record t { served = t.served ++ records } → Leaves keys workers limit port start after how u
+  leaves_all t u known not_short same is =
+      let served : u.served ≡ records = ap (λ (x : Told). x.served) is ∙ ap (λ before. before ++ records) known.none in
+      let accepted_is : u.accepted ≡ accepted = ap (λ (x : Told). x.accepted) is ∙ known.counted in
+      let many : length u.served ≡ u.accepted = ap length served ∙ sym all_counted ∙ sym accepted_is in
+      record {
+        opened = inl (ap (λ (x : Told). x.port) is ∙ known.port_is);
+        few = let few = closes.few in omega (arith, accepted_is, few);
+        none_made_up = omega (arith, many);
+        all = λ e. many;
+        none_short = λ e. subst NoneShort (sym served) (at_end.none_short not_short);
+        faults = at_end.told;
+        served = subst (λ rs. AreServed keys (length start.list) start.faults after.list after.faults rs at_end.told) (sym served) at_end.served;
+        licensed = at_end.licensed;
+        ended = λ e. ended_so (ap (λ (x : Told). x.left) is) accepted_is (known.ended (sym same ∙ e));
+      }
+    where
+      ended_so : u.left ≡ t.left → u.accepted ≡ accepted → (t.left ≡ []) ⊎ (accepted ≡ limit) → (u.left ≡ []) ⊎ (u.accepted ≡ limit)
+      ended_so left_is accepted_is (inl none) = inl (left_is ∙ none)
+      ended_so left_is accepted_is (inr full) = inr (accepted_is ∙ full)
+
+  leaves_part : (t u : Told) → Known t → how ≡ serve_end.Memory → (part rest : List Ended) → records ≡ part ++ rest → u ≡ record t { served = t.served ++ part }
+      → Leaves keys workers limit port start after how u
+  leaves_part t u known memory part rest split is =
+      let served : u.served ≡ part = ap (λ (x : Told). x.served) is ∙ ap (λ before. before ++ part) known.none in
+      let accepted_is : u.accepted ≡ accepted = ap (λ (x : Told). x.accepted) is ∙ known.counted in
+      let front =
+      served_front keys (length start.list) start.faults after.list after.faults part rest at_end.told
+      (subst (λ rs. AreServed keys (length start.list) start.faults after.list after.faults rs at_end.told) split at_end.served) in
+      record {
+        opened = inl (ap (λ (x : Told). x.port) is ∙ known.port_is);
+        few = let few = closes.few in omega (arith, accepted_is, few);
+        none_made_up = let several = ap length served in let total = ap length split ∙ length-append part rest in omega (arith, several, total, all_counted, accepted_is);
+        all = λ e. absurd (e memory);
+        none_short = λ e. absurd (e memory);
+        faults = front.0;
+        served = subst (λ rs. AreServed keys (length start.list) start.faults after.list after.faults rs front.0) (sym served) front.1;
+        licensed = fewer front.2 at_end.licensed;
+        ended = λ e. absurd (let wrong : serve_end.Memory ≡ serve_end.Ended = sym memory ∙ e in cc wrong);
+      }
+    where
+      fewer : {few many most : ℕ} → few ≤ many → (many ≤ most) ⊎ (2 ^ 64 - 1 ≤ after.faults) → (few ≤ most) ⊎ (2 ^ 64 - 1 ≤ after.faults)
+      fewer least (inl within) = inl (omega (arith, least, within))
+      fewer least (inr great) = inr great
+
+  leaves_by : (was new : Option Told) → IfSome was Known → Settles was records short end new how → IfSome new (λ u. Leaves keys workers limit port start after how u)
+  leaves_by was None known settles = tt
+  leaves_by None (Some u) known (inl (not_short, same, handed)) = absurd handed
+  leaves_by None (Some u) known (inr (memory, (part, rest, split, handed))) = absurd handed
+  leaves_by (Some t) (Some u) known (inl (not_short, same, handed)) = leaves_all t u known not_short same handed
+  leaves_by (Some t) (Some u) known (inr (memory, (part, rest, split, handed))) = leaves_part t u known memory part rest split handed
+
+  known_of : (was : Option Told) → IfSome was (λ t. t.port ≡ Some port) → IfSome was (λ t. t.accepted ≡ accepted) → IfSome was (λ t. t.served ≡ [])
+      → (end ≡ serve_end.Ended → IfSome was (λ t. t.left ≡ []) ⊎ (accepted ≡ limit)) → IfSome was Known
+  known_of None port_is counted none ended = tt
+  known_of (Some t) port_is counted none ended = record { port_is = port_is; counted = counted; none = none; ended = ended }
+
+  -- a door through which links came, behind its last record
+  pub leaves_closed : (new : Option Told) → Settles door.told records short end new how → IfSome new (λ u. Leaves keys workers limit port start after how u)
+  leaves_closed new settles = leaves_by door.told new (known_of door.told closes.open_on closes.counted closes.none_served closes.ended) settles

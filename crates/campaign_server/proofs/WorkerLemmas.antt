@@ -1,0 +1,214 @@
+-- What workers did, put together.
+use Rattle.std.proofs.Common.{◌≡◌, ◌≢◌, ◌⊎◌, ℕ, ◌+◌, ◌-◌, ◌*◌, ◌^◌, ◌≤◌, Bool, true, false, ◌||◌, List, [], ◌∷◌, ◌++◌, All, length, refl, sym, ap, ◌∙◌, arith, subst, inl, inr, append-nil, append_assoc, length-append, IfSome, Option}
+use Rattle.std.proofs.Math.Nat.{mul-le-mul_left}
+use Rattle.std.proofs.lemmas.List.{map-append}
+use Rattle.atomic_table.specs.Seated.{TableId}
+use Rattle.hall.specs.declared.stories.Story.{Story as HallStory}
+use Rattle.hall.specs.Acts.{Known}
+use Rattle.hall.specs.Stories.{AtMost as MostOf}
+use Rattle.routes.specs.declared.keys.KeyRow.{KeyRow}
+use Rattle.rulebook.specs.declared.entry.Entry.{Entry}
+use Rattle.book.specs.Halls.{seen_as}
+use Rattle.rulebook.specs.Campaign.{History}
+use Rattle.rulebook.specs.Stories.{AtMost, StartsWith, Story}
+use Rattle.campaign_server.specs.declared.ends.End.{End}
+use Rattle.campaign_server.specs.declared.ends.End.TheVariants as end
+use Rattle.campaign_server.specs.Chains.{Said}
+use Rattle.campaign_server.specs.Connections.{Ends}
+use Rattle.campaign_server.specs.Doors.{Ended, IsNew}
+use Rattle.campaign_server.specs.Links.{Clock, LinkState}
+use Rattle.campaign_server.specs.HallConnections.{IsTalkAmong, Licensed, Serves}
+use Rattle.campaign_server.specs.Records.{AreServed, IsServed, NoneShort, ended_of}
+use Rattle.campaign_server.specs.Workers.{GoesOn, HasServed, Worked}
+use Rattle.campaign_server.proofs.Known.{ends_known}
+use Rattle.campaign_server.proofs.TalkLemmas.{talk_laws}
+
+-- what is said on a connection, over a longer list and from an earlier start
+among_on : (keys : List KeyRow) (n c m b : ℕ) (clock : Clock) (S more : History) (last then_ : ℕ) (later : Clock) (places : List ℕ) (told : ℕ) (said : List Said)
+    → m ≤ n → b ≤ c → last ≤ then_ → IsTalkAmong keys n c clock S last later places told said → IsTalkAmong keys m b clock (S ++ more) then_ later places told said
+among_on keys n c m b clock S more last then_ later places told said fewer less least among = record {
+  talk = record {
+    talk =
+        (talk_laws keys n c (S ++ more) then_ places said).earlier m b fewer less
+        ((talk_laws keys n c S last places said).longer more then_ least among.talk.talk);
+    moments = among.talk.moments;
+  };
+  told_is = among.told_is;
+}
+
+ends_on : (keys : List KeyRow) (n c m b : ℕ) (S more : History) (last then_ : ℕ) (places : List ℕ) (told : ℕ) (was is : LinkState) (how : End)
+    → m ≤ n → b ≤ c → last ≤ then_ → Ends (IsTalkAmong keys n c was.clock S last is.clock places told) was is how
+    → Ends (IsTalkAmong keys m b was.clock (S ++ more) then_ is.clock places told) was is how
+ends_on keys n c m b S more last then_ places told was is how fewer less least ends =
+    (ends_known {I = Unit {0}} (IsTalkAmong keys n c was.clock S last is.clock places told) (λ one. IsTalkAmong keys m b was.clock (S ++ more) then_ is.clock places told)
+    (λ said among. (tt, among_on keys n c m b was.clock S more last then_ is.clock places told said fewer less least among)) was is how ends).1
+
+served_on : (keys : List KeyRow) (n c m b : ℕ) (S more : History) (last then_ : ℕ) (ended : Ended) (told : ℕ) → m ≤ n → b ≤ c → last ≤ then_
+    → IsServed keys n c S last ended told → IsServed keys m b (S ++ more) then_ ended told
+served_on keys n c m b S more last then_ ended told fewer less least served = record {
+  was = served.was;
+  is = served.is;
+  new = served.new;
+  tells = served.tells;
+  places = served.places;
+  ends = ends_on keys n c m b S more last then_ served.places told served.was served.is ended.1 fewer less least served.ends;
+}
+
+all_on : (keys : List KeyRow) (n c : ℕ) (S more : History) (last then_ : ℕ) (records : List Ended) (told : ℕ) → last ≤ then_ → AreServed keys n c S last records told
+    → AreServed keys n c (S ++ more) then_ records told
+all_on keys n c S more last then_ [] told least none = none
+all_on keys n c S more last then_ (first ∷ others) told least (here, there, served, rest, is) =
+    (here, there, served_on keys n c n c S more last then_ first here (omega arith) (omega arith) least served, all_on keys n c S more last then_ others there least rest, is)
+
+-- the same over a later state
+pub served_later : (keys : List KeyRow) (n c : ℕ) (seen later : Story) (records : List Ended) (told : ℕ) → AtMost seen later
+    → AreServed keys n c seen.list seen.faults records told → AreServed keys n c later.list later.faults records told
+served_later keys n c seen later records told most served =
+    let (more, is) = most.longer in
+    subst (λ S. AreServed keys n c S later.faults records told) (sym is) (all_on keys n c seen.list more seen.faults later.faults records told most.later served)
+
+pub served_both : (keys : List KeyRow) (n c : ℕ) (S : History) (last : ℕ) (first second : List Ended) (told more : ℕ) → AreServed keys n c S last first told
+    → AreServed keys n c S last second more → AreServed keys n c S last (first ++ second) (told + more)
+served_both keys n c S last [] second told more none served = subst (AreServed keys n c S last second) (omega (arith, none)) served
+served_both keys n c S last (r ∷ first) second told more (here, there, one, rest, is) served =
+    (here, there + more, one, served_both keys n c S last first second there more rest served, omega (arith, is))
+
+most_on : (a b d : Story) → AtMost a b → AtMost b d → AtMost a d
+most_on a b d first second =
+    let (x, x_is) = first.longer in
+    let (y, y_is) = second.longer in
+    record {
+      longer = (x ++ y, y_is ∙ ap (λ l. l ++ y) x_is ∙ append_assoc a.list x y);
+      later = omega (arith, first.later, second.later);
+      opening = first.opening ∙ second.opening;
+    }
+
+none_both : (first second : List Ended) → NoneShort first → NoneShort second → NoneShort (first ++ second)
+none_both [] second none others = others
+none_both (r ∷ first) second none others = (none.0, none_both first second none.1 others)
+
+-- a worker that is short did what it did
+pub works_short : (keys : List KeyRow) (start : Story) (workers : ℕ) (seen : Story) (records : List Ended) (short : Bool) → Worked keys start workers seen records short
+    → Worked keys start workers seen records true
+works_short keys start workers seen records short worked =
+    record { grown = worked.grown; told = worked.told; served = worked.served; licensed = worked.licensed; none_short = λ wrong. cc }
+
+licensed_more : (start seen later told more : ℕ) → start ≤ seen → seen ≤ later → (told ≤ 1 * (seen - start)) ⊎ (2 ^ 64 - 1 ≤ seen) → Licensed more seen later
+    → (told + more ≤ 1 * (later - start)) ⊎ (2 ^ 64 - 1 ≤ later)
+licensed_more start seen later told more first second (inl few) (inl others) = inl (omega (arith, first, second, few, others))
+licensed_more start seen later told more first second (inl few) (inr great) = inr great
+licensed_more start seen later told more first second (inr great) others = inr (omega (arith, great, second))
+
+-- one link more
+pub works_more : (keys : List KeyRow) (start seen later : Story) (records : List Ended) (kept : Option LinkState) (how : End) (short shorter : Bool) (mine more : List ℕ) (was is : LinkState)
+    → IsNew was → IfSome kept (λ state. state ≡ is) → Serves keys seen later mine more was is how
+    → (shorter ≡ false → (short ≡ false) × (how ≢ end.Memory)) → Worked keys start 1 seen records short
+    → Worked keys start 1 later (records ++ (kept, how) ∷ []) shorter
+works_more keys start seen later records kept how short shorter mine more was is new tells serves known worked =
+    let (rest, longer) = worked.grown.longer in
+    let fewer : length start.list ≤ length seen.list = omega (arith, ap length longer, length-append start.list rest) in
+    let told_there =
+    ends_on keys (length seen.list) seen.faults (length start.list) start.faults later.list [] later.faults later.faults serves.places serves.told was is how fewer
+    worked.grown.later (omega arith) serves.ends in
+    let one : IsServed keys (length start.list) start.faults later.list later.faults (kept, how) serves.told = record {
+      was = was;
+      is = is;
+      new = new;
+      tells = tells;
+      places = serves.places;
+      ends =
+          subst (λ S. Ends (IsTalkAmong keys (length start.list) start.faults was.clock S later.faults is.clock serves.places serves.told) was is how)
+          (append-nil later.list) told_there;
+    } in
+    record {
+      grown = most_on start seen later worked.grown serves.grown;
+      told = worked.told + serves.told;
+      served =
+          served_both keys (length start.list) start.faults later.list later.faults records ((kept, how) ∷ []) worked.told serves.told
+          (served_later keys (length start.list) start.faults seen later records worked.told serves.grown worked.served)
+          (serves.told, 0, one, refl, omega arith);
+      licensed = licensed_more start.faults seen.faults later.faults worked.told serves.told worked.grown.later serves.grown.later worked.licensed serves.licensed;
+      none_short = λ e. none_both records ((kept, how) ∷ []) (worked.none_short (known e).0) ((known e).1, tt);
+    }
+
+-- a record behind the others
+pub ended_more : {R : Type 0} (kept : R → Option LinkState) (records : List (R × End)) (r : R) (how : End) → ended_of kept (records ++ (r, how) ∷ []) ≡ ended_of kept records ++ (kept r, how) ∷ []
+ended_more kept records r how = map-append (λ (one : _ × End). (kept one.0, one.1)) records ((r, how) ∷ [])
+
+-- nothing was done
+pub goes_still : (keys : List KeyRow) (seen : Story) (records : List Ended) (short : Bool) → GoesOn keys seen records short seen records short
+goes_still keys seen records short = record { on = λ start worked. worked }
+
+pub goes_short : (keys : List KeyRow) (seen : Story) (records : List Ended) (short : Bool) → GoesOn keys seen records short seen records true
+goes_short keys seen records short = record { on = λ start worked. works_short keys start 1 seen records short worked }
+
+pub goes_both : (keys : List KeyRow) (a b c : Story) (x y z : List Ended) (r s t : Bool) → GoesOn keys a x r b y s → GoesOn keys b y s c z t → GoesOn keys a x r c z t
+goes_both keys a b c x y z r s t first second = record { on = λ start worked. second.on start (first.on start worked) }
+
+-- what a worker did over a later state
+pub works_later : (keys : List KeyRow) (start : Story) (workers : ℕ) (seen later : Story) (records : List Ended) (short : Bool) → AtMost seen later → Worked keys start workers seen records short
+    → Worked keys start workers later records short
+works_later keys start workers seen later records short most worked = record {
+  grown = most_on start seen later worked.grown most;
+  told = worked.told;
+  served = served_later keys (length start.list) start.faults seen later records worked.told most worked.served;
+  licensed = licensed_later workers start.faults seen.faults later.faults worked.told most.later worked.licensed;
+  none_short = worked.none_short;
+}
+  where
+    minus_le : (start seen later : ℕ) → seen ≤ later → seen - start ≤ later - start
+    minus_le start seen later least = omega (arith, least)
+
+    licensed_later : (n start seen later told : ℕ) → seen ≤ later → (told ≤ n * (seen - start)) ⊎ (2 ^ 64 - 1 ≤ seen) → (told ≤ n * (later - start)) ⊎ (2 ^ 64 - 1 ≤ later)
+    licensed_later n start seen later told least (inl few) = inl (let more = mul-le-mul_left n (minus_le start seen later least) in omega (arith, few, more))
+    licensed_later n start seen later told least (inr great) = inr (omega (arith, great, least))
+
+-- two groups of workers, over one state that both had seen less of
+pub works_both : (keys : List KeyRow) (start : Story) (workers : ℕ) (a b later : Story) (records more : List Ended) (short shorter : Bool) → AtMost a later → AtMost b later
+    → Worked keys start workers a records short → Worked keys start 1 b more shorter → Worked keys start (workers + 1) later (records ++ more) (short || shorter)
+works_both keys start workers a b later records more short shorter first second worked other =
+    let here = works_later keys start workers a later records short first worked in
+    let there = works_later keys start 1 b later more shorter second other in
+    record {
+      grown = here.grown;
+      told = here.told + there.told;
+      served = served_both keys (length start.list) start.faults later.list later.faults records more here.told there.told here.served there.served;
+      licensed = both (later.faults - start.faults) here.licensed there.licensed;
+      none_short = none short shorter here.none_short there.none_short;
+    }
+  where
+    both : (rise : ℕ) {told most : ℕ} → (told ≤ workers * rise) ⊎ (2 ^ 64 - 1 ≤ later.faults) → (most ≤ 1 * rise) ⊎ (2 ^ 64 - 1 ≤ later.faults)
+        → (told + most ≤ (workers + 1) * rise) ⊎ (2 ^ 64 - 1 ≤ later.faults)
+    both rise (inl few) (inl one) = inl (omega (arith, few, one))
+    both rise (inl few) (inr great) = inr great
+    both rise (inr great) one = inr great
+
+    none : (s t : Bool) → (s ≡ false → NoneShort records) → (t ≡ false → NoneShort more) → (s || t) ≡ false → NoneShort (records ++ more)
+    none false false here there e = none_both records more (here refl) (there refl)
+    none false true here there e = absurd (cc e)
+    none true t here there e = absurd (cc e)
+
+-- no worker
+pub works_none : (keys : List KeyRow) (start : Story) → Worked keys start 0 start [] false
+works_none keys start = record {
+  grown = record { longer = ([], sym (append-nil start.list)); later = omega arith; opening = refl };
+  told = 0;
+  served = refl;
+  licensed = inl (omega arith);
+  none_short = λ e. tt;
+}
+
+-- one worker more, whose pass is joined
+pub works_in : (keys : List KeyRow) (start : Story) (workers : ℕ) (a later : HallStory Entry) (hall : TableId) (pass : Known Entry) (parts amount count : ℕ) (records more : List Ended) (short shorter : Bool)
+    → MostOf a later → MostOf pass.seen later → Worked keys start workers (seen_as a) records short → HasServed keys hall start pass parts amount count shorter more
+    → Worked keys start (workers + 1) (seen_as later) (records ++ more) (short || shorter)
+works_in keys start workers a later hall pass parts amount count records more short shorter first second worked served =
+    works_both keys start workers (seen_as a) (seen_as pass.seen) (seen_as later) records more short shorter
+    (record { longer = first.0; later = first.1; opening = first.2 }) (record { longer = second.0; later = second.1; opening = second.2 }) worked served.worked
+
+pub most_same : (a b : Story) → b ≡ a → AtMost a b
+most_same a b same = record {
+  longer = ([], ap (λ (s : Story). s.list) same ∙ sym (append-nil a.list));
+  later = omega (arith, ap (λ (s : Story). s.faults) same);
+  opening = ap (λ (s : Story). s.opening) (sym same);
+}

@@ -1,0 +1,43 @@
+-- The records of a server's links, and what they tell over the one list of entries that is seen at the end.
+use Rattle.std.specs.Prelude.{◌≡◌, ◌≢◌, ℕ, ◌+◌, List, [], ◌∷◌, ◌++◌, IfSome, Option, map}
+use Rattle.std.specs.List.{flat_map}
+use Rattle.routes.specs.declared.keys.KeyRow.{KeyRow}
+use Rattle.rulebook.specs.Campaign.{History}
+use Rattle.campaign_server.specs.declared.ends.End.{End}
+use Rattle.campaign_server.specs.declared.ends.End.TheVariants as end
+use Rattle.campaign_server.specs.Connections.{Ends}
+use Rattle.campaign_server.specs.Doors.{Ended, HandsOver, IsNew, Told}
+use Rattle.campaign_server.specs.HallConnections.{IsTalkAmong}
+use Rattle.campaign_server.specs.Links.{LinkState}
+
+-- A record of a link is that of a connection of a new link, from so many entries and failed disk calls on, over the entries S.
+pub record IsServed (keys : List KeyRow) (n c : ℕ) (S : History) (last : ℕ) (ended : Ended) (told : ℕ) : Type 0 where
+  pub was : LinkState
+  pub is : LinkState
+  pub new : IsNew was
+  pub tells : IfSome ended.0 (λ state. state ≡ is)
+  pub places : List ℕ
+  pub ends : Ends (IsTalkAmong keys n c was.clock S last is.clock places told) was is ended.1
+
+-- each record is one, and so many disk faults are told in all of them
+abbrev pub AreServed : List KeyRow → ℕ → ℕ → History → ℕ → List Ended → ℕ → Type 0
+AreServed keys n c S last [] told = told ≡ 0
+AreServed keys n c S last (first ∷ others) told =
+    (here : ℕ) × (there : ℕ) × IsServed keys n c S last first here × AreServed keys n c S last others there × (told ≡ here + there)
+
+-- no connection ended for want of memory
+abbrev pub NoneShort : List Ended → Type 0
+NoneShort [] = Unit {0}
+NoneShort (ended ∷ others) = (ended.1 ≢ end.Memory) × NoneShort others
+
+-- what the records of a list tell of their links
+abbrev pub ended_of : {R : Type 0} → (R → Option LinkState) → List (R × End) → List Ended
+ended_of kept records = map (λ r. (kept r.0, r.1)) records
+
+-- and those of several lists, one list's after another's
+abbrev pub ended_all : {R A : Type 0} → (A → List (R × End)) → (R → Option LinkState) → List A → List Ended
+ended_all items kept lists = flat_map (λ records. ended_of kept (items records)) lists
+
+-- the door was handed the first of these records
+abbrev pub HandsPart : Option Told → List Ended → Option Told → Type 0
+HandsPart old records new = (part : List Ended) × (rest : List Ended) × (records ≡ part ++ rest) × HandsOver old part new

@@ -1,0 +1,66 @@
+//! A connection to a campaign in a hall, on which others act too: the loop of a connection over a teller that holds
+//! the hall, a pass of its own and the handle by which it waits.
+ghost use Rattle.std.specs.Prelude.{◌≡◌};
+ghost use Rattle.book.specs.Halls.{seen_as};
+ghost use Rattle.campaign_server.specs.HallConnections.{Serves, TellsInHall};
+
+use crate::connections::converse;
+use crate::ends::End;
+use crate::links::Link;
+use crate::tellers::Teller;
+use book::Book;
+use disk_model::Disk;
+use hall::{Hall, Pass};
+use routes::Keys;
+use rulebook::{Addressed, Answer};
+use std::alloc::Global;
+use std::sync::Wait;
+
+/// A campaign in a hall as a teller, which waits for the turn at each request.
+struct HallTeller<'a, D: Disk, W: Wait> {
+    rt: &'a W,
+    hall: &'a Hall<Book<D>>,
+    pass: Pass<Book<D>>,
+    ghost of: { pass.hall ≡ hall.now },
+}
+
+impl<'a, D: Disk, W: Wait> Teller for HallTeller<'a, D, W> {
+    ghost tells = { λ old asked answer new. TellsInHall old.pass asked answer new.pass };
+
+    ghost by_rules = { λ old asked reply new tells. (tells.0.0.list, tells.0.3.legal, tells.0.3.leads.0) };
+
+    fn tell(&mut self, asked: Addressed) -> Answer {
+        self.hall.act(self.rt, &mut self.pass, asked)
+    }
+}
+
+/// Answers the requests of a link as they come, to its end, while others act on the campaign too. The turn is held
+/// while the rules answer a whole request, and not while bytes are read, parsed, rendered or written.
+pub fn serve_connection<D: Disk, I: Link, W: Wait>(
+    rt: &W,
+    alloc: Global,
+    hall: &Hall<Book<D>>,
+    pass: &mut Pass<Book<D>>,
+    link: &mut I,
+    keys: &Keys,
+) -> End
+    requires { pass.old.hall ≡ hall.now }
+    ensures hall { pass.new.hall ≡ pass.old.hall }
+    ensures serves { Serves keys.now (seen_as pass.old.seen) (seen_as pass.new.seen) pass.old.mine pass.new.mine (I.seen link.old) (I.seen link.new) result }
+{
+    pass.places_rise();
+    let own = hall.split(pass);
+    let mut teller = HallTeller {
+        rt,
+        hall,
+        pass: own,
+    };
+    let end = converse(alloc, &mut teller, link, keys);
+    let HallTeller {
+        rt: _,
+        hall: _,
+        pass: own,
+    } = teller;
+    hall.join(own, pass);
+    end
+}
