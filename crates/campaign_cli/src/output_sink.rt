@@ -1,6 +1,7 @@
 ghost use Rattle.std.specs.Prelude.{◌≡◌, None};
 
-use decimal_rank::{Failed, Output, count_more};
+use campaign_server::taken_by;
+use decimal_rank::{Failed, Output};
 
 /// Standard output. It tells its count of faults alone.
 #[derive(Drop)]
@@ -27,12 +28,6 @@ impl<R: Print + Drop> Output for OutputSink<R> {
     ghost keeps_on = { λ a b c p q. tt };
 
     fn write(&mut self, piece: &[u8]) -> Result<usize, Failed> {
-        match self.output.write_some(piece) {
-            Ok(count) if count > 0 || piece.is_empty() => Ok(count),
-            _ => {
-                self.faults = count_more(self.faults);
-                Err(Failed)
-            }
-        }
+        taken_by(self.output.write_some(piece), piece, &mut self.faults)
     }
 }

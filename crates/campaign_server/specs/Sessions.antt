@@ -1,10 +1,12 @@
 -- A session with a campaign on a disk: what is said in it, and which entry it may leave on the disk beside the accepted ones.
-use Rattle.std.specs.Prelude.{◌≡◌, ◌⊎◌, ℕ, true, List, [], ◌∷◌, ◌++◌, Some, Ok, length}
+use Rattle.std.specs.Prelude.{◌≡◌, ◌⊎◌, ◌≤◌, ℕ, true, List, [], ◌∷◌, ◌++◌, Some, Ok, filter, length}
 use Rattle.book.specs.Books.{Seen, story_of}
 use Rattle.routes.specs.declared.answers.Answered.TheVariants as answered
 use Rattle.routes.specs.declared.keys.KeyRow.{KeyRow}
 use Rattle.routes.specs.Asks.{Asked, Reads}
 use Rattle.rulebook.specs.declared.entry.Entry.{Entry}
+use Rattle.rulebook.specs.Campaign.{History}
+use Rattle.rulebook.specs.Numbers.{is_numbered}
 use Rattle.rulebook.specs.Stories.{Story, added_by}
 use Rattle.campaign_server.specs.Chains.{Said, at_moment}
 use Rattle.campaign_server.specs.Links.{Clock}
@@ -33,3 +35,7 @@ pub record IsSession {D : Type 0} (faults : D → ℕ) (keys : List KeyRow) (old
   pub talk : IsTalkAlone keys (story_of faults old) clock (story_of faults new) later said
   pub left : (e : Entry) → new.pending ≡ Some e
       → ((old.pending ≡ Some e) × (new.history ≡ old.history)) ⊎ IsLeft keys (story_of faults old) clock (story_of faults new) said e
+
+-- No two entries have one caller's name and one number.
+abbrev pub AreNumberedOnce : History → Type 0
+AreNumberedOnce H = (name : List ℕ) (number : ℕ) → length (filter (is_numbered name number) H) ≤ 1

@@ -1,12 +1,13 @@
 ghost use Rattle.book.specs.Books.{IsSound, Runs};
 ghost use Rattle.campaign_server.specs.Connections.{Ends};
-ghost use Rattle.campaign_server.specs.Sessions.{IsSession};
+ghost use Rattle.campaign_server.specs.Sessions.{AreNumberedOnce, IsSession};
 
 use crate::connections::converse;
 use crate::ends::End;
 use crate::links::Link;
 use book::{Book, Disk};
 use routes::Keys;
+use rulebook::numbers_are_used_once;
 use std::alloc::Global;
 
 /// Answers the requests of a link as they come, to its end, by a campaign on a disk. Nobody else adds an
@@ -21,7 +22,9 @@ pub fn session<R, D: Disk, I: Link>(
     ensures ends { Ends (IsSession D.fault_count keys.now book.old (I.seen link.old).clock book.new (I.seen link.new).clock) (I.seen link.old) (I.seen link.new) result }
     ensures runs { Runs D.images D.clock D.images_since D.fault_count book.old book.new }
     ensures sound { IsSound D.images D.clock D.images_since D.fault_count book.new }
+    ensures numbered { AreNumberedOnce book.new.history }
 {
     book.stands();
+    numbers_are_used_once();
     converse(alloc, book, link, keys)
 }

@@ -1,6 +1,7 @@
 ghost use Rattle.std.specs.Prelude.{◌≡◌, None};
 
 use crate::links::Link;
+use crate::system_writes::taken_by;
 use crate::watches::Watch;
 use decimal_rank::{Failed, count_more};
 use std::io::Read;
@@ -52,13 +53,11 @@ impl<R: Input + Print + Clock + Drop> Link for StreamLink<R> {
     }
 
     fn write(&mut self, piece: &[u8]) -> Result<usize, Failed> {
-        match self.runtime.write_some(piece) {
-            Ok(count) if count > 0 || piece.is_empty() => Ok(count),
-            _ => {
-                self.write_faults = count_more(self.write_faults);
-                Err(Failed)
-            }
-        }
+        taken_by(
+            self.runtime.write_some(piece),
+            piece,
+            &mut self.write_faults,
+        )
     }
 
     fn moment(&mut self) -> u64 {

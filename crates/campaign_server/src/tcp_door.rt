@@ -5,6 +5,7 @@ ghost use Rattle.std.specs.Prelude.{◌≡◌, None};
 use crate::doors::Door;
 use crate::ends::End;
 use crate::links::Link;
+use crate::system_writes::taken_by;
 use crate::watches::Watch;
 use decimal_rank::{Failed, Memory, count_more};
 use std::io::{ErrorKind, Read, Write};
@@ -43,13 +44,7 @@ impl<R: Clock + Drop> Link for TcpLink<R> {
     }
 
     fn write(&mut self, piece: &[u8]) -> Result<usize, Failed> {
-        match self.stream.write(piece) {
-            Ok(count) if count > 0 || piece.is_empty() => Ok(count),
-            _ => {
-                self.write_faults = count_more(self.write_faults);
-                Err(Failed)
-            }
-        }
+        taken_by(self.stream.write(piece), piece, &mut self.write_faults)
     }
 
     fn moment(&mut self) -> u64 {

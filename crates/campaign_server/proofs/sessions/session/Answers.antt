@@ -19,3 +19,10 @@ returns-clause-sound g c =
     let D = g.D.Disk in
     (session_ends D.images D.clock D.images_since D.fault_count c.args.keys.now g.met.D.Disk.only_now c.args.book.now c.converse.new.teller (g.I.Link.seen c.args.link.now) (g.I.Link.seen c.converse.new.link)
     c.converse.result c.stands.ensures c.converse.ensures).0.1
+
+pub returns-clause-numbered : goal.returns-clause-numbered
+returns-clause-numbered g c =
+    let D = g.D.Disk in
+    c.numbers_are_used_once.ensures c.converse.new.teller.history
+    (session_ends D.images D.clock D.images_since D.fault_count c.args.keys.now g.met.D.Disk.only_now c.args.book.now c.converse.new.teller (g.I.Link.seen c.args.link.now) (g.I.Link.seen c.converse.new.link)
+    c.converse.result c.stands.ensures c.converse.ensures).0.1.legal
