@@ -1,5 +1,5 @@
 -- What comes next of the bytes of a connection, as what is asked.
-use Rattle.std.specs.Prelude.{◌≡◌, ℕ, ◌≤◌, ◌<◌, Bool, List, None, Result, IfOk, IsTrue, length}
+use Rattle.std.specs.Prelude.{◌≡◌, ℕ, ◌≤◌, ◌<◌, Bool, List, Result, IfOk, IsTrue, length}
 use Rattle.http_wire.specs.declared.messages.HttpRequest.{HttpRequest}
 use Rattle.http_wire.specs.declared.messages.Step.{Step}
 use Rattle.http_wire.specs.declared.messages.Step.TheVariants as steps
