@@ -1,9 +1,9 @@
-//! The program: the files of the system, standard input and output, the machine's clock and the file of
-//! the campaign's journal, and the top call over them.
+//! The program: the files of the system, standard input and output, the machine's clock, the file of the
+//! campaign's journal and a TCP door on 127.0.0.1, and the top call over them.
 #![tactic(auto)]
 
 use campaign_cli::{FileShelf, OutputSink, Status, campaign};
-use campaign_server::StreamLink;
+use campaign_server::{StreamLink, TcpDoor};
 use decimal_rank::Secret;
 use disk_model::FileDisk;
 use std::alloc::{AllocError, Global};
@@ -39,8 +39,9 @@ fn main(rt: HostRuntime) -> ExitCode {
             let mut out = OutputSink::new(&rt);
             let mut own = StreamLink::new(&rt);
             let disk = FileDisk::new(&rt, JOURNAL);
+            let mut door = TcpDoor::new(&rt);
             let (status, _disk) = campaign(
-                &rt, alloc, &words, &mut shelf, &mut out, &mut own, disk,
+                &rt, alloc, &words, &mut shelf, &mut out, &mut own, disk, &mut door,
             );
             status
         }

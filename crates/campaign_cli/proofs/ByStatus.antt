@@ -12,6 +12,8 @@ use Rattle.book.specs.Openings.{Refused}
 use Rattle.book.specs.OpeningLaws.{MayOpen, opens_or_memory}
 use Rattle.campaign_server.specs.declared.ends.End.{End}
 use Rattle.campaign_server.specs.declared.ends.End.TheVariants as end
+use Rattle.campaign_server.specs.declared.ends.ServeEnd.{ServeEnd}
+use Rattle.campaign_server.specs.declared.ends.ServeEnd.TheVariants as serve_end
 use Rattle.rulebook.specs.Words.{Text}
 use Rattle.eval.specs.Evaluations.{IsReport, IsInputFault}
 use Rattle.eval.specs.Findings.{AreExclusive}
@@ -21,18 +23,20 @@ use Rattle.campaign_cli.specs.CheckEnds.{CheckEnds, CheckWay, Shows, check_text,
 use Rattle.campaign_cli.specs.Endings.{Ends}
 use Rattle.campaign_cli.specs.EvalEnds.{EvalWay, EvalEnds, scored, refused, unread, short}
 use Rattle.campaign_cli.specs.Outside.{Outside, Streams, Prints, Misses}
-use Rattle.campaign_cli.specs.Requests.{Request, Eval, Session, Check, Nothing, usage_line}
+use Rattle.campaign_cli.specs.Requests.{Request, Eval, Session, Serve, Check, Nothing, ServerNumbers, usage_line}
+use Rattle.campaign_cli.specs.ServeEnds.{Served, ServeWay, ServeEnds, served, unserved}
+use Rattle.campaign_cli.specs.ServeEnds.{status_of as serve_status}
 use Rattle.campaign_cli.specs.SessionEnds.{Holds, SessionWay, SessionEnds, held, unheld, status_of}
 use Rattle.campaign_cli.specs.Settings.{settings_of}
 use Rattle.campaign_cli.specs.Shelves.{Files, Follows, Gives, ShelfState, file_at}
-use Rattle.campaign_cli.specs.Statuses.{Cause, Done, Usage, Input, File, Disk, Memory, Output, Damaged, Link, Cut, number_of, Says, IsDamage, IsSaid, IsCut, IsUnopened, SessionComesTo, CanDo, CanOpen, HasToRefuse, IsCalm, NeedsBook, TellsBoth, TellsRecords, TellsSettings, Statuses}
+use Rattle.campaign_cli.specs.Statuses.{Cause, Done, Usage, Input, File, Disk, Door, Memory, Output, Damaged, Link, Cut, number_of, Says, IsBookRefusal, IsDamage, IsMissing, IsRefusal, IsSaid, IsCut, IsUnopened, ServerComesTo, SessionComesTo, CanDo, CanOpen, HasToRefuse, IsCalm, NeedsBook, TellsBoth, TellsRecords, TellsSettings, Statuses}
 use Rattle.campaign_cli.specs.UsageEnds.{UsageWay, UsageEnds, told, untold as unasked}
 
 -- a status has one cause
 
 abbrev cause_by : ℕ → Cause
 cause_by n =
-    cond (n == 0) Done (cond (n == 2) Usage (cond (n == 3) Input (cond (n == 4) File (cond (n == 5) Disk (cond (n == 7) Memory (cond (n == 8) Output (cond (n == 9) Damaged (cond (n == 10) Link Cut))))))))
+    cond (n == 0) Done (cond (n == 2) Usage (cond (n == 3) Input (cond (n == 4) File (cond (n == 5) Disk (cond (n == 6) Door (cond (n == 7) Memory (cond (n == 8) Output (cond (n == 9) Damaged (cond (n == 10) Link Cut)))))))))
 
 cause_by-number : (cause : Cause) → cause_by (number_of cause) ≡ cause
 cause_by-number Done = refl
@@ -40,6 +44,7 @@ cause_by-number Usage = refl
 cause_by-number Input = refl
 cause_by-number File = refl
 cause_by-number Disk = refl
+cause_by-number Door = refl
 cause_by-number Memory = refl
 cause_by-number Output = refl
 cause_by-number Damaged = refl
@@ -134,47 +139,31 @@ module _ {D : Type 0} (content : D → Option (List ℕ)) (images : D → List �
   eval_told run qrels old new status (unread missed same e) kept = (File, e, (missed, same, kept))
   eval_told run qrels old new status (short same e) kept = (Memory, e, same)
 
-  -- why there is no campaign, by the command
-  unopened_session : (old new : Outside D) (status : ℕ) → Unopened content images clock since faults old new status → Told Session old new status
-  unopened_session old new status (settings_refused text gives none prints kept) =
-      printed Session old new status settings_line Input prints (inr (inl (inl ((refl, (text, gives, none)), kept)))) (λ all. (settings_line, inl ((refl, (text, gives, none)), kept), all))
-  unopened_session old new status (settings_unread missed same kept e) = (File, e, (missed, same, kept))
-  unopened_session old new status (not_begun same kept e) = (Memory, e, same)
-  unopened_session old new status (not_opened text settings gives is given_up) = by given_up.why given_up.refused given_up.told
+  -- why there is no campaign, where the command keeps one
+  unopened_told : (request : Request) (old new : Outside D) (status : ℕ) → NeedsBook request
+      → (Misses old.streams.shelf new.streams.shelf settings_file → IsMissing request old.streams.shelf new.streams.shelf)
+      → ((text : List ℕ) → IsBookRefusal content images clock since faults request old new text → IsRefusal content images clock since faults request old new text)
+      → Unopened content images clock since faults old new status → Told request old new status
+  unopened_told request old new status needs misses refusal (settings_refused text gives none prints kept) =
+      let is = refusal settings_line (inl ((refl, (text, gives, none)), kept)) in
+      printed request old new status settings_line Input prints (inr (inl is)) (λ all. (settings_line, is, all))
+  unopened_told request old new status needs misses refusal (settings_unread missed same kept e) = (File, e, (misses missed, same, kept))
+  unopened_told request old new status needs misses refusal (not_begun same kept e) = (Memory, e, same)
+  unopened_told request old new status needs misses refusal (not_opened text settings gives is given_up) = by given_up.why given_up.refused given_up.told
     where
-      none : (why : BookFault) → Refused content images clock since faults settings.rules old.disk new.disk why → IsUnopened content images clock since faults Session old new why
-      none why r = (inl refl, (text, settings, gives, is, r))
+      none : (why : BookFault) → Refused content images clock since faults settings.rules old.disk new.disk why → IsUnopened content images clock since faults request old new why
+      none why r = (needs, (text, settings, gives, is, r))
 
-      by : (why : BookFault) → Refused content images clock since faults settings.rules old.disk new.disk why → TellsFault why old.streams.out new.streams.out status → Told Session old new status
+      by : (why : BookFault) → Refused content images clock since faults settings.rules old.disk new.disk why → TellsFault why old.streams.out new.streams.out status → Told request old new status
       by fault.Disk r tells = (Disk, tells.1, (none fault.Disk r, tells.0))
       by fault.Header r prints =
-          printed Session old new status header_line Damaged prints (inr (inr (inl (inl (refl, none fault.Header r))))) (λ all. (header_line, inl (refl, none fault.Header r), all))
+          printed request old new status header_line Damaged prints (inr (inr (inl (inl (refl, none fault.Header r))))) (λ all. (header_line, inl (refl, none fault.Header r), all))
       by (fault.Damaged entry) r (inl prints) =
-          printed Session old new status (entry_line entry) Damaged prints (inr (inr (inl (inr (entry, refl, none (fault.Damaged entry) r))))) (λ all. (entry_line entry, inr (entry, refl, none (fault.Damaged entry) r), all))
+          printed request old new status (entry_line entry) Damaged prints (inr (inr (inl (inr (entry, refl, none (fault.Damaged entry) r))))) (λ all. (entry_line entry, inr (entry, refl, none (fault.Damaged entry) r), all))
       by (fault.Damaged entry) r (inr none_told) = (Memory, none_told.1, none_told.0)
       by fault.RulesDiffer r prints =
-          printed Session old new status rules_line Input prints (inr (inl (inr (refl, none fault.RulesDiffer r)))) (λ all. (rules_line, inr (refl, none fault.RulesDiffer r), all))
-      by fault.Memory r tells = (Memory, tells.1, tells.0)
-
-  unopened_check : (old new : Outside D) (status : ℕ) → Unopened content images clock since faults old new status → Told Check old new status
-  unopened_check old new status (settings_refused text gives none prints kept) =
-      printed Check old new status settings_line Input prints (inr (inl (inl ((refl, (text, gives, none)), kept)))) (λ all. (settings_line, inl ((refl, (text, gives, none)), kept), all))
-  unopened_check old new status (settings_unread missed same kept e) = (File, e, (missed, same, kept))
-  unopened_check old new status (not_begun same kept e) = (Memory, e, same)
-  unopened_check old new status (not_opened text settings gives is given_up) = by given_up.why given_up.refused given_up.told
-    where
-      none : (why : BookFault) → Refused content images clock since faults settings.rules old.disk new.disk why → IsUnopened content images clock since faults Check old new why
-      none why r = (inr refl, (text, settings, gives, is, r))
-
-      by : (why : BookFault) → Refused content images clock since faults settings.rules old.disk new.disk why → TellsFault why old.streams.out new.streams.out status → Told Check old new status
-      by fault.Disk r tells = (Disk, tells.1, (none fault.Disk r, tells.0))
-      by fault.Header r prints =
-          printed Check old new status header_line Damaged prints (inr (inr (inl (inl (refl, none fault.Header r))))) (λ all. (header_line, inl (refl, none fault.Header r), all))
-      by (fault.Damaged entry) r (inl prints) =
-          printed Check old new status (entry_line entry) Damaged prints (inr (inr (inl (inr (entry, refl, none (fault.Damaged entry) r))))) (λ all. (entry_line entry, inr (entry, refl, none (fault.Damaged entry) r), all))
-      by (fault.Damaged entry) r (inr none_told) = (Memory, none_told.1, none_told.0)
-      by fault.RulesDiffer r prints =
-          printed Check old new status rules_line Input prints (inr (inl (inr (refl, none fault.RulesDiffer r)))) (λ all. (rules_line, inr (refl, none fault.RulesDiffer r), all))
+          let is_other = refusal rules_line (inr (refl, none fault.RulesDiffer r)) in
+          printed request old new status rules_line Input prints (inr (inl is_other)) (λ all. (rules_line, is_other, all))
       by fault.Memory r tells = (Memory, tells.1, tells.0)
 
   session_told : (old new : Outside D) (status : ℕ) → SessionWay content images clock since faults old new status → Told Session old new status
@@ -184,20 +173,32 @@ module _ {D : Type 0} (content : D → Option (List ℕ)) (images : D → List �
       comes_to h w = (refl, same, (text, settings, gives, is, w))
 
       by : (h : End) → Holds content images clock since faults settings old new h → status ≡ status_of h → Told Session old new status
-      by end.Ended w is_status = (Done, is_status, inr (comes_to end.Ended w))
+      by end.Ended w is_status = (Done, is_status, inr (inl (comes_to end.Ended w)))
       by end.Cut w is_status = (Cut, is_status, inl (comes_to end.Cut w))
       by (end.Refused cause) w is_status = (Cut, is_status, inr (inl (cause, comes_to (end.Refused cause) w)))
       by end.ReadFault w is_status = (Link, is_status, comes_to end.ReadFault w)
       by end.WriteFault w is_status = (Output, is_status, inr (comes_to end.WriteFault w))
       by end.Memory w is_status = (Memory, is_status, same)
       by end.Worn w is_status = (Cut, is_status, inr (inr (comes_to end.Worn w)))
-  session_told old new status (unheld none own) = unopened_session old new status none
+  session_told old new status (unheld none own) = unopened_told Session old new status tt (λ missed. missed) (λ text is. is) none
+
+  serve_told : (numbers : ServerNumbers) (old new : Outside D) (status : ℕ) → ServeWay content images clock since faults numbers old new status → Told (Serve numbers) old new status
+  serve_told numbers old new status (served text settings how gives is serves same e) = by how serves e
+    where
+      comes_to : (h : ServeEnd) → Served content images clock since faults settings numbers old new h → ServerComesTo content images clock since faults (Serve numbers) old new h
+      comes_to h w = (numbers, refl, same, (text, settings, gives, is, w))
+
+      by : (h : ServeEnd) → Served content images clock since faults settings numbers old new h → status ≡ serve_status h → Told (Serve numbers) old new status
+      by serve_end.Ended w is_status = (Done, is_status, inr (inr (comes_to serve_end.Ended w)))
+      by serve_end.DoorFault w is_status = (Door, is_status, (comes_to serve_end.DoorFault w, w.fault refl))
+      by serve_end.Memory w is_status = (Memory, is_status, same)
+  serve_told numbers old new status (unserved none door) = unopened_told (Serve numbers) old new status tt (λ missed. missed) (λ text is. is) none
 
   check_told : (old new : Outside D) (status : ℕ) → CheckWay content images clock since faults old new status → Told Check old new status
   check_told old new status (checked text settings book gives is shows prints) =
       printed Check old new status (check_text book.history) Done prints (inl (text, settings, gives, is, (book, shows, refl))) (λ all. inl (check_text book.history, (text, settings, gives, is, (book, shows, refl)), all))
   check_told old new status (untold text settings book gives is shows same e) = (Memory, e, same)
-  check_told old new status (unshown none) = unopened_check old new status none
+  check_told old new status (unshown none) = unopened_told Check old new status tt (λ missed. missed) (λ text is. is) none
 
   usage_told : (old new : Outside D) (status : ℕ) → UsageWay old.streams new.streams status → Told Nothing old new status
   usage_told old new status (told prints) =
@@ -269,6 +270,15 @@ module _ {D : Type 0} (content : D → Option (List ℕ)) (images : D → List �
       by end.Worn w is_status = inr (inr (is_status, inr (inr (comes_to end.Worn w))))
   session_complete old new status can calm (unheld none own) = inr (inl (unopened_complete old new status can calm none))
 
+  serve_complete : (numbers : ServerNumbers) (old new : Outside D) (status : ℕ) → CanOpen content images clock since faults old → IsCalm content images clock since faults old new → ServeWay content images clock since faults numbers old new status → IsComplete (Serve numbers) old new status
+  serve_complete numbers old new status can calm (served text settings how gives is serves same e) = by how serves e
+    where
+      by : (h : ServeEnd) → Served content images clock since faults settings numbers old new h → status ≡ serve_status h → IsComplete (Serve numbers) old new status
+      by serve_end.Ended w is_status = inl is_status
+      by serve_end.DoorFault w is_status = absurd (calm.door (w.fault refl))
+      by serve_end.Memory w is_status = inr (inl is_status)
+  serve_complete numbers old new status can calm (unserved none door) = inr (inl (unopened_complete old new status can calm none))
+
   check_complete : (old new : Outside D) (status : ℕ) → CanOpen content images clock since faults old → IsCalm content images clock since faults old new → CheckWay content images clock since faults old new status → IsComplete Check old new status
   check_complete old new status can calm (checked text settings book gives is shows prints) = inl (prints_whole old.streams.out new.streams.out (check_text book.history) 0 status prints calm.out)
   check_complete old new status can calm (untold text settings book gives is shows same e) = inr (inl e)
@@ -294,6 +304,11 @@ module _ {D : Type 0} (content : D → Option (List ℕ)) (images : D → List �
   session_refused old new status has calm (held text settings how gives is holds same e) = absurd (not_read old.streams.shelf text settings has gives is)
   session_refused old new status has calm (unheld none own) = unopened_refused old new status has calm none
 
+  serve_refused : (numbers : ServerNumbers) (old new : Outside D) (status : ℕ) → TellsSettings old.streams.shelf (λ bytes. settings_of bytes ≡ None) → IsCalm content images clock since faults old new → ServeWay content images clock since faults numbers old new status
+      → (status ≡ 3) ⊎ (status ≡ 7)
+  serve_refused numbers old new status has calm (served text settings how gives is serves same e) = absurd (not_read old.streams.shelf text settings has gives is)
+  serve_refused numbers old new status has calm (unserved none door) = unopened_refused old new status has calm none
+
   check_refused : (old new : Outside D) (status : ℕ) → TellsSettings old.streams.shelf (λ bytes. settings_of bytes ≡ None) → IsCalm content images clock since faults old new → CheckWay content images clock since faults old new status
       → (status ≡ 3) ⊎ (status ≡ 7)
   check_refused old new status has calm (checked text settings book gives is shows prints) = absurd (not_read old.streams.shelf text settings has gives is)
@@ -309,6 +324,10 @@ module _ {D : Type 0} (content : D → Option (List ℕ)) (images : D → List �
   session_later : (old new : Outside D) (status : ℕ) → SessionWay content images clock since faults old new status → old.streams.out.faults ≤ new.streams.out.faults
   session_later old new status (held text settings how gives is holds same e) = same_out old.streams.out new.streams.out same
   session_later old new status (unheld none own) = unopened_later old new status none
+
+  serve_later : (numbers : ServerNumbers) (old new : Outside D) (status : ℕ) → ServeWay content images clock since faults numbers old new status → old.streams.out.faults ≤ new.streams.out.faults
+  serve_later numbers old new status (served text settings how gives is serves same e) = same_out old.streams.out new.streams.out same
+  serve_later numbers old new status (unserved none door) = unopened_later old new status none
 
   check_later : (old new : Outside D) (status : ℕ) → CheckWay content images clock since faults old new status → old.streams.out.faults ≤ new.streams.out.faults
   check_later old new status (checked text settings book gives is shows prints) = prints.later
@@ -328,7 +347,8 @@ module _ {D : Type 0} (content : D → Option (List ℕ)) (images : D → List �
         write_faults = eval_later run qrels old.streams new.streams status ends.way;
         own = λ other. ap (λ (w : Streams). w.own) ends.rest;
         no_file = λ is. absurd (cc is);
-        no_disk = λ other another. kept;
+        no_door = λ other. ap (λ (w : Streams). w.door) ends.rest;
+        no_disk = λ other. kept;
       }
   by_status exclusive Session old new status ends =
       let w = session_told old new status ends.way in
@@ -341,7 +361,22 @@ module _ {D : Type 0} (content : D → Option (List ℕ)) (images : D → List �
         write_faults = session_later old new status ends.way;
         own = λ other. absurd (other refl);
         no_file = λ is. absurd (cc is);
-        no_disk = λ other another. absurd (other refl);
+        no_door = λ other. ends.door;
+        no_disk = λ other. absurd (other tt);
+      }
+  by_status exclusive (Serve numbers) old new status ends =
+      let w = serve_told numbers old new status ends.way in
+      record {
+        known = (w.0, w.1);
+        says = says (Serve numbers) old new status w;
+        complete = λ can calm. serve_complete numbers old new status can calm ends.way;
+        refused = λ has calm. serve_refused numbers old new status has calm ends.way;
+        shelf = ends.shelf;
+        write_faults = serve_later numbers old new status ends.way;
+        own = λ other. ends.own;
+        no_file = λ is. absurd (cc is);
+        no_door = λ other. absurd (other tt);
+        no_disk = λ other. absurd (other tt);
       }
   by_status exclusive Check old new status ends =
       let w = check_told old new status ends.way in
@@ -354,7 +389,8 @@ module _ {D : Type 0} (content : D → Option (List ℕ)) (images : D → List �
         write_faults = check_later old new status ends.way;
         own = λ other. ends.own;
         no_file = λ is. absurd (cc is);
-        no_disk = λ other another. absurd (another refl);
+        no_door = λ other. ends.door;
+        no_disk = λ other. absurd (other tt);
       }
   by_status exclusive Nothing old new status (ends, kept) =
       let w = usage_told old new status ends.way in
@@ -372,5 +408,6 @@ module _ {D : Type 0} (content : D → Option (List ℕ)) (images : D → List �
         write_faults = usage_later old.streams new.streams status ends.way;
         own = λ other. ap (λ (w : Streams). w.own) ends.rest;
         no_file = λ is. same;
-        no_disk = λ other another. kept;
+        no_door = λ other. ap (λ (w : Streams). w.door) ends.rest;
+        no_disk = λ other. kept;
       }

@@ -3,11 +3,14 @@ use Rattle.std.proofs.Common.{◌≡◌, ◌≤◌, ◌⊎◌, inl, inr, ℕ, Li
 use Rattle.std.specs.Prelude.{IfErr, IfSome, Result, Ok, Err}
 use Rattle.decimal_rank.specs.Causes.{Rose}
 use Rattle.decimal_rank.specs.Writings.{Writing}
-use Rattle.book.specs.Books.{Seen}
+use Rattle.book.specs.Books.{Seen, story_of}
 use Rattle.book.specs.Images.{StandsFor}
 use Rattle.book.specs.OpeningLaws.{stands_alone}
+use Rattle.campaign_server.specs.declared.ends.ServeEnd.{ServeEnd}
 use Rattle.campaign_server.specs.Connections.{Ends}
+use Rattle.campaign_server.specs.Doors.{DoorState}
 use Rattle.campaign_server.specs.Links.{LinkState}
+use Rattle.campaign_server.specs.Servers.{Leaves}
 use Rattle.campaign_server.specs.Sessions.{IsSession}
 use Rattle.eval.specs.Evaluations.{IsReport, IsInputFault}
 use Rattle.routes.specs.declared.keys.KeyRow.{KeyRow}
@@ -17,12 +20,14 @@ use Rattle.campaign_cli.specs.BookEnds.{IsOpened, IsRefused, Unopened, not_begun
 use Rattle.campaign_cli.specs.CheckEnds.{CheckEnds, CheckWay, Tells, checked, unshown, untold}
 use Rattle.campaign_cli.specs.EvalEnds.{EvalWay, EvalEnds, scored, refused, unread, short}
 use Rattle.campaign_cli.specs.Outside.{Outside, Streams, Prints, Misses, IsUnread}
+use Rattle.campaign_cli.specs.Requests.{ServerNumbers}
+use Rattle.campaign_cli.specs.ServeEnds.{Closes, ServeEnds, ServersStand, served, unserved}
 use Rattle.campaign_cli.specs.SessionEnds.{Answers, SessionEnds, SessionsStand, held, unheld}
 use Rattle.campaign_cli.specs.Settings.{settings_of}
 use Rattle.campaign_cli.specs.Shelves.{Follows, Gives, Lacks, ShelfState, file_at}
 
-abbrev pub outside : ShelfState → Writing → LinkState → Streams
-outside shelf out own = record { shelf = shelf; out = out; own = own }
+abbrev pub outside : ShelfState → Writing → LinkState → DoorState → Streams
+outside shelf out own door = record { shelf = shelf; out = out; own = own; door = door }
 
 pub follows_on : (a b c : ShelfState) → Follows a b → Follows b c → Follows a c
 follows_on a b c w v = record {
@@ -42,40 +47,40 @@ missed_before a b c name w (inr missed) =
 
 module _ (run qrels : List ℕ) (a b c : ShelfState) (o p : Writing) (first : Follows a b) (second : Follows b c) where
   pub eval_scored : (r q text : List ℕ) (status : ℕ) → Gives a run r → Gives b qrels q → IsReport run r q text → Prints o p text 0 status
-      → (own : LinkState) → EvalEnds run qrels (outside a o own) (outside c p own) status
-  eval_scored r q text status gr gq report prints own = record {
+      → (own : LinkState) (door : DoorState) → EvalEnds run qrels (outside a o own door) (outside c p own door) status
+  eval_scored r q text status gr gq report prints own door = record {
     way = scored r q text gr (given_before a b qrels q first gq) report prints;
     shelf = follows_on a b c first second;
     rest = refl;
   }
 
   pub eval_refused : (r q line : List ℕ) (status : ℕ) → Gives a run r → Gives b qrels q → IsInputFault run qrels r q line → Prints o p line 3 status
-      → (own : LinkState) → EvalEnds run qrels (outside a o own) (outside c p own) status
-  eval_refused r q line status gr gq fault prints own = record {
+      → (own : LinkState) (door : DoorState) → EvalEnds run qrels (outside a o own door) (outside c p own door) status
+  eval_refused r q line status gr gq fault prints own door = record {
     way = refused r q line gr (given_before a b qrels q first gq) fault prints;
     shelf = follows_on a b c first second;
     rest = refl;
   }
 
 pub eval_short : (run qrels : List ℕ) (a b c : ShelfState) (o : Writing) → Follows a b → Follows b c → (status : ℕ) → status ≡ 7
-    → (own : LinkState) → EvalEnds run qrels (outside a o own) (outside c o own) status
-eval_short run qrels a b c o first second status is own = record { way = short refl is; shelf = follows_on a b c first second; rest = refl }
+    → (own : LinkState) (door : DoorState) → EvalEnds run qrels (outside a o own door) (outside c o own door) status
+eval_short run qrels a b c o first second status is own door = record { way = short refl is; shelf = follows_on a b c first second; rest = refl }
 
 -- the run wasn't read
 pub run_unread : (run qrels : List ℕ) (a b : ShelfState) (o : Writing) (status : ℕ) → Follows a b → IsUnread a b run status
-    → (own : LinkState) → EvalEnds run qrels (outside a o own) (outside b o own) status
-run_unread run qrels a b o status first (inl missed) own = record { way = unread (inl missed.1) refl missed.0; shelf = first; rest = refl }
-run_unread run qrels a b o status first (inr is) own = record { way = short refl is; shelf = first; rest = refl }
+    → (own : LinkState) (door : DoorState) → EvalEnds run qrels (outside a o own door) (outside b o own door) status
+run_unread run qrels a b o status first (inl missed) own door = record { way = unread (inl missed.1) refl missed.0; shelf = first; rest = refl }
+run_unread run qrels a b o status first (inr is) own door = record { way = short refl is; shelf = first; rest = refl }
 
 -- the qrels weren't read
 pub qrels_unread : (run qrels : List ℕ) (a b c : ShelfState) (o : Writing) (status : ℕ) → Follows a b → Follows b c → IsUnread b c qrels status
-    → (own : LinkState) → EvalEnds run qrels (outside a o own) (outside c o own) status
-qrels_unread run qrels a b c o status first second (inl missed) own = record {
+    → (own : LinkState) (door : DoorState) → EvalEnds run qrels (outside a o own door) (outside c o own door) status
+qrels_unread run qrels a b c o status first second (inl missed) own door = record {
   way = unread (inr (missed_before a b c qrels first missed.1)) refl missed.0;
   shelf = follows_on a b c first second;
   rest = refl;
 }
-qrels_unread run qrels a b c o status first second (inr is) own = record { way = short refl is; shelf = follows_on a b c first second; rest = refl }
+qrels_unread run qrels a b c o status first second (inr is) own door = record { way = short refl is; shelf = follows_on a b c first second; rest = refl }
 
 module _ {D : Type 0} (content : D → Option (List ℕ)) (images : D → List ℕ → Type 0) (clock : D → ℕ) (since : D → ℕ → List ℕ → Type 0) (faults : D → ℕ) where
   -- the outside, with its disk
@@ -83,33 +88,33 @@ module _ {D : Type 0} (content : D → Option (List ℕ)) (images : D → List �
   with_disk streams disk = record { streams = streams; disk = disk }
 
   -- the settings weren't read
-  pub unread_settings : (a b : ShelfState) (o : Writing) (disk : D) (status : ℕ) → IsUnread a b settings_file status → (own : LinkState)
-      → Unopened content images clock since faults (with_disk (outside a o own) disk) (with_disk (outside b o own) disk) status
-  unread_settings a b o disk status (inl missed) own = settings_unread missed.1 refl refl missed.0
-  unread_settings a b o disk status (inr is) own = not_begun refl refl is
+  pub unread_settings : (a b : ShelfState) (o : Writing) (disk : D) (status : ℕ) → IsUnread a b settings_file status → (own : LinkState) (door : DoorState)
+      → Unopened content images clock since faults (with_disk (outside a o own door) disk) (with_disk (outside b o own door) disk) status
+  unread_settings a b o disk status (inl missed) own door = settings_unread missed.1 refl refl missed.0
+  unread_settings a b o disk status (inr is) own door = not_begun refl refl is
 
   -- a disk that wasn't opened
   pub refused_disk : (text : List ℕ) (settings : Settings) (a b : ShelfState) (o p : Writing) (disk after : D) (status : ℕ) → Gives a settings_file text → settings_of text ≡ Some settings
-      → IsRefused content images clock since faults settings.rules disk after o p status → (own : LinkState)
-      → Unopened content images clock since faults (with_disk (outside a o own) disk) (with_disk (outside b p own) after) status
-  refused_disk text settings a b o p disk after status gives is given_up own = not_opened text settings gives is given_up
+      → IsRefused content images clock since faults settings.rules disk after o p status → (own : LinkState) (door : DoorState)
+      → Unopened content images clock since faults (with_disk (outside a o own door) disk) (with_disk (outside b p own door) after) status
+  refused_disk text settings a b o p disk after status gives is given_up own door = not_opened text settings gives is given_up
 
   pub refused_result : {T : Type 0} (text : List ℕ) (settings : Settings) (a b : ShelfState) (o p : Writing) (disk : D) → Gives a settings_file text → settings_of text ≡ Some settings → (result : Result T (Status × D))
       → IfErr result (λ ended. IsRefused content images clock since faults settings.rules disk ended.1 o p ended.0.0)
-      → IfErr result (λ ended. (own : LinkState) → Unopened content images clock since faults (with_disk (outside a o own) disk) (with_disk (outside b p own) ended.1) ended.0.0)
+      → IfErr result (λ ended. (own : LinkState) (door : DoorState) → Unopened content images clock since faults (with_disk (outside a o own door) disk) (with_disk (outside b p own door) ended.1) ended.0.0)
   refused_result text settings a b o p disk gives is (Ok found) none = tt
   refused_result text settings a b o p disk gives is (Err ended) given_up = refused_disk text settings a b o p disk ended.1 ended.0.0 gives is given_up
 
   -- settings that are refused
-  pub refused_settings : (text : List ℕ) (a b : ShelfState) (o p : Writing) (disk : D) (status : ℕ) → Gives a settings_file text → settings_of text ≡ None → Prints o p settings_line 3 status → (own : LinkState)
-      → Unopened content images clock since faults (with_disk (outside a o own) disk) (with_disk (outside b p own) disk) status
-  refused_settings text a b o p disk status gives none prints own = settings_refused text gives none prints refl
+  pub refused_settings : (text : List ℕ) (a b : ShelfState) (o p : Writing) (disk : D) (status : ℕ) → Gives a settings_file text → settings_of text ≡ None → Prints o p settings_line 3 status → (own : LinkState) (door : DoorState)
+      → Unopened content images clock since faults (with_disk (outside a o own door) disk) (with_disk (outside b p own door) disk) status
+  refused_settings text a b o p disk status gives none prints own door = settings_refused text gives none prints refl
 
   -- a campaign that was opened answers a link
-  pub held_session : (a b : ShelfState) (o p : Writing) (own later : LinkState) (disk after : D) (book : Seen D) (callers : List KeyRow) (status : ℕ) → Follows a b → p ≡ o
+  pub held_session : (a b : ShelfState) (o p : Writing) (own later : LinkState) (door : DoorState) (disk after : D) (book : Seen D) (callers : List KeyRow) (status : ℕ) → Follows a b → p ≡ o
       → IsOpened content images clock since faults a disk book callers → Answers images clock since faults callers book own later after status
-      → SessionEnds content images clock since faults (with_disk (outside a o own) disk) (with_disk (outside b p later) after) status
-  held_session a b o p own later disk after book callers status follows same opened answers = record {
+      → SessionEnds content images clock since faults (with_disk (outside a o own door) disk) (with_disk (outside b p later door) after) status
+  held_session a b o p own later door disk after book callers status follows same opened answers = record {
     way = held opened.text opened.settings answers.how opened.given opened.read (record {
       opened = book;
       closed = answers.closed;
@@ -120,28 +125,54 @@ module _ {D : Type 0} (content : D → Option (List ℕ)) (images : D → List �
       closes = answers.closes;
     }) same answers.status_is;
     shelf = follows;
+    door = refl;
   }
 
-  pub unheld_session : (a b : ShelfState) (o p : Writing) (own : LinkState) (disk after : D) (status : ℕ) → Follows a b
-      → Unopened content images clock since faults (with_disk (outside a o own) disk) (with_disk (outside b p own) after) status
-      → SessionEnds content images clock since faults (with_disk (outside a o own) disk) (with_disk (outside b p own) after) status
-  unheld_session a b o p own disk after status follows none = record { way = unheld none refl; shelf = follows }
+  pub unheld_session : (a b : ShelfState) (o p : Writing) (own : LinkState) (door : DoorState) (disk after : D) (status : ℕ) → Follows a b
+      → Unopened content images clock since faults (with_disk (outside a o own door) disk) (with_disk (outside b p own door) after) status
+      → SessionEnds content images clock since faults (with_disk (outside a o own door) disk) (with_disk (outside b p own door) after) status
+  unheld_session a b o p own door disk after status follows none = record { way = unheld none refl; shelf = follows; door = refl }
+
+  -- a campaign that was opened takes the links of a door
+  pub served_links : (numbers : ServerNumbers) (a b : ShelfState) (o p : Writing) (own : LinkState) (door later : DoorState) (disk after : D) (book : Seen D) (callers : List KeyRow) (status : ℕ) → Follows a b → p ≡ o
+      → IsOpened content images clock since faults a disk book callers → Closes images clock since faults callers numbers book door later after status
+      → ServeEnds content images clock since faults numbers (with_disk (outside a o own door) disk) (with_disk (outside b p own later) after) status
+  served_links numbers a b o p own door later disk after book callers status follows same opened closes = record {
+    way = served opened.text opened.settings closes.how opened.given opened.read (record {
+      opened = book;
+      closed = closes.closed;
+      opens = opened.opened;
+      grown = closes.grown;
+      links = subst (λ (callers : List KeyRow). IfSome later.told (λ told. Leaves callers numbers.workers numbers.connections numbers.port (story_of faults book) (story_of faults closes.closed) closes.how told)) opened.callers_are closes.links;
+      fault = closes.fault;
+      later = closes.later;
+      sound = closes.sound;
+      closes = closes.closes;
+    }) same closes.status_is;
+    shelf = follows;
+    own = refl;
+  }
+
+  pub unserved_links : (numbers : ServerNumbers) (a b : ShelfState) (o p : Writing) (own : LinkState) (door : DoorState) (disk after : D) (status : ℕ) → Follows a b
+      → Unopened content images clock since faults (with_disk (outside a o own door) disk) (with_disk (outside b p own door) after) status
+      → ServeEnds content images clock since faults numbers (with_disk (outside a o own door) disk) (with_disk (outside b p own door) after) status
+  unserved_links numbers a b o p own door disk after status follows none = record { way = unserved none refl; shelf = follows; own = refl }
 
   -- a campaign that was opened is shown
-  pub shown_campaign : (a b : ShelfState) (o p q : Writing) (own : LinkState) (disk after : D) (book : Seen D) (callers : List KeyRow) (status : ℕ) → Follows a b → p ≡ o
+  pub shown_campaign : (a b : ShelfState) (o p q : Writing) (own : LinkState) (door : DoorState) (disk after : D) (book : Seen D) (callers : List KeyRow) (status : ℕ) → Follows a b → p ≡ o
       → IsOpened content images clock since faults a disk book callers → Tells book.history p q status → after ≡ book.disk
-      → CheckEnds content images clock since faults (with_disk (outside a o own) disk) (with_disk (outside b q own) after) status
-  shown_campaign a b o p q own disk after book callers status follows same opened tells closes =
-      record { way = by (subst (λ (o : Writing). Tells book.history o q status) same tells); shelf = follows; own = refl }
+      → CheckEnds content images clock since faults (with_disk (outside a o own door) disk) (with_disk (outside b q own door) after) status
+  shown_campaign a b o p q own door disk after book callers status follows same opened tells closes =
+      record { way = by (subst (λ (o : Writing). Tells book.history o q status) same tells); shelf = follows; own = refl; door = refl }
     where
-      by : Tells book.history o q status → CheckWay content images clock since faults (with_disk (outside a o own) disk) (with_disk (outside b q own) after) status
+      by : Tells book.history o q status → CheckWay content images clock since faults (with_disk (outside a o own door) disk) (with_disk (outside b q own door) after) status
       by (inl prints) = checked opened.text opened.settings book opened.given opened.read (record { opens = opened.opened; closes = closes }) prints
       by (inr none) = untold opened.text opened.settings book opened.given opened.read (record { opens = opened.opened; closes = closes }) none.0 none.1
 
-  pub unshown_campaign : (a b : ShelfState) (o p : Writing) (own : LinkState) (disk after : D) (status : ℕ) → Follows a b
-      → Unopened content images clock since faults (with_disk (outside a o own) disk) (with_disk (outside b p own) after) status
-      → CheckEnds content images clock since faults (with_disk (outside a o own) disk) (with_disk (outside b p own) after) status
-  unshown_campaign a b o p own disk after status follows none = record { way = unshown none; shelf = follows; own = refl }
+  pub unshown_campaign : (a b : ShelfState) (o p : Writing) (own : LinkState) (door : DoorState) (disk after : D) (status : ℕ) → Follows a b
+      → Unopened content images clock since faults (with_disk (outside a o own door) disk) (with_disk (outside b p own door) after) status
+      → CheckEnds content images clock since faults (with_disk (outside a o own door) disk) (with_disk (outside b p own door) after) status
+  unshown_campaign a b o p own door disk after status follows none = record { way = unshown none; shelf = follows; own = refl; door = refl }
 
   -- what the disk stands for at the end of a session, where no call on it failed
   pub session_stands : SessionsStand content images clock since faults
@@ -150,3 +181,11 @@ module _ {D : Type 0} (content : D → Option (List ℕ)) (images : D → List �
       let alone = stands_alone images clock since faults session.closed session.sound
       (λ rose. calm (subst (λ (disk : D). Rose (faults old.disk) (faults disk)) (sym session.closes) (subst (λ n. Rose n (faults session.closed.disk)) same_opening rose))) in
       subst (λ (disk : D). StandsFor (images disk) session.closed.history None) (sym session.closes) alone
+
+  -- and at the end of a server
+  pub server_stands : ServersStand content images clock since faults
+  server_stands settings numbers old new how server calm =
+      let same_opening : server.closed.opening ≡ faults old.disk = sym server.grown.opening ∙ server.opens.opening_is in
+      let alone = stands_alone images clock since faults server.closed server.sound
+      (λ rose. calm (subst (λ (disk : D). Rose (faults old.disk) (faults disk)) (sym server.closes) (subst (λ n. Rose n (faults server.closed.disk)) same_opening rose))) in
+      subst (λ (disk : D). StandsFor (images disk) server.closed.history None) (sym server.closes) alone

@@ -46,5 +46,6 @@ module _ {D : Type 0} (content : D → Option (List ℕ)) (images : D → List �
   pub record CheckEnds (old new : Outside D) (status : ℕ) : Type 0 where
     pub way : CheckWay old new status
     pub shelf : Follows old.streams.shelf new.streams.shelf
-    -- the own link is as it was
+    -- the own link and the door are as they were
     pub own : new.streams.own ≡ old.streams.own
+    pub door : new.streams.door ≡ old.streams.door

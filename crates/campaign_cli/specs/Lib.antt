@@ -4,6 +4,7 @@ pub mod Endings
 pub mod EvalEnds
 pub mod Outside
 pub mod Requests
+pub mod ServeEnds
 pub mod SessionEnds
 pub mod Settings
 pub mod Shelves

@@ -4,14 +4,16 @@ use Rattle.std.specs.Io.KnownBytes.{Appends}
 use Rattle.decimal_rank.specs.Causes.{Rose}
 use Rattle.decimal_rank.specs.KnownBytes.{AppendsPart}
 use Rattle.decimal_rank.specs.Writings.{Writing}
+use Rattle.campaign_server.specs.Doors.{DoorState}
 use Rattle.campaign_server.specs.Links.{LinkState}
 use Rattle.campaign_cli.specs.Shelves.{ShelfState, Lacks}
 
--- the files, the output and the program's own link
+-- the files, the output, the program's own link and its door
 pub record Streams : Type 0 where
   pub shelf : ShelfState
   pub out : Writing
   pub own : LinkState
+  pub door : DoorState
 
 -- these, and the disk that the program keeps a campaign on
 pub record Outside (D : Type 0) : Type 0 where

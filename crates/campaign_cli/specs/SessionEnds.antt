@@ -64,6 +64,8 @@ module _ {D : Type 0} (content : D → Option (List ℕ)) (images : D → List �
   pub record SessionEnds (old new : Outside D) (status : ℕ) : Type 0 where
     pub way : SessionWay old new status
     pub shelf : Follows old.streams.shelf new.streams.shelf
+    -- the door is as it was
+    pub door : new.streams.door ≡ old.streams.door
 
   -- Where no call on the disk failed, each of its images holds the entries at the end, and no other.
   abbrev pub SessionsStand : Type 0

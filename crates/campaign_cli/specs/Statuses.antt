@@ -15,12 +15,15 @@ use Rattle.journal.specs.Format.{decode}
 use Rattle.rulebook.specs.Words.{Text}
 use Rattle.campaign_server.specs.declared.ends.End.{End}
 use Rattle.campaign_server.specs.declared.ends.End.TheVariants as end
+use Rattle.campaign_server.specs.declared.ends.ServeEnd.{ServeEnd}
+use Rattle.campaign_server.specs.declared.ends.ServeEnd.TheVariants as serve_end
 use Rattle.eval.specs.Evaluations.{IsReport, IsInputFault}
 use Rattle.campaign_cli.specs.declared.settings.Settings.{Settings}
 use Rattle.campaign_cli.specs.BookEnds.{entry_line, header_line, rules_line, settings_file, settings_line}
 use Rattle.campaign_cli.specs.CheckEnds.{Shows, check_text}
 use Rattle.campaign_cli.specs.Outside.{Outside, Misses}
-use Rattle.campaign_cli.specs.Requests.{Request, Eval, Session, Check, Nothing, usage_line}
+use Rattle.campaign_cli.specs.Requests.{Request, Eval, Session, Serve, Check, Nothing, ServerNumbers, usage_line}
+use Rattle.campaign_cli.specs.ServeEnds.{Served}
 use Rattle.campaign_cli.specs.SessionEnds.{Holds}
 use Rattle.campaign_cli.specs.Settings.{settings_of}
 use Rattle.campaign_cli.specs.Shelves.{Files, Follows, Gives, ShelfState, file_at}
@@ -32,6 +35,7 @@ pub data Cause : Type 0 where
   Input : Cause
   File : Cause
   Disk : Cause
+  Door : Cause
   Memory : Cause
   Output : Cause
   Damaged : Cause
@@ -44,6 +48,7 @@ number_of Usage = 2
 number_of Input = 3
 number_of File = 4
 number_of Disk = 5
+number_of Door = 6
 number_of Memory = 7
 number_of Output = 8
 number_of Damaged = 9
@@ -78,12 +83,25 @@ IsUsage request text = (request ≡ Nothing) × (text ≡ usage_line)
 abbrev pub IsMissing : Request → ShelfState → ShelfState → Type 0
 IsMissing (Eval run qrels) old new = Misses old new run ⊎ Misses old new qrels
 IsMissing Session old new = Misses old new settings_file
+IsMissing (Serve numbers) old new = Misses old new settings_file
 IsMissing Check old new = Misses old new settings_file
 IsMissing Nothing old new = ⊥
 
 -- the command keeps a campaign on the disk
 abbrev pub NeedsBook : Request → Type 0
-NeedsBook request = (request ≡ Session) ⊎ (request ≡ Check)
+NeedsBook (Eval run qrels) = ⊥
+NeedsBook Session = Unit {0}
+NeedsBook (Serve numbers) = Unit {0}
+NeedsBook Check = Unit {0}
+NeedsBook Nothing = ⊥
+
+-- the command takes the links of a door
+abbrev pub NeedsDoor : Request → Type 0
+NeedsDoor (Eval run qrels) = ⊥
+NeedsDoor Session = ⊥
+NeedsDoor (Serve numbers) = Unit {0}
+NeedsDoor Check = ⊥
+NeedsDoor Nothing = ⊥
 
 -- the shelf tells both files, and their bytes have this property
 abbrev pub TellsBoth : ShelfState → List ℕ → List ℕ → (List ℕ → List ℕ → Type 0) → Type 0
@@ -106,19 +124,26 @@ module _ {D : Type 0} (content : D → Option (List ℕ)) (images : D → List �
   IsUnopened request old new why =
       NeedsBook request × GivesSettings old.streams.shelf (λ settings. Refused content images clock images_since faults settings.rules old.disk new.disk why)
 
-  -- the text is what a command prints when its work is done; a session prints nothing
+  -- the text is what a command prints when its work is done; a session and a server print nothing
   abbrev pub IsOutput : Request → Outside D → Outside D → List ℕ → Type 0
   IsOutput (Eval run qrels) old new text = GivesBoth old.streams.shelf run qrels (λ r q. IsReport run r q text)
   IsOutput Session old new text = ⊥
+  IsOutput (Serve numbers) old new text = ⊥
   IsOutput Check old new text =
       GivesSettings old.streams.shelf (λ settings. (book : Seen D) × Shows content images clock images_since faults settings old new book × (text ≡ check_text book.history))
   IsOutput Nothing old new text = ⊥
 
+  -- the settings are refused, and the text names their file; or the disk is another campaign's, and the text says so
+  abbrev pub IsBookRefusal : Request → Outside D → Outside D → List ℕ → Type 0
+  IsBookRefusal request old new text =
+      (IsSettingsRefusal old.streams.shelf text × (new.disk ≡ old.disk)) ⊎ ((text ≡ rules_line) × IsUnopened request old new fault.RulesDiffer)
+
   -- a file is refused, and the text names it; or the disk is another campaign's, and the text says so
   abbrev pub IsRefusal : Request → Outside D → Outside D → List ℕ → Type 0
   IsRefusal (Eval run qrels) old new text = GivesBoth old.streams.shelf run qrels (λ r q. IsInputFault run qrels r q text)
-  IsRefusal Session old new text = (IsSettingsRefusal old.streams.shelf text × (new.disk ≡ old.disk)) ⊎ ((text ≡ rules_line) × IsUnopened Session old new fault.RulesDiffer)
-  IsRefusal Check old new text = (IsSettingsRefusal old.streams.shelf text × (new.disk ≡ old.disk)) ⊎ ((text ≡ rules_line) × IsUnopened Check old new fault.RulesDiffer)
+  IsRefusal Session old new text = IsBookRefusal Session old new text
+  IsRefusal (Serve numbers) old new text = IsBookRefusal (Serve numbers) old new text
+  IsRefusal Check old new text = IsBookRefusal Check old new text
   IsRefusal Nothing old new text = ⊥
 
   -- what the disk holds is no journal, or its records are no campaign's, and the text says so
@@ -136,6 +161,11 @@ module _ {D : Type 0} (content : D → Option (List ℕ)) (images : D → List �
   SessionComesTo request old new how = (request ≡ Session) × (new.streams.out ≡ old.streams.out)
       × GivesSettings old.streams.shelf (λ settings. Holds content images clock images_since faults settings old new how)
 
+  -- the server of the settings that the shelf may give came to this end, and nothing was printed
+  abbrev pub ServerComesTo : Request → Outside D → Outside D → ServeEnd → Type 0
+  ServerComesTo request old new how = (numbers : ServerNumbers) × (request ≡ Serve numbers) × (new.streams.out ≡ old.streams.out)
+      × GivesSettings old.streams.shelf (λ settings. Served content images clock images_since faults settings numbers old new how)
+
   -- the session ended inside a message, at a refused one, or after as many bytes as it takes
   abbrev pub IsCut : Request → Outside D → Outside D → Type 0
   IsCut request old new = SessionComesTo request old new end.Cut
@@ -143,11 +173,12 @@ module _ {D : Type 0} (content : D → Option (List ℕ)) (images : D → List �
 
   -- what a cause says: what was printed, and why the program ended
   abbrev pub Says : Cause → Request → Outside D → Outside D → Type 0
-  Says Done request old new = PrintsAll old.streams.out new.streams.out (IsOutput request old new) ⊎ SessionComesTo request old new end.Ended
+  Says Done request old new = PrintsAll old.streams.out new.streams.out (IsOutput request old new) ⊎ (SessionComesTo request old new end.Ended ⊎ ServerComesTo request old new serve_end.Ended)
   Says Usage request old new = PrintsAll old.streams.out new.streams.out (IsUsage request)
   Says Input request old new = PrintsAll old.streams.out new.streams.out (IsRefusal request old new)
   Says File request old new = IsMissing request old.streams.shelf new.streams.shelf × (new.streams.out ≡ old.streams.out) × (new.disk ≡ old.disk)
   Says Disk request old new = IsUnopened request old new fault.Disk × (new.streams.out ≡ old.streams.out)
+  Says Door request old new = ServerComesTo request old new serve_end.DoorFault × Rose old.streams.door.faults new.streams.door.faults
   Says Memory request old new = new.streams.out ≡ old.streams.out
   Says Output request old new = PrintsPart old.streams.out new.streams.out (IsSaid request old new) ⊎ SessionComesTo request old new end.WriteFault
   Says Damaged request old new = PrintsAll old.streams.out new.streams.out (IsDamage request old new)
@@ -163,6 +194,7 @@ module _ {D : Type 0} (content : D → Option (List ℕ)) (images : D → List �
   abbrev pub CanDo : Request → Outside D → Type 0
   CanDo (Eval run qrels) old = TellsBoth old.streams.shelf run qrels (λ r q. (text : List ℕ) × IsReport run r q text)
   CanDo Session old = CanOpen old
+  CanDo (Serve numbers) old = CanOpen old
   CanDo Check old = CanOpen old
   CanDo Nothing old = ⊥
 
@@ -170,6 +202,7 @@ module _ {D : Type 0} (content : D → Option (List ℕ)) (images : D → List �
   abbrev pub HasToRefuse : Request → Outside D → Type 0
   HasToRefuse (Eval run qrels) old = TellsBoth old.streams.shelf run qrels (λ r q. (text : List ℕ) × IsInputFault run qrels r q text)
   HasToRefuse Session old = TellsSettings old.streams.shelf (λ bytes. settings_of bytes ≡ None)
+  HasToRefuse (Serve numbers) old = TellsSettings old.streams.shelf (λ bytes. settings_of bytes ≡ None)
   HasToRefuse Check old = TellsSettings old.streams.shelf (λ bytes. settings_of bytes ≡ None)
   HasToRefuse Nothing old = ⊥
 
@@ -179,6 +212,7 @@ module _ {D : Type 0} (content : D → Option (List ℕ)) (images : D → List �
     pub out : ¬ (Rose old.streams.out.faults new.streams.out.faults)
     pub reading : ¬ (Rose old.streams.own.reading.faults new.streams.own.reading.faults)
     pub writing : ¬ (Rose old.streams.own.writing.faults new.streams.own.writing.faults)
+    pub door : ¬ (Rose old.streams.door.faults new.streams.door.faults)
     pub disk : ¬ (Rose (faults old.disk) (faults new.disk))
 
   -- what a status says of what was asked
@@ -198,4 +232,5 @@ module _ {D : Type 0} (content : D → Option (List ℕ)) (images : D → List �
     -- what the words don't need is as it was
     pub own : request ≢ Session → new.streams.own ≡ old.streams.own
     pub no_file : request ≡ Nothing → new.streams.shelf ≡ old.streams.shelf
-    pub no_disk : request ≢ Session → request ≢ Check → new.disk ≡ old.disk
+    pub no_door : ¬ (NeedsDoor request) → new.streams.door ≡ old.streams.door
+    pub no_disk : ¬ (NeedsBook request) → new.disk ≡ old.disk

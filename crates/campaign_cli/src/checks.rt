@@ -1,5 +1,6 @@
 //! `check`: tells what the campaign on the disk is, and changes nothing of it.
 ghost use Rattle.std.specs.Prelude.{◌≡◌, IfOk};
+ghost use Rattle.campaign_server.specs.Doors.{DoorState};
 ghost use Rattle.campaign_server.specs.Links.{LinkState};
 ghost use Rattle.rulebook.specs.declared.reply.Reply.TheVariants.{Page as PageReply};
 ghost use Rattle.rulebook.specs.Scores.{table_page};
@@ -25,9 +26,9 @@ pub(crate) fn show_campaign<F: Shelf, O: Sink, D: Disk>(
     out: &mut O,
     disk: D,
 ) -> (Status, D)
-    ensures { (own : LinkState) → CheckEnds D.content D.images D.clock D.images_since D.fault_count
-        (record { streams = record { shelf = F.seen shelf.old; out = O.writing out.old; own = own }; disk = disk })
-        (record { streams = record { shelf = F.seen shelf.new; out = O.writing out.new; own = own }; disk = result.1 }) result.0.0 }
+    ensures { (own : LinkState) (door : DoorState) → CheckEnds D.content D.images D.clock D.images_since D.fault_count
+        (record { streams = record { shelf = F.seen shelf.old; out = O.writing out.old; own = own; door = door }; disk = disk })
+        (record { streams = record { shelf = F.seen shelf.new; out = O.writing out.new; own = own; door = door }; disk = result.1 }) result.0.0 }
 {
     match open_book(alloc, shelf, out, disk) {
         Ok((book, _callers)) => show(alloc, book, out),

@@ -1,4 +1,5 @@
 //! `eval RUN QRELS`: scores the run in one file against the qrels in another.
+ghost use Rattle.campaign_server.specs.Doors.{DoorState};
 ghost use Rattle.campaign_server.specs.Links.{LinkState};
 ghost use Rattle.campaign_cli.specs.EvalEnds.{EvalEnds};
 
@@ -19,8 +20,8 @@ pub(crate) fn score_files<F: Shelf, O: Sink>(
     shelf: &mut F,
     out: &mut O,
 ) -> Status
-    ensures { (own : LinkState) → EvalEnds run.now qrels.now (record { shelf = F.seen shelf.old; out = O.writing out.old; own = own })
-        (record { shelf = F.seen shelf.new; out = O.writing out.new; own = own }) result.0 }
+    ensures { (own : LinkState) (door : DoorState) → EvalEnds run.now qrels.now (record { shelf = F.seen shelf.old; out = O.writing out.old; own = own; door = door })
+        (record { shelf = F.seen shelf.new; out = O.writing out.new; own = own; door = door }) result.0 }
 {
     let run_bytes = match read(alloc, shelf, run) {
         Ok(bytes) => bytes,

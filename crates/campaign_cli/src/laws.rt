@@ -2,6 +2,7 @@ ghost use Rattle.std.specs.Prelude.{ℕ};
 ghost use Rattle.campaign_cli.specs.Endings.{Ends};
 ghost use Rattle.campaign_cli.specs.Outside.{Outside};
 ghost use Rattle.campaign_cli.specs.Requests.{Request};
+ghost use Rattle.campaign_cli.specs.ServeEnds.{ServersStand};
 ghost use Rattle.campaign_cli.specs.SessionEnds.{SessionsStand};
 ghost use Rattle.campaign_cli.specs.Statuses.{Statuses};
 
@@ -21,4 +22,10 @@ pub fn each_status_says<D: Disk>()
 /// alone.
 pub fn sessions_stand<D: Disk>()
     ensures { SessionsStand D.content D.images D.clock D.images_since D.fault_count }
+{}
+
+/// Where no call on the disk failed while a server ran, the disk stands at its end for the accepted
+/// entries alone.
+pub fn servers_stand<D: Disk>()
+    ensures { ServersStand D.content D.images D.clock D.images_since D.fault_count }
 {}

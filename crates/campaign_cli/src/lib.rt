@@ -1,6 +1,6 @@
 //! The program of a campaign: the words that it is called with, its settings, the files that it reads
-//! the output that it writes and the disk that it keeps a campaign on. `Shelf` and `Sink` stand for the
-//! outside, beside `Link` and `Disk` of the crates below; each has a form in memory and an adapter over
+//! the output that it writes, the door that it opens and the disk that it keeps a campaign on. `Shelf` and
+//! `Sink` stand for the outside, beside `Link`, `Door` and `Disk` of the crates below; each has a form in memory and an adapter over
 //! the real thing.
 #![tactic(auto)]
 
@@ -16,6 +16,7 @@ mod output_sink;
 mod printing;
 mod program;
 mod readings;
+mod servers;
 mod sessions;
 mod settings;
 mod shelves;
@@ -27,7 +28,7 @@ mod words;
 pub use decimal_rank::{Failed, Output as Sink, write_all};
 pub use faults::{SettingsEnd, ShelfFault};
 pub use file_shelf::FileShelf;
-pub use laws::{each_status_says, sessions_stand};
+pub use laws::{each_status_says, servers_stand, sessions_stand};
 pub use memory_shelf::MemoryShelf;
 pub use memory_sink::MemorySink;
 pub use output_sink::OutputSink;

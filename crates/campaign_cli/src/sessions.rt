@@ -1,6 +1,7 @@
 //! `session`: answers the requests of the program's own link by the campaign that the disk keeps.
 ghost use Rattle.std.specs.Prelude.{◌≡◌};
 ghost use Rattle.campaign_server.specs.Connections.{Ends};
+ghost use Rattle.campaign_server.specs.Doors.{DoorState};
 ghost use Rattle.campaign_server.specs.Sessions.{IsSession};
 ghost use Rattle.book.specs.Books.{IsSound, Runs};
 ghost use Rattle.campaign_cli.specs.SessionEnds.{Answers, SessionEnds, status_of as status_by};
@@ -23,9 +24,9 @@ pub(crate) fn hold_session<R, F: Shelf, O: Sink, I: Link, D: Disk>(
     own: &mut I,
     disk: D,
 ) -> (Status, D)
-    ensures { SessionEnds D.content D.images D.clock D.images_since D.fault_count
-        (record { streams = record { shelf = F.seen shelf.old; out = O.writing out.old; own = I.seen own.old }; disk = disk })
-        (record { streams = record { shelf = F.seen shelf.new; out = O.writing out.new; own = I.seen own.new }; disk = result.1 }) result.0.0 }
+    ensures { (door : DoorState) → SessionEnds D.content D.images D.clock D.images_since D.fault_count
+        (record { streams = record { shelf = F.seen shelf.old; out = O.writing out.old; own = I.seen own.old; door = door }; disk = disk })
+        (record { streams = record { shelf = F.seen shelf.new; out = O.writing out.new; own = I.seen own.new; door = door }; disk = result.1 }) result.0.0 }
 {
     match open_book(alloc, shelf, out, disk) {
         Ok((book, callers)) => answer_link(rt, alloc, book, &callers, own),

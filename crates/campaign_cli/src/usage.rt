@@ -1,3 +1,4 @@
+ghost use Rattle.campaign_server.specs.Doors.{DoorState};
 ghost use Rattle.campaign_server.specs.Links.{LinkState};
 ghost use Rattle.campaign_cli.specs.Shelves.{ShelfState};
 ghost use Rattle.campaign_cli.specs.UsageEnds.{UsageEnds};
@@ -12,8 +13,8 @@ pub const USAGE_LINE: &[u8] =
 
 /// Prints which commands there are.
 pub(crate) fn tell_usage<O: Sink>(out: &mut O) -> Status
-    ensures { (shelf : ShelfState) (own : LinkState) → UsageEnds (record { shelf = shelf; out = O.writing out.old; own = own })
-        (record { shelf = shelf; out = O.writing out.new; own = own }) result.0 }
+    ensures { (shelf : ShelfState) (own : LinkState) (door : DoorState) → UsageEnds (record { shelf = shelf; out = O.writing out.old; own = own; door = door })
+        (record { shelf = shelf; out = O.writing out.new; own = own; door = door }) result.0 }
 {
     print(out, USAGE_LINE, Status(2))
 }

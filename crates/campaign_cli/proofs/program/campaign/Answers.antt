@@ -2,14 +2,23 @@ use Rattle.std.proofs.Common.{refl}
 use Rattle.campaign_cli.proofs.program.campaign.Goals as goal
 
 pub returns-in-Ok-Eval : goal.returns-in-Ok-Eval
-returns-in-Ok-Eval g c = rw (rw c.in-Ok-Eval.field-0-is at c.in-Ok-Eval.ensures) (c.score_files.ensures (g.I.Link.seen c.args.own.now), refl)
+returns-in-Ok-Eval g c = rw (rw c.in-Ok-Eval.field-0-is at c.in-Ok-Eval.ensures.asked) (c.score_files.ensures (g.I.Link.seen c.args.own.now) (g.R.Door.seen c.args.door.now), refl)
 
 pub returns-in-Ok-Session : goal.returns-in-Ok-Session
-returns-in-Ok-Session g c = rw (rw c.in-Ok-Session.field-0-is at c.in-Ok-Session.ensures) c.hold_session.ensures
+returns-in-Ok-Session g c = rw (rw c.in-Ok-Session.field-0-is at c.in-Ok-Session.ensures.asked) (c.hold_session.ensures (g.R.Door.seen c.args.door.now))
+
+pub returns-in-Ok-Serve : goal.returns-in-Ok-Serve
+returns-in-Ok-Serve g c = rw (rw c.in-Ok-Serve.field-0-is at c.in-Ok-Serve.ensures.asked) (c.run_server.ensures (g.I.Link.seen c.args.own.now))
 
 pub returns-in-Ok-Check : goal.returns-in-Ok-Check
-returns-in-Ok-Check g c = rw (rw c.in-Ok-Check.field-0-is at c.in-Ok-Check.ensures) (c.show_campaign.ensures (g.I.Link.seen c.args.own.now))
+returns-in-Ok-Check g c = rw (rw c.in-Ok-Check.field-0-is at c.in-Ok-Check.ensures.asked) (c.show_campaign.ensures (g.I.Link.seen c.args.own.now) (g.R.Door.seen c.args.door.now))
 
 pub returns-in-Ok-Usage : goal.returns-in-Ok-Usage
 returns-in-Ok-Usage g c =
-    rw (rw c.in-Ok-Usage.field-0-is at c.in-Ok-Usage.ensures) (c.tell_usage.ensures (g.F.Shelf.seen c.args.shelf.now) (g.I.Link.seen c.args.own.now), refl)
+    rw (rw c.in-Ok-Usage.field-0-is at c.in-Ok-Usage.ensures.asked) (c.tell_usage.ensures (g.F.Shelf.seen c.args.shelf.now) (g.I.Link.seen c.args.own.now) (g.R.Door.seen c.args.door.now), refl)
+
+pub run_server-requires-clause-workers : goal.run_server-requires-clause-workers
+run_server-requires-clause-workers g c κs within = let range = rw c.in-Ok-Serve.field-0-is at c.in-Ok-Serve.ensures.in_range in (range.0, range.1)
+
+pub run_server-requires-clause-connections : goal.run_server-requires-clause-connections
+run_server-requires-clause-connections g c κs within = let range = rw c.in-Ok-Serve.field-0-is at c.in-Ok-Serve.ensures.in_range in range.2

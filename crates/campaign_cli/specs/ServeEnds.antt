@@ -1,0 +1,74 @@
+-- How `serve` ends.
+use Rattle.std.specs.Prelude.{◌≡◌, ℕ, ◌≤◌, List, Option, None, Some, IfSome}
+use Rattle.decimal_rank.specs.Causes.{Rose}
+use Rattle.book.specs.Books.{IsSound, Seen, story_of}
+use Rattle.book.specs.Images.{StandsFor}
+use Rattle.book.specs.Openings.{Opened}
+use Rattle.campaign_server.specs.declared.ends.ServeEnd.{ServeEnd}
+use Rattle.campaign_server.specs.declared.ends.ServeEnd.TheVariants as serve_end
+use Rattle.campaign_server.specs.Doors.{DoorState}
+use Rattle.campaign_server.specs.Servers.{Leaves}
+use Rattle.routes.specs.declared.keys.KeyRow.{KeyRow}
+use Rattle.rulebook.specs.Stories.{AtMost}
+use Rattle.campaign_cli.specs.declared.settings.Settings.{Settings}
+use Rattle.campaign_cli.specs.BookEnds.{Unopened, settings_file}
+use Rattle.campaign_cli.specs.Outside.{Outside}
+use Rattle.campaign_cli.specs.Requests.{ServerNumbers}
+use Rattle.campaign_cli.specs.Settings.{settings_of}
+use Rattle.campaign_cli.specs.Shelves.{Gives, Follows}
+
+-- the status by an end
+abbrev pub status_of : ServeEnd → ℕ
+status_of serve_end.Ended = 0
+status_of serve_end.DoorFault = 6
+status_of serve_end.Memory = 7
+
+-- What a campaign on a disk comes to where its server takes the links of a door: the end, the campaign then, and its disk.
+pub record Closes {D : Type 0} (images : D → List ℕ → Type 0) (clock : D → ℕ) (images_since : D → ℕ → List ℕ → Type 0) (faults : D → ℕ) (callers : List KeyRow)
+    (numbers : ServerNumbers) (opened : Seen D) (old new : DoorState) (disk : D) (status : ℕ) : Type 0 where
+  pub how : ServeEnd
+  pub closed : Seen D
+  pub grown : AtMost (story_of faults opened) (story_of faults closed)
+  pub links : IfSome new.told (λ told. Leaves callers numbers.workers numbers.connections numbers.port (story_of faults opened) (story_of faults closed) how told)
+  pub fault : how ≡ serve_end.DoorFault → Rose old.faults new.faults
+  pub later : old.faults ≤ new.faults
+  pub sound : IsSound images clock images_since faults closed
+  pub closes : disk ≡ closed.disk
+  pub status_is : status ≡ status_of how
+
+module _ {D : Type 0} (content : D → Option (List ℕ)) (images : D → List ℕ → Type 0) (clock : D → ℕ) (images_since : D → ℕ → List ℕ → Type 0) (faults : D → ℕ) where
+  -- A server of these settings came to this end.
+  pub record Served (settings : Settings) (numbers : ServerNumbers) (old new : Outside D) (how : ServeEnd) : Type 0 where
+    -- a campaign, as it was opened and as it was closed
+    pub opened : Seen D
+    pub closed : Seen D
+    -- it began with the entries that the disk told, or with the founding one
+    pub opens : Opened content images clock images_since faults settings.rules old.disk opened
+    -- the entries only grow
+    pub grown : AtMost (story_of faults opened) (story_of faults closed)
+    -- each link that was taken has its record: what was written is the answers of the rules after the entries so far, which begin with all that was seen on it
+    pub links : IfSome new.streams.door.told (λ told. Leaves settings.callers numbers.workers numbers.connections numbers.port (story_of faults opened) (story_of faults closed) how told)
+    pub fault : how ≡ serve_end.DoorFault → Rose old.streams.door.faults new.streams.door.faults
+    pub later : old.streams.door.faults ≤ new.streams.door.faults
+    -- at the end the disk stands for the entries, with the pending one or without it
+    pub sound : IsSound images clock images_since faults closed
+    pub closes : new.disk ≡ closed.disk
+
+  -- the ways in which `serve` ends
+  pub data ServeWay (numbers : ServerNumbers) (old new : Outside D) (status : ℕ) : Type 0 where
+    -- the settings are read and the disk is opened: the requests of the door's links are answered, and nothing is printed
+    served : (text : List ℕ) (settings : Settings) (how : ServeEnd) → Gives old.streams.shelf settings_file text → settings_of text ≡ Some settings
+        → Served settings numbers old new how → new.streams.out ≡ old.streams.out → status ≡ status_of how → ServeWay numbers old new status
+    -- there is no campaign, and the door is as it was
+    unserved : Unopened content images clock images_since faults old new status → new.streams.door ≡ old.streams.door → ServeWay numbers old new status
+
+  pub record ServeEnds (numbers : ServerNumbers) (old new : Outside D) (status : ℕ) : Type 0 where
+    pub way : ServeWay numbers old new status
+    pub shelf : Follows old.streams.shelf new.streams.shelf
+    -- the own link is as it was
+    pub own : new.streams.own ≡ old.streams.own
+
+  -- Where no call on the disk failed, each of its images holds the entries at the end, and no other.
+  abbrev pub ServersStand : Type 0
+  ServersStand = (settings : Settings) (numbers : ServerNumbers) (old new : Outside D) (how : ServeEnd) (server : Served settings numbers old new how)
+      → ¬ (Rose (faults old.disk) (faults new.disk)) → StandsFor (images new.disk) server.closed.history None

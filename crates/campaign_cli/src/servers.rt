@@ -1,0 +1,77 @@
+//! `serve`: answers the requests of the links of a door by the campaign that the disk keeps.
+ghost use Rattle.std.specs.Prelude.{◌≡◌, ◌≤◌};
+ghost use Rattle.campaign_server.specs.Doors.{IsShut};
+ghost use Rattle.campaign_server.specs.Links.{LinkState};
+ghost use Rattle.campaign_cli.specs.ServeEnds.{Closes, ServeEnds, status_of as status_by};
+
+use crate::openings::open_book;
+use crate::shelves::Shelf;
+use crate::statuses::Status;
+use book::{Book, Disk};
+use campaign_server::{Door, ServeEnd, serve};
+use decimal_rank::Output as Sink;
+use routes::Keys;
+use std::alloc::Global;
+use std::sync::Wait;
+use std::thread::Threads;
+
+/// Reads the settings, opens their campaign from the disk and answers the requests of the links of a
+/// door on a port, by so many workers, until so many connections were taken.
+pub(crate) fn run_server<W: Threads + Wait + Sync, F: Shelf, O: Sink, D: Disk + Send, R: Door>(
+    rt: &W,
+    alloc: Global,
+    port: u16,
+    workers: u32,
+    connections: u32,
+    shelf: &mut F,
+    out: &mut O,
+    disk: D,
+    door: &mut R,
+) -> (Status, D)
+    requires workers { (1 ≤ workers) × (workers ≤ 16) }
+    requires connections { 1 ≤ connections }
+    requires shut { IsShut (R.seen door.old) }
+    ensures { (own : LinkState) → ServeEnds D.content D.images D.clock D.images_since D.fault_count
+        (record { port = port; workers = workers; connections = connections })
+        (record { streams = record { shelf = F.seen shelf.old; out = O.writing out.old; own = own; door = R.seen door.old }; disk = disk })
+        (record { streams = record { shelf = F.seen shelf.new; out = O.writing out.new; own = own; door = R.seen door.new }; disk = result.1 }) result.0.0 }
+{
+    match open_book(alloc, shelf, out, disk) {
+        Ok((book, callers)) => {
+            serve_links(rt, alloc, port, workers, connections, book, &callers, door)
+        }
+        Err(given) => given,
+    }
+}
+
+// Answers the requests of the links of a door by a campaign.
+fn serve_links<W: Threads + Wait + Sync, D: Disk + Send, R: Door>(
+    rt: &W,
+    alloc: Global,
+    port: u16,
+    workers: u32,
+    connections: u32,
+    book: Book<D>,
+    callers: &Keys,
+    door: &mut R,
+) -> (Status, D)
+    requires workers { (1 ≤ workers) × (workers ≤ 16) }
+    requires connections { 1 ≤ connections }
+    requires shut { IsShut (R.seen door.old) }
+    ensures { Closes D.images D.clock D.images_since D.fault_count callers.now
+        (record { port = port; workers = workers; connections = connections }) book (R.seen door.old) (R.seen door.new) result.1 result.0.0 }
+{
+    let (book, end) = serve(rt, alloc, book, callers, door, port, workers, connections);
+    book.stands();
+    (status_of(end), book.close())
+}
+
+fn status_of(end: ServeEnd) -> Status
+    ensures { result.0 ≡ status_by end }
+{
+    Status(match end {
+        ServeEnd::Ended => 0,
+        ServeEnd::DoorFault => 6,
+        ServeEnd::Memory => 7,
+    })
+}
