@@ -3,7 +3,9 @@ use crate::links::idle_link;
 use campaign_cli::{MemoryShelf, MemorySink, USAGE_LINE};
 use decimal_rank::Text;
 use std::alloc::Global;
+use std::sync::Wait;
 use std::test::Fail;
+use std::thread::Threads;
 
 const RUN: &[u8] = b"1 Q0 A 1 3 t\n1 Q0 B 2 2 t\n1 Q0 C 3 1 t\n";
 
@@ -48,8 +50,8 @@ fn shelf_of(
 }
 
 // The status and what was printed, where the run is scored against the qrels.
-fn scored(
-    rt: &HostRuntime,
+fn scored<W: Threads + Wait + Sync + AllocGlobal>(
+    rt: &W,
     run: Option<&[u8]>,
     qrels: Option<&[u8]>,
 ) -> Result<(u8, MemorySink), Fail> {

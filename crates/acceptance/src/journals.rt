@@ -1,15 +1,27 @@
+ghost use Rattle.campaign_server.specs.Doors.{IsShut};
+ghost use Rattle.campaign_server.specs.MemoryDoors.{told_by};
+
 use crate::links::{idle_link, link_of};
 use crate::session::{SUBMIT, SUBMITTED, TOPICS, TOPICS_TAKEN};
 use crate::settings::{SETTINGS, settings_shelf};
 use campaign_cli::{MemoryShelf, MemorySink, Shelf, Sink, Status, campaign};
-use campaign_server::{Link, MemoryLink};
+use campaign_server::{Link, MemoryDoor, MemoryLink};
 use disk_model::MemoryDisk;
 use std::alloc::Global;
+use std::sync::Wait;
 use std::test::Fail;
+use std::thread::Threads;
+
+// A door without links.
+fn shut_door(alloc: Global) -> MemoryDoor<MemoryLink>
+    ensures { IsShut (told_by result) }
+{
+    MemoryDoor::new(Vec::new(alloc), Vec::new(alloc))
+}
 
 /// The status of the program over a disk that is empty.
-pub(crate) fn ended_with<R, F: Shelf, O: Sink, I: Link>(
-    rt: &R,
+pub(crate) fn ended_with<W: Threads + Wait + Sync, F: Shelf, O: Sink, I: Link>(
+    rt: &W,
     alloc: Global,
     words: &[String],
     shelf: &mut F,
@@ -17,7 +29,8 @@ pub(crate) fn ended_with<R, F: Shelf, O: Sink, I: Link>(
     own: &mut I,
 ) -> Status {
     let disk = MemoryDisk::new(Vec::new(alloc), Vec::new(alloc));
-    let (status, disk) = campaign(rt, alloc, words, shelf, out, own, disk);
+    let mut door = shut_door(alloc);
+    let (status, disk) = campaign(rt, alloc, words, shelf, out, own, disk, &mut door);
     drop(disk);
     status
 }
@@ -40,14 +53,14 @@ fn disk_of(alloc: Global, bytes: &[u8], fail: u64) -> Result<MemoryDisk, Fail> {
     Ok(MemoryDisk::new(Vec::from_slice(alloc, bytes)?, fails))
 }
 
-fn content_of(alloc: Global, disk: MemoryDisk) -> Result<Vec<u8>, Fail> {
+pub(crate) fn content_of(alloc: Global, disk: MemoryDisk) -> Result<Vec<u8>, Fail> {
     Ok(Vec::from_slice(alloc, disk.content())?)
 }
 
 // The status of the program over a disk with these bytes, of which the call at this place fails, and what
 // the disk has then.
-fn left_by(
-    rt: &HostRuntime,
+fn left_by<W: Threads + Wait + Sync + AllocGlobal>(
+    rt: &W,
     words: &[String],
     shelf: &mut MemoryShelf,
     out: &mut MemorySink,
@@ -57,7 +70,8 @@ fn left_by(
 ) -> Result<(u8, Vec<u8>), Fail> {
     let alloc = rt.alloc();
     let disk = disk_of(alloc, bytes, fail)?;
-    let (status, disk) = campaign(rt, alloc, words, shelf, out, own, disk);
+    let mut door = shut_door(alloc);
+    let (status, disk) = campaign(rt, alloc, words, shelf, out, own, disk, &mut door);
     Ok((status.0, content_of(alloc, disk)?))
 }
 
@@ -69,8 +83,8 @@ fn word_alone(alloc: Global, word: &str) -> Result<Vec<String>, Fail> {
 
 // What is written where these requests are answered by the campaign of these bytes, of which the call at
 // this place fails, and what the disk has then.
-fn answered(
-    rt: &HostRuntime,
+fn answered<W: Threads + Wait + Sync + AllocGlobal>(
+    rt: &W,
     bytes: &[u8],
     fail: u64,
     requests: &[u8],
@@ -86,8 +100,8 @@ fn answered(
 
 // The status of `check` under these settings on a disk with these bytes, of which the call at this place
 // fails, and what it printed.
-fn checked(
-    rt: &HostRuntime,
+pub(crate) fn checked<W: Threads + Wait + Sync + AllocGlobal>(
+    rt: &W,
     settings: &str,
     bytes: &[u8],
     fail: u64,

@@ -1,4 +1,6 @@
 ghost use Rattle.std.specs.Prelude.{◌≤◌, IfOk, IsTrue, None, length};
+ghost use Rattle.campaign_server.specs.Doors.{IsNew};
+ghost use Rattle.campaign_server.specs.MemoryLinks.{told_by};
 ghost use Rattle.campaign_server.specs.Pieces.{are_filled};
 
 use campaign_server::{Failed, Link, MemoryLink};
@@ -36,7 +38,9 @@ pub(crate) fn link_of(
     second: &[u8],
     read_fails: Vec<u64>,
     write_fails: Vec<u64>,
-) -> Result<MemoryLink, Memory> {
+) -> Result<MemoryLink, Memory>
+    ensures { IfOk result (λ link. IsNew (told_by link)) }
+{
     let pieces = pieces(alloc, first, second)?;
     Ok(MemoryLink::new(pieces, Vec::new(alloc), read_fails, write_fails))
 }
@@ -66,7 +70,7 @@ impl AnsweredFirst {
     }
 }
 
-fn give(piece: &[u8], out: &mut [u8]) -> usize
+pub(crate) fn give(piece: &[u8], out: &mut [u8]) -> usize
     ensures { result ≤ length out.new }
 {
     let count = piece.len().min(out.len());

@@ -4,7 +4,9 @@ use crate::settings::{SETTINGS, settings_shelf};
 use campaign_cli::MemorySink;
 use campaign_server::{Link, MemoryLink};
 use std::alloc::Global;
+use std::sync::Wait;
 use std::test::Fail;
+use std::thread::Threads;
 
 /// Each session begins with this request.
 pub(crate) const TOPICS: &[u8] =
@@ -22,10 +24,10 @@ pub(crate) const SUBMITTED: &[u8] =
 const TAKEN: &[u8] =
     b"HTTP/1.1 409 Conflict\r\nContent-Type: application/json\r\nContent-Length: 24\r\n\r\n{\"refusal\":\"tag-taken\"}\n";
 
-const POOL: &[u8] =
+pub(crate) const POOL: &[u8] =
     b"GET /topics/1/pool HTTP/1.1\r\nX-Campaign-Key: ORGANISERORGAN01\r\nContent-Length: 0\r\n\r\n";
 
-const POOL_SHOWN: &[u8] =
+pub(crate) const POOL_SHOWN: &[u8] =
     b"HTTP/1.1 200 OK\r\nContent-Type: application/json\r\nContent-Length: 35\r\n\r\n{\"docs\":[\"a\",\"b\",\"e\"],\"topic\":\"1\"}\n";
 
 const OTHER_POOL: &[u8] =
@@ -72,8 +74,8 @@ fn places(alloc: Global, place: u64) -> Result<Vec<u64>, Fail> {
 
 // The status of a session over two pieces, of which the first begins with the topics, the output and the link.
 // One read and one write fail, those at the given places; none where the place is 0.
-fn held(
-    rt: &HostRuntime,
+fn held<W: Threads + Wait + Sync + AllocGlobal>(
+    rt: &W,
     first: &[u8],
     second: &[u8],
     read: u64,
@@ -96,7 +98,10 @@ fn held(
 }
 
 // The status of a session over another link.
-fn end_of<I: Link>(rt: &HostRuntime, link: &mut I) -> Result<u8, Fail> {
+fn end_of<W: Threads + Wait + Sync + AllocGlobal, I: Link>(
+    rt: &W,
+    link: &mut I,
+) -> Result<u8, Fail> {
     let alloc = rt.alloc();
     let mut words = Vec::new(alloc);
     words.push(String::from_str(alloc, "session")?)?;

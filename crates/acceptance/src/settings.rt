@@ -3,7 +3,9 @@ use crate::links::idle_link;
 use campaign_cli::{MemoryShelf, MemorySink, SettingsEnd, read_settings};
 use decimal_rank::Text;
 use std::alloc::Global;
+use std::sync::Wait;
 use std::test::Fail;
+use std::thread::Threads;
 
 /// The settings of the sessions.
 pub const SETTINGS: &str = "\
@@ -168,7 +170,10 @@ fn there_are_at_most_five_hundred_callers(rt: HostRuntime) -> Result<(), Fail> {
 }
 
 // The status of a session of these settings without a request, and what was printed.
-fn ended(rt: &HostRuntime, mut shelf: MemoryShelf) -> Result<(u8, MemorySink), Fail> {
+fn ended<W: Threads + Wait + Sync + AllocGlobal>(
+    rt: &W,
+    mut shelf: MemoryShelf,
+) -> Result<(u8, MemorySink), Fail> {
     let alloc = rt.alloc();
     let mut words = Vec::new(alloc);
     words.push(String::from_str(alloc, "session")?)?;

@@ -1,0 +1,226 @@
+ghost use Rattle.std.specs.Prelude.{◌≡◌, ◌≤◌, All, IfOk};
+ghost use Rattle.campaign_server.specs.Doors.{IsNew, IsShut};
+ghost use Rattle.campaign_server.specs.MemoryLinks.{told_by};
+
+use crate::journals::{checked, content_of};
+use crate::links::{idle_link, link_of};
+use crate::session::{POOL, POOL_SHOWN, SUBMIT, SUBMITTED, TOPICS, TOPICS_TAKEN};
+use crate::settings::{SETTINGS, settings_shelf};
+use crate::waiting_link::WaitingLink;
+use campaign_cli::{MemorySink, campaign};
+use campaign_server::{Door, End, Link, MemoryDoor, MemoryLink};
+use disk_model::MemoryDisk;
+use std::alloc::Global;
+use std::process::Abort;
+use std::sync::atomic::AtomicU64;
+use std::sync::{Arc, Wait};
+use std::test::Fail;
+use std::thread::Threads;
+
+// The status of the program with these words, apart from one another by blanks, over a door and an empty disk,
+// and what the disk has then.
+fn ended_with<W: Threads + Wait + Sync + AllocGlobal, R: Door>(
+    rt: &W,
+    words: &str,
+    door: &mut R,
+) -> Result<(u8, Vec<u8>), Fail>
+    requires { IsShut (R.seen door.old) }
+{
+    let alloc = rt.alloc();
+    let mut all = Vec::new(alloc);
+    for word in words.split(' ') {
+        all.push(String::from_str(alloc, word)?)?;
+    }
+    let mut shelf = settings_shelf(alloc, SETTINGS)?;
+    let mut out = MemorySink::new(Vec::new(alloc));
+    let mut own = idle_link(alloc);
+    let disk = MemoryDisk::new(Vec::new(alloc), Vec::new(alloc));
+    let (status, disk) = campaign(rt, alloc, &all, &mut shelf, &mut out, &mut own, disk, door);
+    Ok((status.0, content_of(alloc, disk)?))
+}
+
+fn joined(alloc: Global, first: &[u8], second: &[u8]) -> Result<Vec<u8>, Fail> {
+    let mut text = Vec::from_slice(alloc, first)?;
+    text.extend_from_slice(second)?;
+    Ok(text)
+}
+
+// A link that gives these bytes. The read and the write at these places fail; none where a place is 0.
+fn link_with(alloc: Global, bytes: &[u8], read: u64, write: u64) -> Result<MemoryLink, Fail>
+    ensures { IfOk result (λ link. IsNew (told_by link)) }
+{
+    let mut reads = Vec::new(alloc);
+    if read > 0 {
+        reads.push(read)?;
+    }
+    let mut writes = Vec::new(alloc);
+    if write > 0 {
+        writes.push(write)?;
+    }
+    Ok(link_of(alloc, bytes, b"", reads, writes)?)
+}
+
+// Three links: one with these bytes, of which the read and the write at these places fail, and two that give a
+// submission and its page.
+fn three_links(alloc: Global, bytes: &[u8], read: u64, write: u64) -> Result<Vec<MemoryLink>, Fail>
+    ensures { IfOk result (λ links. All (λ link. IsNew (told_by link)) links.items) }
+{
+    let mut links = Vec::new(alloc);
+    links.push(link_with(alloc, bytes, read, write)?)?;
+    links.push(link_with(alloc, SUBMIT, 0, 0)?)?;
+    links.push(link_with(alloc, POOL, 0, 0)?)?;
+    Ok(links)
+}
+
+// The ends and the written bytes of the links that a door was handed, in order.
+fn assert_served(rt: &impl Abort, door: &MemoryDoor<MemoryLink>, rows: &[(End, &[u8])]) {
+    let served = door.served();
+    assert_eq!(rt; served.len(), rows.len());
+    for place in 0..rows.len() {
+        if place < served.len() {
+            assert_eq!(rt; served[place].1, rows[place].0);
+            assert_eq!(rt; served[place].0.written(), rows[place].1);
+        }
+    }
+}
+
+#[test]
+fn a_failing_link_leaves_the_others_answered(rt: HostRuntime) -> Result<(), Fail> {
+    let alloc = rt.alloc();
+    // the read or the write that fails on the first link, its end and its bytes
+    let cases: [(u64, u64, End, &[u8]); 3] = [
+        (2, 0, End::ReadFault, TOPICS_TAKEN),
+        (0, 1, End::WriteFault, b""),
+        (0, 0, End::Ended, TOPICS_TAKEN),
+    ];
+    for (read, write, end, answer) in cases {
+        let links = three_links(alloc, TOPICS, read, write)?;
+        let mut door = MemoryDoor::new(links, Vec::new(alloc));
+        let words = "serve --port 7000 --workers 1 --connections 3";
+        let (status, _) = ended_with(&rt, words, &mut door)?;
+        assert_eq!(rt; status, 0);
+        assert_eq!(rt; door.opened(), Some(7000));
+        let rows: [(End, &[u8]); 3] = [
+            (end, answer),
+            (End::Ended, SUBMITTED),
+            (End::Ended, POOL_SHOWN),
+        ];
+        assert_served(&rt, &door, &rows);
+    }
+    Ok(())
+}
+
+#[test]
+fn a_server_ends_with_its_door_or_its_connections(rt: HostRuntime) -> Result<(), Fail> {
+    let alloc = rt.alloc();
+    // the most connections, the call on the door that fails, the status, how many links were served, and the entries
+    let cases: [(&str, u64, u8, usize, &str); 5] = [
+        ("9", 0, 0, 3, "entries 3\n"),
+        ("3", 0, 0, 3, "entries 3\n"),
+        ("1", 0, 0, 1, "entries 2\n"),
+        ("3", 3, 6, 1, "entries 2\n"),
+        ("3", 1, 6, 0, "entries 1\n"),
+    ];
+    for (connections, fail, status, count, entries) in cases {
+        let mut fails = Vec::new(alloc);
+        if fail > 0 {
+            fails.push(fail)?;
+        }
+        let links = three_links(alloc, TOPICS, 0, 0)?;
+        let mut door = MemoryDoor::new(links, fails);
+        let words = format!(in alloc;
+            "serve --port 65535 --workers 1 --connections {connections}"
+        )?;
+        let (ended, held) = ended_with(&rt, words.as_str(), &mut door)?;
+        assert_eq!(rt; ended, status);
+        assert_eq!(rt; door.served().len(), count);
+        assert_eq!(rt; door.opened().is_some(), fail != 1);
+        let (_, page) = checked(&rt, SETTINGS, &held, 0)?;
+        assert!(rt; page.starts_with(entries.as_bytes()));
+    }
+    Ok(())
+}
+
+// Links of which each but the last waits for the next one to be answered. The last one gives the topics and a
+// run, the others ask for the pool.
+fn waiting_links(alloc: Global, count: usize) -> Result<Vec<WaitingLink>, Fail>
+    ensures { IfOk result (λ links. All (λ link. IsNew (⟦<WaitingLink as Link>⟧.seen link)) links.items) }
+{
+    let mut links = Vec::new(alloc);
+    let mut next = Arc::new(alloc, AtomicU64::new(0))?;
+    links.push(WaitingLink::new(
+        Vec::from_slice(alloc, TOPICS)?,
+        Vec::from_slice(alloc, SUBMIT)?,
+        Arc::try_clone(&next)?,
+        Arc::try_clone(&next)?,
+        0,
+    ))?;
+    let mut awaited = 2;
+    for _ in 1..count {
+        let answers = Arc::new(alloc, AtomicU64::new(0))?;
+        links.push(WaitingLink::new(
+            Vec::from_slice(alloc, &POOL[..20])?,
+            Vec::from_slice(alloc, &POOL[20..])?,
+            Arc::try_clone(&answers)?,
+            next,
+            awaited,
+        ))?;
+        next = answers;
+        awaited = 1;
+    }
+    links.reverse();
+    Ok(links)
+}
+
+#[test]
+fn connections_that_wait_for_one_another_are_answered(rt: HostRuntime) -> Result<(), Fail> {
+    let alloc = rt.alloc();
+    let last = joined(alloc, TOPICS_TAKEN, SUBMITTED)?;
+    for (count, words) in [
+        (2usize, "serve --port 7000 --workers 2 --connections 2"),
+        (4, "serve --port 7000 --workers 4 --connections 4"),
+    ] {
+        let links = waiting_links(alloc, count)?;
+        let mut door = MemoryDoor::new(links, Vec::new(alloc));
+        let (status, _) = ended_with(&rt, words, &mut door)?;
+        assert_eq!(rt; status, 0);
+        let mut shown = 0usize;
+        for (link, end) in door.served() {
+            assert_eq!(rt; *end, End::Ended);
+            if link.written() == POOL_SHOWN {
+                shown += 1;
+            } else {
+                assert_eq!(rt; link.written(), last.as_slice());
+            }
+        }
+        assert_eq!(rt; door.served().len(), count);
+        assert_eq!(rt; shown, count - 1);
+    }
+    Ok(())
+}
+
+#[test]
+fn numbers_out_of_their_ranges_are_usage(rt: HostRuntime) -> Result<(), Fail> {
+    let alloc = rt.alloc();
+    let cases = [
+        ("serve --port 0 --workers 1 --connections 1", 2),
+        ("serve --port 65536 --workers 1 --connections 1", 2),
+        ("serve --port 7000 --workers 0 --connections 1", 2),
+        ("serve --port 7000 --workers 17 --connections 1", 2),
+        ("serve --port 7000 --workers 1 --connections 0", 2),
+        ("serve --port 7000 --workers 1 --connections 4294967296", 2),
+        ("serve --port 7000 --workers 1 --connections x", 2),
+        ("serve --port 7000 --workers 1", 2),
+        ("serve --port 7000 --workers 1 --connections 1 1", 2),
+        ("serve --connections=1 --workers=16 --port=1", 0),
+        ("serve --connections 4294967295 --workers 1 --port 65535", 0),
+    ];
+    for (words, status) in cases {
+        let links = three_links(alloc, TOPICS, 0, 0)?;
+        let mut door = MemoryDoor::new(links, Vec::new(alloc));
+        let (ended, _) = ended_with(&rt, words, &mut door)?;
+        assert_eq!(rt; ended, status);
+        assert_eq!(rt; door.opened().is_some(), status == 0);
+    }
+    Ok(())
+}
