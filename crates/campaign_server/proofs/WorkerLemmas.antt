@@ -73,7 +73,7 @@ served_both keys n c S last [] second told more none served = subst (AreServed k
 served_both keys n c S last (r ∷ first) second told more (here, there, one, rest, is) served =
     (here, there + more, one, served_both keys n c S last first second there more rest served, omega (arith, is))
 
-most_on : (a b d : Story) → AtMost a b → AtMost b d → AtMost a d
+pub most_on : (a b d : Story) → AtMost a b → AtMost b d → AtMost a d
 most_on a b d first second =
     let (x, x_is) = first.longer in
     let (y, y_is) = second.longer in

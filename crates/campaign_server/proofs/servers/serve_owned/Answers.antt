@@ -7,7 +7,7 @@ use Rattle.campaign_server.specs.Acceptors.{Closes}
 use Rattle.campaign_server.specs.Records.{ended_all}
 use Rattle.campaign_server.specs.Workers.{Worked}
 use Rattle.campaign_server.proofs.ServerLemmas.{fault_counted, leaves_closed, leaves_shut}
-use Rattle.campaign_server.proofs.WorkerLemmas.{most_same}
+use Rattle.campaign_server.proofs.WorkerLemmas.{most_on, most_same}
 use Rattle.campaign_server.proofs.servers.serve_owned.Goals as goal
 
 pub returns-in_default-clause-told : goal.returns-in_default-clause-told
@@ -51,6 +51,18 @@ returns-clause-told g c =
     let most_of : AtMost (seen_as seen) (seen_as (book after)) = record { longer = most.0; later = most.1; opening = most.2 } in
     leaves_closed keys c.args.workers c.args.connections c.args.port start (seen_as seen) (seen_as (book after)) was amount (g.R.Door.seen c.close-door.result.0) c.close-door.result.1
     c.settle-door.result.1 records short closes c.work_together-short.ensures.amount worked most_of (g.R.Door.seen c.settle-door.result.0).told c.settle-door.ensures.settled
+
+pub returns-clause-history : goal.returns-clause-history
+returns-clause-history g c =
+    let book = story_in g.D.Disk.fault_count in
+    let start = seen_as (book c.args.book) in
+    let seen = c.work_together-short.new.first.seen in
+    let after = c.close-2.result in
+    let records = ended_all (λ v. v.items) g.R.Door.kept c.work_together-short.new.all.items in
+    let worked : Worked c.args.keys.now start c.args.workers (seen_as seen) records c.work_together-short.result =
+    subst (λ s. Worked c.args.keys.now (seen_as s) c.args.workers (seen_as seen) records c.work_together-short.result) c.in-Ok-new.ensures.pass.0 c.work_together-short.ensures.worked in
+    let most : MostOf seen (book after) = c.close-2.ensures in
+    most_on start (seen_as seen) (seen_as (book after)) worked.grown (record { longer = most.0; later = most.1; opening = most.2 })
 
 pub returns-clause-fault : goal.returns-clause-fault
 returns-clause-fault g c =
