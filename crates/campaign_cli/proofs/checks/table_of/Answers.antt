@@ -2,6 +2,6 @@
 use Rattle.trec_formats.specs.Names.{is_name}
 use Rattle.campaign_cli.proofs.checks.table_of.Goals as goal
 
-pub act-requires-clause-addressed : goal.act-requires-clause-addressed
+pub act-requires : goal.act-requires
 unfolding is_name
-act-requires-clause-addressed g c = rw c.in_ok-name.ensures.text
+act-requires g c = rw c.in_ok-name.ensures.text
