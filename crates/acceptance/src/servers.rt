@@ -9,6 +9,7 @@ use crate::settings::{SETTINGS, settings_shelf};
 use crate::waiting_link::WaitingLink;
 use campaign_cli::{MemorySink, campaign};
 use campaign_server::{Door, End, Link, MemoryDoor, MemoryLink};
+use decimal_rank::Memory;
 use disk_model::MemoryDisk;
 use std::alloc::Global;
 use std::process::Abort;
@@ -60,16 +61,25 @@ fn link_with(alloc: Global, bytes: &[u8], read: u64, write: u64) -> Result<Memor
     Ok(link_of(alloc, bytes, b"", reads, writes)?)
 }
 
+// The links and one more, all of them new.
+fn with_link<I: Link + Drop>(links: Vec<I>, link: I) -> Result<Vec<I>, Memory>
+    requires all { All (λ link. IsNew (I.seen link)) links.items }
+    requires new { IsNew (I.seen link) }
+    ensures { IfOk result (λ links. All (λ link. IsNew (I.seen link)) links.items) }
+{
+    let mut links = links;
+    links.push(link)?;
+    Ok(links)
+}
+
 // Three links: one with these bytes, of which the read and the write at these places fail, and two that give a
 // submission and its page.
 fn three_links(alloc: Global, bytes: &[u8], read: u64, write: u64) -> Result<Vec<MemoryLink>, Fail>
     ensures { IfOk result (λ links. All (λ link. IsNew (told_by link)) links.items) }
 {
-    let mut links = Vec::new(alloc);
-    links.push(link_with(alloc, bytes, read, write)?)?;
-    links.push(link_with(alloc, SUBMIT, 0, 0)?)?;
-    links.push(link_with(alloc, POOL, 0, 0)?)?;
-    Ok(links)
+    let links = with_link(Vec::new(alloc), link_with(alloc, bytes, read, write)?)?;
+    let links = with_link(links, link_with(alloc, SUBMIT, 0, 0)?)?;
+    Ok(with_link(links, link_with(alloc, POOL, 0, 0)?)?)
 }
 
 // The ends and the written bytes of the links that a door was handed, in order.
@@ -141,61 +151,98 @@ fn a_server_ends_with_its_door_or_its_connections(rt: HostRuntime) -> Result<(),
     Ok(())
 }
 
-// Links of which each but the last waits for the next one to be answered. The last one gives the topics and a
-// run, the others ask for the pool.
-fn waiting_links(alloc: Global, count: usize) -> Result<Vec<WaitingLink>, Fail>
-    ensures { IfOk result (λ links. All (λ link. IsNew (⟦<WaitingLink as Link>⟧.seen link)) links.items) }
+// A link that asks for the pool once so many answers were written on the next link.
+fn asking_link(
+    alloc: Global,
+    answers: &Arc<AtomicU64, Global>,
+    next_answers: &Arc<AtomicU64, Global>,
+    awaited: u64,
+) -> Result<WaitingLink, Fail>
+    ensures { IfOk result (λ link. IsNew (⟦<WaitingLink as Link>⟧.seen link)) }
 {
-    let mut links = Vec::new(alloc);
-    let mut next = Arc::new(alloc, AtomicU64::new(0))?;
-    links.push(WaitingLink::new(
+    Ok(WaitingLink::new(
+        Vec::from_slice(alloc, &POOL[..20])?,
+        Vec::from_slice(alloc, &POOL[20..])?,
+        Arc::try_clone(answers)?,
+        Arc::try_clone(next_answers)?,
+        awaited,
+    ))
+}
+
+// A link that waits for none and gives the topics and a run.
+fn beginning_link(alloc: Global, answers: &Arc<AtomicU64, Global>) -> Result<WaitingLink, Fail>
+    ensures { IfOk result (λ link. IsNew (⟦<WaitingLink as Link>⟧.seen link)) }
+{
+    Ok(WaitingLink::new(
         Vec::from_slice(alloc, TOPICS)?,
         Vec::from_slice(alloc, SUBMIT)?,
-        Arc::try_clone(&next)?,
-        Arc::try_clone(&next)?,
+        Arc::try_clone(answers)?,
+        Arc::try_clone(answers)?,
         0,
-    ))?;
-    let mut awaited = 2;
-    for _ in 1..count {
-        let answers = Arc::new(alloc, AtomicU64::new(0))?;
-        links.push(WaitingLink::new(
-            Vec::from_slice(alloc, &POOL[..20])?,
-            Vec::from_slice(alloc, &POOL[20..])?,
-            Arc::try_clone(&answers)?,
-            next,
-            awaited,
-        ))?;
-        next = answers;
-        awaited = 1;
+    ))
+}
+
+// Two links, of which the first waits for the second to be answered twice.
+fn two_waiting(alloc: Global) -> Result<Vec<WaitingLink>, Fail>
+    ensures { IfOk result (λ links. All (λ link. IsNew (⟦<WaitingLink as Link>⟧.seen link)) links.items) }
+{
+    let one = Arc::new(alloc, AtomicU64::new(0))?;
+    let two = Arc::new(alloc, AtomicU64::new(0))?;
+    let links = with_link(Vec::new(alloc), asking_link(alloc, &one, &two, 2)?)?;
+    Ok(with_link(links, beginning_link(alloc, &two)?)?)
+}
+
+// Two links in front of these two, of which each waits for the next to be answered.
+fn four_waiting(alloc: Global) -> Result<Vec<WaitingLink>, Fail>
+    ensures { IfOk result (λ links. All (λ link. IsNew (⟦<WaitingLink as Link>⟧.seen link)) links.items) }
+{
+    let one = Arc::new(alloc, AtomicU64::new(0))?;
+    let two = Arc::new(alloc, AtomicU64::new(0))?;
+    let three = Arc::new(alloc, AtomicU64::new(0))?;
+    let four = Arc::new(alloc, AtomicU64::new(0))?;
+    let links = with_link(Vec::new(alloc), asking_link(alloc, &one, &two, 1)?)?;
+    let links = with_link(links, asking_link(alloc, &two, &three, 1)?)?;
+    let links = with_link(links, asking_link(alloc, &three, &four, 2)?)?;
+    Ok(with_link(links, beginning_link(alloc, &four)?)?)
+}
+
+// Each link but one shows the pool with the run that came on that one.
+fn assert_waited(rt: &impl Abort, door: &MemoryDoor<WaitingLink>, last: &[u8], count: usize) {
+    let served = door.served();
+    let mut shown = 0usize;
+    for place in 0..served.len() {
+        assert_eq!(rt; served[place].1, End::Ended);
+        if served[place].0.written() == POOL_SHOWN {
+            shown = shown.saturating_add(1);
+        } else {
+            assert_eq!(rt; served[place].0.written(), last);
+        }
     }
-    links.reverse();
-    Ok(links)
+    assert_eq!(rt; served.len(), count);
+    assert_eq!(rt; shown.saturating_add(1), count);
 }
 
 #[test]
-fn connections_that_wait_for_one_another_are_answered(rt: HostRuntime) -> Result<(), Fail> {
+fn two_connections_that_wait_are_answered(rt: HostRuntime) -> Result<(), Fail> {
     let alloc = rt.alloc();
     let last = joined(alloc, TOPICS_TAKEN, SUBMITTED)?;
-    for (count, words) in [
-        (2usize, "serve --port 7000 --workers 2 --connections 2"),
-        (4, "serve --port 7000 --workers 4 --connections 4"),
-    ] {
-        let links = waiting_links(alloc, count)?;
-        let mut door = MemoryDoor::new(links, Vec::new(alloc));
-        let (status, _) = ended_with(&rt, words, &mut door)?;
-        assert_eq!(rt; status, 0);
-        let mut shown = 0usize;
-        for (link, end) in door.served() {
-            assert_eq!(rt; *end, End::Ended);
-            if link.written() == POOL_SHOWN {
-                shown += 1;
-            } else {
-                assert_eq!(rt; link.written(), last.as_slice());
-            }
-        }
-        assert_eq!(rt; door.served().len(), count);
-        assert_eq!(rt; shown, count - 1);
-    }
+    let mut door = MemoryDoor::new(two_waiting(alloc)?, Vec::new(alloc));
+    let words = "serve --port 7000 --workers 2 --connections 2";
+    let (status, _) = ended_with(&rt, words, &mut door)?;
+    assert_eq!(rt; status, 0);
+    assert_waited(&rt, &door, &last, 2);
+    Ok(())
+}
+
+#[test]
+fn four_connections_that_wait_are_answered(rt: HostRuntime) -> Result<(), Fail> {
+    let alloc = rt.alloc();
+    let last = joined(alloc, TOPICS_TAKEN, SUBMITTED)?;
+    let mut door = MemoryDoor::new(four_waiting(alloc)?, Vec::new(alloc));
+    let words = "serve --port 7000 --workers 4 --connections 4";
+    let (status, _) = ended_with(&rt, words, &mut door)?;
+    assert_eq!(rt; status, 0);
+    assert_waited(&rt, &door, &last, 4);
     Ok(())
 }
 
