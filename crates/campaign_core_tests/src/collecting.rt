@@ -243,7 +243,7 @@ fn is_submitted(reply: &Reply) -> bool {
     )
 }
 
-fn is_refused(reply: &Reply, wanted: Refusal) -> bool {
+pub(crate) fn is_refused(reply: &Reply, wanted: Refusal) -> bool {
     match reply {
         Reply::Refused(refusal) => *refusal == wanted,
         _ => false,

@@ -1,4 +1,6 @@
 //! Requests that callers number.
+ghost use Rattle.std.specs.Prelude.{◌<◌, ◌^◌};
+
 use crate::collecting::caller;
 use crate::requests::{
     LEASE, P, Q, SINGLE, Start, Told, asked, founded, graded, leased, refused, started, told_at,
@@ -11,14 +13,18 @@ use std::process::Abort;
 use std::test::Fail;
 
 // What p is told of a grade of the lease 1 under a number.
-fn graded_under(alloc: Global, state: &mut State, number: u64, grade: u8) -> Result<Told, Memory> {
+fn graded_under(alloc: Global, state: &mut State, number: u64, grade: u8) -> Result<Told, Memory>
+    requires { number < 2 ^ 63 }
+{
     let who = caller(alloc, b"p", Role::Assessor)?;
     let command = Command::Grade { lease: 1, grade };
     told_at(state, &who, Some(number), Ask::Act(command), 1000, true)
 }
 
 // The same of q, who has no such lease.
-fn graded_by_another(alloc: Global, state: &mut State, number: u64) -> Result<Told, Memory> {
+fn graded_by_another(alloc: Global, state: &mut State, number: u64) -> Result<Told, Memory>
+    requires { number < 2 ^ 63 }
+{
     let who = caller(alloc, b"q", Role::Assessor)?;
     let command = Command::Grade { lease: 1, grade: 1 };
     told_at(state, &who, Some(number), Ask::Act(command), 1000, true)

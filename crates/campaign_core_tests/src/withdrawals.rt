@@ -1,13 +1,13 @@
 //! Runs that are withdrawn.
-use crate::collecting::{caller, submitted, text};
+use crate::collecting::{caller, is_refused, submitted, text};
 use crate::requests::{
     LEASE, O, P, Page, Q, Request, SINGLE, Start, Told, asked, first_surprise, founded, graded,
-    leased, letter_or_a, played, printed, refused, started, told_at,
+    leased, played, printed, refused, started, told_at,
 };
 use crate::scores::told_of_scores;
 use campaign_core::State;
 use decimal_rank::Memory;
-use rulebook::{Ask, Command, Refusal, Reply, Role};
+use rulebook::{Ask, Command, Refusal, Role};
 use std::alloc::Global;
 use std::process::Abort;
 use std::test::Fail;
@@ -166,8 +166,7 @@ fn a_run_withdrawn_before_the_opening(
     submitted(alloc, state, b"Y", b"cdf")?;
     let withdraw = Request::Withdraw(b'X');
     assert_eq!(rt; asked(alloc, state, O, withdraw, 1000)?, Told::Done(1000));
-    let taken = submitted(alloc, state, b"X", b"gh")?;
-    assert!(rt; matches!(taken, Reply::Refused(Refusal::TagTaken)));
+    assert!(rt; is_refused(&submitted(alloc, state, b"X", b"gh")?, Refusal::TagTaken));
     submitted(alloc, state, b"Z", b"ga")?;
     let progress = Request::Page(Page::Progress);
     let counts = printed(b"1 5 0 0 0\n");
