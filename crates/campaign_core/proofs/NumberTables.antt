@@ -19,7 +19,8 @@ number-swap : (a b : ℕ) → (a == b) ≡ (b == a)
 number-swap a b = decided (a == b) (b == a) (λ e. eq-eqb b a (sym (eqb-true a b e))) (λ e. eq-eqb a b (sym (eqb-true b a e)))
 
 -- what is found by a key is the place of the number
-pub lookup-place : (name : Text) (number : ℕ) (es : List ((Text × ℕ) × ℕ)) → lookup (is_key name number) es ≡ place_of name number (map shown es)
+pub lookup-place : (name : Text) (number : ℕ) (es : List ((Text × ℕ) × ℕ))
+    → lookup (is_key name number) es ≡ place_of name number (map shown es)
 lookup-place name number [] = refl
 lookup-place name number (e ∷ es) =
     ap (λ t. cond (t && (number == e.0.1)) (Some e.1) (lookup (is_key name number) es)) (bytes-swap name e.0.0)

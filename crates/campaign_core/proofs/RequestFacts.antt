@@ -25,7 +25,8 @@ abbrev numbers_at : ℕ × Entry → List Numbered
 numbers_at placed = number_in placed.0 placed.1.core
 
 -- what one more entry adds
-pub numbers-push : (H : History) (e : Entry) → numbers_of (H ++ e ∷ []) ≡ numbers_of H ++ number_in (length H + 1) e.core
+pub numbers-push : (H : History) (e : Entry)
+    → numbers_of (H ++ e ∷ []) ≡ numbers_of H ++ number_in (length H + 1) e.core
 numbers-push H e =
     let place : 1 + length H ≡ length H + 1 = omega arith in
     ap (flat_map numbers_at) (enumerate-push 1 H e)
@@ -40,13 +41,20 @@ module _ (name : Text) (number : ℕ) where
   -- the entry that has the number, by the place that is kept
   abbrev Placed : ℕ → History → Option ℕ → Type 0
   Placed k H None = find by_number (enumerate_from k H) ≡ None
-  Placed k H (Some place) = (e : Entry) × (find by_number (enumerate_from k H) ≡ Some (place, e)) × (slice_get H (place - k) ≡ Some e) × (k ≤ place)
+  Placed k H (Some place) = (e : Entry) × (find by_number (enumerate_from k H) ≡ Some (place, e))
+      × (slice_get H (place - k) ≡ Some e) × (k ≤ place)
 
-  later : (k : ℕ) (x : Entry) (H : History) (o : Option ℕ) → is_numbered name number x ≡ false → Placed (k + 1) H o → Placed k (x ∷ H) o
+  later : (k : ℕ) (x : Entry) (H : History) (o : Option ℕ) → is_numbered name number x ≡ false → Placed (k + 1) H o
+      → Placed k (x ∷ H) o
   later k x H None other none = ap (λ t. cond t (Some (k, x)) (find by_number (enumerate_from (k + 1) H))) other ∙ none
   later k x H (Some place) other (e, found, there, less) =
-      let back : place - k ≡ suc (place - (k + 1)) = omega (arith, less) in
-      (e, ap (λ t. cond t (Some (k, x)) (find by_number (enumerate_from (k + 1) H))) other ∙ found, ap (slice_get (x ∷ H)) back ∙ there, omega (arith, less))
+      let back : place - k ≡ suc (place - (k + 1)) = omega (arith, less) in (
+        e,
+        ap (λ t. cond t (Some (k, x)) (find by_number (enumerate_from (k + 1) H))) other
+            ∙ found,
+        ap (slice_get (x ∷ H)) back ∙ there,
+        omega (arith, less),
+      )
 
   and_none : (t : Bool) → (t && false) ≡ false
   and_none true = refl
@@ -59,7 +67,9 @@ module _ (name : Text) (number : ℕ) where
       rest : List Numbered
       rest = flat_map numbers_at (enumerate_from (k + 1) H)
 
-      here : (n : ℕ) (t : Bool) → x.core.number ≡ Some n → is_number_of name number (numbered_at k x.core.caller.name n) ≡ t → Placed (k + 1) H (place_of name number rest)
+      here : (n : ℕ) (t : Bool) → x.core.number ≡ Some n
+          → is_number_of name number (numbered_at k x.core.caller.name n) ≡ t
+          → Placed (k + 1) H (place_of name number rest)
           → Placed k (x ∷ H) (option_map (λ (one : Numbered). one.place) (cond t (Some (numbered_at k x.core.caller.name n)) (find (is_number_of name number) rest)))
       here n true is test tail =
           let numbered : is_numbered name number x ≡ true = ap (λ (o : Option ℕ). bytes_eq x.core.caller.name name && option_map_or (λ given. given == number) o false) is ∙ test in
@@ -81,15 +91,18 @@ pub record UsedAt (H : History) (name : Text) (number : ℕ) (place : ℕ) : Typ
   pub there : slice_get H (place - 1) ≡ Some entry
   pub from_one : 1 ≤ place
 
-pub used-at : (H : History) (name : Text) (number place : ℕ) → place_of name number (numbers_of H) ≡ Some place → UsedAt H name number place
+pub used-at : (H : History) (name : Text) (number place : ℕ) → place_of name number (numbers_of H) ≡ Some place
+    → UsedAt H name number place
 used-at H name number place is =
     let w = subst (Placed name number 1 H) is (placed name number 1 H) in
     record { entry = w.0; found = w.1; there = w.2; from_one = w.3 }
 
-pub unused-there : (H : History) (name : Text) (number : ℕ) → place_of name number (numbers_of H) ≡ None → used H name (Some number) ≡ None
+pub unused-there : (H : History) (name : Text) (number : ℕ) → place_of name number (numbers_of H) ≡ None
+    → used H name (Some number) ≡ None
 unused-there H name number is = subst (Placed name number 1 H) is (placed name number 1 H)
 
-pub unused-kept : (H : History) (name : Text) (number : ℕ) → used H name (Some number) ≡ None → place_of name number (numbers_of H) ≡ None
+pub unused-kept : (H : History) (name : Text) (number : ℕ) → used H name (Some number) ≡ None
+    → place_of name number (numbers_of H) ≡ None
 unused-kept H name number none = step (place_of name number (numbers_of H)) refl
   where
     step : (o : Option ℕ) → place_of name number (numbers_of H) ≡ o → place_of name number (numbers_of H) ≡ None
@@ -97,14 +110,16 @@ unused-kept H name number none = step (place_of name number (numbers_of H)) refl
     step (Some place) is = let w = used-at H name number place is in let both : (let o : Option (ℕ × Entry) = None in o) ≡ Some (place, w.entry) = sym none ∙ w.found in cc both
 
 -- the entry at the place of a number
-pub within-at : (H : History) (name : Text) (number place : ℕ) → place_of name number (numbers_of H) ≡ Some place → place - 1 < length H
+pub within-at : (H : History) (name : Text) (number place : ℕ) → place_of name number (numbers_of H) ≡ Some place
+    → place - 1 < length H
 within-at H name number place is = let w = used-at H name number place is in (slice-there H (place - 1) w.entry w.entry w.there).0
 
 abbrev pub reply_by : Bool → Entry → ℕ → Reply
 reply_by same e place = if same then e.reply else reply.Refused (refusal.Reused place)
 
 -- the reply under a number that was used
-pub reply-again : (H : History) (name : Text) (number place : ℕ) (o : Option ℕ) (c : Command) (e : Entry) → o ≡ Some number → place_of name number (numbers_of H) ≡ Some place → e ≡ get_or H (place - 1) e
+pub reply-again : (H : History) (name : Text) (number place : ℕ) (o : Option ℕ) (c : Command) (e : Entry)
+    → o ≡ Some number → place_of name number (numbers_of H) ≡ Some place → e ≡ get_or H (place - 1) e
     → Some (reply_by (same_command c e.core.command) e place) ≡ repeated_reply H name o c
 reply-again H name number place o c e some is at =
     let w = used-at H name number place is in
@@ -113,13 +128,16 @@ reply-again H name number place o c e some is at =
     ∙ ap (option_map (λ (placed : ℕ × Entry). (repeated c placed).reply)) (sym w.found)
     ∙ ap (λ (o : Option ℕ). repeated_reply H name o c) (sym some)
 
-pub no-reply : (H : History) (name : Text) (number : ℕ) (o : Option ℕ) (c : Command) → o ≡ Some number → place_of name number (numbers_of H) ≡ None → None ≡ repeated_reply H name o c
+pub no-reply : (H : History) (name : Text) (number : ℕ) (o : Option ℕ) (c : Command) → o ≡ Some number
+    → place_of name number (numbers_of H) ≡ None → None ≡ repeated_reply H name o c
 no-reply H name number o c some none =
-    ap (option_map (λ (placed : ℕ × Entry). (repeated c placed).reply)) (sym (unused-there H name number none)) ∙ ap (λ (o : Option ℕ). repeated_reply H name o c) (sym some)
+    ap (option_map (λ (placed : ℕ × Entry). (repeated c placed).reply)) (sym (unused-there H name number none))
+    ∙ ap (λ (o : Option ℕ). repeated_reply H name o c) (sym some)
 
 -- The answer to a command whose caller used its number before, or didn't.
 
-pub told-again : (H : History) (who : Caller) (number : Option ℕ) (c : Command) (moment : ℕ) (r : Reply) → Some r ≡ repeated_reply H who.name number c
+pub told-again : (H : History) (who : Caller) (number : Option ℕ) (c : Command) (moment : ℕ) (r : Reply)
+    → Some r ≡ repeated_reply H who.name number c
     → ((answer H who number (Act c) moment).added ≡ []) × (r ≡ (answer H who number (Act c) moment).reply)
 told-again H who number c moment r is = step (used H who.name number) is
   where
@@ -131,7 +149,8 @@ told-again H who number c moment r is = step (used H who.name number) is
     step None is = cc is
     step (Some placed) is = let same : r ≡ (repeated c placed).reply = cc is in (refl, same)
 
-pub not-used : (H : History) (name : Text) (number : Option ℕ) (c : Command) → None ≡ repeated_reply H name number c → used H name number ≡ None
+pub not-used : (H : History) (name : Text) (number : Option ℕ) (c : Command) → None ≡ repeated_reply H name number c
+    → used H name number ≡ None
 not-used H name number c is = step (used H name number) is
   where
     step : (o : Option (ℕ × Entry)) → None ≡ option_map (λ (placed : ℕ × Entry). (repeated c placed).reply) o → o ≡ None

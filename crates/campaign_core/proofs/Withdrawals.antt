@@ -24,7 +24,8 @@ use Rattle.campaign_core.proofs.Told.{ruled_ok, submit-told}
 
 -- Commands by what they submit or withdraw.
 
-withdraws-by : (name : Text) (c : Command) → withdraws name c ≡ option_map_or (λ run. bytes_eq run name) (withdrawn_in c) false
+withdraws-by : (name : Text) (c : Command)
+    → withdraws name c ≡ option_map_or (λ run. bytes_eq run name) (withdrawn_in c) false
 withdraws-by name (command.Withdraw run) = refl
 withdraws-by name (command.Found rules) = refl
 withdraws-by name (command.Topics topics) = refl
@@ -38,7 +39,8 @@ withdraws-by name (command.Rule topic doc grade) = refl
 withdraws-by name command.Publish = refl
 
 withdraws-none : (c : Command) → withdrawn_in c ≡ None → (name : Text) → withdraws name c ≡ false
-withdraws-none c none name = withdraws-by name c ∙ ap (λ (o : Option Text). option_map_or (λ run. bytes_eq run name) o false) none
+withdraws-none c none name = withdraws-by name c
+    ∙ ap (λ (o : Option Text). option_map_or (λ run. bytes_eq run name) o false) none
 
 withdraw-by : (c : Command) (name : Text) → withdrawn_in c ≡ Some name → c ≡ command.Withdraw name
 withdraw-by (command.Withdraw run) name is = let same : run ≡ name = cc is in ap command.Withdraw same
@@ -71,7 +73,8 @@ submit-by command.Publish run is = cc is
 abbrev flag : Submission → Bool
 flag one = one.is_withdrawn
 
-same-flags : (H J : History) (rs : List Run) → ((name : Text) → is_withdrawn J name ≡ is_withdrawn H name) → map (λ (run : Run). is_withdrawn J run.name) rs ≡ map (λ (run : Run). is_withdrawn H run.name) rs
+same-flags : (H J : History) (rs : List Run) → ((name : Text) → is_withdrawn J name ≡ is_withdrawn H name)
+    → map (λ (run : Run). is_withdrawn J run.name) rs ≡ map (λ (run : Run). is_withdrawn H run.name) rs
 same-flags H J rs withdrawn_are = map-each (λ (run : Run). is_withdrawn J run.name) (λ (run : Run). is_withdrawn H run.name) rs (λ run. withdrawn_are run.name)
 
 module _ (H : History) (e : Entry) (known : RunsAreKnown H) (accepted : IsAccepted H e) (all : List Submission) (are : AreSubmissions H all) where
@@ -85,10 +88,13 @@ module _ (H : History) (e : Entry) (known : RunsAreKnown H) (accepted : IsAccept
       withdrawn_are : (name : Text) → is_withdrawn J name ≡ is_withdrawn H name
       withdrawn_are = none-withdrawn H e (withdraws-none e.core.command none)
 
-      step : (o : Option Run) → run_in e.core.command ≡ o → AreSubmissions J (if is_some (run_in e.core.command) then all ++ record { place = length H; is_withdrawn = false } ∷ [] else all)
+      step : (o : Option Run) → run_in e.core.command ≡ o
+          → AreSubmissions J (if is_some (run_in e.core.command) then all ++ record { place = length H; is_withdrawn = false } ∷ [] else all)
       step None is = rw is (record {
         places_are = places-stay H e (map entry_place all) is are.places_are;
-        withdrawn_are = are.withdrawn_are ∙ sym (ap (map (λ (run : Run). is_withdrawn J run.name)) (no-run H e is) ∙ same-flags H J (runs H) withdrawn_are);
+        withdrawn_are = are.withdrawn_are
+            ∙ sym (ap (map (λ (run : Run). is_withdrawn J run.name)) (no-run H e is)
+            ∙ same-flags H J (runs H) withdrawn_are);
       })
       step (Some run) is =
           let new : Submission = record { place = length H; is_withdrawn = false } in
@@ -116,10 +122,13 @@ module _ (H : History) (e : Entry) (known : RunsAreKnown H) (accepted : IsAccept
     noted-there = taken-named H name told.run told.found
 
     -- an entry that withdraws a run
-    pub noted-withdrawn : (later : List Submission) → ((number : ℕ) → Some number ≡ position (λ (run : Run). bytes_eq run.name name) (runs H) → later ≡ at_place number withdrawn all) → AreSubmissions J later
+    pub noted-withdrawn : (later : List Submission)
+        → ((number : ℕ) → Some number ≡ position (λ (run : Run). bytes_eq run.name name) (runs H)
+        → later ≡ at_place number withdrawn all) → AreSubmissions J later
     noted-withdrawn later each = step (position (λ (run : Run). bytes_eq run.name name) (runs H)) refl (place-named H name told.run told.found)
       where
-        step : (o : Option ℕ) → position (λ (run : Run). bytes_eq run.name name) (runs H) ≡ o → is_some (position (λ (run : Run). bytes_eq run.name name) (runs H)) ≡ true → AreSubmissions J later
+        step : (o : Option ℕ) → position (λ (run : Run). bytes_eq run.name name) (runs H) ≡ o
+            → is_some (position (λ (run : Run). bytes_eq run.name name) (runs H)) ≡ true → AreSubmissions J later
         step None there some = cc (rw there at some)
         step (Some number) there some = subst (AreSubmissions J) (sym (each number (sym there))) (record {
           places_are = subst (λ places. ArePlaces J places) (sym (map-at_same entry_place withdrawn all number (λ one. refl))) (places-stay H e (map entry_place all) (ap run_in command_is) are.places_are);
@@ -131,7 +140,8 @@ module _ (H : History) (e : Entry) (known : RunsAreKnown H) (accepted : IsAccept
         })
 
 -- whether the run of a name was withdrawn, by its number
-pub flag-at : (H : History) (all : List Submission) (name : Text) (number : ℕ) (d : Submission) → AreSubmissions H all → Some number ≡ position (λ (run : Run). bytes_eq run.name name) (runs H)
+pub flag-at : (H : History) (all : List Submission) (name : Text) (number : ℕ) (d : Submission) → AreSubmissions H all
+    → Some number ≡ position (λ (run : Run). bytes_eq run.name name) (runs H)
     → (get_or all number d).is_withdrawn ≡ is_withdrawn H name
 flag-at H all name number d are is =
     let found = run-found H name number is in
@@ -141,7 +151,8 @@ flag-at H all name number d are is =
     ∙ ap (is_withdrawn H) found.name_is
 
 -- whether the run of a number was withdrawn
-pub flag-there : (H : History) (all : List Submission) (number : ℕ) (d : Submission) → AreSubmissions H all → number < length all → (get_or all number d).is_withdrawn ≡ is_withdrawn H (get_or (runs H) number no_run).name
+pub flag-there : (H : History) (all : List Submission) (number : ℕ) (d : Submission) → AreSubmissions H all
+    → number < length all → (get_or all number d).is_withdrawn ≡ is_withdrawn H (get_or (runs H) number no_run).name
 flag-there H all number d are within =
     sym (get-map flag all number d)
     ∙ ap (λ bs. get_or bs number (flag d)) are.withdrawn_are

@@ -16,7 +16,8 @@ returns-then-is_submitted_by c =
     let places : List ℕ = map entry_place all in
     let i = c.loop-submission.submission-index in
     let passes : Entry → Bool = is_submitted_by c.args.caller.now c.args.name.now in
-    let here : passes c.index-history-submission.result ≡ true = sym c.is_submitted_by.ensures ∙ c.if-is_submitted_by.true in
+    let here : passes c.index-history-submission.result ≡ true = sym c.is_submitted_by.ensures
+    ∙ c.if-is_submitted_by.true in
     let within : i < length places = omega (arith, c.loop-submission-test.true, length-map all entry_place) in
     let at : get_or places i 0 ≡ (get_or all i (record { place = 0; is_withdrawn = false })).place = get-map entry_place all i (record { place = 0; is_withdrawn = false }) in
     sym
@@ -34,7 +35,8 @@ loop-submission-preserved c =
     let places : List ℕ = map entry_place all in
     let i = c.loop-submission.submission-index in
     let passes : Entry → Bool = is_submitted_by c.args.caller.now c.args.name.now in
-    let other : passes c.index-history-submission.result ≡ false = sym c.is_submitted_by.ensures ∙ c.if-is_submitted_by.false in
+    let other : passes c.index-history-submission.result ≡ false = sym c.is_submitted_by.ensures
+    ∙ c.if-is_submitted_by.false in
     let within : i < length places = omega (arith, c.loop-submission-test.true, length-map all entry_place) in
     let at : get_or places i 0 ≡ (get_or all i (record { place = 0; is_withdrawn = false })).place = get-map entry_place all i (record { place = 0; is_withdrawn = false }) in
     sym

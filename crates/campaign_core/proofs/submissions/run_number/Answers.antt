@@ -27,7 +27,8 @@ loop-number-preserved c =
     let at = entry-at H c.args.submissions.now n _ e no_run c.requires c.loop-number-test.true in
     let inside : n < length (runs H) = omega (arith, runs-many H c.args.submissions.now c.requires, c.loop-number-test.true) in
     let other : test (get_or (runs H) n no_run) ≡ false = sym (named-run e (get_or (runs H) n no_run) c.args.name.now (ap (λ (e : Entry). run_in e.core.command) c.index-history-submission.is ∙ at.run_is)) ∙ sym c.submits.ensures ∙ c.if-submits.false in
-    list_any_more test (runs H) n no_run inside ∙ ap (λ t. t || test (get_or (runs H) n no_run)) c.loop-number.invariant ∙ other
+    list_any_more test (runs H) n no_run inside
+    ∙ ap (λ t. t || test (get_or (runs H) n no_run)) c.loop-number.invariant ∙ other
 
 pub returns : goal.returns
 returns c =

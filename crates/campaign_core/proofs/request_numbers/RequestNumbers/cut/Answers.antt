@@ -4,4 +4,5 @@ use Rattle.campaign_core.proofs.NumberTables.{shown}
 use Rattle.campaign_core.proofs.request_numbers.RequestNumbers.cut.Goals as goal
 
 pub returns : goal.returns
-returns c = ap (map shown) c.truncate.ensures.entries ∙ sym (take-map shown c.args.len c.self.inside.places.entries) ∙ ap (take c.args.len) c.self.view_is
+returns c = ap (map shown) c.truncate.ensures.entries ∙ sym (take-map shown c.args.len c.self.inside.places.entries)
+    ∙ ap (take c.args.len) c.self.view_is
