@@ -126,7 +126,13 @@ fn write_detail(line: &mut Vec<u8>, kind: Kind) -> Result<(), Memory>
             line.extend_from_slice(b" first ")?;
             line.extend_from_slice(Digits::new().format(first).as_bytes())?;
         }
-        _ => {}
+        Kind::Fields
+        | Kind::Topic
+        | Kind::Docno
+        | Kind::Grade
+        | Kind::Empty
+        | Kind::TooLong
+        | Kind::Tag => {}
     }
     Ok(())
 }

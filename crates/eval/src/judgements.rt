@@ -27,6 +27,21 @@ pub(crate) struct Judgements {
     pub(crate) tallies: Vec<Tally>,
 }
 
+/// The topics of qrels, and how the documents of each are judged.
+pub(crate) fn judgements_of(alloc: Global, qrels: &[QrelLine]) -> Result<Judgements, Memory>
+    requires { length qrels.now ≤ 268435456 }
+    ensures topics { IfOk result (λ judgements. judgements.topics ≡ topics_of qrels.now) }
+    ensures tallies { IfOk result (λ judgements. judgements.tallies.items ≡ map (tally_on qrels.now) (topics_of qrels.now)) }
+{
+    let mut topics = Names::new(alloc);
+    let mut tallies = Vec::new(alloc);
+    for line in qrels {
+        let place = place_of(&mut topics, &mut tallies, &line.topic)?;
+        count(&mut tallies[place], line.grade);
+    }
+    Ok(Judgements { topics, tallies })
+}
+
 /// The place of a topic, which joins the others with nothing judged where it's new.
 fn place_of(topics: &mut Names, tallies: &mut Vec<Tally>, topic: &Text) -> Result<usize, Memory>
     requires { length topics.old + 1 < 2 ^ 32 }
@@ -36,11 +51,12 @@ fn place_of(topics: &mut Names, tallies: &mut Vec<Tally>, topic: &Text) -> Resul
     ensures tallies { OnOk result (tallies.new.items ≡ (if list_any (bytes_eq topic.now) topics.old then tallies.old.items else tallies.old.items ++ no_tally ∷ [])) }
 {
     if let Some(number) = topic_number(topics, topic.bytes()) {
+        // names tell with their length that no name stands twice
         let _names = topics.len();
         return Ok(number.0 as usize);
     }
     let number = topics.add(topic.copy()?)?;
-    // names tell with their length that no name stands twice
+    // as above
     let _names = topics.len();
     tallies.push(Tally {
         relevant: 0,
@@ -60,19 +76,4 @@ fn count(tally: &mut Tally, grade: u8)
     } else {
         tally.others += 1;
     }
-}
-
-/// The topics of qrels, and how the documents of each are judged.
-pub(crate) fn judgements_of(alloc: Global, qrels: &[QrelLine]) -> Result<Judgements, Memory>
-    requires { length qrels.now ≤ 268435456 }
-    ensures topics { IfOk result (λ judgements. judgements.topics ≡ topics_of qrels.now) }
-    ensures tallies { IfOk result (λ judgements. judgements.tallies.items ≡ map (tally_on qrels.now) (topics_of qrels.now)) }
-{
-    let mut topics = Names::new(alloc);
-    let mut tallies = Vec::new(alloc);
-    for line in qrels {
-        let place = place_of(&mut topics, &mut tallies, &line.topic)?;
-        count(&mut tallies[place], line.grade);
-    }
-    Ok(Judgements { topics, tallies })
 }

@@ -1,12 +1,11 @@
 -- Numbered requests of a campaign whose list of accepted entries is H: a caller's number is used once.
-use Rattle.std.specs.Prelude.{ℕ, Bool, false, ◌&&◌, ◌==◌, Option, None}
+use Rattle.std.specs.Prelude.{ℕ, Bool, false, ◌&&◌, ◌==◌, Option, None, Some}
 use Rattle.std.specs.List.{enumerate_from, find}
 use Rattle.std.specs.Option.{option_map_or}
 use Rattle.std.specs.Str.{bytes_eq}
 use Rattle.rulebook.specs.declared.entry.Entry.{Entry}
 use Rattle.rulebook.specs.Words.{Text}
 use Rattle.rulebook.specs.Campaign.{History}
-use Rattle.std.specs.Prelude.{Some}
 
 -- whether a caller of this name gave an entry under this number
 abbrev pub is_numbered : Text → ℕ → Entry → Bool

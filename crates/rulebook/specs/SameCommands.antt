@@ -19,6 +19,7 @@ same_rules a b =
     a.depth == b.depth && a.term == b.term && a.hold == b.hold && a.level == b.level && a.top_grade == b.top_grade
     && pointwise bytes_eq a.doubles b.doubles
 
+-- whether all fields are the same: a command without a line here would differ from itself
 abbrev pub same_command : Command → Command → Bool
 same_command (Found a) (Found b) = same_rules a b
 same_command (Topics a) (Topics b) = pointwise same_topic a b

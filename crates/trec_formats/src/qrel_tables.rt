@@ -44,30 +44,15 @@ pub fn read_qrel_table(alloc: Global, bytes: &[u8]) -> Result<QrelTable, FormatE
     Ok(QrelTable { lines, table })
 }
 
-/// The grade of a document on a topic, in lines of which the table is, by the key of the topic.
-fn grade_of(
-    lines: &[QrelLine],
-    table: &DocumentTable,
-    document: Document<'_>,
-    topic_key: u64,
-) -> Option<u8>
-    requires found { AreByDocument (λ line. line.topic) (λ line. line.doc) table.now.secret table.now.chains lines.now }
-    requires key { topic_key ≡ text_key table.now.secret document.topic.now }
-    ensures { result ≡ grade_on lines.now document.entry.topic.now document.entry.doc.now }
-{
-    match line_of(table, lines, document, topic_key) {
-        Some(line) => Some(line.grade),
-        None => None,
-    }
-}
-
 impl QrelTable {
+    /// The lines in the order of the text.
     pub fn lines(&self) -> &[QrelLine]
         ensures { result.now ≡ self.now }
     {
         self.lines.as_slice()
     }
 
+    /// The lines in the order of the text, without the table.
     pub fn into_lines(self) -> Vec<QrelLine>
         ensures { result.items ≡ self }
     {
@@ -109,4 +94,21 @@ fn grades_of(
         grades.push(grade_of(lines, table, document, topic_key))?;
     }
     Ok(grades)
+}
+
+/// The grade of a document on a topic, in lines of which the table is, by the key of the topic.
+fn grade_of(
+    lines: &[QrelLine],
+    table: &DocumentTable,
+    document: Document<'_>,
+    topic_key: u64,
+) -> Option<u8>
+    requires found { AreByDocument (λ line. line.topic) (λ line. line.doc) table.now.secret table.now.chains lines.now }
+    requires key { topic_key ≡ text_key table.now.secret document.topic.now }
+    ensures { result ≡ grade_on lines.now document.entry.topic.now document.entry.doc.now }
+{
+    match line_of(table, lines, document, topic_key) {
+        Some(line) => Some(line.grade),
+        None => None,
+    }
 }
