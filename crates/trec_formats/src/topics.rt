@@ -51,11 +51,9 @@ fn read_outside(number: u32, mark: Mark) -> Result<Option<Block>, FormatEnd>
 {
     match mark {
         Mark::Opens => Ok(Some(Block::new())),
-        Mark::Closes
-        | Mark::Numbers(_)
-        | Mark::Begins(_, _)
-        | Mark::Skips
-        | Mark::Says(_) => Err(FormatEnd::at(number, Kind::Tag)),
+        Mark::Closes | Mark::Numbers(_) | Mark::Begins(_, _) | Mark::Skips | Mark::Says(_) => Err(
+            FormatEnd::at(number, Kind::Tag),
+        ),
     }
 }
 
