@@ -1,13 +1,12 @@
 -- A count along a series, from its newest lease on backwards.
-use Rattle.std.proofs.Common.{◌≡◌, ℕ, ◌+◌, ◌<◌, ◌≤◌, Bool, true, false, cond, ◌&&◌, nat_lt, List, [], ◌∷◌, Option, Some, None, count_by, length, take, refl, sym, ap, subst, ◌∙◌, arith, get_or, is_none, suc, zero}
+use Rattle.std.proofs.Common.{◌≡◌, ℕ, ◌+◌, ◌<◌, ◌≤◌, ◌⊎◌, Bool, true, false, cond, inl, inr, ◌&&◌, nat_lt, List, [], ◌∷◌, Option, Some, None, count_by, length, take, refl, sym, ap, ◌∙◌, arith, get_or, is_none, suc, zero}
 use Rattle.std.proofs.lemmas.Bool.{false≢true, ltb-true}
-use Rattle.std.proofs.lemmas.List.{take-take, length-take, get_or-take}
 use Rattle.std.proofs.lemmas.List.Sums.{count_by_more_yes, count_by_more_no, sum_by-cons}
-use Rattle.lease_desk.specs.Series.{IsSeriesOf, is_asked, last_of, last_place, up_to}
+use Rattle.lease_desk.specs.Series.{IsSeriesOf, LeadsBack, is_asked, last_of, last_place, up_to}
 use Rattle.lease_desk.specs.Leases.{is_live}
 use Rattle.lease_desk.specs.declared.series.Link.{Link}
 use Rattle.lease_desk.specs.declared.leases.Lease.{Lease}
-use Rattle.lease_desk.proofs.LastPlaces.{last_place-within, last_passes}
+use Rattle.lease_desk.proofs.LastPlaces.{last_passes}
 
 -- ---- tests
 
@@ -55,22 +54,26 @@ count_up_to_last passes f only (x ∷ xs) = step (last_place passes xs) (passes 
         let more : take (place + 1 + 1) (x ∷ xs) ≡ x ∷ take (place + 1) xs = let e : place + 1 + 1 ≡ suc (place + 1) = omega arith in ap (λ n. take n (x ∷ xs)) e in
         ap (count_by f) more ∙ count-cons f x (take (place + 1) xs) ∙ ap (λ n. as_number (f x) + n) rest ∙ sym (count-cons f x xs)
 
--- the same of the first elements
-pub count_up_to_last_of : {X : Type 0} (passes f : X → Bool) (only : (x : X) → f x ≡ true → passes x ≡ true) (xs : List X) (n : ℕ)
-    → count_by f (take (up_to (last_place passes (take n xs))) xs) ≡ count_by f (take n xs)
-count_up_to_last_of passes f only xs n =
-    let within : up_to (last_place passes (take n xs)) ≤ n = omega (arith, last_place-within passes (take n xs), length-take n xs) in
-    ap (count_by f) (sym (take-take (up_to (last_place passes (take n xs))) n xs within)) ∙ count_up_to_last passes f only (take n xs)
+split_last : (m n : ℕ) → m ≤ suc n → (m ≤ n) ⊎ (m ≡ suc n)
+split_last m n h = grind arith
+
+-- elements that don't pass, between two places, add nothing
+pub count_between : {X : Type 0} (f : X → Bool) (xs : List X) (d : X) (m n : ℕ) → m ≤ n → n ≤ length xs → ((i : ℕ) → m ≤ i → i < n → f (get_or xs i d) ≡ false)
+    → count_by f (take n xs) ≡ count_by f (take m xs)
+count_between f xs d m zero le h none = let e : zero ≡ m = omega arith in ap (λ k. count_by f (take k xs)) e
+count_between f xs d m (suc n) le h none =
+    step (split_last m n le) (λ lower. count_between f xs d m n lower (omega arith) (λ i at_least lt. none i at_least (omega arith)))
+  where
+    step : (m ≤ n) ⊎ (m ≡ suc n) → (m ≤ n → count_by f (take n xs) ≡ count_by f (take m xs)) → count_by f (take (suc n) xs) ≡ count_by f (take m xs)
+    step (inr e) rest = ap (λ k. count_by f (take k xs)) (sym e)
+    step (inl lower) rest =
+        let more : suc n ≡ n + 1 = omega arith in
+        let within : n < length xs = omega arith in
+        ap (λ k. count_by f (take k xs)) more ∙ count_by_more_no f xs n d within (none n lower (omega arith)) ∙ rest lower
 
 -- where none of the first elements passes, their count is 0
 pub count_none : {X : Type 0} (f : X → Bool) (xs : List X) (d : X) (n : ℕ) → n ≤ length xs → ((i : ℕ) → i < n → f (get_or xs i d) ≡ false) → count_by f (take n xs) ≡ 0
-count_none f xs d zero h none = refl
-count_none f xs d (suc n) h none =
-    let more : suc n ≡ n + 1 = omega arith in
-    let within : n < length xs = omega arith in
-    let lower : n ≤ length xs = omega arith in
-    let below : (i : ℕ) → i < n → f (get_or xs i d) ≡ false = λ i lt. none i (omega arith) in
-    ap (λ m. count_by f (take m xs)) more ∙ count_by_more_no f xs n d within (none n (omega arith)) ∙ count_none f xs d n lower below
+count_none f xs d n h none = count_between f xs d 0 n (omega arith) h (λ i at_least lt. none i lt)
 
 -- ---- the count of a series
 
@@ -88,7 +91,7 @@ abbrev pub some_lease : Lease
 some_lease = record { number = 0; assessor = []; topic = 0; doc = record { 0 = 0 }; until = 0; end = None }
 
 abbrev pub some_link : Link
-some_link = record { previous = None; latest_until = 0 }
+some_link = record { previous = None; next = None; latest_until = 0 }
 
 -- so many leases were counted, and those up to a place of the series are left
 pub record IsCounted (key : Lease → Bool) (assessor : Option (List ℕ)) (now : ℕ) (leases : List Lease) (count : ℕ) (next : Option ℕ) : Type 0 where
@@ -98,6 +101,9 @@ pub record IsCounted (key : Lease → Bool) (assessor : Option (List ℕ)) (now 
 module _ (key : Lease → Bool) (assessor : Option (List ℕ)) (now : ℕ) (leases : List Lease) where
   only : (lease : Lease) → is_counted key assessor now lease ≡ true → key lease ≡ true
   only lease e = (both_then (key lease) (is_asked assessor lease) (both_then (key lease && is_asked assessor lease) (is_live lease now) e).0).0
+
+  unended : (lease : Lease) → is_counted key assessor now lease ≡ true → is_none lease.end ≡ true
+  unended lease e = (both_then (is_none lease.end) (nat_lt now lease.until) (both_then (key lease && is_asked assessor lease) (is_live lease now) e).1).0
 
   lives : (lease : Lease) → is_counted key assessor now lease ≡ true → now < lease.until
   lives lease e =
@@ -141,17 +147,23 @@ module _ (key : Lease → Bool) (assessor : Option (List ℕ)) (now : ℕ) (leas
         → IsCounted key assessor now leases count (Some place) → IsCounted key assessor now leases more (get_or links place link).previous
     goes_on count more place lease link within is_more counted =
         let here : key (get_or leases place lease) ≡ true = counted.passes place lease refl in
-        let previous_is = series.previous_is place lease link within here in
+        let back = series.leads_back place lease link within here in
         let f = is_counted key assessor now in
-        let rest : count_by f (take (up_to (get_or links place link).previous) leases) ≡ count_by f (take place leases)
-        = ap (λ last. count_by f (take (up_to last) leases)) previous_is ∙ count_up_to_last_of key f only leases place in
+        let upto : place ≤ length leases = omega arith in
+        let rest : count_by f (take place leases) ≡ count_by f (take (up_to (get_or links place link).previous) leases)
+        = count_between f leases lease (up_to (get_or links place link).previous) place back.earlier upto (λ i at_least lt. left_out back i at_least lt (f (get_or leases i lease)) refl) in
         let one = step (f (get_or leases place lease)) refl in
         let all = counted.so_far in
         record {
           so_far = omega (arith, rest, one, all);
-          passes = λ i d e. earlier i d (sym previous_is ∙ e);
+          passes = λ i d e. back.passes_there i d e;
         }
       where
+        left_out : LeadsBack key leases place (get_or links place link).previous → (i : ℕ) → up_to (get_or links place link).previous ≤ i → i < place
+            → (t : Bool) → is_counted key assessor now (get_or leases i lease) ≡ t → is_counted key assessor now (get_or leases i lease) ≡ false
+        left_out back i at_least lt true e = absurd (false≢true (sym (back.ended_between i lease at_least lt (only (get_or leases i lease) e)) ∙ unended (get_or leases i lease) e))
+        left_out back i at_least lt false e = e
+
         step : (t : Bool) → is_counted key assessor now (get_or leases place lease) ≡ t
             → count_by (is_counted key assessor now) (take (place + 1) leases) ≡ count_by (is_counted key assessor now) (take place leases) + as_number (is_counted key assessor now (get_or leases place lease))
         step true e =
@@ -160,9 +172,3 @@ module _ (key : Lease → Bool) (assessor : Option (List ℕ)) (now : ℕ) (leas
         step false e =
             let n : as_number (is_counted key assessor now (get_or leases place lease)) ≡ 0 = ap as_number e in
             omega (arith, n, count_by_more_no (is_counted key assessor now) leases place lease within e)
-
-        earlier : (i : ℕ) (d : Lease) → last_place key (take place leases) ≡ Some i → key (get_or leases i d) ≡ true
-        earlier i d e =
-            let upto : i + 1 ≤ place = let upper : up_to (last_place key (take place leases)) ≡ i + 1 = ap up_to e in omega (arith, upper, last_place-within key (take place leases), length-take place leases) in
-            let lt : i < place = omega arith in
-            subst (λ l. key l ≡ true) (get_or-take place leases i d lt) (last_passes key (take place leases) i d e)

@@ -1,10 +1,10 @@
--- What one more lease, and a lease's end, do to a series.
-use Rattle.std.proofs.Common.{◌≡◌, ℕ, ◌+◌, ◌<◌, ◌≤◌, ◌⊎◌, Bool, true, false, cond, List, [], ◌∷◌, ◌++◌, Option, Some, None, length, take, max, map, refl, sym, ap, subst, ◌∙◌, arith, get_or, inl, inr, suc, zero}
+-- What one more lease does to a series.
+use Rattle.std.proofs.Common.{◌≡◌, ℕ, ◌+◌, ◌<◌, ◌≤◌, ◌⊎◌, Bool, true, false, cond, List, [], ◌∷◌, ◌++◌, Option, Some, None, length, max, map, refl, sym, ap, subst, ◌∙◌, arith, get_or, inl, inr, is_none, suc, zero}
 use Rattle.std.proofs.Math.Nat.{le-max_left, le-max_right}
 use Rattle.std.proofs.lemmas.Bool.{false≢true}
-use Rattle.std.proofs.lemmas.List.{get_or-map, get_or_append_left, get_or_push, length-map, length_push, take-append-le, take-map, take_all}
+use Rattle.std.proofs.lemmas.List.{get_or_append_left, get_or_default, get_or_push, length_push}
 use Rattle.std.proofs.lemmas.Option.{slice_get-get_or}
-use Rattle.lease_desk.specs.Series.{AreInSeries, IsSeriesOf, last_of, last_place, latest_at, up_to}
+use Rattle.lease_desk.specs.Series.{AreInSeries, HasLink, IsSeriesOf, LeadsBack, last_of, last_place, latest_at, up_to}
 use Rattle.lease_desk.specs.declared.series.Link.{Link}
 use Rattle.lease_desk.specs.declared.leases.Lease.{Lease}
 use Rattle.lease_desk.proofs.LastPlaces.{last_passes, last_place-push, last_place-within}
@@ -59,95 +59,156 @@ covered passes leases links newest long series i lease link h e = step newest se
         let at = latest_is_at links place link within_links in
         omega (arith, at_most, at)
 
-module _ (passes : Lease → Bool) (leases : List Lease) (links : List Link) (newest : Option ℕ) (long : length links ≡ length leases) (series : IsSeriesOf passes leases links newest) (new : Lease) where
+-- ---- from the newest lease back
+
+module _ (passes : Lease → Bool) (leases : List Lease) (links : List Link) where
+  -- behind the newest lease none passes
+  behind : (newest : Option ℕ) → newest ≡ last_place passes leases → (i : ℕ) (lease : Lease) → up_to newest ≤ i → i < length leases → passes (get_or leases i lease) ≡ true → ⊥
+  behind newest is i lease at_least h e =
+      let lt = last_is_last passes leases i lease h e in
+      let upper : up_to newest ≡ up_to (last_place passes leases) = ap up_to is in
+      omega (arith, lt, upper)
+
+  pub none_leads : IsSeriesOf passes leases links None → length links ≡ length leases → LeadsBack passes leases (length links) None
+  none_leads series long = record {
+    earlier = omega arith;
+    passes_there = λ there lease e. cc;
+    ended_between = λ i lease at_least lt e. absurd (behind None series.newest_is i lease at_least (omega (arith, long)) e);
+  }
+
+  pub newest_leads : (place : ℕ) → IsSeriesOf passes leases links (Some place) → length links ≡ length leases → LeadsBack passes leases (length links) (Some place)
+  newest_leads place series long = record {
+    earlier = let upper : place + 1 ≡ up_to (last_place passes leases) = ap up_to series.newest_is in omega (arith, long, upper, last_place-within passes leases);
+    passes_there = λ there lease e. last_passes passes leases there lease (sym series.newest_is ∙ e);
+    ended_between = λ i lease at_least lt e. absurd (behind (Some place) series.newest_is i lease at_least (omega (arith, long)) e);
+  }
+
+  pub ended_leads : (place : ℕ) (lease : Lease) (link : Link) → IsSeriesOf passes leases links (Some place) → length links ≡ length leases → is_none (get_or leases place lease).end ≡ false
+      → LeadsBack passes leases (length links) (get_or links place link).previous
+  ended_leads place lease link series long has_ended =
+      let upper : place + 1 ≡ up_to (last_place passes leases) = ap up_to series.newest_is in
+      let within : place < length leases = omega (arith, upper, last_place-within passes leases) in
+      let here : passes (get_or leases place lease) ≡ true = last_passes passes leases place lease (sym series.newest_is) in
+      let back = series.leads_back place lease link within here in
+      let earlier = back.earlier in
+      record {
+        earlier = omega (arith, long, within, earlier);
+        passes_there = back.passes_there;
+        ended_between = λ i d at_least lt e. step back i d at_least (omega (arith, long)) e (where_is i place);
+      }
+    where
+      where_is : (i place : ℕ) → (i < place) ⊎ ((i ≡ place) ⊎ (place + 1 ≤ i))
+      where_is i place = grind arith
+
+      step : LeadsBack passes leases place (get_or links place link).previous → (i : ℕ) (d : Lease) → up_to (get_or links place link).previous ≤ i → i < length leases
+          → passes (get_or leases i d) ≡ true → (i < place) ⊎ ((i ≡ place) ⊎ (place + 1 ≤ i)) → is_none (get_or leases i d).end ≡ false
+      step back i d at_least h e (inl lt) = back.ended_between i d at_least lt e
+      step back i d at_least h e (inr (inl is)) =
+          let within : place < length leases = omega arith in
+          subst (λ k. is_none (get_or leases k d).end ≡ false) (sym is) (ap (λ (l : Lease). is_none l.end) (get_or_default leases place d lease within) ∙ has_ended)
+      step back i d at_least h e (inr (inr later)) = absurd (behind (Some place) series.newest_is i d later h e)
+
+-- ---- one more lease
+
+-- a link that leads back does so where leases join
+leads_further : (passes : Lease → Bool) (leases : List Lease) (new : Lease) (place : ℕ) (previous : Option ℕ) → place ≤ length leases
+    → LeadsBack passes leases place previous → LeadsBack passes (leases ++ new ∷ []) place previous
+leads_further passes leases new place previous h back =
+    let earlier = back.earlier in
+    record {
+      earlier = earlier;
+      passes_there = λ there lease e.
+          let upper : up_to previous ≡ there + 1 = ap up_to e in
+          let within : there < length leases = omega (arith, upper, earlier) in
+          ap passes (get_or_append_left leases (new ∷ []) lease there within) ∙ back.passes_there there lease e;
+      ended_between = λ i lease at_least lt e.
+          let within : i < length leases = omega arith in
+          let same = get_or_append_left leases (new ∷ []) lease i within in
+          ap (λ (l : Lease). is_none l.end) same ∙ back.ended_between i lease at_least lt (ap passes (sym same) ∙ e);
+    }
+
+module _ (passes : Lease → Bool) (leases : List Lease) (links after : List Link) (newest of_key : Option ℕ) (long : length links ≡ length leases) (new : Lease)
+    (series : IsSeriesOf passes leases links newest) (more : HasLink leases links after of_key (max new.until (latest_at links of_key))) where
   old_lease : (i : ℕ) (d : Lease) → i < length leases → get_or (leases ++ new ∷ []) i d ≡ get_or leases i d
   old_lease i d h = get_or_append_left leases (new ∷ []) d i h
 
+  -- the links before lead where they led
+  old_leads : (place : ℕ) (lease : Lease) (link : Link) → place < length leases → passes (get_or (leases ++ new ∷ []) place lease) ≡ true
+      → LeadsBack passes (leases ++ new ∷ []) place (get_or after place link).previous
+  old_leads place lease link h e =
+      let within : place < length links = omega arith in
+      let upto : place ≤ length leases = omega arith in
+      subst (LeadsBack passes (leases ++ new ∷ []) place) (sym (more.previous_stays place link within))
+      (leads_further passes leases new place (get_or links place link).previous upto (series.leads_back place lease link h (ap passes (sym (old_lease place lease h)) ∙ e)))
+
+  old_latest : (place earlier : ℕ) (lease : Lease) (link : Link) → place < length leases → earlier ≤ place → passes (get_or (leases ++ new ∷ []) place lease) ≡ true
+      → passes (get_or (leases ++ new ∷ []) earlier lease) ≡ true → (get_or (leases ++ new ∷ []) earlier lease).until ≤ (get_or after place link).latest_until
+  old_latest place earlier lease link h le e f =
+      let within : place < length links = omega arith in
+      let before : earlier < length leases = omega arith in
+      let same = ap (λ (l : Lease). l.until) (old_lease earlier lease before) in
+      let linked = more.latest_stays place link within in
+      let at_most = series.latest_is place earlier lease link h le (ap passes (sym (old_lease place lease h)) ∙ e) (ap passes (sym (old_lease earlier lease before)) ∙ f) in
+      omega (arith, same, linked, at_most)
+
   -- a lease of the series
-  pub grows_at : passes new ≡ true → IsSeriesOf passes (leases ++ new ∷ []) (links ++ record { previous = newest; latest_until = max new.until (latest_at links newest) } ∷ []) (Some (length leases))
-  grows_at here = record {
+  pub grows_at : passes new ≡ true → of_key ≡ newest → IsSeriesOf passes (leases ++ new ∷ []) after (Some (length leases))
+  grows_at here key_is = record {
     newest_is = sym (last_place-push passes leases new ∙ ap (λ t. cond t (Some (length leases)) (last_place passes leases)) here);
-    previous_is = λ place lease other h e. previous place lease other (below_or_last place (length leases) (omega (arith, length_push leases new))) e;
-    latest_is = λ place earlier lease other h le e f. latest place earlier lease other (below_or_last place (length leases) (omega (arith, length_push leases new))) le e f;
+    leads_back = λ place lease link h e. leads place lease link (below_or_last place (length leases) (omega (arith, length_push leases new))) e;
+    latest_is = λ place earlier lease link h le e f. latest place earlier lease link (below_or_last place (length leases) (omega (arith, length_push leases new))) le e f;
   }
     where
-      link : Link
-      link = record { previous = newest; latest_until = max new.until (latest_at links newest) }
-
-      grown : List Link
-      grown = links ++ link ∷ []
-
-      previous : (place : ℕ) (lease : Lease) (other : Link) → (place < length leases) ⊎ (place ≡ length leases) → passes (get_or (leases ++ new ∷ []) place lease) ≡ true
-          → (get_or (links ++ link ∷ []) place other).previous ≡ last_place passes (take place (leases ++ new ∷ []))
-      previous place lease other (inl h) e =
-          let within : place < length links = omega arith in
-          let upto : place ≤ length leases = omega arith in
-          ap (λ (l : Link). l.previous) (get_or_append_left links (link ∷ []) other place within)
-          ∙ series.previous_is place lease other h (ap passes (sym (old_lease place lease h)) ∙ e)
-          ∙ ap (last_place passes) (sym (take-append-le place leases (new ∷ []) upto))
-      previous place lease other (inr h) e =
+      leads : (place : ℕ) (lease : Lease) (link : Link) → (place < length leases) ⊎ (place ≡ length leases) → passes (get_or (leases ++ new ∷ []) place lease) ≡ true
+          → LeadsBack passes (leases ++ new ∷ []) place (get_or after place link).previous
+      leads place lease link (inl h) e = old_leads place lease link h e
+      leads place lease link (inr h) e =
           let at : length links ≡ place = long ∙ sym h in
-          let upto : place ≤ length leases = omega arith in
-          let whole : length leases ≤ place = omega arith in
-          ap (λ (l : Link). l.previous) (get_or_push links link other place at) ∙ series.newest_is
-          ∙ ap (last_place passes) (sym (take-append-le place leases (new ∷ []) upto ∙ take_all place leases whole))
+          let upto : length links ≤ length leases = omega arith in
+          let back = more.leads_back passes (subst (IsSeriesOf passes leases links) (sym key_is) series) link in
+          subst (λ k. LeadsBack passes (leases ++ new ∷ []) k (get_or after k link).previous) at
+          (leads_further passes leases new (length links) (get_or after (length links) link).previous upto back)
 
-      until_of : (i : ℕ) (lease : Lease) → (i < length leases) ⊎ (i ≡ length leases) → passes (get_or (leases ++ new ∷ []) i lease) ≡ true
+      until_of : (i : ℕ) (lease : Lease) (link : Link) → (i < length leases) ⊎ (i ≡ length leases) → passes (get_or (leases ++ new ∷ []) i lease) ≡ true
           → (get_or (leases ++ new ∷ []) i lease).until ≤ max new.until (latest_at links newest)
-      until_of i lease (inl h) e =
+      until_of i lease link (inl h) e =
           let same = ap (λ (l : Lease). l.until) (old_lease i lease h) in
           let at_most = covered passes leases links newest long series i lease link h (ap passes (sym (old_lease i lease h)) ∙ e) in
           omega (arith, same, at_most, le-max_right new.until (latest_at links newest))
-      until_of i lease (inr h) e =
+      until_of i lease link (inr h) e =
           let same = ap (λ (l : Lease). l.until) (get_or_push leases new lease i (sym h)) in
           omega (arith, same, le-max_left new.until (latest_at links newest))
 
-      latest : (place earlier : ℕ) (lease : Lease) (other : Link) → (place < length leases) ⊎ (place ≡ length leases) → earlier ≤ place → passes (get_or (leases ++ new ∷ []) place lease) ≡ true
-          → passes (get_or (leases ++ new ∷ []) earlier lease) ≡ true → (get_or (leases ++ new ∷ []) earlier lease).until ≤ (get_or (links ++ link ∷ []) place other).latest_until
-      latest place earlier lease other (inl h) le e f =
-          let within : place < length links = omega arith in
-          let before : earlier < length leases = omega arith in
-          let same = ap (λ (l : Lease). l.until) (old_lease earlier lease before) in
-          let linked = ap (λ (l : Link). l.latest_until) (get_or_append_left links (link ∷ []) other place within) in
-          let at_most = series.latest_is place earlier lease other h le (ap passes (sym (old_lease place lease h)) ∙ e) (ap passes (sym (old_lease earlier lease before)) ∙ f) in
-          omega (arith, same, linked, at_most)
-      latest place earlier lease other (inr h) le e f =
+      latest : (place earlier : ℕ) (lease : Lease) (link : Link) → (place < length leases) ⊎ (place ≡ length leases) → earlier ≤ place → passes (get_or (leases ++ new ∷ []) place lease) ≡ true
+          → passes (get_or (leases ++ new ∷ []) earlier lease) ≡ true → (get_or (leases ++ new ∷ []) earlier lease).until ≤ (get_or after place link).latest_until
+      latest place earlier lease link (inl h) le e f = old_latest place earlier lease link h le e f
+      latest place earlier lease link (inr h) le e f =
           let at : length links ≡ place = long ∙ sym h in
-          let linked = ap (λ (l : Link). l.latest_until) (get_or_push links link other place at) in
-          let until = until_of earlier lease (below_or_last earlier (length leases) (omega arith)) f in
+          let linked : (get_or after place link).latest_until ≡ max new.until (latest_at links newest)
+          = ap (λ k. (get_or after k link).latest_until) (sym at) ∙ more.latest_is link ∙ ap (λ of. max new.until (latest_at links of)) key_is in
+          let until = until_of earlier lease link (below_or_last earlier (length leases) (omega arith)) f in
           omega (arith, linked, until)
 
   -- a lease of another series
-  pub grows_beside : (link : Link) → passes new ≡ false → IsSeriesOf passes (leases ++ new ∷ []) (links ++ link ∷ []) newest
-  grows_beside link apart = record {
+  pub grows_beside : passes new ≡ false → IsSeriesOf passes (leases ++ new ∷ []) after newest
+  grows_beside apart = record {
     newest_is = series.newest_is ∙ sym (last_place-push passes leases new ∙ ap (λ t. cond t (Some (length leases)) (last_place passes leases)) apart);
-    previous_is = λ place lease other h e. previous place lease other (below_or_last place (length leases) (omega (arith, length_push leases new))) e;
-    latest_is = λ place earlier lease other h le e f. latest place earlier lease other (below_or_last place (length leases) (omega (arith, length_push leases new))) le e f;
+    leads_back = λ place lease link h e. leads place lease link (below_or_last place (length leases) (omega (arith, length_push leases new))) e;
+    latest_is = λ place earlier lease link h le e f. latest place earlier lease link (below_or_last place (length leases) (omega (arith, length_push leases new))) le e f;
   }
     where
       fails : (i : ℕ) (lease : Lease) → i ≡ length leases → passes (get_or (leases ++ new ∷ []) i lease) ≡ true → ⊥
       fails i lease h e = false≢true (sym apart ∙ ap passes (sym (get_or_push leases new lease i (sym h))) ∙ e)
 
-      previous : (place : ℕ) (lease : Lease) (other : Link) → (place < length leases) ⊎ (place ≡ length leases) → passes (get_or (leases ++ new ∷ []) place lease) ≡ true
-          → (get_or (links ++ link ∷ []) place other).previous ≡ last_place passes (take place (leases ++ new ∷ []))
-      previous place lease other (inl h) e =
-          let within : place < length links = omega arith in
-          let upto : place ≤ length leases = omega arith in
-          ap (λ (l : Link). l.previous) (get_or_append_left links (link ∷ []) other place within)
-          ∙ series.previous_is place lease other h (ap passes (sym (old_lease place lease h)) ∙ e)
-          ∙ ap (last_place passes) (sym (take-append-le place leases (new ∷ []) upto))
-      previous place lease other (inr h) e = absurd (fails place lease h e)
+      leads : (place : ℕ) (lease : Lease) (link : Link) → (place < length leases) ⊎ (place ≡ length leases) → passes (get_or (leases ++ new ∷ []) place lease) ≡ true
+          → LeadsBack passes (leases ++ new ∷ []) place (get_or after place link).previous
+      leads place lease link (inl h) e = old_leads place lease link h e
+      leads place lease link (inr h) e = absurd (fails place lease h e)
 
-      latest : (place earlier : ℕ) (lease : Lease) (other : Link) → (place < length leases) ⊎ (place ≡ length leases) → earlier ≤ place → passes (get_or (leases ++ new ∷ []) place lease) ≡ true
-          → passes (get_or (leases ++ new ∷ []) earlier lease) ≡ true → (get_or (leases ++ new ∷ []) earlier lease).until ≤ (get_or (links ++ link ∷ []) place other).latest_until
-      latest place earlier lease other (inl h) le e f =
-          let within : place < length links = omega arith in
-          let before : earlier < length leases = omega arith in
-          let same = ap (λ (l : Lease). l.until) (old_lease earlier lease before) in
-          let linked = ap (λ (l : Link). l.latest_until) (get_or_append_left links (link ∷ []) other place within) in
-          let at_most = series.latest_is place earlier lease other h le (ap passes (sym (old_lease place lease h)) ∙ e) (ap passes (sym (old_lease earlier lease before)) ∙ f) in
-          omega (arith, same, linked, at_most)
-      latest place earlier lease other (inr h) le e f = absurd (fails place lease h e)
+      latest : (place earlier : ℕ) (lease : Lease) (link : Link) → (place < length leases) ⊎ (place ≡ length leases) → earlier ≤ place → passes (get_or (leases ++ new ∷ []) place lease) ≡ true
+          → passes (get_or (leases ++ new ∷ []) earlier lease) ≡ true → (get_or (leases ++ new ∷ []) earlier lease).until ≤ (get_or after place link).latest_until
+      latest place earlier lease link (inl h) le e f = old_latest place earlier lease link h le e f
+      latest place earlier lease link (inr h) le e f = absurd (fails place lease h e)
 
 -- ---- a series for each key
 
@@ -159,61 +220,31 @@ pub record IsSame {K : Type 0} (same : K → K → Bool) : Type 0 where
 module _ {K : Type 0} (same : K → K → Bool) (key_of : Lease → K) (laws : IsSame same) where
   pub grows : (leases : List Lease) (links after : List Link) (newest told : K → Option ℕ) (new : Lease)
       → AreInSeries same key_of leases links newest
-      → after ≡ links ++ record { previous = newest (key_of new); latest_until = max new.until (latest_at links (newest (key_of new))) } ∷ []
+      → HasLink leases links after (newest (key_of new)) (max new.until (latest_at links (newest (key_of new))))
       → ((key : K) → told key ≡ cond (same (key_of new) key) (Some (length leases)) (newest key))
       → AreInSeries same key_of (leases ++ new ∷ []) after told
-  grows leases links after newest told new by_key is_after is_told =
-      let link : Link = record { previous = newest (key_of new); latest_until = max new.until (latest_at links (newest (key_of new))) } in
+  grows leases links after newest told new by_key more is_told =
+      let many = more.as_many in
+      let long = by_key.as_many in
       record {
-        as_many = ap length is_after ∙ length_push links link ∙ ap (λ n. n + 1) by_key.as_many ∙ sym (length_push leases new);
-        each = λ key. subst (λ ls. IsSeriesOf (λ lease. same key (key_of lease)) (leases ++ new ∷ []) ls (told key)) (sym is_after) (step key (same (key_of new) key) refl);
+        as_many = omega (arith, many, long, length_push leases new);
+        each = λ key. step key (same (key_of new) key) refl;
       }
     where
-      step : (key : K) (t : Bool) → same (key_of new) key ≡ t
-          → IsSeriesOf (λ lease. same key (key_of lease)) (leases ++ new ∷ []) (links ++ record { previous = newest (key_of new); latest_until = max new.until (latest_at links (newest (key_of new))) } ∷ []) (told key)
+      step : (key : K) (t : Bool) → same (key_of new) key ≡ t → IsSeriesOf (λ lease. same key (key_of lease)) (leases ++ new ∷ []) after (told key)
       step key true e =
+          let passes : Lease → Bool = λ lease. same key (key_of lease) in
           let key_is : key_of new ≡ key = laws.sound (key_of new) key e in
           let here : same key (key_of new) ≡ true = ap (same key) key_is ∙ laws.complete key in
-          let link_at : K → Link = λ k. record { previous = newest k; latest_until = max new.until (latest_at links (newest k)) } in
-          let grown = grows_at (λ lease. same key (key_of lease)) leases links (newest key) by_key.as_many (by_key.each key) new here in
           let told_is : told key ≡ Some (length leases) = is_told key ∙ ap (λ t. cond t (Some (length leases)) (newest key)) e in
-          subst (λ n. IsSeriesOf (λ lease. same key (key_of lease)) (leases ++ new ∷ []) (links ++ link_at (key_of new) ∷ []) n) (sym told_is)
-          (subst (λ k. IsSeriesOf (λ lease. same key (key_of lease)) (leases ++ new ∷ []) (links ++ link_at k ∷ []) (Some (length leases))) (sym key_is) grown)
+          subst (IsSeriesOf passes (leases ++ new ∷ []) after) (sym told_is)
+          (grows_at passes leases links after (newest key) (newest (key_of new)) by_key.as_many new (by_key.each key) more here (ap newest key_is))
       step key false e =
+          let passes : Lease → Bool = λ lease. same key (key_of lease) in
           let told_is : told key ≡ newest key = is_told key ∙ ap (λ t. cond t (Some (length leases)) (newest key)) e in
-          let link : Link = record { previous = newest (key_of new); latest_until = max new.until (latest_at links (newest (key_of new))) } in
-          subst (λ n. IsSeriesOf (λ lease. same key (key_of lease)) (leases ++ new ∷ []) (links ++ link ∷ []) n) (sym told_is)
-          (grows_beside (λ lease. same key (key_of lease)) leases links (newest key) by_key.as_many (by_key.each key) new link (apart (same key (key_of new)) refl))
+          subst (IsSeriesOf passes (leases ++ new ∷ []) after) (sym told_is)
+          (grows_beside passes leases links after (newest key) (newest (key_of new)) by_key.as_many new (by_key.each key) more (apart (same key (key_of new)) refl))
         where
           apart : (t : Bool) → same key (key_of new) ≡ t → same key (key_of new) ≡ false
           apart true f = absurd (false≢true (sym e ∙ ap (same (key_of new)) (laws.sound key (key_of new) f) ∙ laws.complete (key_of new)))
           apart false f = f
-
-  -- leases that change, and keep their key and their moment
-  pub outlasts : (leases : List Lease) (links : List Link) (newest : K → Option ℕ) (g : Lease → Lease) → ((lease : Lease) → key_of (g lease) ≡ key_of lease) → ((lease : Lease) → (g lease).until ≡ lease.until)
-      → AreInSeries same key_of leases links newest → AreInSeries same key_of (map g leases) links newest
-  outlasts leases links newest g keeps_key keeps_until by_key = record {
-    as_many = by_key.as_many ∙ sym (length-map leases g);
-    each = λ key. each key (by_key.each key);
-  }
-    where
-      each : (key : K) → IsSeriesOf (λ lease. same key (key_of lease)) leases links (newest key) → IsSeriesOf (λ lease. same key (key_of lease)) (map g leases) links (newest key)
-      each key series =
-          let passes : Lease → Bool = λ lease. same key (key_of lease) in
-          let kept : (lease : Lease) → passes (g lease) ≡ passes lease = λ lease. ap (same key) (keeps_key lease) in
-          let here : (i : ℕ) (lease : Lease) → i < length leases → passes (get_or (map g leases) i lease) ≡ true → passes (get_or leases i lease) ≡ true
-          = λ i lease h e. sym (ap passes (get_or-map g leases i lease lease h) ∙ kept (get_or leases i lease)) ∙ e in
-          record {
-            newest_is = series.newest_is ∙ sym (last_place-map passes g kept leases);
-            previous_is = λ place lease link h e.
-                let long : length (map g leases) ≡ length leases = length-map leases g in
-                let within : place < length leases = omega (arith, long) in
-                series.previous_is place lease link within (here place lease within e) ∙ sym (ap (last_place passes) (take-map g place leases) ∙ last_place-map passes g kept (take place leases));
-            latest_is = λ place earlier lease link h le e f.
-                let long : length (map g leases) ≡ length leases = length-map leases g in
-                let within : place < length leases = omega (arith, long) in
-                let before : earlier < length leases = omega arith in
-                let until = ap (λ (l : Lease). l.until) (get_or-map g leases earlier lease lease before) ∙ keeps_until (get_or leases earlier lease) in
-                let at_most = series.latest_is place earlier lease link within le (here place lease within e) (here earlier lease before f) in
-                omega (arith, until, at_most);
-          }

@@ -1,20 +1,21 @@
 -- What a desk keeps, through one more lease and through a lease's end.
-use Rattle.std.proofs.Common.{◌≡◌, ℕ, ◌+◌, ◌<◌, ◌≤◌, ◌^◌, Bool, cond, ◌&&◌, eqb, List, [], ◌∷◌, ◌++◌, Option, Some, length, map, max, take, refl, sym, ap, subst, ◌∙◌, arith, get_or}
+use Rattle.std.proofs.Common.{◌≡◌, ℕ, ◌+◌, ◌-◌, ◌<◌, ◌≤◌, ◌^◌, Bool, cond, ◌&&◌, eqb, List, Option, Some, length, map, max, refl, sym, ap, subst, ◌∙◌, arith, get_or}
 use Rattle.std.proofs.lemmas.Bool.{eq-eqb, eqb-true}
-use Rattle.std.proofs.lemmas.List.{length-map, length-take, length_push}
+use Rattle.std.proofs.lemmas.List.{length-map, length_push}
 use Rattle.decimal_rank.specs.TextKeys.{text_key}
 use Rattle.decimal_rank.specs.declared.naming.DocId.{DocId}
 use Rattle.decimal_rank.specs.declared.secrets.Secret.{Secret}
-use Rattle.lease_desk.specs.Series.{AreInSeries, IsSeriesOf, LeadBack, document_of, latest_at, same_document, up_to}
+use Rattle.lease_desk.specs.Series.{AreInSeries, HasLink, IsSeriesOf, LeadBack, LeadPast, document_of, latest_at, same_document, up_to}
 use Rattle.lease_desk.specs.DeskView.{IsKept}
-use Rattle.lease_desk.specs.Leases.{granted, next_lease, with_end}
+use Rattle.lease_desk.specs.Leases.{ended, granted, next_lease, with_end}
 use Rattle.lease_desk.specs.declared.series.Link.{Link}
 use Rattle.lease_desk.specs.declared.leases.Lease.{Lease}
 use Rattle.lease_desk.specs.declared.leases.LeaseEnd.{LeaseEnd}
 use Rattle.lease_desk.proofs.LastPlaces.{last_place-within}
 use Rattle.lease_desk.proofs.Counting.{both_then, some_lease}
-use Rattle.lease_desk.proofs.Granting.{IsSame, grows, outlasts}
-use Rattle.lease_desk.proofs.Numbers.{end_keeps, end_numbered, end_of, granted_numbered}
+use Rattle.lease_desk.proofs.Ending.{HasEnd, outlasts}
+use Rattle.lease_desk.proofs.Granting.{IsSame, grows}
+use Rattle.lease_desk.proofs.Numbers.{end_ends, end_keeps, end_numbered, end_of, end_stays, granted_numbered}
 
 -- ---- keys
 
@@ -53,35 +54,43 @@ module _ {K : Type 0} (same : K → K → Bool) (key_of : Lease → K) (leases :
   lead_back laws place link h =
       let within : place < length leases = let e = by_key.as_many in omega arith in
       let key = key_of (get_or leases place some_lease) in
-      let previous = ap up_to ((by_key.each key).previous_is place some_lease link within (laws.complete key)) in
-      omega (arith, previous, last_place-within (λ lease. same key (key_of lease)) (take place leases), length-take place leases)
+      ((by_key.each key).leads_back place some_lease link within (laws.complete key)).earlier
 
 -- ---- one more lease, and an end
 
 module _ (secret : Secret) (leases : List Lease) (assessor_links document_links topic_links : List Link) (assessors : ℕ → Option ℕ) (documents : ℕ × ℕ → Option ℕ) (topics : ℕ → Option ℕ)
     (kept : IsKept secret leases assessor_links document_links topic_links assessors documents topics) where
-  pub kept_end : (number : ℕ) (how : LeaseEnd) → IsKept secret (with_end leases number how) assessor_links document_links topic_links assessors documents topics
-  kept_end number how =
-      let until_stays : (lease : Lease) → (end_of number how lease).until ≡ lease.until = end_keeps (λ lease. lease.until) number how (λ lease. refl) in
+  pub kept_end : (number : ℕ) (how : LeaseEnd) (after_assessor after_document after_topic : List Link) → 0 < number → number - 1 < length leases
+      → LeadPast (number - 1) assessor_links after_assessor → LeadPast (number - 1) document_links after_document → LeadPast (number - 1) topic_links after_topic
+      → IsKept secret (with_end leases number how) after_assessor after_document after_topic assessors documents topics
+  kept_end number how after_assessor after_document after_topic some within assessor document topic =
       let long : length (map (end_of number how) leases) ≡ length leases = length-map leases (end_of number how) in
       let few = kept.few in
       record {
         few = omega arith;
         numbered = end_numbered leases number how kept.numbered;
-        by_assessor = outlasts eqb (λ lease. text_key secret lease.assessor) numbers_same leases assessor_links assessors (end_of number how)
-            (end_keeps (λ lease. text_key secret lease.assessor) number how (λ lease. refl)) until_stays kept.by_assessor;
-        by_document = outlasts same_document document_of documents_same leases document_links documents (end_of number how)
-            (end_keeps document_of number how (λ lease. refl)) until_stays kept.by_document;
-        by_topic = outlasts eqb (λ lease. lease.topic) numbers_same leases topic_links topics (end_of number how)
-            (end_keeps (λ lease. lease.topic) number how (λ lease. refl)) until_stays kept.by_topic;
+        by_assessor = outlasts eqb (λ lease. text_key secret lease.assessor) numbers_same leases assessor_links after_assessor assessors (number - 1) (end_of number how)
+            (has_end (λ lease. text_key secret lease.assessor) (λ lease. refl)) assessor kept.by_assessor;
+        by_document = outlasts same_document document_of documents_same leases document_links after_document documents (number - 1) (end_of number how)
+            (has_end document_of (λ lease. refl)) document kept.by_document;
+        by_topic = outlasts eqb (λ lease. lease.topic) numbers_same leases topic_links after_topic topics (number - 1) (end_of number how)
+            (has_end (λ lease. lease.topic) (λ lease. refl)) topic kept.by_topic;
+      }
+    where
+      has_end : {K : Type 0} (key_of : Lease → K) → ((lease : Lease) → key_of (ended how lease) ≡ key_of lease) → HasEnd key_of leases (number - 1) (end_of number how)
+      has_end key_of keeps = record {
+        keeps_key = end_keeps key_of number how keeps;
+        keeps_until = end_keeps (λ lease. lease.until) number how (λ lease. refl);
+        keeps_end = λ lease e. end_stays number how lease e;
+        ends = λ lease. end_ends leases number how lease kept.numbered some within;
       }
 
   pub kept_grant : (assessor : List ℕ) (topic : ℕ) (doc : DocId) (until : ℕ) (after_assessor after_document after_topic : List Link)
       (told_assessors : ℕ → Option ℕ) (told_documents : ℕ × ℕ → Option ℕ) (told_topics : ℕ → Option ℕ)
       → length leases + 1 < 2 ^ 32
-      → after_assessor ≡ assessor_links ++ record { previous = assessors (text_key secret assessor); latest_until = max until (latest_at assessor_links (assessors (text_key secret assessor))) } ∷ []
-      → after_document ≡ document_links ++ record { previous = documents (topic, doc.0); latest_until = max until (latest_at document_links (documents (topic, doc.0))) } ∷ []
-      → after_topic ≡ topic_links ++ record { previous = topics topic; latest_until = max until (latest_at topic_links (topics topic)) } ∷ []
+      → HasLink leases assessor_links after_assessor (assessors (text_key secret assessor)) (max until (latest_at assessor_links (assessors (text_key secret assessor))))
+      → HasLink leases document_links after_document (documents (topic, doc.0)) (max until (latest_at document_links (documents (topic, doc.0))))
+      → HasLink leases topic_links after_topic (topics topic) (max until (latest_at topic_links (topics topic)))
       → ((key : ℕ) → told_assessors key ≡ cond (eqb (text_key secret assessor) key) (Some (length leases)) (assessors key))
       → ((key : ℕ × ℕ) → told_documents key ≡ cond (same_document (topic, doc.0) key) (Some (length leases)) (documents key))
       → ((key : ℕ) → told_topics key ≡ cond (eqb topic key) (Some (length leases)) (topics key))

@@ -1,5 +1,5 @@
 -- Numbers of leases.
-use Rattle.std.proofs.Common.{◌≡◌, ◌≢◌, ℕ, ◌+◌, ◌-◌, ◌<◌, ◌⊎◌, Bool, true, false, cond, eqb, nat_lt, List, [], ◌∷◌, ◌++◌, Option, Some, None, length, map, refl, sym, ap, subst, ◌∙◌, arith, get_or, inl, inr, suc, zero, slice_get}
+use Rattle.std.proofs.Common.{◌≡◌, ◌≢◌, ℕ, ◌+◌, ◌-◌, ◌<◌, ◌⊎◌, Bool, true, false, cond, eqb, nat_lt, List, [], ◌∷◌, ◌++◌, Option, Some, None, length, map, refl, sym, ap, subst, ◌∙◌, arith, get_or, inl, inr, is_none, suc, zero, slice_get}
 use Rattle.std.specs.Option.{IfSome, IsSomeAnd}
 use Rattle.std.proofs.Math.ListN.{set}
 use Rattle.std.proofs.lemmas.Bool.{eq-eqb, eqb-true, lt-ltb}
@@ -68,6 +68,21 @@ end_keeps read number how same lease = step (eqb lease.number number)
     step : (t : Bool) → read (cond t (ended how lease) lease) ≡ read lease
     step true = same lease
     step false = refl
+
+-- a lease that has ended stays so
+pub end_stays : (number : ℕ) (how : LeaseEnd) (lease : Lease) → is_none lease.end ≡ false → is_none (end_of number how lease).end ≡ false
+end_stays number how lease e = step (eqb lease.number number)
+  where
+    step : (t : Bool) → is_none (cond t (ended how lease) lease).end ≡ false
+    step true = refl
+    step false = e
+
+-- and the lease of the number ends
+pub end_ends : (leases : List Lease) (number : ℕ) (how : LeaseEnd) (d : Lease) → AreNumbered leases → 0 < number → number - 1 < length leases
+    → is_none (end_of number how (get_or leases (number - 1) d)).end ≡ false
+end_ends leases number how d numbered some within =
+    let number_is : (get_or leases (number - 1) d).number ≡ number = let e = numbered_at leases numbered (number - 1) d within in omega arith in
+    ap (λ t. is_none (cond t (ended how (get_or leases (number - 1) d)) (get_or leases (number - 1) d)).end) (eq-eqb _ _ number_is)
 
 pub end_numbered : (leases : List Lease) (number : ℕ) (how : LeaseEnd) → AreNumbered leases → AreNumbered (with_end leases number how)
 end_numbered leases number how numbered =

@@ -86,10 +86,11 @@ impl Desk {
         ensures leases { self.new.leases ≡ granted self.old.leases assessor topic doc until }
     {
         let number = self.leases.len() as u32 + 1;
-        self.assessors
-            .add(self.secret.key_of(assessor.bytes()), until);
-        self.documents.add((topic, doc.0), until);
-        self.topics.add(topic, until);
+        let leases = self.leases.as_slice();
+        let key = self.secret.key_of(assessor.bytes());
+        self.assessors.add(leases, key, until);
+        self.documents.add(leases, (topic, doc.0), until);
+        self.topics.add(leases, topic, until);
         let lease = Lease {
             number,
             assessor,
@@ -108,8 +109,11 @@ impl Desk {
         ensures leases { self.new.leases ≡ with_end self.old.leases number how }
         ensures room { self.new.spare ≡ self.old.spare }
     {
-        let lease = &mut self.leases[number as usize - 1];
-        lease.end = Some(how);
+        let place = number - 1;
+        self.leases[place as usize].end = Some(how);
+        self.assessors.leave_out(place);
+        self.documents.leave_out(place);
+        self.topics.leave_out(place);
     }
 
     /// The lease of a number, from 1.

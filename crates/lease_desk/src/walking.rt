@@ -1,4 +1,4 @@
-//! The walk over the leases of one key, from the newest back.
+//! The walk over the leases of one key that haven't ended, from the newest back.
 ghost use Rattle.std.specs.Prelude.{◌≡◌, ◌<◌, ◌≤◌, ◌^◌, ◌&&◌, Bool, count_by, length};
 ghost use Rattle.std.specs.Option.{option_map};
 ghost use Rattle.lease_desk.specs.Series.{IsSeriesOf, LeadBack, is_asked, up_to};
