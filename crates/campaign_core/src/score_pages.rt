@@ -131,7 +131,7 @@ fn write_topic_cell(
     if !is_counted(&topics[number]) {
         return Ok(());
     }
-    write_cell(name, id, &board.cell(run, number as u16), out)?;
+    write_cell(name, id, board.cell(run, number as u16), out)?;
     Ok(())
 }
 

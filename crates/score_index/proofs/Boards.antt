@@ -10,8 +10,10 @@ use Rattle.std.proofs.lemmas.List.Elements.{All-head, All-map, All-set, All-tail
 use Rattle.std.proofs.lemmas.List.Folds.{find-append}
 use Rattle.decimal_rank.specs.declared.naming.DocId.{DocId}
 use Rattle.depth_pool.specs.declared.runs.RunId.{RunId}
+use Rattle.measures.specs.Cells.{cell_of}
+use Rattle.qrels_view.specs.Grades.{is_non_relevant, is_relevant}
 use Rattle.qrels_view.specs.declared.grades.Graded.{Graded}
-use Rattle.score_index.specs.Kept.{IsKept, IsTopicKept, regraded, seen, spare, with_list, with_regrade, without, without_lists}
+use Rattle.score_index.specs.Kept.{HasEmptyCell, IsKept, IsTopicKept, remarked, seen, spare, with_list, with_regrade, without, without_lists}
 use Rattle.score_index.specs.Scores.{ScoreList, Scores, TopicScores, docs_in, is_of, new_topic, topic_at}
 use Rattle.score_index.specs.Standing.{TopicStandsFor}
 use Rattle.score_index.specs.declared.topics.Topic.{Topic}
@@ -30,13 +32,17 @@ all_seen P f old new keeps are all k d within =
     ∙ ap (λ xs. get_or xs k new_topic) (sym are) ∙ get_or-map seen new k d new_topic within in
     subst P same (keeps (seen (get_or old k d)) (all k d inside))
 
-pub kept_set : (level : ℕ) (topics : List Topic) (rooms after : ℕ) (i : ℕ) (new : Topic) → IsKept level topics rooms → after ≤ rooms → IsTopicKept level (seen new) → after ≤ spare new
+pub kept_set : (level : ℕ) (topics : List Topic) (rooms after : ℕ) (i : ℕ) (new : Topic) → IsKept level topics rooms → after ≤ rooms → IsTopicKept (seen new) → HasEmptyCell level new → after ≤ spare new
     → IsKept level (set topics i new) after
-kept_set level topics rooms after i new kept fewer here place = record {
+kept_set level topics rooms after i new kept fewer here empty place = record {
   few = omega (arith, kept.few, length-set topics i new);
-  topics_are = All-set (λ topic. IsTopicKept level (seen topic)) topics i new here kept.topics_are;
+  topics_are = All-set (λ topic. IsTopicKept (seen topic)) topics i new here kept.topics_are;
+  empties = All-set (HasEmptyCell level) topics i new empty kept.empties;
   places = All-set (λ topic. after ≤ spare topic) topics i new place (λ k d within. let most = kept.places k d within in omega (arith, most, fewer));
 }
+
+pub empty_with_list : (level : ℕ) (was new : Topic) (list : ScoreList) → new.empty ≡ was.empty → seen new ≡ with_list list (seen was) → HasEmptyCell level was → HasEmptyCell level new
+empty_with_list level was new list same is had = same ∙ had ∙ ap (λ (topic : TopicScores). cell_of [] topic.relevant topic.non_relevant level) (sym is)
 
 -- ---- what it stands for
 
@@ -94,17 +100,19 @@ docs-with_list other list topic new = ap (option_map (λ one. one.docs)) (find-a
         whole None = refl
         whole (Some one) = refl
 
-pub docs-with_regrade : (run : RunId) (level : ℕ) (doc : DocId) (old new : Option ℕ) (topic : TopicScores) → docs_in run (with_regrade level doc old new topic) ≡ docs_in run topic
-docs-with_regrade run level doc old new topic = of_lists topic.lists
+docs-remarked : (run : RunId) (doc : DocId) (relevant lower : Bool) (rel low : ℕ) (lists : List ScoreList)
+    → option_map (λ one. one.docs) (find (is_of run) (map (remarked doc relevant lower rel low) lists)) ≡ option_map (λ one. one.docs) (find (is_of run) lists)
+docs-remarked run doc relevant lower rel low [] = refl
+docs-remarked run doc relevant lower rel low (list ∷ lists) = step (is_of run list) (docs-remarked run doc relevant lower rel low lists)
   where
-    of_lists : (lists : List ScoreList) → option_map (λ one. one.docs) (find (is_of run) (map (regraded doc new) lists)) ≡ option_map (λ one. one.docs) (find (is_of run) lists)
-    of_lists [] = refl
-    of_lists (list ∷ lists) = step (is_of run list) (of_lists lists)
-      where
-        step : (t : Bool) → option_map (λ one. one.docs) (find (is_of run) (map (regraded doc new) lists)) ≡ option_map (λ one. one.docs) (find (is_of run) lists)
-            → option_map (λ one. one.docs) (cond t (Some (regraded doc new list)) (find (is_of run) (map (regraded doc new) lists))) ≡ option_map (λ one. one.docs) (cond t (Some list) (find (is_of run) lists))
-        step true rest = refl
-        step false rest = rest
+    step : (t : Bool) → option_map (λ one. one.docs) (find (is_of run) (map (remarked doc relevant lower rel low) lists)) ≡ option_map (λ one. one.docs) (find (is_of run) lists)
+        → option_map (λ one. one.docs) (cond t (Some (remarked doc relevant lower rel low list)) (find (is_of run) (map (remarked doc relevant lower rel low) lists))) ≡ option_map (λ one. one.docs) (cond t (Some list) (find (is_of run) lists))
+    step true rest = refl
+    step false rest = rest
+
+pub docs-with_regrade : (run : RunId) (level : ℕ) (doc : DocId) (old new : Option ℕ) (topic : TopicScores) → docs_in run (with_regrade level doc old new topic) ≡ docs_in run topic
+docs-with_regrade run level doc old new topic =
+    docs-remarked run doc (is_relevant level new) (is_non_relevant level new) (with_regrade level doc old new topic).relevant (with_regrade level doc old new topic).non_relevant topic.lists
 
 none_either : (t : Bool) → let none : Option (List DocId) = None in none ≡ cond t none none
 none_either true = refl
@@ -190,4 +198,4 @@ new_stands level topics count all long =
     (All-map (λ topic. TopicStandsFor level topic []) seen topics (λ k d within. subst (λ topic. TopicStandsFor level topic []) (sym (all k d within)) empty)))
   where
     empty : TopicStandsFor level new_topic []
-    empty = record { relevant_is = refl; non_relevant_is = refl; grades_are = λ k d within. absurd (omega (arith, within)) }
+    empty = record { relevant_is = refl; non_relevant_is = refl; lists_are = λ k d within. absurd (omega (arith, within)) }

@@ -8,8 +8,7 @@ use Rattle.std.proofs.lemmas.List.{get_or-map, length-map, length-set, same_list
 use Rattle.std.proofs.lemmas.List.Sums.{fails_before_first, passes_at_first, sum_by-cons}
 use Rattle.decimal_rank.specs.Places.{AreDistinct, place_in}
 use Rattle.decimal_rank.specs.declared.naming.DocId.{DocId}
-use Rattle.measures.specs.Grades.{is_non_relevant as lower_is, is_relevant as relevant_is}
-use Rattle.qrels_view.specs.Grades.{as_number, effective_in, is_non_relevant, is_relevant, with_grade}
+use Rattle.qrels_view.specs.Grades.{as_number, effective_in, with_grade}
 use Rattle.qrels_view.specs.declared.grades.Graded.{Graded}
 use Rattle.score_index.specs.Kept.{put_at}
 
@@ -69,7 +68,7 @@ one_place docs i j d distinct in_i in_j same apart = step (nat_lt i j) refl
     step true e = distinct i j d (ltb-true i j e) in_j docs_same
     step false e = distinct j i d (grind (arith, nat_tests)) in_i (sym docs_same)
 
-module _ (docs : List DocId) (doc : DocId) (grade : Option ℕ) (f g : DocId → Option ℕ) (distinct : AreDistinct docs) (changes : (d : DocId) → g d ≡ cond (eqb d.0 doc.0) grade (f d)) where
+module _ {X : Type 0} (docs : List DocId) (doc : DocId) (grade : X) (f g : DocId → X) (distinct : AreDistinct docs) (changes : (d : DocId) → g d ≡ cond (eqb d.0 doc.0) grade (f d)) where
   abbrev is_doc : DocId → Bool
   is_doc d = eqb d.0 doc.0
 
@@ -84,7 +83,7 @@ module _ (docs : List DocId) (doc : DocId) (grade : Option ℕ) (f g : DocId →
       inside : first < length docs
       inside = ltb-true first (length docs) e
 
-      at : (k : ℕ) (d : Option ℕ) → k < length docs → (t : Bool) → eqb k first ≡ t → get_or (set (map f docs) first grade) k d ≡ get_or (map g docs) k d
+      at : (k : ℕ) (d : X) → k < length docs → (t : Bool) → eqb k first ≡ t → get_or (set (map f docs) first grade) k d ≡ get_or (map g docs) k d
       at k d within true is =
           let place : k ≡ first = eqb-true k first is in
           let written : first < length (map f docs) = omega (arith, inside, length-map docs f) in
@@ -111,7 +110,7 @@ module _ (docs : List DocId) (doc : DocId) (grade : Option ℕ) (f g : DocId →
       past : length docs ≤ first
       past = grind (arith, nat_tests)
 
-      at : (k : ℕ) (d : Option ℕ) → k < length docs → get_or (map f docs) k d ≡ get_or (map g docs) k d
+      at : (k : ℕ) (d : X) → k < length docs → get_or (map f docs) k d ≡ get_or (map g docs) k d
       at k d within =
           let before : k < first = omega (arith, within, past) in
           get_or-map f docs k doc d within
@@ -134,19 +133,6 @@ as_cond false = refl
 
 pub count-cons : {X : Type 0} (q : X → Bool) (x : X) (xs : List X) → count_by q (x ∷ xs) ≡ as_number (q x) + count_by q xs
 count-cons q x xs = sum_by-cons (λ y. cond (q y) 1 0) x xs ∙ ap (λ n. n + count_by q xs) (as_cond (q x))
-
-pub count_alike : {X : Type 0} (p q : X → Bool) → ((x : X) → p x ≡ q x) → (xs : List X) → count_by p xs ≡ count_by q xs
-count_alike p q alike [] = refl
-count_alike p q alike (x ∷ xs) =
-    count-cons p x xs ∙ ap (λ t. as_number t + count_by p xs) (alike x) ∙ ap (λ n. as_number (q x) + n) (count_alike p q alike xs) ∙ sym (count-cons q x xs)
-
-pub relevant_alike : (level : ℕ) (grade : Option ℕ) → relevant_is level grade ≡ is_relevant level grade
-relevant_alike level None = refl
-relevant_alike level (Some grade) = refl
-
-pub lower_alike : (level : ℕ) (grade : Option ℕ) → lower_is level grade ≡ is_non_relevant level grade
-lower_alike level None = refl
-lower_alike level (Some grade) = refl
 
 module _ (p : Option ℕ → Bool) (none : p None ≡ false) where
   abbrev counted : Graded → Bool

@@ -1,13 +1,15 @@
 -- What a board keeps beside what contracts see.
-use Rattle.std.specs.Prelude.{◌≡◌, ℕ, ◌+◌, ◌-◌, ◌<◌, ◌≤◌, ◌^◌, Bool, List, [], ◌∷◌, ◌++◌, Option, Some, None, All, count_by, filter, find, length, map, nat_lt, not, slice_set, vec_capacity, vec_len}
+use Rattle.std.specs.Prelude.{◌≡◌, ℕ, ◌+◌, ◌-◌, ◌<◌, ◌≤◌, ◌^◌, Bool, false, List, [], ◌∷◌, ◌++◌, Option, Some, None, All, filter, find, length, map, nat_lt, not, replicate, slice_set, vec_capacity, vec_len}
 use Rattle.std.specs.Option.{option_map_or}
 use Rattle.decimal_rank.specs.Places.{AreDistinct, place_in}
 use Rattle.decimal_rank.specs.declared.naming.DocId.{DocId}
 use Rattle.depth_pool.specs.declared.runs.RunId.{RunId}
 use Rattle.measures.specs.Cells.{cell_of}
-use Rattle.measures.specs.Grades.{is_non_relevant, is_relevant}
 use Rattle.measures.specs.declared.cells.Cell.{Cell}
-use Rattle.qrels_view.specs.Grades.{as_number, is_non_relevant as lower_grade, is_relevant as relevant_grade}
+use Rattle.qrels_view.specs.Grades.{as_number, effective_in, is_non_relevant, is_relevant}
+use Rattle.qrels_view.specs.declared.grades.Graded.{Graded}
+use Rattle.rank_trees.specs.Marks.{count_on}
+use Rattle.score_index.specs.Places.{Places, cell_by}
 use Rattle.score_index.specs.Scores.{ScoreList, TopicScores, is_of}
 use Rattle.score_index.specs.declared.topics.Topic.{Topic}
 
@@ -19,44 +21,78 @@ seen topic = record { relevant = topic.relevant; non_relevant = topic.non_releva
 abbrev pub spare : Topic → ℕ
 spare topic = vec_capacity topic.lists - vec_len topic.lists
 
--- a list has at most 1,000 documents, each once, with a grade for each; and of what is relevant or judged lower it has no more than its topic
-pub record IsListKept (level relevant non_relevant : ℕ) (list : ScoreList) : Type 0 where
+-- a list has at most 1,000 documents, each once; no more of them are relevant than the topic has, and it has the topic's counts
+pub record IsListKept (relevant non_relevant : ℕ) (list : ScoreList) : Type 0 where
   pub few : length list.docs ≤ 1000
   pub distinct : AreDistinct list.docs
-  pub as_long : length list.grades ≡ length list.docs
-  pub relevant_within : count_by (is_relevant level) list.grades ≤ relevant
-  pub non_relevant_within : count_by (is_non_relevant level) list.grades ≤ non_relevant
+  pub relevant_within : count_on list.relevant ≤ relevant
+  pub rel_is : list.rel ≡ relevant
+  pub low_is : list.low ≡ non_relevant
 
-pub record IsTopicKept (level : ℕ) (topic : TopicScores) : Type 0 where
+pub record IsTopicKept (topic : TopicScores) : Type 0 where
   pub few_relevant : topic.relevant ≤ 268435456
   pub few_non_relevant : topic.non_relevant ≤ 268435456
-  pub lists : All (IsListKept level topic.relevant topic.non_relevant) topic.lists
+  pub lists : All (IsListKept topic.relevant topic.non_relevant) topic.lists
+
+-- a topic keeps the cell of the empty list
+abbrev pub HasEmptyCell : ℕ → Topic → Type 0
+HasEmptyCell level topic = topic.empty ≡ cell_of [] topic.relevant topic.non_relevant level
 
 -- each topic is kept so, and has a place for each list that has room
 pub record IsKept (level : ℕ) (topics : List Topic) (rooms : ℕ) : Type 0 where
   pub few : length topics < 2 ^ 16
-  pub topics_are : All (λ topic. IsTopicKept level (seen topic)) topics
+  pub topics_are : All (λ topic. IsTopicKept (seen topic)) topics
+  pub empties : All (HasEmptyCell level) topics
   pub places : All (λ topic. rooms ≤ spare topic) topics
+
+-- a room for a list has no place that is judged
+pub record IsRoom (room : Places) : Type 0 where
+  pub no_relevant : room.relevant ≡ replicate (length room.relevant) false
+  pub no_lower : room.lower ≡ replicate (length room.relevant) false
 
 -- a value put in at a place, from 1
 abbrev pub put_at : {X : Type 0} → Option ℕ → X → List X → List X
 put_at None x xs = xs
 put_at (Some place) x xs = slice_set xs (place - 1) x
 
--- a list after one of its documents gets a grade, or none
-abbrev pub regraded : DocId → Option ℕ → ScoreList → ScoreList
-regraded doc grade list = record { run = list.run; docs = list.docs; grades = put_at (place_in list.docs doc) grade list.grades }
+-- a list after one of its documents became relevant or judged lower, or isn't any more, and its topic has these counts
+abbrev pub remarked : DocId → Bool → Bool → ℕ → ℕ → ScoreList → ScoreList
+remarked doc relevant lower rel low list = record {
+  run = list.run;
+  docs = list.docs;
+  relevant = put_at (place_in list.docs doc) relevant list.relevant;
+  lower = put_at (place_in list.docs doc) lower list.lower;
+  rel = rel;
+  low = low;
+}
+
+-- a list with these grades, where its topic has these counts
+abbrev pub listed_with : ℕ → List Graded → RunId → List DocId → ℕ → ℕ → ScoreList
+listed_with level graded run docs rel low = record {
+  run = run;
+  docs = docs;
+  relevant = map (λ doc. is_relevant level (effective_in graded doc)) docs;
+  lower = map (λ doc. is_non_relevant level (effective_in graded doc)) docs;
+  rel = rel;
+  low = low;
+}
 
 -- a topic with one more list
 abbrev pub with_list : ScoreList → TopicScores → TopicScores
 with_list list topic = record { relevant = topic.relevant; non_relevant = topic.non_relevant; lists = topic.lists ++ list ∷ [] }
 
+-- a count after one document was counted or not, and now is or not
+abbrev pub recounted_from : ℕ → Bool → Bool → ℕ
+recounted_from count was is = count + as_number is - as_number was
+
 -- a topic after a document's grade `old` becomes `new`
 abbrev pub with_regrade : ℕ → DocId → Option ℕ → Option ℕ → TopicScores → TopicScores
 with_regrade level doc old new topic = record {
-  relevant = topic.relevant + as_number (relevant_grade level new) - as_number (relevant_grade level old);
-  non_relevant = topic.non_relevant + as_number (lower_grade level new) - as_number (lower_grade level old);
-  lists = map (regraded doc new) topic.lists;
+  relevant = recounted_from topic.relevant (is_relevant level old) (is_relevant level new);
+  non_relevant = recounted_from topic.non_relevant (is_non_relevant level old) (is_non_relevant level new);
+  lists = map (remarked doc (is_relevant level new) (is_non_relevant level new)
+      (recounted_from topic.relevant (is_relevant level old) (is_relevant level new))
+      (recounted_from topic.non_relevant (is_non_relevant level old) (is_non_relevant level new))) topic.lists;
 }
 
 -- the lists but for a run's
@@ -67,18 +103,22 @@ without run lists = filter (λ list. not (is_of run list)) lists
 abbrev pub without_lists : RunId → TopicScores → TopicScores
 without_lists run topic = record { relevant = topic.relevant; non_relevant = topic.non_relevant; lists = without run topic.lists }
 
--- the grades of a run by rank, and none where it has no list
-abbrev pub grades_in : RunId → TopicScores → List (Option ℕ)
-grades_in run topic = option_map_or (λ list. list.grades) (find (is_of run) topic.lists) []
+-- the relevant places of a run's list, and none where it has no list
+abbrev pub relevant_in : RunId → TopicScores → List Bool
+relevant_in run topic = option_map_or (λ list. list.relevant) (find (is_of run) topic.lists) []
+
+-- the places judged lower of a run's list, and none where it has no list
+abbrev pub lower_in : RunId → TopicScores → List Bool
+lower_in run topic = option_map_or (λ list. list.lower) (find (is_of run) topic.lists) []
 
 -- the cell of a run on a topic
-abbrev pub kept_cell : ℕ → RunId → TopicScores → Cell
-kept_cell level run topic = cell_of (grades_in run topic) topic.relevant topic.non_relevant level
+abbrev pub kept_cell : RunId → TopicScores → Cell
+kept_cell run topic = cell_by (relevant_in run topic) (lower_in run topic) topic.relevant topic.non_relevant
 
 -- whether a topic has a document with a grade
 abbrev pub has_grades : TopicScores → Bool
 has_grades topic = nat_lt 0 (topic.relevant + topic.non_relevant)
 
 -- the cells of a run on the topics with grades
-abbrev pub kept_cells : ℕ → RunId → List TopicScores → List Cell
-kept_cells level run topics = map (kept_cell level run) (filter has_grades topics)
+abbrev pub kept_cells : RunId → List TopicScores → List Cell
+kept_cells run topics = map (kept_cell run) (filter has_grades topics)

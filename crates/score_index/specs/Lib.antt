@@ -1,4 +1,6 @@
 pub mod Kept
+pub mod KeptSums
+pub mod Places
 pub mod Scored
 pub mod Scores
 pub mod Standing

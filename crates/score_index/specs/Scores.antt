@@ -1,14 +1,18 @@
 -- What contracts see of a board.
-use Rattle.std.specs.Prelude.{ℕ, ◌==◌, Bool, List, [], Option, count_by, find, slice_index_or}
+use Rattle.std.specs.Prelude.{ℕ, ◌+◌, ◌*◌, ◌==◌, Bool, List, [], Option, count_by, find, length, slice_index_or, sum_by}
 use Rattle.std.specs.Option.{option_map}
+use Rattle.decimal_rank.specs.Places.{levels}
 use Rattle.decimal_rank.specs.declared.naming.DocId.{DocId}
 use Rattle.depth_pool.specs.declared.runs.RunId.{RunId}
 
--- a run's list on a topic: its documents, and their grades, by rank
+-- a run's list on a topic: its documents by rank, which of them are relevant and which are judged lower, and how many of the topic's documents are so
 pub record ScoreList : Type 0 where
   pub run : RunId
   pub docs : List DocId
-  pub grades : List (Option ℕ)
+  pub relevant : List Bool
+  pub lower : List Bool
+  pub rel : ℕ
+  pub low : ℕ
 
 -- a topic: how many documents are relevant, how many have a grade and aren't, and the lists of the runs
 pub record TopicScores : Type 0 where
@@ -44,3 +48,7 @@ docs_at scores run topic = docs_in run (topic_at scores topic)
 -- for how many lists of a length there is room
 abbrev pub rooms_for : ℕ → Scores → ℕ
 rooms_for len scores = count_by (λ room. room == len) scores.rooms
+
+-- how many steps the lists of a topic may take to follow a grade
+abbrev pub steps_of : TopicScores → ℕ
+steps_of topic = sum_by (λ list. 20 * (levels (length list.docs) + 1)) topic.lists

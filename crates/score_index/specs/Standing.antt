@@ -7,7 +7,7 @@ use Rattle.measures.specs.Cells.{cell_of}
 use Rattle.measures.specs.declared.cells.Cell.{Cell}
 use Rattle.qrels_view.specs.Grades.{effective_in, is_non_relevant, is_relevant}
 use Rattle.qrels_view.specs.declared.grades.Graded.{Graded}
-use Rattle.score_index.specs.Scores.{Scores, TopicScores, docs_in}
+use Rattle.score_index.specs.Scores.{ScoreList, Scores, TopicScores, docs_in}
 
 -- how many documents of a topic are relevant
 abbrev pub relevant_of : ℕ → List Graded → ℕ
@@ -21,11 +21,16 @@ non_relevant_of level graded = count_by (λ one. is_non_relevant level one.grade
 abbrev pub grades_by_rank : List Graded → List DocId → List (Option ℕ)
 grades_by_rank graded docs = map (effective_in graded) docs
 
+-- what is kept of a list is what these grades of the topic's documents give
+pub record ListStandsFor (level : ℕ) (graded : List Graded) (list : ScoreList) : Type 0 where
+  pub relevant_are : list.relevant ≡ map (λ doc. is_relevant level (effective_in graded doc)) list.docs
+  pub lower_are : list.lower ≡ map (λ doc. is_non_relevant level (effective_in graded doc)) list.docs
+
 -- what is kept of a topic is what these grades of its documents give
 pub record TopicStandsFor (level : ℕ) (topic : TopicScores) (graded : List Graded) : Type 0 where
   pub relevant_is : topic.relevant ≡ relevant_of level graded
   pub non_relevant_is : topic.non_relevant ≡ non_relevant_of level graded
-  pub grades_are : All (λ list. list.grades ≡ grades_by_rank graded list.docs) topic.lists
+  pub lists_are : All (ListStandsFor level graded) topic.lists
 
 -- so it is for each topic, and there are grades for as many topics
 abbrev pub StandsFor : Scores → List (List Graded) → Type 0

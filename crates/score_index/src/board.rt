@@ -5,13 +5,14 @@ ghost use Rattle.measures.specs.Cells.{IsSound};
 ghost use Rattle.measures.specs.Means.{IsProper, summary_of};
 ghost use Rattle.qrels_view.specs.Grades.{as_number, effective_in, is_non_relevant, is_relevant, with_grade};
 ghost use Rattle.qrels_view.specs.declared.grades.Graded.{Graded};
-ghost use Rattle.score_index.specs.Scores.{docs_at, rooms_for, topic_at};
+ghost use Rattle.score_index.specs.Scores.{docs_at, rooms_for, steps_of, topic_at};
 ghost use Rattle.score_index.specs.Standing.{StandsFor, StandsWith, TopicStandsFor, cell_from, cells_of, grades_at, listed_in};
 
-use crate::lists::{RunList, list_of, take_room, write_grades};
+use crate::lists::{RunList, list_of, take_room};
 use crate::topics::{
     Topic, add_cell, add_list, cell_in, drop_run, new_topics, regrade, reserve_lists,
 };
+use crate::trees::Trees;
 use decimal_rank::{DocId, Memory, Ranking, Steps};
 use depth_pool::RunId;
 use measures::{Cell, Summary, Totals};
@@ -26,24 +27,24 @@ use std::sync::ledger::{Blank, Ledger};
 pub struct Board {
     level: u8,
     topics: Vec<Topic>,
-    // the grades, none of them written yet, of each list for which there is room
-    rooms: Vec<Vec<Option<u8>>>,
+    // the places, none of them judged yet, of each list for which there is room
+    rooms: Vec<Trees>,
 }
 
 impl Model for Board {
-    ghost use Rattle.std.specs.Prelude.{length, map, vec_len};
+    ghost use Rattle.std.specs.Prelude.{All, length, map};
     ghost use Rattle.score_index.specs.Scores.{Scores};
-    ghost use Rattle.score_index.specs.Kept.{IsKept, seen};
+    ghost use Rattle.score_index.specs.Kept.{IsKept, IsRoom, seen};
 
     ghost Value = { Scores };
 
     ghost view = { λ board. record {
       level = board.level;
       topics = map seen board.topics.items;
-      rooms = map (λ room. vec_len room) board.rooms.items;
+      rooms = map (λ room. length room.relevant) board.rooms.items;
     } };
 
-    ghost invariant = { λ board. IsKept board.level board.topics.items (length board.rooms.items) };
+    ghost invariant = { λ board. IsKept board.level board.topics.items (length board.rooms.items) × All IsRoom board.rooms.items };
 }
 
 impl Board {
@@ -58,7 +59,7 @@ impl Board {
     {
         Ok(Board {
             level,
-            topics: new_topics(alloc, topics)?,
+            topics: new_topics(alloc, topics, level)?,
             rooms: Vec::new(alloc),
         })
     }
@@ -71,11 +72,11 @@ impl Board {
         ensures topics { self.new.topics ≡ self.old.topics }
     {
         let alloc = *self.rooms.allocator();
-        let grades = vec![in alloc; None; ranking.len() as usize]?;
+        let room = Trees::new(alloc, ranking.len())?;
         self.rooms.reserve(1)?;
         let count = self.rooms.len() + 1;
         reserve_lists(&mut self.topics, count)?;
-        self.rooms.push(grades).unwrap();
+        self.rooms.push(room).unwrap();
         Ok(())
     }
 
@@ -102,14 +103,12 @@ impl Board {
         ensures level { self.new.level ≡ self.old.level }
         ensures topics { length self.new.topics ≡ length self.old.topics }
     {
-        let mut grades = take_room(&mut self.rooms, ranking.len() as usize);
-        write_grades::<Brand>(&mut grades, &ranking, view, Blank::new(1));
-        let list = RunList {
-            run,
-            ranking,
-            grades,
-        };
-        add_list(&mut self.topics[topic as usize], list);
+        let room = take_room(&mut self.rooms, ranking.len() as usize);
+        let topic = &mut self.topics[topic as usize];
+        let counts = (topic.relevant, topic.non_relevant);
+        let level = self.level;
+        let list = RunList::listed::<Brand>(run, ranking, room, view, level, counts, Blank::new(1));
+        add_list(topic, list);
     }
 
     /// Takes all lists of a run out.
@@ -124,7 +123,7 @@ impl Board {
     }
 
     /// Gives a document of a topic, whose grade now is `old`, the grade `new`, or takes its grade
-    /// away. A step is one of `Ranking::place_of`.
+    /// away. A step is an entry that `Ranking::place_of` reads, or a node of a tree.
     pub fn regrade<L: Ledger>(
         &mut self,
         topic: u16,
@@ -143,6 +142,7 @@ impl Board {
         ensures rooms { self.new.rooms ≡ self.old.rooms }
         ensures level { self.new.level ≡ self.old.level }
         ensures topics { length self.new.topics ≡ length self.old.topics }
+        ensures cost { steps.new ≤ steps.old + steps_of (topic_at self.old topic) }
     {
         let level = self.level;
         let topic = &mut self.topics[topic as usize];
@@ -150,11 +150,11 @@ impl Board {
     }
 
     /// The cell of a run on a topic. Without a list there it is that of the empty list.
-    pub fn cell(&self, run: RunId, topic: u16) -> Cell
+    pub fn cell(&self, run: RunId, topic: u16) -> &Cell
         requires { topic < length self.now.topics }
         ensures cell { (grades : List (List Graded)) → StandsFor self.now grades
-            → result ≡ cell_from self.now.level (grades_at grades topic) (listed_in run (topic_at self.now topic)) }
-        ensures sound { IsSound result }
+            → result.now ≡ cell_from self.now.level (grades_at grades topic) (listed_in run (topic_at self.now topic)) }
+        ensures sound { IsSound result.now }
     {
         cell_in(&self.topics[topic as usize], self.level, run)
     }

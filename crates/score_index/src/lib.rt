@@ -5,7 +5,11 @@
 mod board;
 mod laws;
 mod lists;
+mod marks;
+mod places;
+mod sums;
 mod topics;
+mod trees;
 
 pub use board::Board;
 pub use laws::each_topic_stands;

@@ -1,21 +1,33 @@
-ghost use Rattle.std.specs.Prelude.{◌≡◌, ℕ, ◌+◌, ◌-◌, ◌<◌, ◌≤◌, ◌==◌, if◌then◌else◌, All, count_by, find, length, map, position, vec_capacity, vec_len};
+ghost use Rattle.std.specs.Prelude.{◌≡◌, ℕ, ◌+◌, ◌-◌, ◌*◌, ◌<◌, ◌≤◌, ◌==◌, false, if◌then◌else◌, All, count_by, find, length, map, min, position, replicate, sum_by, vec_capacity, vec_len};
 ghost use Rattle.std.specs.Option.{option_copied};
-ghost use Rattle.qrels_view.specs.Grades.{effective_in};
-ghost use Rattle.score_index.specs.Kept.{regraded, without};
+ghost use Rattle.decimal_rank.specs.Places.{levels};
+ghost use Rattle.qrels_view.specs.Grades.{effective_in, is_non_relevant, is_relevant};
+ghost use Rattle.score_index.specs.Kept.{IsRoom, listed_with, remarked, without};
+ghost use Rattle.score_index.specs.KeptSums.{AreSums, CanRemark, is_lower_mark, is_relevant_mark};
+ghost use Rattle.score_index.specs.Places.{cell_by};
 ghost use Rattle.score_index.specs.Scores.{is_of};
 
+use crate::marks::{Mark, mark_of};
+use crate::sums::{Sums, cell_from, no_sums, put_mark, remark};
+use crate::trees::Trees;
 use decimal_rank::{DocId, Ranking, Steps};
 use depth_pool::RunId;
+use measures::Cell;
 use qrels_view::View;
 use std::marker::Model;
 use std::sync::ledger::{Blank, Ledger};
 
-// A run's list on a topic, with the grades of its documents by rank.
+// A run's list on a topic, with what its cell is taken from: its places, its sums, and how many of
+// the topic's documents are relevant and judged lower.
 #[derive(Drop)]
 pub(crate) struct RunList {
     pub(crate) run: RunId,
     pub(crate) ranking: Ranking,
-    pub(crate) grades: Vec<Option<u8>>,
+    trees: Trees,
+    sums: Sums,
+    rel: u32,
+    low: u32,
+    cell: Cell,
 }
 
 impl Model for RunList {
@@ -23,7 +35,90 @@ impl Model for RunList {
 
     ghost Value = { ScoreList };
 
-    ghost view = { λ list. record { run = list.run; docs = list.ranking; grades = list.grades.items } };
+    ghost use Rattle.score_index.specs.KeptSums.{IsScoredList};
+
+    ghost view = { λ list. record {
+      run = list.run;
+      docs = list.ranking;
+      relevant = list.trees.relevant;
+      lower = list.trees.lower;
+      rel = list.rel;
+      low = list.low;
+    } };
+
+    ghost invariant = { λ list. IsScoredList list.ranking list.trees list.sums list.rel list.low list.cell };
+}
+
+impl RunList {
+    // The list of a run in a room for it, with the grades of a view, where the topic has these counts.
+    pub(crate) fn listed<L: Ledger>(
+        run: RunId,
+        ranking: Ranking,
+        room: Trees,
+        view: &View,
+        level: u8,
+        counts: (u32, u32),
+        blank: Blank,
+    ) -> RunList
+        requires name { blank.name ≡ L.name }
+        requires parts { blank.parts ≡ L.parts }
+        requires some { 0 < L.parts }
+        requires room { IsRoom room }
+        requires as_many { length room.relevant ≡ length ranking }
+        requires few { counts.0 ≤ 268435456 }
+        requires few_lower { counts.1 ≤ 268435456 }
+        ensures { result ≡ listed_with level view.now.graded run ranking counts.0 counts.1 }
+    {
+        let mut steps = Steps::<L>::new(blank);
+        let mut trees = room;
+        let sums = mark_places(
+            &mut trees,
+            &ranking,
+            view,
+            level,
+            counts.0.min(counts.1),
+            &mut steps,
+        );
+        let cell = cell_from(&trees, sums, counts.0, counts.1, &mut steps);
+        RunList {
+            run,
+            ranking,
+            trees,
+            sums,
+            rel: counts.0,
+            low: counts.1,
+            cell,
+        }
+    }
+
+    // Gives a document of the topic another mark, where the topic has these counts then.
+    pub(crate) fn regrade<L: Ledger>(
+        &mut self,
+        doc: DocId,
+        old: Mark,
+        new: Mark,
+        counts: (u32, u32),
+        steps: &mut Steps<L>,
+    )
+        requires can { CanRemark doc (is_relevant_mark old) (is_lower_mark old) counts.0 counts.1 self.old }
+        requires few { counts.0 ≤ 268435456 }
+        requires few_lower { counts.1 ≤ 268435456 }
+        ensures list { self.new ≡ remarked doc (is_relevant_mark new) (is_lower_mark new) counts.0 counts.1 self.old }
+        ensures cost { steps.new ≤ steps.old + 20 * (levels (length self.old.docs) + 1) }
+    {
+        let place = self.ranking.place_of(doc, steps);
+        let caps = (self.rel.min(self.low), counts.0.min(counts.1));
+        self.sums = remark(&mut self.trees, self.sums, place, old, new, caps, steps);
+        self.rel = counts.0;
+        self.low = counts.1;
+        self.cell = cell_from(&self.trees, self.sums, counts.0, counts.1, steps);
+    }
+
+    pub(crate) fn cell(&self) -> &Cell
+        ensures { result.now ≡ cell_by self.now.relevant self.now.lower self.now.rel self.now.low }
+    {
+        &self.cell
+    }
 }
 
 fn is_of(list: &RunList, run: RunId) -> bool
@@ -48,36 +143,35 @@ pub(crate) fn drop_lists(lists: &mut Vec<RunList>, run: RunId)
     lists.retain(|list| !is_of(list, run));
 }
 
-// Gives a document of a list a grade, or takes its grade away.
-fn regrade_list<L: Ledger>(list: &mut RunList, doc: DocId, grade: Option<u8>, steps: &mut Steps<L>)
-    requires { length list.old.grades ≡ length list.old.docs }
-    ensures { list.new ≡ regraded doc grade list.old }
-{
-    if let Some(place) = list.ranking.place_of(doc, steps) {
-        list.grades[place as usize - 1] = grade;
-    }
-}
-
+// Gives a document of the topic another mark in each list.
 pub(crate) fn regrade_lists<L: Ledger>(
     lists: &mut [RunList],
     doc: DocId,
-    grade: Option<u8>,
+    old: Mark,
+    new: Mark,
+    counts: (u32, u32),
     steps: &mut Steps<L>,
 )
-    requires { All (λ list. length list.grades ≡ length list.docs) lists.old }
-    ensures { lists.new ≡ map (regraded doc grade) lists.old }
+    requires can { All (CanRemark doc (is_relevant_mark old) (is_lower_mark old) counts.0 counts.1) lists.old }
+    requires few { counts.0 ≤ 268435456 }
+    requires few_lower { counts.1 ≤ 268435456 }
+    ensures lists { lists.new ≡ map (remarked doc (is_relevant_mark new) (is_lower_mark new) counts.0 counts.1) lists.old }
+    ensures cost { steps.new ≤ steps.old + sum_by (λ list. 20 * (levels (length list.docs) + 1)) lists.old }
 {
     for list in lists.iter_mut() {
-        regrade_list(list, doc, grade, steps);
+        list.regrade(doc, old, new, counts, steps);
     }
 }
 
 // Takes a room for a list of this length out.
-pub(crate) fn take_room(rooms: &mut Vec<Vec<Option<u8>>>, len: usize) -> Vec<Option<u8>>
-    requires { 0 < count_by (λ room. room == len) (map (λ room. vec_len room) rooms.old.items) }
-    ensures room { vec_len result ≡ len }
-    ensures rooms { (other : ℕ) → count_by (λ room. room == other) (map (λ room. vec_len room) rooms.new.items)
-        ≡ count_by (λ room. room == other) (map (λ room. vec_len room) rooms.old.items) - (if len == other then 1 else 0) }
+pub(crate) fn take_room(rooms: &mut Vec<Trees>, len: usize) -> Trees
+    requires room { 0 < count_by (λ room. room == len) (map (λ room. length room.relevant) rooms.old.items) }
+    requires fresh { All IsRoom rooms.old.items }
+    ensures room { length result.relevant ≡ len }
+    ensures is_room { IsRoom result }
+    ensures rooms { (other : ℕ) → count_by (λ room. room == other) (map (λ room. length room.relevant) rooms.new.items)
+        ≡ count_by (λ room. room == other) (map (λ room. length room.relevant) rooms.old.items) - (if len == other then 1 else 0) }
+    ensures fresh { All IsRoom rooms.new.items }
     ensures one { length rooms.new.items + 1 ≡ length rooms.old.items }
 {
     let place = room_for(rooms.as_slice(), len).unwrap();
@@ -85,28 +179,35 @@ pub(crate) fn take_room(rooms: &mut Vec<Vec<Option<u8>>>, len: usize) -> Vec<Opt
 }
 
 // The place of the first room for a list of this length.
-fn room_for(rooms: &[Vec<Option<u8>>], len: usize) -> Option<usize>
-    ensures { result ≡ position (λ room. vec_len room == len) rooms.now }
+fn room_for(rooms: &[Trees], len: usize) -> Option<usize>
+    ensures { result ≡ position (λ room. length room.relevant == len) rooms.now }
 {
-    rooms.iter().position(|room| room.len() == len)
+    rooms.iter().position(|room| room.len() as usize == len)
 }
 
-// Writes the grades of a list's documents, by rank.
-pub(crate) fn write_grades<L: Ledger>(
-    grades: &mut [Option<u8>],
+// Marks each place by the grade of its document.
+fn mark_places<L: Ledger>(
+    trees: &mut Trees,
     ranking: &Ranking,
     view: &View,
-    blank: Blank,
-)
-    requires name { blank.name ≡ L.name }
-    requires parts { blank.parts ≡ L.parts }
-    requires some { 0 < L.parts }
-    requires as_many { length grades.old ≡ length ranking.now }
-    ensures { grades.new ≡ map (effective_in view.now.graded) ranking.now }
+    level: u8,
+    cap: u32,
+    steps: &mut Steps<L>,
+) -> Sums
+    requires room { IsRoom trees.old }
+    requires as_many { length trees.old.relevant ≡ length ranking.now }
+    requires few { cap ≤ 268435456 }
+    ensures relevant { trees.new.relevant ≡ map (λ doc. is_relevant level (effective_in view.now.graded doc)) ranking.now }
+    ensures lower { trees.new.lower ≡ map (λ doc. is_non_relevant level (effective_in view.now.graded doc)) ranking.now }
+    ensures sums { AreSums cap trees.new result }
 {
-    let mut steps: Steps<L> = Steps::new(blank);
+    // trees tell with their length that they are as long as one another
+    let _ = trees.len();
+    let mut sums = no_sums();
     for place in 0..ranking.len() {
-        let doc = ranking.doc_at(place + 1, &mut steps);
-        grades[place as usize] = view.effective(doc);
+        let doc = ranking.doc_at(place + 1, steps);
+        let mark = mark_of(level, view.effective(doc));
+        sums = put_mark(trees, sums, place + 1, mark, cap, steps);
     }
+    sums
 }

@@ -82,7 +82,7 @@ impl Scored {
 
     pub(crate) fn cell(&self, run: u16, topic: u16) -> Option<Cell> {
         if topic < 2 {
-            return Some(self.board.cell(RunId(run), topic));
+            return Some(*self.board.cell(RunId(run), topic));
         }
         None
     }

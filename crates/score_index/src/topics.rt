@@ -1,28 +1,35 @@
-ghost use Rattle.std.specs.Prelude.{◌≡◌, ℕ, ◌+◌, ◌-◌, ◌*◌, ◌<◌, ◌≤◌, ◌^◌, ◌++◌, ◌∷◌, [], true, All, IfOk, OnOk, List, length, map, if◌then◌else◌, vec_capacity};
+ghost use Rattle.std.specs.Prelude.{◌≡◌, ℕ, ◌+◌, ◌-◌, ◌*◌, ◌<◌, ◌≤◌, ◌^◌, ◌++◌, ◌∷◌, [], true, All, IfOk, OnOk, List, length, map, if◌then◌else◌, sum_by, vec_capacity};
+ghost use Rattle.decimal_rank.specs.Places.{levels};
 ghost use Rattle.measures.specs.Cells.{IsSound};
 ghost use Rattle.measures.specs.Totals.{sums_of};
 ghost use Rattle.measures.specs.declared.cells.Cell.{Cell as OneCell};
 ghost use Rattle.qrels_view.specs.Grades.{as_number, is_non_relevant, is_relevant};
-ghost use Rattle.score_index.specs.Kept.{IsTopicKept, has_grades, kept_cell, seen, spare, with_list, with_regrade, without_lists};
+ghost use Rattle.score_index.specs.Kept.{HasEmptyCell, IsTopicKept, has_grades, kept_cell, seen, spare, with_list, with_regrade, without_lists};
+ghost use Rattle.score_index.specs.KeptSums.{CanRemark};
 ghost use Rattle.score_index.specs.Scores.{TopicScores, new_topic};
 
 use crate::lists::{RunList, drop_lists, list_of, regrade_lists};
+use crate::marks::mark_of;
 use decimal_rank::{DocId, Memory, Steps, is_non_relevant, is_relevant};
 use depth_pool::RunId;
 use measures::{Cell, Totals, scratch};
 use std::alloc::Global;
 use std::sync::ledger::Ledger;
 
-// A topic: how many documents are relevant, how many have a grade and aren't, and the runs' lists.
+// A topic: how many documents are relevant, how many have a grade and aren't, the cell of a run that
+// has no list, and the runs' lists.
 #[derive(Drop)]
 pub(crate) struct Topic {
     pub(crate) relevant: u32,
     pub(crate) non_relevant: u32,
+    // the cell of the empty list
+    pub(crate) empty: Cell,
     pub(crate) lists: Vec<RunList>,
 }
 
 // Topics without grades and lists.
-pub(crate) fn new_topics(alloc: Global, count: u16) -> Result<Vec<Topic>, Memory>
+pub(crate) fn new_topics(alloc: Global, count: u16, level: u8) -> Result<Vec<Topic>, Memory>
+    ensures empties { IfOk result (λ topics. All (HasEmptyCell level) topics.items) }
     ensures topics { IfOk result (λ topics. All (λ topic. seen topic ≡ new_topic) topics.items) }
     ensures count { IfOk result (λ topics. length topics.items ≡ count) }
 {
@@ -31,6 +38,7 @@ pub(crate) fn new_topics(alloc: Global, count: u16) -> Result<Vec<Topic>, Memory
         topics.push(Topic {
             relevant: 0,
             non_relevant: 0,
+            empty: scratch(&[], 0, 0, level),
             lists: Vec::new(alloc),
         })?;
     }
@@ -40,6 +48,7 @@ pub(crate) fn new_topics(alloc: Global, count: u16) -> Result<Vec<Topic>, Memory
 // Makes room for so many more lists on each topic.
 pub(crate) fn reserve_lists(topics: &mut [Topic], count: usize) -> Result<(), Memory>
     ensures seen { map seen topics.new ≡ map seen topics.old }
+    ensures empties { (level : ℕ) → All (HasEmptyCell level) topics.old → All (HasEmptyCell level) topics.new }
     ensures room { OnOk result (All (λ topic. count ≤ spare topic) topics.new) }
     ensures places { (least : ℕ) → All (λ topic. least ≤ spare topic) topics.old → All (λ topic. least ≤ spare topic) topics.new }
 {
@@ -53,6 +62,7 @@ pub(crate) fn reserve_lists(topics: &mut [Topic], count: usize) -> Result<(), Me
 pub(crate) fn add_list(topic: &mut Topic, list: RunList)
     requires { 1 ≤ spare topic.old }
     ensures seen { seen topic.new ≡ with_list list (seen topic.old) }
+    ensures empty { topic.new.empty ≡ topic.old.empty }
     ensures places { spare topic.old ≤ spare topic.new + 1 }
 {
     topic.lists.push(list).unwrap();
@@ -61,6 +71,7 @@ pub(crate) fn add_list(topic: &mut Topic, list: RunList)
 // Takes the lists of a run out.
 pub(crate) fn drop_run(topics: &mut [Topic], run: RunId)
     ensures seen { map seen topics.new ≡ map (without_lists run) (map seen topics.old) }
+    ensures empties { (level : ℕ) → All (HasEmptyCell level) topics.old → All (HasEmptyCell level) topics.new }
     ensures places { (least : ℕ) → All (λ topic. least ≤ spare topic) topics.old → All (λ topic. least ≤ spare topic) topics.new }
 {
     for topic in topics.iter_mut() {
@@ -86,13 +97,16 @@ pub(crate) fn regrade<L: Ledger>(
     new: Option<u8>,
     steps: &mut Steps<L>,
 )
-    requires as_long { All (λ list. length list.grades ≡ length list.docs) topic.old.lists.items }
     requires relevant { as_number (is_relevant level old) ≤ topic.old.relevant }
     requires non_relevant { as_number (is_non_relevant level old) ≤ topic.old.non_relevant }
-    requires few { topic.old.relevant + as_number (is_relevant level new) - as_number (is_relevant level old) < 2 ^ 32 }
-    requires few_others { topic.old.non_relevant + as_number (is_non_relevant level new) - as_number (is_non_relevant level old) < 2 ^ 32 }
+    requires few { (with_regrade level doc old new (seen topic.old)).relevant ≤ 268435456 }
+    requires few_others { (with_regrade level doc old new (seen topic.old)).non_relevant ≤ 268435456 }
+    requires lists { All (CanRemark doc (is_relevant level old) (is_non_relevant level old)
+        (with_regrade level doc old new (seen topic.old)).relevant (with_regrade level doc old new (seen topic.old)).non_relevant) topic.old.lists.items }
     ensures seen { seen topic.new ≡ with_regrade level doc old new (seen topic.old) }
+    ensures empty { HasEmptyCell level topic.new }
     ensures places { spare topic.new ≡ spare topic.old }
+    ensures cost { steps.new ≤ steps.old + sum_by (λ list. 20 * (levels (length list.docs) + 1)) topic.old.lists.items }
 {
     topic.relevant = recount(
         topic.relevant,
@@ -104,30 +118,36 @@ pub(crate) fn regrade<L: Ledger>(
         is_non_relevant(level, old),
         is_non_relevant(level, new),
     );
-    regrade_lists(&mut topic.lists, doc, new, steps);
+    topic.empty = scratch(&[], topic.relevant, topic.non_relevant, level);
+    let counts = (topic.relevant, topic.non_relevant);
+    let old = mark_of(level, old);
+    let new = mark_of(level, new);
+    regrade_lists(&mut topic.lists, doc, old, new, counts, steps);
 }
 
 // The cell of a run, which without a list is that of the empty list.
-pub(crate) fn cell_in(topic: &Topic, level: u8, run: RunId) -> Cell
-    requires { IsTopicKept level (seen topic.now) }
-    ensures cell { result ≡ kept_cell level run (seen topic.now) }
-    ensures sound { IsSound result }
+pub(crate) fn cell_in(topic: &Topic, level: u8, run: RunId) -> &Cell
+    requires kept { IsTopicKept (seen topic.now) }
+    requires empty { HasEmptyCell level topic.now }
+    ensures cell { result.now ≡ kept_cell run (seen topic.now) }
+    ensures sound { IsSound result.now }
 {
     match list_of(topic.lists.as_slice(), run) {
-        Some(list) => scratch(&list.grades, topic.relevant, topic.non_relevant, level),
-        None => scratch(&[], topic.relevant, topic.non_relevant, level),
+        Some(list) => list.cell(),
+        None => &topic.empty,
     }
 }
 
 // Adds the cell of a run where the topic has a document with a grade.
 pub(crate) fn add_cell(totals: &mut Totals, topic: &Topic, level: u8, run: RunId)
     requires few { totals.old.topics + 1 < 2 ^ 32 }
-    requires kept { IsTopicKept level (seen topic.now) }
+    requires kept { IsTopicKept (seen topic.now) }
+    requires empty { HasEmptyCell level topic.now }
     ensures sums { (cells : List OneCell) → totals.old ≡ sums_of cells
-        → totals.new ≡ sums_of (cells ++ (if has_grades (seen topic.now) then kept_cell level run (seen topic.now) ∷ [] else [])) }
+        → totals.new ≡ sums_of (cells ++ (if has_grades (seen topic.now) then kept_cell run (seen topic.now) ∷ [] else [])) }
     ensures topics { totals.new.topics ≤ totals.old.topics + 1 }
 {
     if topic.relevant + topic.non_relevant > 0 {
-        totals.add(&cell_in(topic, level, run));
+        totals.add(cell_in(topic, level, run));
     }
 }

@@ -41,8 +41,8 @@ returns c = λ H r knows name_is.
     let id = c.args.id.now in
     let page = page-topic H (map facts_of c.args.topics.now) knows.desk (names_of H) id c.unwrap-number.result s knows.knows refl (sym c.unwrap-number.ensures ∙ c.topic_number.ensures) (ap facts_of c.index-topics-number.is ∙ sym (get-map facts_of c.args.topics.now c.unwrap-number.result c.index-topics-number.result)) in
     let some : true ≡ is_counted H id = c.if-not-is_counted.ensures H (names_of H) page.is_topic ∙ ap (is_counted H) page.id_is in
-    let cell : c.cell.result ≡ cell_on H r id = c.cell.ensures.cell _ knows.scored.stands ∙ cell-at H (map facts_of c.args.topics.now) c.args.board.now c.args.run r knows c.graded_are_on_trail.ensures c.graded_are_there.ensures id c.unwrap-number.result s (sym c.unwrap-number.ensures ∙ c.topic_number.ensures) (ap facts_of c.index-topics-number.is ∙ sym (get-map facts_of c.args.topics.now c.unwrap-number.result c.index-topics-number.result)) in
+    let cell : c.cell.result.now ≡ cell_on H r id = c.cell.ensures.cell _ knows.scored.stands ∙ cell-at H (map facts_of c.args.topics.now) c.args.board.now c.args.run r knows c.graded_are_on_trail.ensures c.graded_are_there.ensures id c.unwrap-number.result s (sym c.unwrap-number.ensures ∙ c.topic_number.ensures) (ap facts_of c.index-topics-number.is ∙ sym (get-map facts_of c.args.topics.now c.unwrap-number.result c.index-topics-number.result)) in
     c.in_ok-write_cell.ensures.ok
-    ∙ ap (λ (name : Text). c.args.out.now.items ++ cell_text name id c.cell.result) name_is
+    ∙ ap (λ (name : Text). c.args.out.now.items ++ cell_text name id c.cell.result.now) name_is
     ∙ ap (λ (cell : Cell). c.args.out.now.items ++ cell_text r.name id cell) cell
     ∙ ap (λ t. c.args.out.now.items ++ (if t then cell_text r.name id (cell_on H r id) else [])) some

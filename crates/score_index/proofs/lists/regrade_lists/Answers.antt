@@ -1,25 +1,47 @@
-use Rattle.std.proofs.Common.{◌≡◌, ◌∙◌, sym, subst, arith, length}
-use Rattle.std.proofs.lemmas.List.{map-id}
-use Rattle.score_index.specs.Kept.{regraded}
+use Rattle.std.proofs.Common.{◌+◌, ◌*◌, ◌∙◌, ℕ, ap, sym, subst, arith, length}
+use Rattle.std.specs.Prelude.{sum_by}
+use Rattle.std.proofs.lemmas.List.{map-id, take_all}
+use Rattle.std.proofs.lemmas.List.Sums.{sum_by_more}
+use Rattle.decimal_rank.specs.Places.{levels}
+use Rattle.score_index.specs.Kept.{remarked}
+use Rattle.score_index.specs.KeptSums.{CanRemark, is_lower_mark, is_relevant_mark}
 use Rattle.score_index.specs.Scores.{ScoreList}
 use Rattle.score_index.proofs.Listing.{all_mapped, none_mapped, one_more_mapped}
 use Rattle.score_index.proofs.lists.regrade_lists.Goals as goal
 
-pub returns : goal.returns
-returns g c =
-    sym (map-id c.loop-list.lists)
-    ∙ all_mapped (λ (list : ScoreList). list) (regraded c.args.doc c.args.grade) c.args.lists.now c.loop-list.lists c.loop-list.list-index (omega (arith, c.loop-list-test.false)) c.loop-list.invariant
-
-pub regrade_list-requires : goal.regrade_list-requires
-regrade_list-requires g c =
+pub regrade-requires-clause-can : goal.regrade-requires-clause-can
+regrade-requires-clause-can g c =
     let i = c.loop-list.list-index in
-    let AsLong : ScoreList → Type 0 = λ list. length list.grades ≡ length list.docs in
-    subst AsLong (sym (c.loop-list.invariant.left i c.list-item.result (omega arith))) (c.requires i c.list-item.result c.loop-list-test.true)
+    subst (CanRemark c.args.doc (is_relevant_mark c.args.old) (is_lower_mark c.args.old) c.args.counts.0 c.args.counts.1)
+    (sym (c.loop-list.invariant.mapped.left i c.list-item.result (omega arith))) (c.requires.can i c.list-item.result c.loop-list-test.true)
 
 pub loop-list-init : goal.loop-list-init
-loop-list-init g c = none_mapped (λ (list : ScoreList). list) (regraded c.args.doc c.args.grade) c.args.lists.now
+loop-list-init g c = record {
+  mapped = none_mapped (λ (list : ScoreList). list) (remarked c.args.doc (is_relevant_mark c.args.new) (is_lower_mark c.args.new) c.args.counts.0 c.args.counts.1) c.args.lists.now;
+  cost = omega arith;
+}
 
 pub loop-list-preserved : goal.loop-list-preserved
 loop-list-preserved g c =
-    one_more_mapped (λ (list : ScoreList). list) (regraded c.args.doc c.args.grade) c.args.lists.now c.loop-list.lists c.loop-list.list-index
-    c.regrade_list.new.list c.list-item.result c.loop-list-test.true c.regrade_list.ensures c.loop-list.invariant
+    let i = c.loop-list.list-index in
+    let cost : ScoreList → ℕ = λ list. 20 * (levels (length list.docs) + 1) in
+    let was = c.loop-list.invariant.mapped.left i c.list-item.result (omega arith) in
+    let more = sum_by_more cost c.args.lists.now i c.list-item.result c.loop-list-test.true in
+    let same = ap cost was in
+    record {
+      mapped = one_more_mapped (λ (list : ScoreList). list) (remarked c.args.doc (is_relevant_mark c.args.new) (is_lower_mark c.args.new) c.args.counts.0 c.args.counts.1) c.args.lists.now c.loop-list.lists i
+          c.regrade.new.self c.list-item.result c.loop-list-test.true c.regrade.ensures.list c.loop-list.invariant.mapped;
+      cost = omega (arith, more, same, c.regrade.ensures.cost, c.loop-list.invariant.cost);
+    }
+
+pub returns-clause-lists : goal.returns-clause-lists
+returns-clause-lists g c =
+    sym (map-id c.loop-list.lists)
+    ∙ all_mapped (λ (list : ScoreList). list) (remarked c.args.doc (is_relevant_mark c.args.new) (is_lower_mark c.args.new) c.args.counts.0 c.args.counts.1) c.args.lists.now c.loop-list.lists c.loop-list.list-index
+    (omega (arith, c.loop-list-test.false)) c.loop-list.invariant.mapped
+
+pub returns-clause-cost : goal.returns-clause-cost
+returns-clause-cost g c =
+    let cost : ScoreList → ℕ = λ list. 20 * (levels (length list.docs) + 1) in
+    let all = ap (sum_by cost) (take_all c.loop-list.list-index c.args.lists.now (omega (arith, c.loop-list-test.false))) in
+    omega (arith, all, c.loop-list.invariant.cost)

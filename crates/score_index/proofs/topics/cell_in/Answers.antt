@@ -1,31 +1,33 @@
-use Rattle.std.proofs.Common.{◌≡◌, ◌∙◌, Some, count_by, length, arith, ap, rules}
+use Rattle.std.proofs.Common.{◌≡◌, ◌≤◌, ◌∙◌, [], None, Some, arith, rules, subst, sym}
 use Rattle.std.specs.Prelude.{find}
-use Rattle.measures.specs.Grades.{is_non_relevant, is_relevant}
-use Rattle.score_index.specs.Kept.{IsListKept}
+use Rattle.measures.specs.Cells.{IsSound}
+use Rattle.rank_trees.specs.Marks.{count_on}
+use Rattle.score_index.specs.Kept.{IsListKept, seen}
 use Rattle.score_index.specs.Scores.{ScoreList, is_of}
+use Rattle.score_index.proofs.ByPlaces.{by-places}
+use Rattle.score_index.proofs.KeptCells.{cell-sound, empty-cell, found-cell}
 use Rattle.score_index.proofs.Standings.{found_all}
 use Rattle.score_index.proofs.topics.cell_in.Goals as goal
 
-pub scratch-requires-clause-length : goal.scratch-requires-clause-length
-scratch-requires-clause-length c =
+pub returns-in-Some-clause-cell : goal.returns-in-Some-clause-cell
+returns-in-Some-clause-cell c =
     let list : ScoreList = c.in-Some.list.now in
     let found : find (is_of c.args.run) c.args.topic.now.lists.items ≡ Some list = search rules in
-    let kept : IsListKept c.args.level c.args.topic.now.relevant c.args.topic.now.non_relevant list = found_all (IsListKept c.args.level c.args.topic.now.relevant c.args.topic.now.non_relevant) (is_of c.args.run) c.args.topic.now.lists.items list c.requires.lists found in
-    let grades : c.deref.result.now ≡ list.grades = c.deref.ensures.value ∙ ap (λ (l : ScoreList). l.grades) c.list.view_is in
-    omega (arith, kept.few, kept.as_long, ap length grades)
+    let kept = found_all (IsListKept c.args.topic.now.relevant c.args.topic.now.non_relevant) (is_of c.args.run) c.args.topic.now.lists.items list c.requires.kept.lists found in
+    c.cell.ensures ∙ found-cell c.args.run (seen c.args.topic.now) list found kept
 
-pub scratch-requires-clause-relevant : goal.scratch-requires-clause-relevant
-scratch-requires-clause-relevant c =
+pub returns-in-Some-clause-sound : goal.returns-in-Some-clause-sound
+returns-in-Some-clause-sound c =
     let list : ScoreList = c.in-Some.list.now in
     let found : find (is_of c.args.run) c.args.topic.now.lists.items ≡ Some list = search rules in
-    let kept : IsListKept c.args.level c.args.topic.now.relevant c.args.topic.now.non_relevant list = found_all (IsListKept c.args.level c.args.topic.now.relevant c.args.topic.now.non_relevant) (is_of c.args.run) c.args.topic.now.lists.items list c.requires.lists found in
-    let grades : c.deref.result.now ≡ list.grades = c.deref.ensures.value ∙ ap (λ (l : ScoreList). l.grades) c.list.view_is in
-    omega (arith, kept.relevant_within, ap (count_by (is_relevant c.args.level)) grades)
+    let kept = found_all (IsListKept c.args.topic.now.relevant c.args.topic.now.non_relevant) (is_of c.args.run) c.args.topic.now.lists.items list c.requires.kept.lists found in
+    subst IsSound (sym (c.cell.ensures)) (cell-sound list.relevant list.lower list.rel list.low (subst (λ r. count_on list.relevant ≤ r) (sym kept.rel_is) kept.relevant_within))
 
-pub scratch-requires-clause-non_relevant : goal.scratch-requires-clause-non_relevant
-scratch-requires-clause-non_relevant c =
-    let list : ScoreList = c.in-Some.list.now in
-    let found : find (is_of c.args.run) c.args.topic.now.lists.items ≡ Some list = search rules in
-    let kept : IsListKept c.args.level c.args.topic.now.relevant c.args.topic.now.non_relevant list = found_all (IsListKept c.args.level c.args.topic.now.relevant c.args.topic.now.non_relevant) (is_of c.args.run) c.args.topic.now.lists.items list c.requires.lists found in
-    let grades : c.deref.result.now ≡ list.grades = c.deref.ensures.value ∙ ap (λ (l : ScoreList). l.grades) c.list.view_is in
-    omega (arith, kept.non_relevant_within, ap (count_by (is_non_relevant c.args.level)) grades)
+pub returns-in-None-clause-cell : goal.returns-in-None-clause-cell
+returns-in-None-clause-cell c =
+    let none : find (is_of c.args.run) c.args.topic.now.lists.items ≡ None = search rules in
+    c.requires.empty ∙ empty-cell c.args.level c.args.run (seen c.args.topic.now) none
+
+pub returns-in-None-clause-sound : goal.returns-in-None-clause-sound
+returns-in-None-clause-sound c =
+    subst IsSound (sym (c.requires.empty ∙ by-places [] c.args.topic.now.relevant c.args.topic.now.non_relevant c.args.level)) (cell-sound [] [] c.args.topic.now.relevant c.args.topic.now.non_relevant (omega arith))

@@ -13,11 +13,11 @@ returns-clause-cell c = λ grades stands.
     let topics = c.self.inside.topics.items in
     let run = c.args.run in
     let i = c.args.topic in
-    let Told : Scores → Type 0 = λ s. StandsFor s grades → i < length s.topics → c.cell_in.result ≡ cell_from s.level (grades_at grades i) (listed_in run (topic_at s i)) in
+    let Told : Scores → Type 0 = λ s. StandsFor s grades → i < length s.topics → c.cell_in.result.now ≡ cell_from s.level (grades_at grades i) (listed_in run (topic_at s i)) in
     subst Told c.self.view_is
     (λ held within.
     let inside : i < length topics = omega (arith, within, length-map topics seen) in
     let at : seen c.index.result.now ≡ get_or (map seen topics) i new_topic = ap seen c.index.ensures ∙ sym (get_or-map seen topics i c.index.result.now new_topic inside) in
-    c.cell_in.ensures.cell ∙ ap (kept_cell level run) at
+    c.cell_in.ensures.cell ∙ ap (kept_cell run) at
     ∙ cell_is level run (get_or (map seen topics) i new_topic) (grades_at grades i) (zip_at (TopicStandsFor level) (map seen topics) grades i new_topic [] held within))
     stands c.requires

@@ -3,7 +3,7 @@ use Rattle.std.specs.Prelude.{All}
 use Rattle.std.specs.List.{AllZip}
 use Rattle.std.specs.Vec.{with_items}
 use Rattle.std.proofs.lemmas.List.{with_items_is}
-use Rattle.score_index.specs.Kept.{IsKept, IsTopicKept, seen, spare, without_lists}
+use Rattle.score_index.specs.Kept.{HasEmptyCell, IsKept, IsTopicKept, seen, spare, without_lists}
 use Rattle.score_index.specs.Scores.{Scores, TopicScores, docs_at, docs_in, new_topic}
 use Rattle.score_index.specs.Standing.{StandsFor, TopicStandsFor}
 use Rattle.score_index.specs.declared.topics.Topic.{Topic}
@@ -21,12 +21,15 @@ invariant_of-self c =
     let are : map seen new ≡ map (without_lists c.args.run) (map seen topics) = c.drop_run.ensures.seen ∙ ap (λ (ts : List Topic). map (without_lists c.args.run) (map seen ts)) c.deref_mut.ensures.value in
     let level = c.self.inside.level in
     let rooms = length c.self.inside.rooms.items in
-    let places : All (λ (topic : Topic). rooms ≤ spare topic) c.deref_mut.result.now = subst (All (λ (topic : Topic). rooms ≤ spare topic)) (sym c.deref_mut.ensures.value) c.self.invariant.places in
-    subst (λ (ts : List Topic). IsKept level ts rooms) (sym items_are) (record {
-      few = omega (arith, c.self.invariant.few, long, ap length c.deref_mut.ensures.value, c.drop_run.auto.topics);
-      topics_are = all_seen (IsTopicKept level) (without_lists c.args.run) topics new (kept-without level c.args.run) are c.self.invariant.topics_are;
-      places = c.drop_run.ensures.places rooms places;
-    })
+    let places : All (λ (topic : Topic). rooms ≤ spare topic) c.deref_mut.result.now = subst (All (λ (topic : Topic). rooms ≤ spare topic)) (sym c.deref_mut.ensures.value) c.self.invariant.0.places in (
+      subst (λ (ts : List Topic). IsKept level ts rooms) (sym items_are) (record {
+        few = omega (arith, c.self.invariant.0.few, long, ap length c.deref_mut.ensures.value, c.drop_run.auto.topics);
+        topics_are = all_seen (IsTopicKept) (without_lists c.args.run) topics new (kept-without c.args.run) are c.self.invariant.0.topics_are;
+        empties = c.drop_run.ensures.empties level (subst (All (HasEmptyCell level)) (sym c.deref_mut.ensures.value) c.self.invariant.0.empties);
+        places = c.drop_run.ensures.places rooms places;
+      }),
+      c.self.invariant.1,
+    )
 
 pub returns-clause-stands : goal.returns-clause-stands
 returns-clause-stands c = λ grades stood.

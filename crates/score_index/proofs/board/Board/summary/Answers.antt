@@ -18,8 +18,8 @@ returns-clause-summary c = λ grades stands.
     let Told : Scores → Type 0 = λ s. StandsFor s grades → c.mean.result ≡ summary_of (cells_of s.level run s.topics grades) in
     subst Told c.self.view_is
     (λ held.
-    c.mean.ensures.mean (kept_cells c.args.self.now.level run (map seen (take i read))) c.loop-topic.invariant.sums
-    ∙ ap (λ (s : Scores). summary_of (kept_cells s.level run (map seen (take i read)))) (sym c.self.view_is)
-    ∙ ap (λ (ts : List Topic). summary_of (kept_cells level run (map seen ts))) (take_all i read (omega (arith, c.loop-topic-test.false)) ∙ c.deref-topic-items.ensures.value)
+    c.mean.ensures.mean (kept_cells run (map seen (take i read))) c.loop-topic.invariant.sums
+    ∙ ap (λ (s : Scores). summary_of (kept_cells run (map seen (take i read)))) (sym c.self.view_is)
+    ∙ ap (λ (ts : List Topic). summary_of (kept_cells run (map seen ts))) (take_all i read (omega (arith, c.loop-topic-test.false)) ∙ c.deref-topic-items.ensures.value)
     ∙ ap summary_of (cells_are level run (map seen topics) grades held))
     stands

@@ -5,6 +5,6 @@ use Rattle.score_index.proofs.board.Board.summary.Given as goal
 
 abbrev pub invariant-loop-topic : goal.invariant-loop-topic
 invariant-loop-topic l = record {
-  sums : l.totals ≡ sums_of (kept_cells l.self.level l.run (map seen (take l.topic-index l.topic-items)));
+  sums : l.totals ≡ sums_of (kept_cells l.run (map seen (take l.topic-index l.topic-items)));
   few : l.totals.topics ≤ l.topic-index;
 }

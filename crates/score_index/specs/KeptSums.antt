@@ -1,0 +1,52 @@
+-- What is kept of a list beside its places, and what a document's mark says.
+use Rattle.std.specs.Prelude.{◌≡◌, ℕ, ◌+◌, ◌-◌, ◌≤◌, Bool, true, false, List, None, Option, Some, length, map, min, slice_index_or, take}
+use Rattle.decimal_rank.specs.Places.{place_in}
+use Rattle.decimal_rank.specs.declared.naming.DocId.{DocId}
+use Rattle.measures.specs.Cells.{cutoffs}
+use Rattle.measures.specs.declared.cells.Cell.{Cell}
+use Rattle.rank_trees.specs.Marks.{count_on}
+use Rattle.score_index.specs.Places.{Places, cell_by, precisions, preferences}
+use Rattle.score_index.specs.Scores.{ScoreList}
+use Rattle.score_index.specs.declared.marks.Mark.{Mark}
+use Rattle.score_index.specs.declared.marks.Mark.TheVariants.{Lower, Relevant, Unjudged}
+use Rattle.score_index.specs.declared.sums.Sums.{Sums}
+
+-- the sums of a list whose topic has a cap
+pub record AreSums (cap : ℕ) (places : Places) (sums : Sums) : Type 0 where
+  pub few : length places.relevant ≤ 1000
+  pub long : length places.lower ≡ length places.relevant
+  pub rel_ret : sums.rel_ret ≡ count_on places.relevant
+  pub at : sums.at ≡ map (λ k. count_on (take k places.relevant)) cutoffs
+  pub ap_sum : sums.ap_sum ≡ precisions 1 0 places.relevant
+  pub preferences : sums.preferences ≡ preferences cap 0 places.relevant places.lower
+
+-- whether a document with this mark is relevant
+abbrev pub is_relevant_mark : Mark → Bool
+is_relevant_mark Relevant = true
+is_relevant_mark Lower = false
+is_relevant_mark Unjudged = false
+
+-- whether a document with this mark is judged lower
+abbrev pub is_lower_mark : Mark → Bool
+is_lower_mark Relevant = false
+is_lower_mark Lower = true
+is_lower_mark Unjudged = false
+
+-- a place of the list is on, or off; where the list doesn't have the document nothing is said
+abbrev pub IsAt : Option ℕ → Bool → List Bool → Type 0
+IsAt None b on = Unit {0}
+IsAt (Some place) b on = (1 ≤ place) × (place ≤ length on) × (slice_index_or on (place - 1) false ≡ b)
+
+-- a document has these marks in a list, and its topic's cap moves by one at most
+pub record CanRemark (doc : DocId) (relevant lower : Bool) (rel low : ℕ) (list : ScoreList) : Type 0 where
+  pub relevant_at : IsAt (place_in list.docs doc) relevant list.relevant
+  pub lower_at : IsAt (place_in list.docs doc) lower list.lower
+  pub up : min rel low ≤ min list.rel list.low + 1
+  pub down : min list.rel list.low ≤ min rel low + 1
+  pub few : list.rel ≤ 268435456
+
+-- the sums and the cell of a list are those of its places
+pub record IsScoredList (docs : List DocId) (places : Places) (sums : Sums) (rel low : ℕ) (cell : Cell) : Type 0 where
+  pub long : length places.relevant ≡ length docs
+  pub sums_are : AreSums (min rel low) places sums
+  pub cell_is : cell ≡ cell_by places.relevant places.lower rel low

@@ -1,0 +1,26 @@
+ghost use Rattle.std.specs.Prelude.{◌≡◌};
+ghost use Rattle.decimal_rank.specs.Relevance.{is_non_relevant as lower_grade, is_relevant as relevant_grade};
+ghost use Rattle.score_index.specs.KeptSums.{is_lower_mark, is_relevant_mark};
+
+use decimal_rank::{is_non_relevant, is_relevant};
+
+// What the grade of a document makes of it.
+#[derive(Clone, Copy, Debug, PartialEq, Eq)]
+pub(crate) enum Mark {
+    Relevant,
+    Lower,
+    Unjudged,
+}
+
+pub(crate) fn mark_of(level: u8, grade: Option<u8>) -> Mark
+    ensures relevant { is_relevant_mark result ≡ relevant_grade level grade }
+    ensures lower { is_lower_mark result ≡ lower_grade level grade }
+{
+    if is_relevant(level, grade) {
+        return Mark::Relevant;
+    }
+    if is_non_relevant(level, grade) {
+        return Mark::Lower;
+    }
+    Mark::Unjudged
+}

@@ -1,0 +1,381 @@
+//! The sums of a list, from which its cell is taken. They follow each place that becomes relevant or
+//! judged lower, or no longer is, and the cap of the topic, which moves by one at a time.
+ghost use Rattle.std.specs.Prelude.{◌≡◌, ℕ, ◌+◌, ◌-◌, ◌*◌, ◌<◌, ◌≤◌, false, true, if◌then◌else◌, length, map, min, nat_le, nat_eq, slice_index, slice_index_or, slice_set};
+ghost use Rattle.decimal_rank.specs.Places.{levels};
+ghost use Rattle.measures.specs.Cells.{bpref_den as bpref_den_of, cutoffs};
+ghost use Rattle.qrels_view.specs.Grades.{as_number};
+ghost use Rattle.score_index.specs.KeptSums.{AreSums, IsAt, is_lower_mark, is_relevant_mark};
+ghost use Rattle.score_index.specs.Kept.{IsRoom, put_at};
+ghost use Rattle.score_index.specs.Places.{Places, bpref_from, cell_by};
+
+use crate::marks::Mark;
+use crate::trees::Trees;
+use decimal_rank::Steps;
+use measures::{CUTOFFS, Cell};
+use std::sync::ledger::Ledger;
+
+// How many places are relevant, in all and within each cutoff; the sum of precisions; and the sum of
+// what each relevant place has left of the cap.
+#[derive(Clone, Copy, Debug)]
+pub(crate) struct Sums {
+    pub(crate) rel_ret: u32,
+    pub(crate) at: [u32; 9],
+    pub(crate) ap_sum: u64,
+    pub(crate) preferences: u64,
+}
+
+// The sums of a list of which nothing is judged.
+pub(crate) fn no_sums() -> Sums
+    ensures { (cap : ℕ) (places : Places) → IsRoom places → length places.relevant ≤ 1000 → AreSums cap places result }
+{
+    Sums {
+        rel_ret: 0,
+        at: [0; 9],
+        ap_sum: 0,
+        preferences: 0,
+    }
+}
+
+// The sums after a place, which was not judged, becomes relevant.
+fn with_relevant<L: Ledger>(
+    trees: &Trees,
+    sums: Sums,
+    place: u32,
+    cap: u32,
+    steps: &mut Steps<L>,
+) -> Sums
+    requires from_one { 1 ≤ place }
+    requires within { place ≤ length trees.now.relevant }
+    requires off { slice_index_or trees.now.relevant (place - 1) false ≡ false }
+    requires few { cap ≤ 268435456 }
+    requires sums { AreSums cap trees.now sums }
+    ensures sums { AreSums cap (record { relevant = slice_set trees.now.relevant (place - 1) true; lower = trees.now.lower }) result }
+    ensures cost { steps.new ≤ steps.old + 3 * (levels (length trees.now.relevant) + 1) }
+{
+    Sums {
+        rel_ret: sums.rel_ret + 1,
+        at: counted_from(sums.at, place),
+        ap_sum: sums.ap_sum + trees.precision_gain(place, steps),
+        preferences: sums.preferences + trees.left_above(place, cap, steps),
+    }
+}
+
+// The sums after a place, which is no longer relevant, was so.
+fn without_relevant<L: Ledger>(
+    trees: &Trees,
+    sums: Sums,
+    place: u32,
+    cap: u32,
+    steps: &mut Steps<L>,
+) -> Sums
+    requires from_one { 1 ≤ place }
+    requires within { place ≤ length trees.now.relevant }
+    requires off { slice_index_or trees.now.relevant (place - 1) false ≡ false }
+    requires sums { AreSums cap (record { relevant = slice_set trees.now.relevant (place - 1) true; lower = trees.now.lower }) sums }
+    ensures sums { AreSums cap trees.now result }
+    ensures cost { steps.new ≤ steps.old + 3 * (levels (length trees.now.relevant) + 1) }
+{
+    Sums {
+        rel_ret: sums.rel_ret - 1,
+        at: uncounted_from(sums.at, place),
+        ap_sum: sums.ap_sum - trees.precision_gain(place, steps),
+        preferences: sums.preferences - trees.left_above(place, cap, steps),
+    }
+}
+
+// The sum of what is left of the cap before a place became judged lower, as it is now.
+fn without_lower<L: Ledger>(
+    trees: &Trees,
+    sums: Sums,
+    place: u32,
+    cap: u32,
+    steps: &mut Steps<L>,
+) -> Sums
+    requires from_one { 1 ≤ place }
+    requires within { place ≤ length trees.now.relevant }
+    requires on { slice_index_or trees.now.lower (place - 1) false ≡ true }
+    requires few { cap ≤ 268435456 }
+    requires sums { AreSums cap trees.now sums }
+    ensures sums { AreSums cap (record { relevant = trees.now.relevant; lower = slice_set trees.now.lower (place - 1) false }) result }
+    ensures cost { steps.new ≤ steps.old + 3 * (levels (length trees.now.relevant) + 1) }
+{
+    let preferences = sums.preferences + trees.reached_past(place, cap, steps);
+    with_preferences(sums, preferences)
+}
+
+// The sums after a place became judged lower, as it is now.
+fn with_lower<L: Ledger>(
+    trees: &Trees,
+    sums: Sums,
+    place: u32,
+    cap: u32,
+    steps: &mut Steps<L>,
+) -> Sums
+    requires from_one { 1 ≤ place }
+    requires within { place ≤ length trees.now.relevant }
+    requires on { slice_index_or trees.now.lower (place - 1) false ≡ true }
+    requires sums { AreSums cap (record { relevant = trees.now.relevant; lower = slice_set trees.now.lower (place - 1) false }) sums }
+    ensures sums { AreSums cap trees.now result }
+    ensures cost { steps.new ≤ steps.old + 3 * (levels (length trees.now.relevant) + 1) }
+{
+    let preferences = sums.preferences - trees.reached_past(place, cap, steps);
+    with_preferences(sums, preferences)
+}
+
+// The sums after the cap moved, by one at most.
+pub(crate) fn with_cap<L: Ledger>(
+    trees: &Trees,
+    sums: Sums,
+    from: u32,
+    to: u32,
+    steps: &mut Steps<L>,
+) -> Sums
+    requires up { to ≤ from + 1 }
+    requires down { from ≤ to + 1 }
+    requires few { to ≤ 268435456 }
+    requires sums { AreSums from trees.now sums }
+    ensures sums { AreSums to trees.now result }
+    ensures cost { steps.new ≤ steps.old + 2 * (levels (length trees.now.relevant) + 1) }
+{
+    if from < to {
+        let reached = trees.reached(from, steps);
+        return with_preferences(sums, sums.preferences + u64::from(reached));
+    }
+    if to < from {
+        let reached = trees.reached(to, steps);
+        return with_preferences(sums, sums.preferences - u64::from(reached));
+    }
+    sums
+}
+
+fn with_preferences(sums: Sums, preferences: u64) -> Sums
+    ensures { result ≡ record sums { preferences = preferences } }
+{
+    let mut moved = sums;
+    moved.preferences = preferences;
+    moved
+}
+
+// A count within a cutoff, with one more where a place is within it.
+fn counted(count: u32, place: u32, cutoff: u32) -> u32
+    requires { count ≤ 1000 }
+    ensures { result ≡ count + as_number (nat_le place cutoff) }
+{
+    count + u32::from(place <= cutoff)
+}
+
+fn counted_from(at: [u32; 9], place: u32) -> [u32; 9]
+    requires { (i : ℕ) → i < 9 → slice_index at i ≤ 1000 }
+    ensures { (counts : ℕ → ℕ) → at ≡ map counts cutoffs → result ≡ map (λ k. counts k + as_number (nat_le place k)) cutoffs }
+{
+    [
+        counted(at[0], place, CUTOFFS[0]),
+        counted(at[1], place, CUTOFFS[1]),
+        counted(at[2], place, CUTOFFS[2]),
+        counted(at[3], place, CUTOFFS[3]),
+        counted(at[4], place, CUTOFFS[4]),
+        counted(at[5], place, CUTOFFS[5]),
+        counted(at[6], place, CUTOFFS[6]),
+        counted(at[7], place, CUTOFFS[7]),
+        counted(at[8], place, CUTOFFS[8]),
+    ]
+}
+
+// A count within a cutoff, with one less where a place is within it.
+fn uncounted(count: u32, place: u32, cutoff: u32) -> u32
+    ensures { result ≡ count - as_number (nat_le place cutoff) }
+{
+    count.saturating_sub(u32::from(place <= cutoff))
+}
+
+fn uncounted_from(at: [u32; 9], place: u32) -> [u32; 9]
+    ensures { (counts : ℕ → ℕ) → at ≡ map (λ k. counts k + as_number (nat_le place k)) cutoffs → result ≡ map counts cutoffs }
+{
+    [
+        uncounted(at[0], place, CUTOFFS[0]),
+        uncounted(at[1], place, CUTOFFS[1]),
+        uncounted(at[2], place, CUTOFFS[2]),
+        uncounted(at[3], place, CUTOFFS[3]),
+        uncounted(at[4], place, CUTOFFS[4]),
+        uncounted(at[5], place, CUTOFFS[5]),
+        uncounted(at[6], place, CUTOFFS[6]),
+        uncounted(at[7], place, CUTOFFS[7]),
+        uncounted(at[8], place, CUTOFFS[8]),
+    ]
+}
+
+// Takes the mark of a place away.
+pub(crate) fn take_mark<L: Ledger>(
+    trees: &mut Trees,
+    sums: Sums,
+    place: u32,
+    mark: Mark,
+    cap: u32,
+    steps: &mut Steps<L>,
+) -> Sums
+    requires from_one { 1 ≤ place }
+    requires within { place ≤ length trees.old.relevant }
+    requires relevant { slice_index_or trees.old.relevant (place - 1) false ≡ is_relevant_mark mark }
+    requires lower { slice_index_or trees.old.lower (place - 1) false ≡ is_lower_mark mark }
+    requires few { cap ≤ 268435456 }
+    requires sums { AreSums cap trees.old sums }
+    ensures relevant { trees.new.relevant ≡ slice_set trees.old.relevant (place - 1) false }
+    ensures lower { trees.new.lower ≡ slice_set trees.old.lower (place - 1) false }
+    ensures sums { AreSums cap trees.new result }
+    ensures cost { steps.new ≤ steps.old + 5 * (levels (length trees.old.relevant) + 1) }
+{
+    match mark {
+        Mark::Relevant => {
+            trees.set_relevant(place, false, steps);
+            without_relevant(trees, sums, place, cap, steps)
+        }
+        Mark::Lower => {
+            let taken = without_lower(trees, sums, place, cap, steps);
+            trees.set_lower(place, false, steps);
+            taken
+        }
+        Mark::Unjudged => sums,
+    }
+}
+
+// Gives a place, which is not judged, a mark.
+pub(crate) fn put_mark<L: Ledger>(
+    trees: &mut Trees,
+    sums: Sums,
+    place: u32,
+    mark: Mark,
+    cap: u32,
+    steps: &mut Steps<L>,
+) -> Sums
+    requires from_one { 1 ≤ place }
+    requires within { place ≤ length trees.old.relevant }
+    requires not_relevant { slice_index_or trees.old.relevant (place - 1) false ≡ false }
+    requires not_lower { slice_index_or trees.old.lower (place - 1) false ≡ false }
+    requires few { cap ≤ 268435456 }
+    requires sums { AreSums cap trees.old sums }
+    ensures relevant { trees.new.relevant ≡ slice_set trees.old.relevant (place - 1) (is_relevant_mark mark) }
+    ensures lower { trees.new.lower ≡ slice_set trees.old.lower (place - 1) (is_lower_mark mark) }
+    ensures sums { AreSums cap trees.new result }
+    ensures cost { steps.new ≤ steps.old + 5 * (levels (length trees.old.relevant) + 1) }
+{
+    match mark {
+        Mark::Relevant => {
+            let put = with_relevant(trees, sums, place, cap, steps);
+            trees.set_relevant(place, true, steps);
+            put
+        }
+        Mark::Lower => {
+            trees.set_lower(place, true, steps);
+            with_lower(trees, sums, place, cap, steps)
+        }
+        Mark::Unjudged => sums,
+    }
+}
+
+// Gives a place another mark; a document that the list doesn't have has none.
+fn change_mark<L: Ledger>(
+    trees: &mut Trees,
+    sums: Sums,
+    place: Option<u32>,
+    old: Mark,
+    new: Mark,
+    cap: u32,
+    steps: &mut Steps<L>,
+) -> Sums
+    requires relevant { IsAt place (is_relevant_mark old) trees.old.relevant }
+    requires lower { IsAt place (is_lower_mark old) trees.old.lower }
+    requires few { cap ≤ 268435456 }
+    requires sums { AreSums cap trees.old sums }
+    ensures relevant { trees.new.relevant ≡ put_at place (is_relevant_mark new) trees.old.relevant }
+    ensures lower { trees.new.lower ≡ put_at place (is_lower_mark new) trees.old.lower }
+    ensures sums { AreSums cap trees.new result }
+    ensures cost { steps.new ≤ steps.old + 10 * (levels (length trees.old.relevant) + 1) }
+{
+    match place {
+        Some(place) => {
+            let taken = take_mark(trees, sums, place, old, cap, steps);
+            put_mark(trees, taken, place, new, cap, steps)
+        }
+        None => sums,
+    }
+}
+
+// Gives a document of the topic another mark, at its place in the list if it has one, while the cap
+// moves by one at most.
+pub(crate) fn remark<L: Ledger>(
+    trees: &mut Trees,
+    sums: Sums,
+    place: Option<u32>,
+    old: Mark,
+    new: Mark,
+    caps: (u32, u32),
+    steps: &mut Steps<L>,
+) -> Sums
+    requires relevant { IsAt place (is_relevant_mark old) trees.old.relevant }
+    requires lower { IsAt place (is_lower_mark old) trees.old.lower }
+    requires up { caps.1 ≤ caps.0 + 1 }
+    requires down { caps.0 ≤ caps.1 + 1 }
+    requires few { caps.0 ≤ 268435456 }
+    requires still_few { caps.1 ≤ 268435456 }
+    requires sums { AreSums caps.0 trees.old sums }
+    ensures relevant { trees.new.relevant ≡ put_at place (is_relevant_mark new) trees.old.relevant }
+    ensures lower { trees.new.lower ≡ put_at place (is_lower_mark new) trees.old.lower }
+    ensures sums { AreSums caps.1 trees.new result }
+    ensures cost { steps.new ≤ steps.old + 12 * (levels (length trees.old.relevant) + 1) }
+{
+    let changed = change_mark(trees, sums, place, old, new, caps.0, steps);
+    with_cap(trees, changed, caps.0, caps.1, steps)
+}
+
+// The cell of a list whose topic has `relevant` relevant documents and `lower` that are judged lower.
+pub(crate) fn cell_from<L: Ledger>(
+    trees: &Trees,
+    sums: Sums,
+    relevant: u32,
+    lower: u32,
+    steps: &mut Steps<L>,
+) -> Cell
+    requires few { relevant ≤ 268435456 }
+    requires few_lower { lower ≤ 268435456 }
+    requires sums { AreSums (min relevant lower) trees.now sums }
+    ensures cell { result ≡ cell_by trees.now.relevant trees.now.lower relevant lower }
+    ensures cost { steps.new ≤ steps.old + 2 * (levels (length trees.now.relevant) + 1) }
+{
+    Cell {
+        ret: trees.len(),
+        rel: relevant,
+        rel_ret: sums.rel_ret,
+        at: sums.at,
+        r_prec: trees.relevant_to(relevant, steps),
+        first: trees.first_relevant(steps),
+        ap_sum: sums.ap_sum,
+        bpref_num: bpref_num(&sums, relevant, lower),
+        bpref_den: bpref_den(relevant, lower),
+    }
+}
+
+fn bpref_num(sums: &Sums, relevant: u32, lower: u32) -> u64
+    ensures { result ≡ (if nat_eq relevant 0 then 0 else (if nat_eq (min relevant lower) 0 then sums.now.rel_ret else sums.now.preferences)) }
+{
+    if relevant == 0 {
+        return 0;
+    }
+    if relevant.min(lower) == 0 {
+        return u64::from(sums.rel_ret);
+    }
+    sums.preferences
+}
+
+fn bpref_den(relevant: u32, lower: u32) -> u64
+    requires few { relevant ≤ 268435456 }
+    requires few_lower { lower ≤ 268435456 }
+    ensures { result ≡ bpref_den_of relevant lower }
+{
+    if relevant == 0 {
+        return 1;
+    }
+    match relevant.min(lower) {
+        0 => u64::from(relevant),
+        cap => u64::from(relevant) * u64::from(cap),
+    }
+}
