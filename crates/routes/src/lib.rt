@@ -3,6 +3,7 @@
 #![tactic(auto)]
 
 mod answers;
+mod ask_reader;
 mod asks;
 mod bodies;
 mod faults;
@@ -14,6 +15,7 @@ mod paths;
 mod places;
 
 pub use answers::{Answered, render};
+pub use ask_reader::AskReader;
 pub use asks::{read_ask, read_ask_by};
 pub use faults::RouteFault;
 pub use keys::{KeyRow, Keys, are_rows};
