@@ -24,18 +24,22 @@ one_at_head text rest a b (inr (head, found, is)) (inl (none, same)) = absurd (n
 one_at_head text rest a b (inr (head, found, is)) (inr (other, there, same)) =
     is ∙ ap (λ h. behind_head h (body_length h.method (fields_of h)) rest) (one_head text head other found there) ∙ sym same
 
-one_at_length : (message : List ℕ) (found : Option ℕ) (a b : HeadFront) → AtLength message found a → AtLength message found b → a ≡ b
+one_at_length : (message : List ℕ) (found : Option ℕ) (a b : HeadFront) → AtLength message found a
+    → AtLength message found b → a ≡ b
 one_at_length message None a b first second = first ∙ sym second
 one_at_length message (Some n) a b first second = one_at_head (take n message) (drop n message) a b first second
 
 pub head_front_is_one : (bytes : List ℕ) (a b : HeadFront) → IsHeadFront bytes a → IsHeadFront bytes b → a ≡ b
-head_front_is_one bytes a b first second = one_at_length (passed bytes) (head_length (take 8192 (passed bytes))) a b first second
+head_front_is_one bytes a b first second =
+    one_at_length (passed bytes) (head_length (take 8192 (passed bytes))) a b first second
 
 pub front_is_one : (bytes : List ℕ) (a b : Front) → IsFront bytes a → IsFront bytes b → a ≡ b
-front_is_one bytes a b (upto, at, is) (other, there, same) = is ∙ ap front_of (head_front_is_one bytes upto other at there) ∙ sym same
+front_is_one bytes a b (upto, at, is) (other, there, same) =
+    is ∙ ap front_of (head_front_is_one bytes upto other at there) ∙ sym same
 
 -- a head stands at the front of what a message goes on to be
-at_head_more : (message more : List ℕ) (n : ℕ) (front : HeadFront) → head_length (take 8192 message) ≡ Some n → n ≤ length message
+at_head_more : (message more : List ℕ) (n : ℕ) (front : HeadFront) → head_length (take 8192 message) ≡ Some n
+    → n ≤ length message
     → AtHead (take n message) (drop n message ++ more) front → AtMessage (message ++ more) front
 at_head_more message more n front ends inside at =
     let found : head_length (take 8192 (message ++ more)) ≡ Some n = head_stays 8192 message more n ends in
@@ -60,7 +64,8 @@ faults_more : (head : RequestHead) (size : Result ℕ WireFault) (behind more : 
 faults_more head (Err other) behind more cause is = is
 faults_more head (Ok n) behind more cause is = cc
 
-heads_go_on : (message more : List ℕ) (found : Option ℕ) (given : HttpHead) (rest : List ℕ) → head_length (take 8192 message) ≡ found
+heads_go_on : (message more : List ℕ) (found : Option ℕ) (given : HttpHead) (rest : List ℕ)
+    → head_length (take 8192 message) ≡ found
     → AtLength message found (Heads given rest) → AtMessage (message ++ more) (Heads given (rest ++ more))
 heads_go_on message more None given rest ends is =
     cond_both (nat_lt (length message) 8192) Needs (Faults fault.HeadSize)
@@ -71,7 +76,8 @@ heads_go_on message more (Some n) given rest ends (inr (head, found, is)) =
     (inr (head, found, heads_more head (body_length head.method (fields_of head)) (drop n message) more given rest is))
 
 -- over 8,192 bytes end no head, and so do what they go on to be
-long_stays : (k : ℕ) (message more : List ℕ) → k ≤ length message → head_length (take k message) ≡ None → head_length (take k (message ++ more)) ≡ None
+long_stays : (k : ℕ) (message more : List ℕ) → k ≤ length message → head_length (take k message) ≡ None
+    → head_length (take k (message ++ more)) ≡ None
 long_stays k message more long none = ap head_length (take-append-le k message more long) ∙ none
 
 faults_go_on : (message more : List ℕ) (found : Option ℕ) (cause : WireFault) → head_length (take 8192 message) ≡ found
@@ -91,7 +97,8 @@ faults_go_on message more (Some n) cause ends (inr (head, found, is)) =
     at_head_more message more n (Faults cause) ends (inside_of 8192 message n ends).1
     (inr (head, found, faults_more head (body_length head.method (fields_of head)) (drop n message) more cause is))
 
-filled_heads : (message : List ℕ) (given : HttpHead) (rest : List ℕ) → AtMessage message (Heads given rest) → 0 < length message
+filled_heads : (message : List ℕ) (given : HttpHead) (rest : List ℕ) → AtMessage message (Heads given rest)
+    → 0 < length message
 filled_heads [] given rest at = let wrong : Heads given rest ≡ Needs = at in cc
 filled_heads (b ∷ message) given rest at = omega arith
 
@@ -99,17 +106,20 @@ filled_faults : (message : List ℕ) (cause : WireFault) → AtMessage message (
 filled_faults [] cause at = let wrong : Faults cause ≡ Needs = at in cc
 filled_faults (b ∷ message) cause at = omega arith
 
-pub heads_stay : (bytes more : List ℕ) (given : HttpHead) (rest : List ℕ) → IsHeadFront bytes (Heads given rest) → IsHeadFront (bytes ++ more) (Heads given (rest ++ more))
+pub heads_stay : (bytes more : List ℕ) (given : HttpHead) (rest : List ℕ) → IsHeadFront bytes (Heads given rest)
+    → IsHeadFront (bytes ++ more) (Heads given (rest ++ more))
 heads_stay bytes more given rest at =
     subst (λ message. AtMessage message (Heads given (rest ++ more))) (sym (passed-append bytes more (filled_heads (passed bytes) given rest at)))
     (heads_go_on (passed bytes) more (head_length (take 8192 (passed bytes))) given rest refl at)
 
-pub faults_stay : (bytes more : List ℕ) (cause : WireFault) → IsHeadFront bytes (Faults cause) → IsHeadFront (bytes ++ more) (Faults cause)
+pub faults_stay : (bytes more : List ℕ) (cause : WireFault) → IsHeadFront bytes (Faults cause)
+    → IsHeadFront (bytes ++ more) (Faults cause)
 faults_stay bytes more cause at =
     subst (λ message. AtMessage message (Faults cause)) (sym (passed-append bytes more (filled_faults (passed bytes) cause at)))
     (faults_go_on (passed bytes) more (head_length (take 8192 (passed bytes))) cause refl at)
 
-pub heads_filled : (bytes : List ℕ) (given : HttpHead) (rest : List ℕ) → IsHeadFront bytes (Heads given rest) → is_filled (passed bytes) ≡ true
+pub heads_filled : (bytes : List ℕ) (given : HttpHead) (rest : List ℕ) → IsHeadFront bytes (Heads given rest)
+    → is_filled (passed bytes) ≡ true
 heads_filled bytes given rest at = some (passed bytes) (filled_heads (passed bytes) given rest at)
   where
     some : (message : List ℕ) → 0 < length message → is_filled message ≡ true
@@ -118,16 +128,19 @@ heads_filled bytes given rest at = some (passed bytes) (filled_heads (passed byt
 
 -- a head with fewer bytes behind it than its body has, or as many
 pub short_body : (head : HttpHead) (rest : List ℕ) → length rest < head.length → Unfinished ≡ front_of (Heads head rest)
-short_body head rest few = let short : nat_lt (length rest) head.length ≡ true = lt-ltb (length rest) head.length few in rw short refl
+short_body head rest few =
+    let short : nat_lt (length rest) head.length ≡ true = lt-ltb (length rest) head.length few in rw short refl
 
-pub whole_body : (head : HttpHead) (body rest : List ℕ) → length body ≡ head.length → Whole (request_with head body) rest ≡ front_of (Heads head (body ++ rest))
+pub whole_body : (head : HttpHead) (body rest : List ℕ) → length body ≡ head.length
+    → Whole (request_with head body) rest ≡ front_of (Heads head (body ++ rest))
 whole_body head body rest all =
     let enough : nat_lt (length (body ++ rest)) head.length ≡ false = le-ltb (length (body ++ rest)) head.length (omega (arith, all, length-append body rest)) in
     let front : take head.length (body ++ rest) ≡ body = ap (λ n. take n (body ++ rest)) (sym all) ∙ take-append_seam body rest in
     let behind : drop head.length (body ++ rest) ≡ rest = ap (λ n. drop n (body ++ rest)) (sym all) ∙ drop-append_seam body rest in
     rw (enough, front, behind) refl
 
-whole_more : (head : HttpHead) (behind more : List ℕ) (request : HttpRequest) (rest : List ℕ) → Whole request rest ≡ front_of (Heads head behind)
+whole_more : (head : HttpHead) (behind more : List ℕ) (request : HttpRequest) (rest : List ℕ)
+    → Whole request rest ≡ front_of (Heads head behind)
     → Whole request (rest ++ more) ≡ front_of (Heads head (behind ++ more))
 whole_more head behind more request rest is =
     cond_both (nat_lt (length behind) head.length) Unfinished (Whole (request_with head (take head.length behind)) (drop head.length behind))
@@ -147,13 +160,16 @@ not_faulty head behind cause is =
     cond_both (nat_lt (length behind) head.length) Unfinished (Whole (request_with head (take head.length behind)) (drop head.length behind))
     (λ front. Faulty cause ≡ front → ⊥) (λ few wrong. cc) (λ enough wrong. cc) is
 
-whole_stays : (bytes more : List ℕ) (upto : HeadFront) (request : HttpRequest) (rest : List ℕ) → IsHeadFront bytes upto → Whole request rest ≡ front_of upto
+whole_stays : (bytes more : List ℕ) (upto : HeadFront) (request : HttpRequest) (rest : List ℕ)
+    → IsHeadFront bytes upto → Whole request rest ≡ front_of upto
     → IsFront (bytes ++ more) (Whole request (rest ++ more))
-whole_stays bytes more (Heads head behind) request rest at is = (Heads head (behind ++ more), heads_stay bytes more head behind at, whole_more head behind more request rest is)
+whole_stays bytes more (Heads head behind) request rest at is =
+    (Heads head (behind ++ more), heads_stay bytes more head behind at, whole_more head behind more request rest is)
 whole_stays bytes more (Faults cause) request rest at is = cc
 whole_stays bytes more Needs request rest at is = cc
 
-faulty_stays : (bytes more : List ℕ) (upto : HeadFront) (cause : WireFault) → IsHeadFront bytes upto → Faulty cause ≡ front_of upto → IsFront (bytes ++ more) (Faulty cause)
+faulty_stays : (bytes more : List ℕ) (upto : HeadFront) (cause : WireFault) → IsHeadFront bytes upto
+    → Faulty cause ≡ front_of upto → IsFront (bytes ++ more) (Faulty cause)
 faulty_stays bytes more (Heads head behind) cause at is = absurd (not_faulty head behind cause is)
 faulty_stays bytes more (Faults other) cause at is = (Faults other, faults_stay bytes more other at, is)
 faulty_stays bytes more Needs cause at is = cc
@@ -164,7 +180,8 @@ front_stays bytes more = record {
   faulty = λ cause (upto, at, is). faulty_stays bytes more upto cause at is;
 }
 
-ends_at : (old : List ℕ) (clean filled : Bool) → IsFront old Unfinished → clean ≡ not filled → is_filled (passed old) ≡ filled → Messages old [] (if clean then Clean else Cut)
+ends_at : (old : List ℕ) (clean filled : Bool) → IsFront old Unfinished → clean ≡ not filled
+    → is_filled (passed old) ≡ filled → Messages old [] (if clean then Clean else Cut)
 ends_at old true true front is filled = let wrong : true ≡ false = is in cc
 ends_at old false true front is filled = (front, filled)
 ends_at old false false front is filled = let wrong : false ≡ true = is in cc

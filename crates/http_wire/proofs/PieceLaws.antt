@@ -12,7 +12,8 @@ use Rattle.http_wire.specs.Pieces.{WireState, fed, Steps, StepsAt, HeadSteps, Bo
 use Rattle.http_wire.proofs.HeadLengths.{passed_again}
 use Rattle.http_wire.proofs.FrontLaws.{head_front_is_one, heads_stay, faults_stay, heads_filled, short_body, whole_body}
 
-fed_stands : (at more : List ℕ) (old : WireState) (now : Option Begun) → StandsOn at now old → StandsOn (at ++ more) now (fed old more)
+fed_stands : (at more : List ℕ) (old : WireState) (now : Option Begun) → StandsOn at now old
+    → StandsOn (at ++ more) now (fed old more)
 fed_stands at more old None is = ap (λ wire. fed wire more) is
 fed_stands at more old (Some begun) (left, most, front) = (
   left,
@@ -20,15 +21,18 @@ fed_stands at more old (Some begun) (left, most, front) = (
   subst (λ rest. IsHeadFront (at ++ more) (Heads begun.head rest)) (append_assoc begun.given old.bytes more) (heads_stay at more begun.head (begun.given ++ old.bytes) front),
 )
 
-head_stands : (at : List ℕ) (old new : WireState) (head : HttpHead) → StandsOn at None old → Steps old (steps.Head head) new → StandsOn at (Some (record { head = head; given = [] })) new
+head_stands : (at : List ℕ) (old new : WireState) (head : HttpHead) → StandsOn at None old
+    → Steps old (steps.Head head) new → StandsOn at (Some (record { head = head; given = [] })) new
 head_stands at old new head is step =
     let here : StepsAt None at (steps.Head head) new = subst (λ wire. Steps wire (steps.Head head) new) is step in
     let all : head.length ≡ head.length - 0 = omega arith in
     (here.1 ∙ ap (λ (n : ℕ). Some n) all, omega arith, here.0)
 
 -- the bytes of a piece, and what is left
-piece_stands : (at : List ℕ) (new : WireState) (bytes : List ℕ) (begun : Begun) (text : List ℕ) → length begun.given ≤ begun.head.length
-    → IsHeadFront at (Heads begun.head (begun.given ++ bytes)) → BodySteps (begun.head.length - length begun.given) bytes (steps.Piece text) new
+piece_stands : (at : List ℕ) (new : WireState) (bytes : List ℕ) (begun : Begun) (text : List ℕ)
+    → length begun.given ≤ begun.head.length
+    → IsHeadFront at (Heads begun.head (begun.given ++ bytes))
+    → BodySteps (begun.head.length - length begun.given) bytes (steps.Piece text) new
     → StandsOn at (Some (record { head = begun.head; given = begun.given ++ text })) new
 piece_stands at new bytes begun text most front (some, is, after) =
     let left = begun.head.length - length begun.given in
@@ -44,10 +48,12 @@ piece_stands at new bytes begun text most front (some, is, after) =
     )
 
 -- the step of a wire inside a body
-in_body : (old : WireState) (left : ℕ) (step : Step) (new : WireState) → old.left ≡ Some left → Steps old step new → BodySteps left old.bytes step new
+in_body : (old : WireState) (left : ℕ) (step : Step) (new : WireState) → old.left ≡ Some left → Steps old step new
+    → BodySteps left old.bytes step new
 in_body old left step new is step_is = subst (λ l. StepsAt l old.bytes step new) is step_is
 
-whole_stands : (at : List ℕ) (old new : WireState) (begun : Begun) → StandsOn at (Some begun) old → Steps old steps.Whole new
+whole_stands : (at : List ℕ) (old new : WireState) (begun : Begun) → StandsOn at (Some begun) old
+    → Steps old steps.Whole new
     → (length begun.given ≡ begun.head.length) × IsFront at (Whole (request_with begun.head begun.given) new.bytes) × StandsOn new.bytes None new
 whole_stands at old new begun (left, most, front) step =
     let (none, after) = in_body old (begun.head.length - length begun.given) steps.Whole new left step in
@@ -59,7 +65,8 @@ whole_stands at old new begun (left, most, front) step =
       after ∙ ap (λ xs. record { bytes = xs; left = None }) (sym rest),
     )
 
-waits_at : (at : List ℕ) (old new : WireState) (now : Option Begun) (clean : Bool) → StandsOn at now old → Steps old (steps.Need clean) new → Waits at clean × StandsOn (passed at) now new
+waits_at : (at : List ℕ) (old new : WireState) (now : Option Begun) (clean : Bool) → StandsOn at now old
+    → Steps old (steps.Need clean) new → Waits at clean × StandsOn (passed at) now new
 waits_at at old new None clean is step =
     let (front, told, after) = subst (λ wire. Steps wire (steps.Need clean) new) is step in
     (((Needs, front, refl), told), after)
@@ -77,7 +84,8 @@ waits_at at old new (Some begun) clean (left, most, front) step =
       ),
     )
 
-refused_at : (at : List ℕ) (old new : WireState) (cause : WireFault) → StandsOn at None old → Steps old (steps.Refused cause) new → IsFront at (Faulty cause)
+refused_at : (at : List ℕ) (old new : WireState) (cause : WireFault) → StandsOn at None old
+    → Steps old (steps.Refused cause) new → IsFront at (Faulty cause)
 refused_at at old new cause is step =
     let here : StepsAt None at (steps.Refused cause) new = subst (λ wire. Steps wire (steps.Refused cause) new) is step in
     (Faults cause, here.0, refl)
@@ -93,11 +101,14 @@ pieces_go_on at more old new = record {
   refused = λ cause stands step. refused_at at old new cause stands step;
 }
 
-again : (bytes : List ℕ) (cause : WireFault) (step : Step) (after : WireState) → IsHeadFront bytes (Faults cause) → HeadSteps bytes step after → step ≡ steps.Refused cause
-again bytes cause (steps.Head head) after front next = let wrong = head_front_is_one bytes (Faults cause) (Heads head after.bytes) front next.0 in cc
+again : (bytes : List ℕ) (cause : WireFault) (step : Step) (after : WireState) → IsHeadFront bytes (Faults cause)
+    → HeadSteps bytes step after → step ≡ steps.Refused cause
+again bytes cause (steps.Head head) after front next =
+    let wrong = head_front_is_one bytes (Faults cause) (Heads head after.bytes) front next.0 in cc
 again bytes cause (steps.Piece text) after front next = absurd next
 again bytes cause steps.Whole after front next = absurd next
-again bytes cause (steps.Need clean) after front next = let wrong = head_front_is_one bytes (Faults cause) Needs front next.0 in cc
+again bytes cause (steps.Need clean) after front next =
+    let wrong = head_front_is_one bytes (Faults cause) Needs front next.0 in cc
 again bytes cause (steps.Refused other) after front next =
     let same = head_front_is_one bytes (Faults other) (Faults cause) next.0 front in
     let equal : other ≡ cause = cc in ap (λ c. steps.Refused c) equal
@@ -110,4 +121,5 @@ refuses_at None bytes new more cause step after (front, is) next =
     again (passed bytes ++ more) cause step after (faults_stay (passed bytes) more cause here) (subst (λ wire. Steps (fed wire more) step after) is next)
 
 pub refuses_again : (old new : WireState) (more : List ℕ) → RefusesAgain old new more
-refuses_again old new more cause step after refused next = refuses_at old.left old.bytes new more cause step after refused next
+refuses_again old new more cause step after refused next =
+    refuses_at old.left old.bytes new more cause step after refused next

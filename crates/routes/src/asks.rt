@@ -200,24 +200,9 @@ pub fn read_ask(
         → IsTrue (is_well_addressed asked.0 asked.1 asked.2 moment)) }
 {
     let paths = Paths::new(alloc)?;
-    read_ask_by(alloc, &paths, request, keys)
-}
-
-/// The same by a table of the paths that was made before.
-pub fn read_ask_by(
-    alloc: Global,
-    paths: &Paths,
-    request: &HttpRequest,
-    keys: &Keys,
-) -> Result<(Caller, Option<u64>, Ask), RouteFault>
-    requires { length request.now.body ≤ 16777216 }
-    ensures reading { IsRead (Reads request.now keys.now) result }
-    ensures addressed { IfOk result (λ asked. (moment : ℕ) → moment ≤ MAX_MOMENT
-        → IsTrue (is_well_addressed asked.0 asked.1 asked.2 moment)) }
-{
     let path = request.path.bytes();
     let opening = read_opening(
-        paths,
+        &paths,
         request.method.bytes(),
         path,
         request.fields.items(),

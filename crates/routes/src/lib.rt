@@ -16,7 +16,7 @@ mod places;
 
 pub use answers::{Answered, render};
 pub use ask_reader::AskReader;
-pub use asks::{read_ask, read_ask_by};
+pub use asks::read_ask;
 pub use faults::RouteFault;
 pub use keys::{KeyRow, Keys, are_rows};
 pub use laws::{one_request_reading, roles_are_the_rules};

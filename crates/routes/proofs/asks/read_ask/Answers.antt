@@ -3,7 +3,7 @@ use Rattle.routes.specs.Asks.{Asks}
 use Rattle.routes.specs.Places.{parameter}
 use Rattle.routes.proofs.Addressed.{addressed_at}
 use Rattle.routes.proofs.TableRows.{parameter_is, role_is}
-use Rattle.routes.proofs.asks.read_ask_by.Goals as goal
+use Rattle.routes.proofs.asks.read_ask.Goals as goal
 
 pub returns-clause-addressed : goal.returns-clause-addressed
 returns-clause-addressed c = λ moment latest.
