@@ -14,8 +14,8 @@ use Rattle.rulebook.specs.declared.ask.Addressed.{Addressed}
 use Rattle.rulebook.specs.declared.entry.Entry.{Entry}
 use Rattle.rulebook.specs.declared.reply.Reply.{Reply}
 use Rattle.rulebook.specs.Campaign.{History}
-use Rattle.rulebook.specs.Stories.{AtMost, IsTold, StartsWith, Story}
-use Rattle.book.specs.Halls.{Tells, seen_as}
+use Rattle.rulebook.specs.Stories.{AtMost, IsTold, Story}
+use Rattle.book.specs.Halls.{seen_as}
 use Rattle.campaign_server.specs.Chains.{Said}
 use Rattle.campaign_server.specs.Stories.{IsByRules, added_since}
 use Rattle.campaign_server.specs.Talks.{Before, IsSeen, Talk, place_of}

@@ -1,5 +1,5 @@
 -- What a connection to a campaign in a hall comes to.
-use Rattle.std.proofs.Common.{◌≡◌, ℕ, suc, ◌≤◌, List, [], ◌++◌, false, length, map, refl, sym, ap, ◌∙◌, subst}
+use Rattle.std.proofs.Common.{◌≡◌, ℕ, suc, List, [], ◌++◌, false, length, map, refl, sym, ap, ◌∙◌, subst}
 use Rattle.hall.specs.Acts.{Known}
 use Rattle.hall.specs.Places.{Rises, merged}
 use Rattle.hall.specs.Stories.{joined}

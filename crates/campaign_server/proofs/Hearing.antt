@@ -7,7 +7,7 @@ use Rattle.std.proofs.lemmas.Bool.{cond_both, ltb-true, ltb-false}
 use Rattle.decimal_rank.specs.Causes.{Rose}
 use Rattle.http_wire.specs.declared.messages.HttpRequest.{HttpRequest}
 use Rattle.http_wire.specs.Heads.{passed}
-use Rattle.http_wire.specs.Messages.{ReadsOn, Closed, Refused}
+use Rattle.http_wire.specs.Messages.{Needs, ReadsOn, Closed, Refused}
 use Rattle.campaign_server.specs.declared.ends.End.{End}
 use Rattle.campaign_server.specs.declared.ends.End.TheVariants as end
 use Rattle.campaign_server.specs.Chains.{Said, requests_of}
@@ -42,7 +42,7 @@ so_none talks was rest none talk = record {
       written = Appends-nil was.writing.written;
       later = omega arith;
     };
-    all = record { said = []; are_messages = (refl, refl); talk = talk; written = Appends-nil was.writing.written };
+    all = record { said = []; are_messages = ((Needs, refl, refl), refl); talk = talk; written = Appends-nil was.writing.written };
   };
 }
 

@@ -1,5 +1,5 @@
 -- A session with a book: what the chain of its states says at the end.
-use Rattle.std.proofs.Common.{◌≡◌, ◌⊎◌, inl, inr, ℕ, List, [], ◌∷◌, ◌++◌, Bool, true, false, Option, None, Some, Ok, refl, sym, ap, subst, ◌∙◌}
+use Rattle.std.proofs.Common.{◌≡◌, ◌⊎◌, inl, inr, ℕ, List, [], ◌∷◌, ◌++◌, true, None, Some, Ok, refl, sym, ap, subst, ◌∙◌}
 use Rattle.book.specs.Books.{Acts, IsSound, Runs, Seen, Settles, story_of}
 use Rattle.book.specs.RunLaws.{join_runs, no_run}
 use Rattle.http_wire.specs.declared.messages.HttpRequest.{HttpRequest}
@@ -7,10 +7,7 @@ use Rattle.routes.specs.declared.answers.Answered.{Answered}
 use Rattle.routes.specs.declared.answers.Answered.TheVariants as answered
 use Rattle.routes.specs.declared.keys.KeyRow.{KeyRow}
 use Rattle.routes.specs.Asks.{Asked, Reads}
-use Rattle.rulebook.specs.declared.answer.Answer.TheVariants as answers
-use Rattle.rulebook.specs.declared.ask.Addressed.{Addressed}
 use Rattle.rulebook.specs.declared.entry.Entry.{Entry}
-use Rattle.rulebook.specs.declared.reply.Reply.{Reply}
 use Rattle.rulebook.specs.Campaign.{History}
 use Rattle.rulebook.specs.Stories.{added_by}
 use Rattle.campaign_server.specs.declared.ends.End.{End}

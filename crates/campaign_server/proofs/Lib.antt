@@ -4,6 +4,7 @@ pub mod Hearing
 pub mod Known
 pub mod PieceLemmas
 pub mod Speaking
+pub mod StreamSteps
 pub mod TalkLemmas
 pub mod Turning
 pub mod FaultCounts

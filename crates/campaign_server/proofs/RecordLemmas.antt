@@ -1,11 +1,11 @@
 -- Records that a door is handed, one after another.
-use Rattle.std.proofs.Common.{◌≡◌, List, [], ◌∷◌, ◌++◌, Option, None, Some, length, map, refl, sym, ap, ◌∙◌, arith, append-nil, append_assoc, subst}
+use Rattle.std.proofs.Common.{◌≡◌, List, [], ◌∷◌, ◌++◌, Option, None, Some, length, refl, sym, ap, ◌∙◌, arith, append-nil, append_assoc, subst}
 use Rattle.std.proofs.lemmas.List.{map-append}
 use Rattle.std.proofs.lemmas.List.Concat.{flat_map-append}
 use Rattle.campaign_server.specs.declared.ends.End.{End}
 use Rattle.campaign_server.specs.Doors.{Ended, HandsOver, Told}
 use Rattle.campaign_server.specs.Links.{LinkState}
-use Rattle.campaign_server.specs.Records.{HandsPart, ended_all, ended_of}
+use Rattle.campaign_server.specs.Records.{ended_all, ended_of}
 
 pub hands_none : (told : Option Told) → HandsOver told [] told
 hands_none (Some told) = ap (λ served. record told { served = served }) (sym (append-nil told.served))

@@ -1,5 +1,5 @@
 -- What a server leaves of its door.
-use Rattle.std.proofs.Common.{◌≡◌, ◌≢◌, ◌⊎◌, ℕ, ◌+◌, ◌-◌, ◌*◌, ◌^◌, ◌≤◌, Bool, true, false, List, [], ◌∷◌, ◌++◌, None, Some, IfSome, length, refl, sym, ap, ◌∙◌, arith, subst, inl, inr, length-append}
+use Rattle.std.proofs.Common.{◌≡◌, ◌≢◌, ◌⊎◌, ℕ, ◌+◌, ◌-◌, ◌^◌, ◌≤◌, Bool, false, List, [], ◌∷◌, ◌++◌, None, Some, IfSome, length, refl, sym, ap, ◌∙◌, arith, subst, inl, inr, length-append}
 use Rattle.std.specs.Prelude.{Option}
 use Rattle.decimal_rank.specs.Causes.{Rose}
 use Rattle.routes.specs.declared.keys.KeyRow.{KeyRow}
@@ -7,7 +7,7 @@ use Rattle.rulebook.specs.Campaign.{History}
 use Rattle.rulebook.specs.Stories.{AtMost, Story}
 use Rattle.campaign_server.specs.declared.ends.ServeEnd.{ServeEnd}
 use Rattle.campaign_server.specs.declared.ends.ServeEnd.TheVariants as serve_end
-use Rattle.campaign_server.specs.Doors.{DoorState, Ended, IsShut, Told}
+use Rattle.campaign_server.specs.Doors.{DoorState, Ended, Told}
 use Rattle.campaign_server.specs.Acceptors.{Closes}
 use Rattle.campaign_server.specs.Records.{AreServed, NoneShort}
 use Rattle.campaign_server.specs.Servers.{Leaves, Settles}

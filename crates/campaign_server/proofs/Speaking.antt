@@ -7,8 +7,8 @@ use Rattle.decimal_rank.specs.Causes.{Rose}
 use Rattle.decimal_rank.specs.KnownBytes.{AppendsPart}
 use Rattle.http_wire.specs.declared.messages.HttpRequest.{HttpRequest}
 use Rattle.http_wire.specs.declared.messages.WireFault.{WireFault}
-use Rattle.http_wire.specs.declared.messages.Step.TheVariants as steps
-use Rattle.http_wire.specs.Messages.{Behind, GoesOn, Messages, ReadsOn, Steps, Closed, Refused}
+use Rattle.http_wire.specs.Heads.{passed}
+use Rattle.http_wire.specs.Messages.{Behind, Faulty, GoesOn, IsFront, Messages, ReadsOn, Waits, Whole, Closed, Refused}
 use Rattle.routes.specs.declared.answers.Answered.{Answered}
 use Rattle.routes.specs.declared.faults.RouteFault.{RouteFault}
 use Rattle.routes.specs.declared.keys.KeyRow.{KeyRow}
@@ -63,7 +63,7 @@ module _ {S : Type 0} (tells : S → Addressed → Answer → S → Type 0) (key
         subst (Appends was.writing.written is.writing.written) (sym (texts_more spoke.said x))
         (Appends-trans was.writing.written now.writing.written is.writing.written (texts_of spoke.said) (text_said x) spoke.written wrote)
 
-    pub spoke_more : (x : Said) (next : List ℕ) (new : S) (is : LinkState) → Steps rest (steps.Request x.request) next → x.request.close ≡ false
+    pub spoke_more : (x : Said) (next : List ℕ) (new : S) (is : LinkState) → IsFront rest (Whole x.request next) → x.request.close ≡ false
         → Ticks now.clock is.clock x.moment → Answers tells keys mid x.request x.moment x.answer new → Appends now.writing.written is.writing.written (text_said x)
         → now.writing.faults ≤ is.writing.faults → Spoke (Chain tells keys old was.clock new is.clock) was bytes next is
     spoke_more x next new is step open_ ticks answers wrote later = record {
@@ -74,7 +74,7 @@ module _ {S : Type 0} (tells : S → Addressed → Answer → S → Type 0) (key
       later = omega (arith, spoke.later, later);
     }
 
-    pub spoke_closes : (x : Said) (next : List ℕ) (new : S) (is : LinkState) → Steps rest (steps.Request x.request) next → x.request.close ≡ true
+    pub spoke_closes : (x : Said) (next : List ℕ) (new : S) (is : LinkState) → IsFront rest (Whole x.request next) → x.request.close ≡ true
         → Ticks now.clock is.clock x.moment → Answers tells keys mid x.request x.moment x.answer new → Appends now.writing.written is.writing.written (text_said x)
         → SpokeAll (Chain tells keys old was.clock new is.clock) was bytes is Closed
     spoke_closes x next new is step closes ticks answers wrote =
@@ -86,7 +86,7 @@ module _ {S : Type 0} (tells : S → Addressed → Answer → S → Type 0) (key
           written = subst (Appends was.writing.written is.writing.written) (sym (append-nil (texts_of (spoke.said ++ x ∷ [])))) (said_written x is wrote);
         }
 
-    pub spoke_part : (x : Said) (next : List ℕ) (new : S) (is : LinkState) → Steps rest (steps.Request x.request) next
+    pub spoke_part : (x : Said) (next : List ℕ) (new : S) (is : LinkState) → IsFront rest (Whole x.request next)
         → Ticks now.clock is.clock x.moment → Answers tells keys mid x.request x.moment x.answer new → AppendsPart now.writing.written is.writing.written (text_said x)
         → Rose now.writing.faults is.writing.faults → SpokePart (Chain tells keys old was.clock new is.clock) was bytes is
     spoke_part x next new is step ticks answers (count, few, wrote) rose = record {
@@ -103,41 +103,41 @@ module _ {S : Type 0} (tells : S → Addressed → Answer → S → Type 0) (key
       fault = rose_later was.writing.faults now.writing.faults is.writing.faults spoke.later rose;
     }
 
-    refused_messages : (cause : WireFault) (next : List ℕ) → Steps rest (steps.Refused cause) next → Messages bytes (requests_of spoke.said) (Refused cause)
-    refused_messages cause next step =
-        let here : Messages rest [] (Refused cause) = subst (λ b. Messages b [] (Refused cause)) (append-nil rest) ((wire rest next []).refused cause step) in
-        subst (λ rs. Messages bytes rs (Refused cause)) (append-nil (requests_of spoke.said)) ((laws bytes (requests_of spoke.said) rest next []).ends [] (Refused cause) spoke.split here)
+    refused_messages : (cause : WireFault) → IsFront rest (Faulty cause) → Messages bytes (requests_of spoke.said) (Refused cause)
+    refused_messages cause front =
+        let here : Messages rest [] (Refused cause) = subst (λ b. Messages b [] (Refused cause)) (append-nil rest) ((wire rest rest []).refused cause front) in
+        subst (λ rs. Messages bytes rs (Refused cause)) (append-nil (requests_of spoke.said)) ((laws bytes (requests_of spoke.said) rest rest []).ends [] (Refused cause) spoke.split here)
 
-    pub spoke_refused : (cause : WireFault) (next : List ℕ) (is : LinkState) → Steps rest (steps.Refused cause) next → is.clock ≡ now.clock
+    pub spoke_refused : (cause : WireFault) (is : LinkState) → IsFront rest (Faulty cause) → is.clock ≡ now.clock
         → Appends now.writing.written is.writing.written (last_text (Refused cause)) → SpokeAll (Chain tells keys old was.clock mid is.clock) was bytes is (Refused cause)
-    spoke_refused cause next is step same wrote = record {
+    spoke_refused cause is front same wrote = record {
       said = spoke.said;
-      are_messages = refused_messages cause next step;
+      are_messages = refused_messages cause front;
       talk = subst (λ c. Chain tells keys old was.clock mid c spoke.said) (sym same) spoke.talk;
       written = Appends-trans was.writing.written now.writing.written is.writing.written (texts_of spoke.said) (last_text (Refused cause)) spoke.written wrote;
     }
 
-    pub spoke_cut : (cause : WireFault) (next : List ℕ) (is : LinkState) → Steps rest (steps.Refused cause) next → is.clock ≡ now.clock
+    pub spoke_cut : (cause : WireFault) (is : LinkState) → IsFront rest (Faulty cause) → is.clock ≡ now.clock
         → AppendsPart now.writing.written is.writing.written (last_text (Refused cause)) → Rose now.writing.faults is.writing.faults
         → SpokeCut (Chain tells keys old was.clock mid is.clock) was bytes is
-    spoke_cut cause next is step same (count, few, wrote) rose = record {
+    spoke_cut cause is front same (count, few, wrote) rose = record {
       said = spoke.said;
       cause = cause;
       count = count;
-      are_messages = refused_messages cause next step;
+      are_messages = refused_messages cause front;
       talk = subst (λ c. Chain tells keys old was.clock mid c spoke.said) (sym same) spoke.talk;
       few = few;
       written = Appends-trans was.writing.written now.writing.written is.writing.written (texts_of spoke.said) (take count (last_text (Refused cause))) spoke.written wrote;
       fault = rose_later was.writing.faults now.writing.faults is.writing.faults spoke.later rose;
     }
 
-    pub spoke_pause : (clean : Bool) (next : List ℕ) → Steps rest (steps.Need clean) next → IsAtPause (Chain tells keys old was.clock mid now.clock) was bytes next now clean
-    spoke_pause clean next step =
-        let ends : Messages bytes (requests_of spoke.said ++ []) (at_pause clean) = (laws bytes (requests_of spoke.said) rest next []).ends [] (at_pause clean) spoke.split ((wire rest next []).ends clean step) in
+    pub spoke_pause : (clean : Bool) → Waits rest clean → IsAtPause (Chain tells keys old was.clock mid now.clock) was bytes (passed rest) now clean
+    spoke_pause clean waits =
+        let ends : Messages bytes (requests_of spoke.said ++ []) (at_pause clean) = (laws bytes (requests_of spoke.said) rest rest []).ends [] (at_pause clean) spoke.split ((wire rest rest []).ends clean waits) in
         record {
           spoke = record {
             said = spoke.said;
-            split = (laws bytes (requests_of spoke.said) rest next []).waits clean spoke.split step;
+            split = (laws bytes (requests_of spoke.said) rest rest []).waits spoke.split;
             talk = spoke.talk;
             written = spoke.written;
             later = spoke.later;
@@ -160,7 +160,7 @@ module _ {S : Type 0} (tells : S → Addressed → Answer → S → Type 0) (key
         → Spoke (Chain tells keys old was.clock new is.clock) was bytes next is
     turn_more reading close next new is u asked turn later open_ =
         let x : Said = record { request = asked.request; moment = turn.moment; answer = turn.told } in
-        spoke_more x next new is asked.step (sym asked.is_reading.close_is ∙ open_) turn.ticks (turn.answers keys asked.request asked.is_reading)
+        spoke_more x next new is asked.front (sym asked.is_reading.close_is ∙ open_) turn.ticks (turn.answers keys asked.request asked.is_reading)
         (subst (Appends now.writing.written is.writing.written) (asked_text reading close next asked turn.told) turn.whole) later
 
     pub turn_closes : (reading : Result Asked RouteFault) (close : Bool) (next : List ℕ) (new : S) (is : LinkState) (u : Unit {0}) → IsRequest keys rest reading close next
@@ -168,7 +168,7 @@ module _ {S : Type 0} (tells : S → Addressed → Answer → S → Type 0) (key
         → SpokeAll (Chain tells keys old was.clock new is.clock) was bytes is Closed
     turn_closes reading close next new is u asked turn closes =
         let x : Said = record { request = asked.request; moment = turn.moment; answer = turn.told } in
-        spoke_closes x next new is asked.step (sym asked.is_reading.close_is ∙ closes) turn.ticks (turn.answers keys asked.request asked.is_reading)
+        spoke_closes x next new is asked.front (sym asked.is_reading.close_is ∙ closes) turn.ticks (turn.answers keys asked.request asked.is_reading)
         (subst (Appends now.writing.written is.writing.written) (asked_text reading close next asked turn.told) turn.whole)
 
     pub turn_part : (reading : Result Asked RouteFault) (close : Bool) (next : List ℕ) (new : S) (is : LinkState) (e : Failed) → IsRequest keys rest reading close next
@@ -176,17 +176,17 @@ module _ {S : Type 0} (tells : S → Addressed → Answer → S → Type 0) (key
         → SpokePart (Chain tells keys old was.clock new is.clock) was bytes is
     turn_part reading close next new is e asked turn rose =
         let x : Said = record { request = asked.request; moment = turn.moment; answer = turn.told } in
-        spoke_part x next new is asked.step turn.ticks (turn.answers keys asked.request asked.is_reading)
+        spoke_part x next new is asked.front turn.ticks (turn.answers keys asked.request asked.is_reading)
         (subst (AppendsPart now.writing.written is.writing.written) (asked_text reading close next asked turn.told) turn.part) rose
 
     -- the end behind a refused message
-    pub refused_ends : (cause : WireFault) (next : List ℕ) (is : LinkState) (e : End) → Steps rest (steps.Refused cause) next → is.clock ≡ now.clock → RefusesWith now is cause e
+    pub refused_ends : (cause : WireFault) (is : LinkState) (e : End) → IsFront rest (Faulty cause) → is.clock ≡ now.clock → RefusesWith now is cause e
         → EndsHere (Chain tells keys old was.clock mid is.clock) was bytes is e
-    refused_ends cause next is (end.Refused told) step same refuses =
-        subst (λ c. SpokeAll (Chain tells keys old was.clock mid is.clock) was bytes is (Refused c)) (sym refuses.0) (spoke_refused cause next is step same refuses.1)
-    refused_ends cause next is end.WriteFault step same refuses = inr (spoke_cut cause next is step same refuses.0 refuses.1)
-    refused_ends cause next is end.Ended step same refuses = absurd refuses
-    refused_ends cause next is end.Cut step same refuses = absurd refuses
-    refused_ends cause next is end.ReadFault step same refuses = absurd refuses
-    refused_ends cause next is end.Memory step same refuses = absurd refuses
-    refused_ends cause next is end.Worn step same refuses = absurd refuses
+    refused_ends cause is (end.Refused told) front same refuses =
+        subst (λ c. SpokeAll (Chain tells keys old was.clock mid is.clock) was bytes is (Refused c)) (sym refuses.0) (spoke_refused cause is front same refuses.1)
+    refused_ends cause is end.WriteFault front same refuses = inr (spoke_cut cause is front same refuses.0 refuses.1)
+    refused_ends cause is end.Ended front same refuses = absurd refuses
+    refused_ends cause is end.Cut front same refuses = absurd refuses
+    refused_ends cause is end.ReadFault front same refuses = absurd refuses
+    refused_ends cause is end.Memory front same refuses = absurd refuses
+    refused_ends cause is end.Worn front same refuses = absurd refuses

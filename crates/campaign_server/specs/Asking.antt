@@ -1,17 +1,22 @@
 -- What comes next of the bytes of a connection, as what is asked.
-use Rattle.std.specs.Prelude.{◌≡◌, ℕ, ◌≤◌, ◌<◌, Bool, List, Result, IfOk, IsTrue, length}
+use Rattle.std.specs.Prelude.{◌≡◌, ℕ, ◌+◌, ◌≤◌, ◌<◌, Bool, List, [], ◌++◌, length, Option, None, Some, Result, Err, IfOk, IsTrue}
+use Rattle.http_wire.specs.declared.messages.HttpHead.{HttpHead}
 use Rattle.http_wire.specs.declared.messages.HttpRequest.{HttpRequest}
-use Rattle.http_wire.specs.declared.messages.Step.{Step}
-use Rattle.http_wire.specs.declared.messages.Step.TheVariants as steps
-use Rattle.http_wire.specs.Messages.{Steps}
+use Rattle.http_wire.specs.Heads.{passed}
+use Rattle.http_wire.specs.Messages.{Whole as WholeFront, Faulty, IsFront, Waits, request_with}
+use Rattle.http_wire.specs.Pieces.{WireState, Begun, StandsOn, fed, size}
 use Rattle.routes.specs.declared.faults.RouteFault.{RouteFault}
+use Rattle.routes.specs.declared.faults.RouteFault.TheVariants as faults
 use Rattle.routes.specs.declared.keys.KeyRow.{KeyRow}
 use Rattle.routes.specs.Asks.{Asked, Reads}
+use Rattle.routes.specs.AskStates.{IsAsking}
 use Rattle.routes.specs.Faults.{IsRead}
 use Rattle.rulebook.specs.declared.limits.TheConstants.{MAX_MOMENT}
 use Rattle.rulebook.specs.Legal.{is_well_addressed}
 use Rattle.campaign_server.specs.declared.asks.AskStep.{AskStep}
 use Rattle.campaign_server.specs.declared.asks.AskStep.TheVariants.{Whole, Need, Refused}
+use Rattle.campaign_server.specs.declared.asks.Present.{Present}
+use Rattle.campaign_server.specs.declared.asks.Present.TheVariants.{Nothing, Reads as ReadsOn, Starved}
 
 -- what is read may be asked at each moment
 abbrev pub MayBeAsked : Result Asked RouteFault → Type 0
@@ -23,22 +28,107 @@ pub record IsReading (keys : List KeyRow) (request : HttpRequest) (reading : Res
   pub may_be_asked : MayBeAsked reading
   pub close_is : close ≡ request.close
 
--- what a wire's step is read as
-abbrev pub IsAsked : List KeyRow → Step → AskStep → Type 0
-IsAsked keys (steps.Request request) (Whole reading close) = IsReading keys request reading close
-IsAsked keys (steps.Request request) (Need clean) = ⊥
-IsAsked keys (steps.Request request) (Refused cause) = ⊥
-IsAsked keys (steps.Need clean) step = step ≡ Need clean
-IsAsked keys (steps.Refused cause) step = step ≡ Refused cause
-
 -- a whole request stands at the front, with this reading, and closes or not
 pub record IsRequest (keys : List KeyRow) (old : List ℕ) (reading : Result Asked RouteFault) (close : Bool) (new : List ℕ) : Type 0 where
   pub request : HttpRequest
-  pub step : Steps old (steps.Request request) new
+  pub front : IsFront old (WholeFront request new)
   pub is_reading : IsReading keys request reading close
-  pub shorter : length new < length old
 
-abbrev pub AsksNext : List KeyRow → List ℕ → AskStep → List ℕ → Type 0
-AsksNext keys old (Whole reading close) new = IsRequest keys old reading close new
-AsksNext keys old (Need clean) new = Steps old (steps.Need clean) new
-AsksNext keys old (Refused cause) new = Steps old (steps.Refused cause) new
+-- the bytes of a connection that were fed and not yet given, and the request that was begun
+pub record StreamState : Type 0 where
+  pub wire : WireState
+  pub present : Present
+
+abbrev pub fresh : StreamState
+fresh = record { wire = record { bytes = []; left = None }; present = Nothing }
+
+abbrev pub fed_on : StreamState → List ℕ → StreamState
+fed_on stream piece = record { wire = fed stream.wire piece; present = stream.present }
+
+abbrev pub Stands : List KeyRow → List ℕ → Present → WireState → Type 0
+Stands keys rest Nothing wire = StandsOn rest None wire
+Stands keys rest (ReadsOn reader close) wire =
+    (begun : Begun) × StandsOn rest (Some begun) wire × (close ≡ begun.head.close) × IsAsking begun.head keys begun.given reader
+Stands keys rest (Starved close) wire = (begun : Begun) × StandsOn rest (Some begun) wire × (close ≡ begun.head.close)
+
+-- The stream was fed these bytes from behind a whole request on. Of the request that they begin, the head and the bytes that came of its body
+-- are read, unless there was no memory for that.
+abbrev pub StandsFor : List KeyRow → List ℕ → StreamState → Type 0
+StandsFor keys rest stream = Stands keys rest stream.present stream.wire
+
+-- a reader has room for what is still to come of its body
+abbrev pub Fits : Present → WireState → Type 0
+Fits Nothing wire = wire.left ≡ None
+Fits (ReadsOn reader close) wire = (left : ℕ) × (wire.left ≡ Some left) × (reader.fed + left ≤ 16777216)
+Fits (Starved close) wire = (left : ℕ) × (wire.left ≡ Some left)
+
+-- a request was begun
+abbrev pub IsBegun : Present → Type 0
+IsBegun Nothing = ⊥
+IsBegun (ReadsOn reader close) = Unit {0}
+IsBegun (Starved close) = Unit {0}
+
+-- what a head begins
+abbrev pub Begins : List KeyRow → HttpHead → Present → Type 0
+Begins keys head Nothing = ⊥
+Begins keys head (ReadsOn reader close) = (close ≡ head.close) × IsAsking head keys [] reader × (reader.fed ≡ 0)
+Begins keys head (Starved close) = close ≡ head.close
+
+-- a reader has room for a piece
+abbrev pub PieceFits : Present → ℕ → Type 0
+PieceFits Nothing more = Unit {0}
+PieceFits (ReadsOn reader close) more = reader.fed + more ≤ 16777216
+PieceFits (Starved close) more = Unit {0}
+
+-- the request goes on with a piece of its body
+abbrev pub PieceOn : Present → List ℕ → Present → Type 0
+PieceOn Nothing piece new = new ≡ Nothing
+PieceOn (ReadsOn reader close) piece (ReadsOn later same) =
+    (same ≡ close) × (later.fed ≡ reader.fed + length piece)
+    × ((head : HttpHead) (keys : List KeyRow) (body : List ℕ) → IsAsking head keys body reader → IsAsking head keys (body ++ piece) later)
+PieceOn (ReadsOn reader close) piece (Starved same) = same ≡ close
+PieceOn (ReadsOn reader close) piece Nothing = ⊥
+PieceOn (Starved close) piece new = new ≡ Starved close
+
+-- what is read of a request whose body is whole
+abbrev pub EndsWith : Present → AskStep → Type 0
+EndsWith Nothing step = ⊥
+EndsWith (ReadsOn reader close) (Whole reading same) =
+    (same ≡ close) × MayBeAsked reading
+    × ((head : HttpHead) (keys : List KeyRow) (body : List ℕ) → IsAsking head keys body reader → IsRead (Reads (request_with head body) keys) reading)
+EndsWith (ReadsOn reader close) (Need clean) = ⊥
+EndsWith (ReadsOn reader close) (Refused cause) = ⊥
+EndsWith (Starved close) step = step ≡ Whole (Err faults.Memory) close
+
+abbrev pub stream_at : WireState → Present → StreamState
+stream_at wire present = record { wire = wire; present = present }
+
+-- a whole request stands at the front with this reading; more bytes are needed; or they are refused
+abbrev pub AsksAt : List KeyRow → List ℕ → AskStep → StreamState → Type 0
+AsksAt keys rest (Whole reading close) new = (next : List ℕ) × IsRequest keys rest reading close next × StandsFor keys next new
+AsksAt keys rest (Need clean) new = Waits rest clean × StandsFor keys (passed rest) new
+AsksAt keys rest (Refused cause) new = IsFront rest (Faulty cause)
+
+-- what comes next of whatever bytes the stream stands for
+abbrev pub AsksNext : List KeyRow → StreamState → AskStep → StreamState → Type 0
+AsksNext keys old step new = (rest : List ℕ) → StandsFor keys rest old → AsksAt keys rest step new
+
+-- what one step of the wire comes to
+abbrev pub Goes : List KeyRow → StreamState → Option AskStep → StreamState → Type 0
+Goes keys old None new = (rest : List ℕ) → StandsFor keys rest old → StandsFor keys rest new
+Goes keys old (Some step) new = AsksNext keys old step new
+
+abbrev pub IsAskable : AskStep → Type 0
+IsAskable (Whole reading close) = MayBeAsked reading
+IsAskable (Need clean) = Unit {0}
+IsAskable (Refused cause) = Unit {0}
+
+-- behind a whole request fewer steps may come without a byte more
+abbrev pub IsShorter : StreamState → AskStep → StreamState → Type 0
+IsShorter old (Whole reading close) new = size new.wire < size old.wire
+IsShorter old (Need clean) new = Unit {0}
+IsShorter old (Refused cause) new = Unit {0}
+
+abbrev pub GoesShorter : StreamState → Option AskStep → StreamState → Type 0
+GoesShorter old None new = size new.wire < size old.wire
+GoesShorter old (Some step) new = IsShorter old step new

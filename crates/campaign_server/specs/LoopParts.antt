@@ -1,5 +1,5 @@
 -- How far a connection has come.
-use Rattle.std.specs.Prelude.{◌≡◌, ◌⊎◌, ℕ, ◌+◌, ◌^◌, ◌≤◌, Bool, List, [], ◌++◌, Result, Ok, Err, length, nat_lt, if◌then◌else◌}
+use Rattle.std.specs.Prelude.{◌≡◌, ◌⊎◌, ℕ, ◌+◌, ◌^◌, ◌≤◌, Bool, List, [], Result, Ok, Err, length, nat_lt, if◌then◌else◌}
 use Rattle.std.specs.Io.KnownBytes.{Appends, IsAtEnd}
 use Rattle.decimal_rank.specs.Causes.{Rose}
 use Rattle.decimal_rank.specs.KnownBytes.{AppendsPart}
@@ -13,6 +13,7 @@ use Rattle.campaign_server.specs.declared.connections.ReadFault.TheVariants.{Fai
 use Rattle.campaign_server.specs.declared.ends.End.{End}
 use Rattle.campaign_server.specs.declared.ends.End.TheVariants as end
 use Rattle.campaign_server.specs.Links.{LinkState}
+use Rattle.campaign_server.specs.Asking.{StreamState, StandsFor, fed_on}
 use Rattle.campaign_server.specs.Chains.{Chain, Said, last_text}
 use Rattle.campaign_server.specs.Connections.{Hears, Spoke, SpokeAll, SpokeCut, SpokePart, at_pause}
 
@@ -41,21 +42,21 @@ module _ (talks : List Said → Type 0) where
 
 module _ {S : Type 0} (tells : S → Addressed → Answer → S → Type 0) (keys : List KeyRow) where
   -- whatever was said up to one point of a connection, more was said up to the other
-  abbrev pub Continues : S → LinkState → List ℕ → S → LinkState → List ℕ → Type 0
-  Continues state now rest next then_ after =
-      (old : S) (was : LinkState) (bytes : List ℕ) → Spoke (Chain tells keys old was.clock state now.clock) was bytes rest now
-      → Spoke (Chain tells keys old was.clock next then_.clock) was bytes after then_
+  abbrev pub Continues : S → LinkState → StreamState → S → LinkState → StreamState → Type 0
+  Continues state now stream next then_ after =
+      (old : S) (was : LinkState) (bytes rest : List ℕ) → StandsFor keys rest stream → Spoke (Chain tells keys old was.clock state now.clock) was bytes rest now
+      → (later : List ℕ) × StandsFor keys later after × Spoke (Chain tells keys old was.clock next then_.clock) was bytes later then_
 
   -- and all whole requests are answered there
-  abbrev pub Pauses : S → LinkState → List ℕ → Bool → S → LinkState → List ℕ → Type 0
-  Pauses state now rest clean next then_ after =
-      (old : S) (was : LinkState) (bytes : List ℕ) → Spoke (Chain tells keys old was.clock state now.clock) was bytes rest now
-      → IsAtPause (Chain tells keys old was.clock next then_.clock) was bytes after then_ clean
+  abbrev pub Pauses : S → LinkState → StreamState → Bool → S → LinkState → StreamState → Type 0
+  Pauses state now stream clean next then_ after =
+      (old : S) (was : LinkState) (bytes rest : List ℕ) → StandsFor keys rest stream → Spoke (Chain tells keys old was.clock state now.clock) was bytes rest now
+      → (later : List ℕ) × StandsFor keys later after × IsAtPause (Chain tells keys old was.clock next then_.clock) was bytes later then_ clean
 
   -- and the connection ends there
-  abbrev pub EndsFrom : S → LinkState → List ℕ → End → S → LinkState → Type 0
-  EndsFrom state now rest e next then_ =
-      (old : S) (was : LinkState) (bytes : List ℕ) → Spoke (Chain tells keys old was.clock state now.clock) was bytes rest now
+  abbrev pub EndsFrom : S → LinkState → StreamState → End → S → LinkState → Type 0
+  EndsFrom state now stream e next then_ =
+      (old : S) (was : LinkState) (bytes rest : List ℕ) → StandsFor keys rest stream → Spoke (Chain tells keys old was.clock state now.clock) was bytes rest now
       → EndsHere (Chain tells keys old was.clock next then_.clock) was bytes then_ e
 
 -- so many bytes were read where so many were taken before: at most what one read takes, and no more than may be taken
@@ -65,11 +66,11 @@ pub record IsPiece (taken : ℕ) (piece : List ℕ) (count : ℕ) : Type 0 where
   pub room : taken + count ≤ 2 ^ 40
 
 -- what a read comes to: a piece behind what was fed, none at the end; or a fault, at which nothing was taken; or a piece for which there was no memory
-abbrev pub ReadsPiece : LinkState → LinkState → List ℕ → ℕ → Result ℕ ReadFault → List ℕ → Type 0
-ReadsPiece old new rest taken (Ok count) after =
-    (piece : List ℕ) × IsPiece taken piece count × Hears old new piece × (after ≡ rest ++ piece) × (count ≡ 0 → IsAtEnd new.reading.left)
-ReadsPiece old new rest taken (Err Failed) after = Hears old new [] × Rose old.reading.faults new.reading.faults
-ReadsPiece old new rest taken (Err Memory) after = (piece : List ℕ) × (length piece ≤ 8192) × Hears old new piece
+abbrev pub ReadsPiece : LinkState → LinkState → StreamState → ℕ → Result ℕ ReadFault → StreamState → Type 0
+ReadsPiece old new stream taken (Ok count) after =
+    (piece : List ℕ) × IsPiece taken piece count × Hears old new piece × (after ≡ fed_on stream piece) × (count ≡ 0 → IsAtEnd new.reading.left)
+ReadsPiece old new stream taken (Err Failed) after = Hears old new [] × Rose old.reading.faults new.reading.faults
+ReadsPiece old new stream taken (Err Memory) after = (piece : List ℕ) × (length piece ≤ 8192) × Hears old new piece
 
 -- a refused message was answered, or a write failed in its answer
 abbrev pub RefusesWith : LinkState → LinkState → WireFault → End → Type 0

@@ -1,15 +1,16 @@
-//! The requests of a connection's bytes, as what they ask. How the bytes of a body are kept is known
-//! here alone.
-ghost use Rattle.std.specs.Prelude.{◌≡◌, ◌++◌, [], IfOk, OnOk, OnErr};
-ghost use Rattle.campaign_server.specs.Asking.{AsksNext, IsAsked};
-ghost use Rattle.http_wire.specs.Messages.{BodyFits};
+//! The requests of a connection's bytes, as what they ask. A head begins a reader, the pieces of the body go to
+//! it as they come, and where the body is whole its reading is given. How bytes are kept is known here alone.
+ghost use Rattle.std.specs.Prelude.{◌≡◌, ◌+◌, ◌≤◌, IfOk, IfSome, OnOk, OnErr, length};
+ghost use Rattle.http_wire.specs.Pieces.{BodyFits, Shortens, Steps};
+ghost use Rattle.campaign_server.specs.Asking.{AsksNext, Begins, EndsWith, Fits, Goes, GoesShorter, IsAskable, IsBegun, IsShorter, PieceFits, PieceOn, fed_on, fresh, stream_at};
 
 use decimal_rank::Memory;
-use http_wire::{Step, Wire, WireFault};
-use routes::{Keys, Paths, RouteFault, read_ask_by};
+use http_wire::{HttpHead, Step, Wire, WireFault, pieces_go_on};
+use routes::{AskReader, Keys, Paths, RouteFault};
 use rulebook::{Ask, Caller};
 use std::alloc::Global;
 use std::marker::Model;
+use std::mem::replace;
 
 /// What a request asks and who asks it, or its first fault.
 pub(crate) type Reading = Result<(Caller, Option<u64>, Ask), RouteFault>;
@@ -24,50 +25,155 @@ pub(crate) enum AskStep {
     Refused(WireFault),
 }
 
-/// The bytes of a connection that were fed and not yet read, which contracts see.
+/// The request whose head was given.
 #[derive(Drop)]
-pub(crate) struct AskReader {
+enum Present {
+    /// None was begun.
+    Nothing,
+    Reads { reader: AskReader, close: bool },
+    /// There was no memory to read it. The rest of its body is taken.
+    Starved { close: bool },
+}
+
+/// The bytes of a connection that were fed and not yet given, and the request that they began, which contracts
+/// see.
+#[derive(Drop)]
+pub(crate) struct AskStream {
     wire: Wire,
+    present: Present,
     paths: Paths,
 }
 
-impl Model for AskReader {
-    ghost use Rattle.std.specs.Prelude.{List, ℕ};
+impl Model for AskStream {
+    ghost use Rattle.campaign_server.specs.Asking.{Fits, StreamState};
 
-    ghost Value = { List ℕ };
+    ghost Value = { StreamState };
 
-    ghost view = { λ reader. reader.wire };
+    ghost view = { λ stream. record { wire = stream.wire; present = stream.present } };
+
+    ghost invariant = { λ stream. Fits stream.present stream.wire };
 }
 
-// The reading of what a wire gave.
-fn step_of(alloc: Global, paths: &Paths, keys: &Keys, step: Step) -> AskStep
-    requires { BodyFits step }
-    ensures { IsAsked keys.now step result }
+// What a head begins.
+fn begin(alloc: Global, paths: &Paths, keys: &Keys, head: &HttpHead) -> Present
+    ensures { Begins keys.now head.now result }
 {
-    match step {
-        Step::Request(request) => AskStep::Whole {
-            reading: read_ask_by(alloc, paths, &request, keys),
-            close: request.close,
+    match AskReader::new_by(alloc, paths, head, keys) {
+        Ok(reader) => Present::Reads {
+            reader,
+            close: head.close,
         },
-        Step::Need { clean } => AskStep::Need { clean },
-        Step::Refused(fault) => AskStep::Refused(fault),
+        Err(Memory) => Present::Starved { close: head.close },
     }
 }
 
-impl AskReader {
-    pub(crate) fn new(alloc: Global) -> Result<AskReader, Memory>
-        ensures { IfOk result (λ reader. reader ≡ []) }
+// The request behind a piece of its body.
+fn take_piece(present: Present, piece: &[u8]) -> Present
+    requires { PieceFits present (length piece.now) }
+    ensures { PieceOn present piece.now result }
+{
+    match present {
+        Present::Nothing => Present::Nothing,
+        Present::Reads { mut reader, close } => match reader.feed(piece) {
+            Ok(()) => Present::Reads { reader, close },
+            Err(Memory) => Present::Starved { close },
+        },
+        Present::Starved { close } => Present::Starved { close },
+    }
+}
+
+// What a request is read as whose body is whole.
+fn end(present: Present) -> AskStep
+    requires { IsBegun present }
+    ensures reading { EndsWith present result }
+    ensures askable { IsAskable result }
+{
+    match present {
+        Present::Nothing => unreachable!(),
+        Present::Reads { reader, close } => AskStep::Whole {
+            reading: reader.finish(),
+            close,
+        },
+        Present::Starved { close } => AskStep::Whole {
+            reading: Err(RouteFault::Memory),
+            close,
+        },
+    }
+}
+
+// One step of the wire. None is that the present request was begun or goes on.
+fn take_step(
+    alloc: Global,
+    paths: &Paths,
+    keys: &Keys,
+    wire: &mut Wire,
+    present: &mut Present,
+) -> Result<Option<AskStep>, Memory>
+    requires { Fits present.old wire.old }
+    ensures goes { IfOk result (λ step. Goes keys.now (stream_at wire.old present.old) step (stream_at wire.new present.new)) }
+    ensures askable { IfOk result (λ step. IfSome step IsAskable) }
+    ensures shorter { IfOk result (λ step. GoesShorter (stream_at wire.old present.old) step (stream_at wire.new present.new)) }
+    ensures fits { Fits present.new wire.new }
+{
+    pieces_go_on();
+    match wire.next() {
+        Ok(Step::Head(head)) => {
+            *present = begin(alloc, paths, keys, &head);
+            Ok(None)
+        }
+        Ok(Step::Piece(text)) => {
+            let before = replace(present, Present::Nothing);
+            *present = take_piece(before, text.bytes());
+            Ok(None)
+        }
+        Ok(Step::Whole) => {
+            let ended = replace(present, Present::Nothing);
+            Ok(Some(end(ended)))
+        }
+        Ok(Step::Need { clean }) => Ok(Some(AskStep::Need { clean })),
+        Ok(Step::Refused(fault)) => Ok(Some(AskStep::Refused(fault))),
+        Err(memory) => Err(memory),
+    }
+}
+
+// Steps on up to a whole request, or for as long as bytes are there.
+fn step_on(
+    alloc: Global,
+    paths: &Paths,
+    keys: &Keys,
+    wire: &mut Wire,
+    present: &mut Present,
+) -> Result<AskStep, Memory>
+    requires { Fits present.old wire.old }
+    ensures asks { IfOk result (λ step. AsksNext keys.now (stream_at wire.old present.old) step (stream_at wire.new present.new)) }
+    ensures askable { IfOk result IsAskable }
+    ensures shorter { IfOk result (λ step. IsShorter (stream_at wire.old present.old) step (stream_at wire.new present.new)) }
+    ensures fits { Fits present.new wire.new }
+{
+    'steps: loop {
+        match take_step(alloc, paths, keys, wire, present) {
+            Ok(None) => {}
+            Ok(Some(step)) => return Ok(step),
+            Err(memory) => return Err(memory),
+        }
+    }
+}
+
+impl AskStream {
+    pub(crate) fn new(alloc: Global) -> Result<AskStream, Memory>
+        ensures { IfOk result (λ stream. stream ≡ fresh) }
     {
         let paths = Paths::new(alloc)?;
-        Ok(AskReader {
+        Ok(AskStream {
             wire: Wire::new(alloc),
+            present: Present::Nothing,
             paths,
         })
     }
 
     /// Adds the bytes that came next.
     pub(crate) fn feed(&mut self, piece: &[u8]) -> Result<(), Memory>
-        ensures ok { OnOk result (self.new ≡ self.old ++ piece.now) }
+        ensures ok { OnOk result (self.new ≡ fed_on self.old piece.now) }
         ensures err { OnErr result (self.new ≡ self.old) }
     {
         self.wire.feed(piece)
@@ -75,12 +181,10 @@ impl AskReader {
 
     /// What comes next of the bytes that were fed.
     pub(crate) fn next(&mut self, alloc: Global, keys: &Keys) -> Result<AskStep, Memory>
-        ensures ok { IfOk result (λ step. AsksNext keys.now self.old step self.new) }
-        ensures err { OnErr result (self.new ≡ self.old) }
+        ensures asks { IfOk result (λ step. AsksNext keys.now self.old step self.new) }
+        ensures askable { IfOk result IsAskable }
+        ensures shorter { IfOk result (λ step. IsShorter self.old step self.new) }
     {
-        match self.wire.next() {
-            Ok(step) => Ok(step_of(alloc, &self.paths, keys, step)),
-            Err(memory) => Err(memory),
-        }
+        step_on(alloc, &self.paths, keys, &mut self.wire, &mut self.present)
     }
 }

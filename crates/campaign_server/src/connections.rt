@@ -1,18 +1,19 @@
 //! The loop of a connection: a piece is read, every whole request of the bytes so far is answered in
 //! order, and then more is read.
-ghost use Rattle.std.specs.Prelude.{◌≡◌, ◌<◌, ◌≤◌, ◌^◌, [], IfOk, IfErr};
+ghost use Rattle.std.specs.Prelude.{◌≡◌, ◌<◌, ◌≤◌, ◌^◌, IfOk, IfErr};
+ghost use Rattle.campaign_server.specs.Asking.{fresh};
 ghost use Rattle.campaign_server.specs.Chains.{Chain};
 ghost use Rattle.campaign_server.specs.Connections.{Ends};
 ghost use Rattle.campaign_server.specs.LoopParts.{EndsFrom, Pauses, ReadsPiece, RefusesWith, at_end, last_end, worn};
 
 use crate::answering::{answer, refuse};
-use crate::asks::{AskReader, AskStep};
+use crate::asks::{AskStep, AskStream};
 use crate::buffers::Buffer;
 use crate::ends::End;
 use crate::links::Link;
 use crate::tellers::Teller;
 use decimal_rank::{Failed, Memory};
-use http_wire::{WireFault, readings_go_on, steps_are_messages};
+use http_wire::{WireFault, fronts_are_messages, pieces_go_on, readings_go_on};
 use routes::Keys;
 use std::alloc::Global;
 
@@ -22,23 +23,23 @@ const MOST_TAKEN: usize = 1 << 40;
 /// The most bytes of one read.
 const CHUNK: usize = 8192;
 
-// Answers the whole requests that the reader has. True is that nothing but line ends is left.
+// Answers the whole requests that the stream has. True is that nothing but line ends is left.
 fn answer_all<T: Teller, I: Link>(
     alloc: Global,
     teller: &mut T,
     link: &mut I,
     keys: &Keys,
-    reader: &mut AskReader,
+    stream: &mut AskStream,
     buffer: &mut Buffer,
 ) -> Result<bool, End>
-    ensures pause { IfOk result (λ clean. Pauses T.tells keys.now teller.old (I.seen link.old) reader.old clean teller.new (I.seen link.new) reader.new) }
-    ensures ends { IfErr result (λ end. EndsFrom T.tells keys.now teller.old (I.seen link.old) reader.old end teller.new (I.seen link.new)) }
+    ensures pause { IfOk result (λ clean. Pauses T.tells keys.now teller.old (I.seen link.old) stream.old clean teller.new (I.seen link.new) stream.new) }
+    ensures ends { IfErr result (λ end. EndsFrom T.tells keys.now teller.old (I.seen link.old) stream.old end teller.new (I.seen link.new)) }
     ensures reading_kept { (I.seen link.new).reading ≡ (I.seen link.old).reading }
 {
     readings_go_on();
-    steps_are_messages();
+    fronts_are_messages();
     'requests: loop {
-        match reader.next(alloc, keys) {
+        match stream.next(alloc, keys) {
             Err(Memory) => return Err(End::Memory),
             Ok(AskStep::Need { clean }) => return Ok(clean),
             Ok(AskStep::Refused(fault)) => return Err(refuse_with(link, buffer, fault)),
@@ -75,14 +76,14 @@ enum ReadFault {
     Memory,
 }
 
-// Reads a piece into the reader, and returns how many bytes it has: none at the end.
+// Reads a piece into the stream, and returns how many bytes it has: none at the end.
 fn read_piece<I: Link>(
     link: &mut I,
-    reader: &mut AskReader,
+    stream: &mut AskStream,
     taken: usize,
 ) -> Result<usize, ReadFault>
     requires { taken < 2 ^ 40 }
-    ensures piece { ReadsPiece (I.seen link.old) (I.seen link.new) reader.old taken result reader.new }
+    ensures piece { ReadsPiece (I.seen link.old) (I.seen link.new) stream.old taken result stream.new }
     ensures later { (I.seen link.old).reading.faults ≤ (I.seen link.new).reading.faults }
     ensures writing_kept { (I.seen link.new).writing ≡ (I.seen link.old).writing }
     ensures clock_kept { (I.seen link.new).clock ≡ (I.seen link.old).clock }
@@ -90,7 +91,7 @@ fn read_piece<I: Link>(
     let mut chunk = [0; CHUNK];
     let room = (MOST_TAKEN - taken).min(CHUNK);
     match link.read(&mut chunk[..room]) {
-        Ok(count) => match reader.feed(&chunk[..count]) {
+        Ok(count) => match stream.feed(&chunk[..count]) {
             Ok(()) => Ok(count),
             Err(Memory) => Err(ReadFault::Memory),
         },
@@ -128,23 +129,24 @@ fn converse_by<T: Teller, I: Link>(
     teller: &mut T,
     link: &mut I,
     keys: &Keys,
-    reader: &mut AskReader,
+    stream: &mut AskStream,
     buffer: &mut Buffer,
 ) -> End
-    requires { reader.old ≡ [] }
+    requires { stream.old ≡ fresh }
     ensures { Ends (Chain T.tells keys.now teller.old (I.seen link.old).clock teller.new (I.seen link.new).clock) (I.seen link.old) (I.seen link.new) result }
 {
+    pieces_go_on();
     readings_go_on();
     let mut taken = 0;
     let mut clean = true;
     'pieces: while taken < MOST_TAKEN {
-        match read_piece(link, reader, taken) {
+        match read_piece(link, stream, taken) {
             Err(ReadFault::Failed) => return End::ReadFault,
             Err(ReadFault::Memory) => return End::Memory,
             Ok(0) => return at_end(clean),
             Ok(count) => taken += count,
         }
-        match answer_all(alloc, teller, link, keys, reader, buffer) {
+        match answer_all(alloc, teller, link, keys, stream, buffer) {
             Ok(now) => clean = now,
             Err(end) => return last_end(end, taken),
         }
@@ -159,8 +161,8 @@ pub fn converse<T: Teller, I: Link>(alloc: Global, teller: &mut T, link: &mut I,
     let Ok(mut buffer) = Buffer::new(alloc) else {
         return End::Memory;
     };
-    let Ok(mut reader) = AskReader::new(alloc) else {
+    let Ok(mut stream) = AskStream::new(alloc) else {
         return End::Memory;
     };
-    converse_by(alloc, teller, link, keys, &mut reader, &mut buffer)
+    converse_by(alloc, teller, link, keys, &mut stream, &mut buffer)
 }

@@ -31,7 +31,7 @@ behind_waits bytes (request ∷ requests) rest new same (next, front, goes_on, b
 
 -- the same stands at the front of bytes that are the same but for what is passed over
 front_of_same : (bytes rest : List ℕ) (front : Front) → passed bytes ≡ passed rest → IsFront rest front → IsFront bytes front
-front_of_same bytes rest front same at = subst (λ message. AtMessage message front) (sym same) at
+front_of_same bytes rest front same (upto, at, is) = (upto, subst (λ message. AtMessage message upto) (sym same) at, is)
 
 behind_more : (bytes : List ℕ) (requests : List HttpRequest) (rest : List ℕ) (request : HttpRequest) (next : List ℕ) → Behind bytes requests rest
     → IsFront rest (Whole request next) → request.close ≡ false → Behind bytes (requests ++ request ∷ []) next
@@ -62,7 +62,7 @@ behind_ends bytes (request ∷ requests) rest others end (next, front, goes_on, 
 pub reads_on : (bytes : List ℕ) (requests : List HttpRequest) (old new more : List ℕ) → ReadsOn bytes requests old new more
 reads_on bytes requests old new more = record {
   fed = behind_fed bytes requests old more;
-  waits = λ clean behind step. behind_waits bytes requests old new (sym (ap passed step.2 ∙ passed_again old)) behind;
-  request = λ request behind step open_. behind_more bytes requests old request new behind step open_;
+  waits = λ behind. behind_waits bytes requests old (passed old) (sym (passed_again old)) behind;
+  request = λ request behind front open_. behind_more bytes requests old request new behind front open_;
   ends = λ others end behind messages. behind_ends bytes requests old others end behind messages;
 }

@@ -2,5 +2,6 @@ pub mod Continuing
 pub mod FrontLaws
 pub mod HeadLengths
 pub mod Looks
+pub mod PieceLaws
 pub mod ReadingLaws
 pub mod Searching

@@ -1,14 +1,10 @@
--- Bytes are read in one way at most, and a refusal stays.
-use Rattle.std.proofs.Common.{◌≡◌, ℕ, List, [], ◌∷◌, ◌++◌, Bool, true, false, refl, sym, ap, ◌∙◌, subst}
+-- Bytes are read in one way at most.
+use Rattle.std.proofs.Common.{◌≡◌, ℕ, List, [], ◌∷◌, Bool, true, false, refl, sym, ap, ◌∙◌, subst}
 use Rattle.std.specs.Prelude.{MatchBool}
 use Rattle.http_wire.specs.declared.messages.HttpRequest.{HttpRequest}
-use Rattle.http_wire.specs.declared.messages.WireFault.{WireFault}
-use Rattle.http_wire.specs.declared.messages.Step.{Step}
-use Rattle.http_wire.specs.declared.messages.Step.TheVariants as steps
 use Rattle.http_wire.specs.Heads.{passed, is_filled}
-use Rattle.http_wire.specs.Messages.{Whole, Faulty, Unfinished, AtMessage, IsFront, End, Closed, Refused, Clean, Cut, IsEnd, Messages, Steps, RefusesAgain}
-use Rattle.http_wire.proofs.HeadLengths.{passed_again}
-use Rattle.http_wire.proofs.FrontLaws.{front_is_one, front_stays}
+use Rattle.http_wire.specs.Messages.{Whole, Faulty, Unfinished, IsFront, End, Closed, Refused, Clean, Cut, IsEnd, Messages}
+use Rattle.http_wire.proofs.FrontLaws.{front_is_one}
 
 -- where bytes end, no request stands
 ends_here : (bytes : List ℕ) (end : End) (request : HttpRequest) (rest : List ℕ) → IsEnd bytes end → IsFront bytes (Whole request rest) → ⊥
@@ -58,16 +54,3 @@ reading_is_one bytes (request ∷ requests) (second ∷ others) end other (rest,
     let aligned = subst (λ b. MatchBool request.close ((others ≡ []) × (other ≡ Closed)) (Messages b others other)) joined moved in
     let both = one_after request.close rest requests others end other (reading_is_one rest requests others end other) later aligned in
     (ap (λ r. r ∷ requests) (sym equal) ∙ ap (λ rs. second ∷ rs) both.0, both.1)
-
-again : (bytes : List ℕ) (cause : WireFault) (step : Step) (after : List ℕ) → IsFront bytes (Faulty cause) → Steps bytes step after → step ≡ steps.Refused cause
-again bytes cause (steps.Request request) after front next = let wrong = front_is_one bytes (Faulty cause) (Whole request after) front next in cc
-again bytes cause (steps.Need clean) after front next = let wrong = front_is_one bytes (Faulty cause) Unfinished front next.0 in cc
-again bytes cause (steps.Refused other) after front next =
-    let same = front_is_one bytes (Faulty other) (Faulty cause) next.0 front in
-    let equal : other ≡ cause = cc in ap (λ c. steps.Refused c) equal
-
-pub refuses_again : (old new more : List ℕ) → RefusesAgain old new more
-refuses_again old new more cause step after refused next =
-    let here : passed new ≡ passed old = ap passed refused.1 ∙ passed_again old in
-    let front : IsFront new (Faulty cause) = subst (λ message. AtMessage message (Faulty cause)) (sym here) refused.0 in
-    again (new ++ more) cause step after ((front_stays new more).faulty cause front) next

@@ -2,11 +2,9 @@
 use Rattle.std.specs.Prelude.{◌+◌, ◌≤◌, length, drop}
 use Rattle.http_wire.specs.declared.wires.Wire.TheInside.{Inside}
 use Rattle.http_wire.specs.Heads.{passed}
-use Rattle.http_wire.specs.Fronts.{IsAwaiting, IsSearched}
+use Rattle.http_wire.specs.Fronts.{IsSearched}
 
--- At most half of the bytes that are kept were given or passed over. Nothing comes of the others before so many are there, and no head of
--- theirs ends before where it is looked for.
+-- At most half of the bytes that are kept were given or passed over, and no head of the others ends before where it is looked for.
 pub record IsKept (wire : Inside) : Type 0 where
   pub half : wire.done + wire.done ≤ length wire.bytes.items
-  pub awaiting : IsAwaiting (drop wire.done wire.bytes.items) wire.needed
   pub searched : IsSearched (passed (drop wire.done wire.bytes.items)) wire.searched

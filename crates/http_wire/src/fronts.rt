@@ -1,14 +1,14 @@
-ghost use Rattle.std.specs.Prelude.{◌≡◌, ◌+◌, ◌<◌, ◌≤◌, ◌^◌, Some, IfOk, length, drop, take};
-ghost use Rattle.http_wire.specs.Fronts.{IsAwaiting, IsFound, IsSearched, found_behind};
-ghost use Rattle.http_wire.specs.Heads.{head_length, passed};
-ghost use Rattle.http_wire.specs.Messages.{BodyFits, Shortens, Steps};
+ghost use Rattle.std.specs.Prelude.{◌≡◌, ◌≤◌, ◌<◌, ◌^◌, None, Some, IfOk, length, drop, take};
+ghost use Rattle.http_wire.specs.Fronts.{IsFound, IsSearched, behind, found_with, wire_at};
+ghost use Rattle.http_wire.specs.Heads.{body_length, head_length, passed};
+ghost use Rattle.http_wire.specs.Pieces.{BodyFits, BodySteps, HeadSteps, Shortens, Steps};
 
 use crate::fields::body_length;
 use crate::heads::{
     Head, LONGEST_EMPTY_LINE, MOST_FIELDS, MOST_HEAD, copy_head, find_head_from, find_parts,
     pass_line_ends,
 };
-use crate::messages::{HttpRequest, Step, WireFault};
+use crate::messages::{HttpHead, Step, WireFault};
 use decimal_rank::{Memory, Text};
 use httparse::spans::EMPTY_HEADER_SPAN;
 use std::alloc::Global;
@@ -16,11 +16,11 @@ use std::alloc::Global;
 /// What stands at the front of bytes that begin with no CR or LF.
 #[derive(Drop)]
 pub(crate) enum Found {
-    /// A whole request, and how many bytes it has.
-    Whole(HttpRequest, usize),
+    /// A head, and how many bytes it has.
+    Whole(HttpHead, usize),
     Faulty(WireFault),
-    /// More bytes are needed: at least so many in all. No head ends before the place.
-    Unfinished { needed: usize, searched: usize },
+    /// More bytes are needed. No head ends before the place.
+    Unfinished { searched: usize },
 }
 
 /// What a look at bytes came to.
@@ -29,44 +29,35 @@ pub(crate) struct Look {
     pub(crate) step: Step,
     /// How many bytes are given or passed over.
     pub(crate) taken: usize,
-    /// So many of the bytes that are left are needed for a further step.
-    pub(crate) needed: usize,
-    /// No head of theirs ends before this place.
+    /// No head of the bytes that are left ends before this place.
     pub(crate) searched: usize,
+    /// So many bytes of a body are still to be given.
+    pub(crate) left: Option<u32>,
 }
 
-// What stands there with a head of this length in front.
-fn with_body(alloc: Global, head: Head, head_len: usize, rest: &[u8]) -> Result<Found, Memory>
-    requires { head_len + length rest.now < 2 ^ 63 }
-    ensures { IfOk result (λ found. found ≡ found_behind head head_len rest.now) }
+// The head with the length of its body, or the fault of its fields.
+fn with_length(head: Head, head_len: usize) -> Found
+    ensures { result ≡ found_with head head_len (body_length head.method head.fields) }
 {
     match body_length(head.method.bytes(), head.fields.items()) {
-        Err(fault) => Ok(Found::Faulty(fault)),
-        Ok(size) => {
-            let size = size as usize;
-            if rest.len() < size {
-                return Ok(Found::Unfinished {
-                    needed: head_len + size,
-                    searched: 0,
-                });
-            }
-            let body = Text::from_slice(alloc, &rest[..size])?;
+        Err(fault) => Found::Faulty(fault),
+        Ok(length) => {
             let Head {
                 method,
                 path,
                 fields,
                 close,
             } = head;
-            Ok(Found::Whole(
-                HttpRequest {
+            Found::Whole(
+                HttpHead {
                     method,
                     path,
                     fields,
-                    body,
+                    length,
                     close,
                 },
-                head_len + size,
-            ))
+                head_len,
+            )
         }
     }
 }
@@ -83,7 +74,7 @@ fn read_message(alloc: Global, message: &[u8], head_len: usize) -> Result<Found,
     match find_parts(text, &mut spans) {
         Some(parts) => {
             let head = copy_head(alloc, text, &spans, &parts)?;
-            with_body(alloc, head, head_len, &message[head_len..])
+            Ok(with_length(head, head_len))
         }
         None => Ok(Found::Faulty(WireFault::Head)),
     }
@@ -109,21 +100,39 @@ fn find_front(alloc: Global, message: &[u8], searched: usize) -> Result<Found, M
     match find_head_from(head_bytes(message), searched) {
         Some(head_len) => read_message(alloc, message, head_len),
         None if message.len() < MOST_HEAD => Ok(Found::Unfinished {
-            needed: 0,
             searched: message.len().saturating_sub(LONGEST_EMPTY_LINE),
         }),
         None => Ok(Found::Faulty(WireFault::HeadSize)),
     }
 }
 
-/// The step that comes next at the front of the bytes.
-pub(crate) fn look_at(alloc: Global, bytes: &[u8], searched: usize) -> Result<Look, Memory>
+/// The step that comes next. So many bytes of a body are still to be given, or none was begun.
+pub(crate) fn look_at(
+    alloc: Global,
+    bytes: &[u8],
+    left: Option<u32>,
+    searched: usize,
+) -> Result<Look, Memory>
     requires { IsSearched (passed bytes.now) searched }
-    ensures step { IfOk result (λ look. Steps bytes.now look.step (drop look.taken bytes.now)) }
+    ensures step { IfOk result (λ look. Steps (wire_at bytes.now left) look.step (behind bytes.now look)) }
     ensures body { IfOk result (λ look. BodyFits look.step) }
-    ensures shorter { IfOk result (λ look. Shortens bytes.now look.step (drop look.taken bytes.now)) }
+    ensures shorter { IfOk result (λ look. Shortens (wire_at bytes.now left) look.step (behind bytes.now look)) }
     ensures inside { IfOk result (λ look. look.taken ≤ length bytes.now) }
-    ensures awaits { IfOk result (λ look. IsAwaiting (drop look.taken bytes.now) look.needed) }
+    ensures searched { IfOk result (λ look. IsSearched (passed (drop look.taken bytes.now)) look.searched) }
+{
+    match left {
+        None => look_for_head(alloc, bytes, searched),
+        Some(left) => look_in_body(alloc, bytes, left),
+    }
+}
+
+// The step where no body was begun.
+fn look_for_head(alloc: Global, bytes: &[u8], searched: usize) -> Result<Look, Memory>
+    requires { IsSearched (passed bytes.now) searched }
+    ensures step { IfOk result (λ look. HeadSteps bytes.now look.step (behind bytes.now look)) }
+    ensures body { IfOk result (λ look. BodyFits look.step) }
+    ensures shorter { IfOk result (λ look. Shortens (wire_at bytes.now None) look.step (behind bytes.now look)) }
+    ensures inside { IfOk result (λ look. look.taken ≤ length bytes.now) }
     ensures searched { IfOk result (λ look. IsSearched (passed (drop look.taken bytes.now)) look.searched) }
 {
     let (taken, message) = pass_line_ends(bytes);
@@ -131,29 +140,64 @@ pub(crate) fn look_at(alloc: Global, bytes: &[u8], searched: usize) -> Result<Lo
         return Ok(Look {
             step: Step::Need { clean: true },
             taken,
-            needed: 0,
             searched: 0,
+            left: None,
         });
     }
     let found = find_front(alloc, message, searched)?;
     match found {
-        Found::Whole(request, count) => Ok(Look {
-            step: Step::Request(request),
+        Found::Whole(head, count) => Ok(Look {
+            left: Some(head.length),
+            step: Step::Head(head),
             taken: taken + count,
-            needed: 0,
             searched: 0,
         }),
         Found::Faulty(fault) => Ok(Look {
             step: Step::Refused(fault),
             taken,
-            needed: 0,
             searched: 0,
+            left: None,
         }),
-        Found::Unfinished { needed, searched } => Ok(Look {
+        Found::Unfinished { searched } => Ok(Look {
             step: Step::Need { clean: false },
             taken,
-            needed,
             searched,
+            left: None,
         }),
     }
+}
+
+// The step where so many bytes of a body are still to be given.
+fn look_in_body(alloc: Global, bytes: &[u8], left: u32) -> Result<Look, Memory>
+    ensures step { IfOk result (λ look. BodySteps left bytes.now look.step (behind bytes.now look)) }
+    ensures body { IfOk result (λ look. BodyFits look.step) }
+    ensures shorter { IfOk result (λ look. Shortens (wire_at bytes.now (Some left)) look.step (behind bytes.now look)) }
+    ensures inside { IfOk result (λ look. look.taken ≤ length bytes.now) }
+    ensures searched { IfOk result (λ look. IsSearched (passed (drop look.taken bytes.now)) look.searched) }
+{
+    let is_given = left == 0;
+    if is_given {
+        return Ok(Look {
+            step: Step::Whole,
+            taken: 0,
+            searched: 0,
+            left: None,
+        });
+    }
+    if bytes.is_empty() {
+        return Ok(Look {
+            step: Step::Need { clean: false },
+            taken: 0,
+            searched: 0,
+            left: Some(left),
+        });
+    }
+    let taken = bytes.len().min(left as usize);
+    let piece = Text::from_slice(alloc, &bytes[..taken])?;
+    Ok(Look {
+        step: Step::Piece(piece),
+        taken,
+        searched: 0,
+        left: Some(left - taken as u32),
+    })
 }

@@ -13,9 +13,10 @@ mod wires;
 pub use answers::{write_answer, write_head};
 pub use fields::find_named;
 pub use laws::{
-    fronts_stay, one_front, one_reading, readings_go_on, refusals_stay, steps_are_messages,
+    fronts_are_messages, fronts_stay, one_front, one_reading, pieces_go_on, readings_go_on,
+    refusals_stay,
 };
-pub use messages::{HttpField, HttpRequest, Step, WireFault};
+pub use messages::{HttpField, HttpHead, HttpRequest, Step, WireFault};
 pub use wires::Wire;
 
 #[cfg(test)]

@@ -36,11 +36,29 @@ pub enum WireFault {
     Coding,
 }
 
+/// The head of a request.
+#[derive(Debug, Drop)]
+pub struct HttpHead {
+    pub method: Text,
+    /// As that of a request.
+    pub path: Text,
+    pub fields: Rows<HttpField>,
+    /// How many bytes the body has: at most 16,777,216.
+    pub length: u32,
+    /// As that of a request.
+    pub close: bool,
+}
+
 /// What comes next.
 #[derive(Debug, Drop)]
 pub enum Step {
-    Request(HttpRequest),
-    /// More bytes are needed. Clean is that nothing but CR and LF was left.
+    /// A request begins.
+    Head(HttpHead),
+    /// Bytes of its body: all that were fed and not yet given. They are some.
+    Piece(Text),
+    /// All bytes of its body were given.
+    Whole,
+    /// More bytes are needed. Clean is that nothing but CR and LF was left behind the last request.
     Need { clean: bool },
     /// The bytes go on with no request. Each further step is the same.
     Refused(WireFault),

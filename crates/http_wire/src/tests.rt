@@ -3,24 +3,24 @@ use decimal_rank::Memory;
 use std::alloc::Global;
 use std::test::Fail;
 
-// A head, its lines cut by `|`, and what is told of its bytes.
+// A head, its lines cut by `|`, and what is told of its bytes; a full stop is that the request is whole.
 const MESSAGES: &str = "\
-GET /a HTTP/1.1|Host: h| => GET /a
+GET /a HTTP/1.1|Host: h| => GET /a.
 GET /a HTTP/1.1|Content-Length: 0|content-length: 0| => 400
 GET /a HTTP/1.1|Content-Length: +5| => 400
 GET /a HTTP/1.1|Content-Length:| => 400
 GET /a HTTP/1.2| => 400
 GET /a b HTTP/1.1| => 400
-GET /é HTTP/1.1| => GET /é
+GET /é HTTP/1.1| => GET /é.
 POST /open HTTP/1.1| => 411
 POST /open HTTP/1.1|Transfer-Encoding: chunked| => 501
 POST /open HTTP/1.1|Content-Length: 999999999999999999999999999999| => 413
 POST /open HTTP/1.1|Content-Length: 16777217| => 413
-POST /open HTTP/1.1|Content-Length: 16777216| => more
-POST /open HTTP/1.1|Content-Length: 000000000000000000000000000000| => POST /open
-GET /table HTTP/1.0| => GET /table close
-GET /table HTTP/1.1|connection: CLOSE| => GET /table close
-GET /table HTTP/1.1|Connection: close, x| => GET /table";
+POST /open HTTP/1.1|Content-Length: 16777216| => POST /open more
+POST /open HTTP/1.1|Content-Length: 000000000000000000000000000000| => POST /open.
+GET /table HTTP/1.0| => GET /table close.
+GET /table HTTP/1.1|connection: CLOSE| => GET /table close.
+GET /table HTTP/1.1|Connection: close, x| => GET /table.";
 
 fn status_of(fault: WireFault) -> &'static str {
     match fault {
@@ -32,22 +32,23 @@ fn status_of(fault: WireFault) -> &'static str {
     }
 }
 
-fn tell_request(request: &HttpRequest, told: &mut Vec<u8>) -> Result<(), Fail> {
-    told.extend_from_slice(request.method.bytes())?;
+fn tell_head(head: &HttpHead, told: &mut Vec<u8>) -> Result<(), Fail> {
+    told.extend_from_slice(head.method.bytes())?;
     told.extend_from_slice(b" ")?;
-    told.extend_from_slice(request.path.bytes())?;
-    if request.close {
+    told.extend_from_slice(head.path.bytes())?;
+    if head.close {
         told.extend_from_slice(b" close")?;
     }
-    told.extend_from_slice(request.body.bytes())?;
     Ok(())
 }
 
 fn tell(step: &Step, told: &mut Vec<u8>) -> Result<(), Fail> {
     match step {
-        Step::Request(request) => tell_request(request, told)?,
+        Step::Head(head) => tell_head(head, told)?,
+        Step::Piece(text) => told.extend_from_slice(text.bytes())?,
+        Step::Whole => told.extend_from_slice(b".")?,
         Step::Need { clean: true } => {}
-        Step::Need { clean: false } => told.extend_from_slice(b"more")?,
+        Step::Need { clean: false } => told.extend_from_slice(b" more")?,
         Step::Refused(fault) => told.extend_from_slice(status_of(*fault).as_bytes())?,
     }
     Ok(())
@@ -69,6 +70,9 @@ fn each_message_is_a_request_or_its_fault(rt: HostRuntime) -> Result<(), Fail> {
         let mut told = Vec::new(rt.alloc());
         feed_head(&mut wire, lines)?;
         tell(&wire.next()?, &mut told)?;
+        if told.as_slice().starts_with(b"GET") || told.as_slice().starts_with(b"POST") {
+            tell(&wire.next()?, &mut told)?;
+        }
         assert_eq!(rt; told.as_slice(), want.as_bytes(), "at {row}");
     }
     Ok(())
@@ -90,13 +94,14 @@ Host: h
 
 ";
 
-// Tells the requests that are there.
+// Tells the requests and the pieces that are there.
 fn tell_requests(wire: &mut Wire, told: &mut Vec<u8>) -> Result<(), Fail> {
-    for _ in 0..3 {
-        match wire.next()? {
-            Step::Request(request) => tell_request(&request, told)?,
-            _ => return Ok(()),
+    for _ in 0..7 {
+        let step = wire.next()?;
+        if let Step::Need { .. } = step {
+            return Ok(());
         }
+        tell(&step, told)?;
     }
     Ok(())
 }
@@ -117,7 +122,7 @@ fn tell_in_two_pieces(
 #[test]
 fn requests_are_the_same_however_they_are_cut(rt: HostRuntime) -> Result<(), Fail> {
     let bytes = TWO_REQUESTS.as_bytes();
-    let want = b"POST /runs/X1 Q0 a 1 3 X\n1 Q0 b 2 2 X\n1 Q0 e 3 1 X\nGET /table";
+    let want = b"POST /runs/X1 Q0 a 1 3 X\n1 Q0 b 2 2 X\n1 Q0 e 3 1 X\n.GET /table.";
     for cut in 0..=bytes.len() {
         let mut told = Vec::new(rt.alloc());
         tell_in_two_pieces(rt.alloc(), &bytes[..cut], &bytes[cut..], &mut told)?;
@@ -154,7 +159,8 @@ fn a_head_has_8192_bytes_and_32_fields_at_most(rt: HostRuntime) -> Result<(), Fa
     feed_fields(&mut many, 33)?;
     tell(&many.next()?, &mut told)?;
     tell(&many.next()?, &mut told)?;
-    assert_eq!(rt; told.as_slice(), b"more431GET /a400".as_slice());
+    tell(&many.next()?, &mut told)?;
+    assert_eq!(rt; told.as_slice(), b" more431GET /a.400".as_slice());
     Ok(())
 }
 
@@ -198,13 +204,13 @@ fn a_field_is_found_by_its_name(rt: HostRuntime) -> Result<(), Fail> {
         &mut wire,
         "GET /a HTTP/1.1|Host: h|X-Campaign-Key: \tGROUPGROUPGROUP1 |",
     )?;
-    let Step::Request(request) = wire.next()? else {
-        return Err(Fail::from("no request"));
+    let Step::Head(head) = wire.next()? else {
+        return Err(Fail::from("no head"));
     };
-    let found = find_named(request.fields.items(), "x-campaign-key");
+    let found = find_named(head.fields.items(), "x-campaign-key");
     assert!(rt;
         found.is_some_and(|found| found.0 == b"GROUPGROUPGROUP1".as_slice() && found.1.is_empty())
     );
-    assert!(rt; find_named(request.fields.items(), "x-request-number").is_none());
+    assert!(rt; find_named(head.fields.items(), "x-request-number").is_none());
     Ok(())
 }

@@ -1,5 +1,6 @@
-ghost use Rattle.std.specs.Prelude.{◌≡◌, ◌+◌, ◌≤◌, ◌++◌, [], IfOk, OnOk, OnErr, drop, length};
-ghost use Rattle.http_wire.specs.Messages.{BodyFits, Shortens, Steps};
+ghost use Rattle.std.specs.Prelude.{◌≡◌, ◌+◌, ◌≤◌, [], None, IfOk, OnOk, OnErr, drop, length};
+ghost use Rattle.http_wire.specs.Fronts.{wire_at};
+ghost use Rattle.http_wire.specs.Pieces.{BodyFits, Shortens, Steps, fed};
 
 use crate::fronts::{Look, look_at};
 use crate::messages::Step;
@@ -7,26 +8,28 @@ use decimal_rank::Memory;
 use std::alloc::Global;
 use std::marker::Model;
 
-/// The bytes of a connection that were fed and not yet given. Contracts see these bytes.
+/// The bytes of a connection that were fed and not yet given. Contracts see these bytes, and how many
+/// of a body are still to be given.
 #[derive(Drop)]
 pub struct Wire {
     bytes: Vec<u8>,
     // how many bytes at the front were given or passed over
     done: usize,
-    // so many bytes are needed for a further step
-    needed: usize,
+    // so many bytes of a body are still to be given, where one was begun
+    left: Option<u32>,
     // the end of a head is looked for from here on, behind the CR and LF that are passed over
     searched: usize,
 }
 
 impl Model for Wire {
-    ghost use Rattle.std.specs.Prelude.{ℕ, List, drop};
+    ghost use Rattle.std.specs.Prelude.{drop};
+    ghost use Rattle.http_wire.specs.Pieces.{WireState};
 
-    ghost Value = { List ℕ };
+    ghost Value = { WireState };
 
     ghost use Rattle.http_wire.specs.Wires.{IsKept};
 
-    ghost view = { λ wire. drop wire.done wire.bytes.items };
+    ghost view = { λ wire. record { bytes = drop wire.done wire.bytes.items; left = wire.left } };
 
     ghost invariant = { IsKept };
 }
@@ -56,26 +59,26 @@ fn drop_done(bytes: &mut Vec<u8>, done: usize) -> usize
 
 impl Wire {
     pub fn new(alloc: Global) -> Wire
-        ensures { result ≡ [] }
+        ensures { result ≡ wire_at [] None }
     {
         Wire {
             bytes: Vec::new(alloc),
             done: 0,
-            needed: 0,
+            left: None,
             searched: 0,
         }
     }
 
     /// Adds the bytes that came next.
     pub fn feed(&mut self, piece: &[u8]) -> Result<(), Memory>
-        ensures ok { OnOk result (self.new ≡ self.old ++ piece.now) }
+        ensures ok { OnOk result (self.new ≡ fed self.old piece.now) }
         ensures err { OnErr result (self.new ≡ self.old) }
     {
         self.bytes.extend_from_slice(piece)?;
         Ok(())
     }
 
-    /// The next request of the bytes that were fed. After a refusal each further call gives the same.
+    /// What comes next of the bytes that were fed. After a refusal each further call gives the same.
     /// Behind a request that closes nothing more is to be asked for: what follows is read as it stands.
     pub fn next(&mut self) -> Result<Step, Memory>
         ensures ok { IfOk result (λ step. Steps self.old step self.new) }
@@ -84,19 +87,16 @@ impl Wire {
         ensures err { OnErr result (self.new ≡ self.old) }
     {
         let alloc = *self.bytes.allocator();
-        let left = left_of(self.bytes.as_slice(), self.done);
-        if left.len() < self.needed {
-            return Ok(Step::Need { clean: false });
-        }
+        let bytes = left_of(self.bytes.as_slice(), self.done);
         let Look {
             step,
             taken,
-            needed,
             searched,
-        } = look_at(alloc, left, self.searched)?;
+            left,
+        } = look_at(alloc, bytes, self.left, self.searched)?;
         self.done = drop_done(&mut self.bytes, self.done + taken);
-        self.needed = needed;
         self.searched = searched;
+        self.left = left;
         Ok(step)
     }
 }

@@ -1,5 +1,5 @@
 -- What is read of a request may be answered.
-use Rattle.std.proofs.Common.{◌≡◌, ◌≢◌, ℕ, ◌+◌, ◌<◌, ◌≤◌, ◌^◌, ◌&&◌, List, [], ◌∷◌, Option, Some, None, Ok, Err, true, length, map, refl, sym, ap, arith, subst, length-append, le-leb}
+use Rattle.std.proofs.Common.{◌≡◌, ◌≢◌, ℕ, ◌+◌, ◌≤◌, ◌^◌, ◌&&◌, List, [], ◌∷◌, Option, Some, None, Ok, Err, true, length, map, refl, sym, ap, arith, subst, length-append, le-leb}
 use Rattle.std.specs.Prelude.{Result, IsTrue, codes, nat_le, nat_lt, option_and_then}
 use Rattle.std.specs.List.{list_all, flat_map}
 use Rattle.std.specs.Option.{option_map}
@@ -23,7 +23,7 @@ use Rattle.rulebook.specs.declared.ask.Query.TheVariants as query
 use Rattle.rulebook.specs.declared.rules.Caller.{Caller}
 use Rattle.rulebook.specs.Legal.{is_well_addressed, is_named, core_of}
 use Rattle.rulebook.specs.Roles.{may_give, may_see}
-use Rattle.rulebook.specs.Spelling.{entry_bytes, command_bytes, number_bytes, is_number, is_plain, is_plain_topic, has_spelling, differ, listed, list_bytes, topic_bytes}
+use Rattle.rulebook.specs.Spelling.{entry_bytes, command_bytes, number_bytes, is_number, is_plain, has_spelling, listed, list_bytes, topic_bytes}
 use Rattle.serde_json.specs.Data.{Data}
 use Rattle.serde_json.specs.Find.{as_number, as_u64, get}
 use Rattle.routes.specs.declared.faults.RouteFault.{RouteFault}

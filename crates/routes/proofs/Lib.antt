@@ -1,5 +1,6 @@
 pub mod Addressed
 pub mod AnswerSizes
+pub mod AskFeeds
 pub mod Growing
 pub mod KnownRows
 pub mod Matching

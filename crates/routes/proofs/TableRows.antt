@@ -1,9 +1,9 @@
 -- The rows of the table: what each of them has by what is asked there, and that a path leads to one of them.
-use Rattle.std.proofs.Common.{◌≡◌, ◌⊎◌, inl, inr, ℕ, Bool, true, false, List, [], ◌∷◌, Option, Some, None, Ok, Err, Result, cond, refl, sym, ap, subst, fold, zero, suc, ◌-◌, ◌==◌, length}
+use Rattle.std.proofs.Common.{◌≡◌, inl, inr, ℕ, Bool, true, false, List, [], ◌∷◌, Option, Some, None, Ok, Err, Result, cond, refl, sym, subst, fold, zero, suc, ◌-◌, ◌==◌, length}
 use Rattle.std.specs.Prelude.{IfSome, ◌||◌, ltb}
 use Rattle.std.specs.Option.{option_map}
 use Rattle.matchit.specs.Order.{placed}
-use Rattle.matchit.specs.Rows.{RowsOf, catch_all_token, comes_before, param_token}
+use Rattle.matchit.specs.Rows.{catch_all_token, comes_before, param_token}
 use Rattle.matchit.specs.Route.{Scan, parse_route}
 use Rattle.matchit.specs.Router.{RouteOf, route_from}
 use Rattle.matchit.specs.Seek.{first, has_slash, longest_suffix, or_else, own, param_step, same_text, seek, segment, step, with_suffix}

@@ -1,4 +1,5 @@
 pub mod Answers
+pub mod AskStates
 pub mod Asks
 pub mod Bodies
 pub mod BodyParts

@@ -6,8 +6,9 @@ ghost use Rattle.rulebook.specs.declared.limits.TheConstants.{MAX_MOMENT};
 ghost use Rattle.rulebook.specs.Legal.{is_well_addressed};
 ghost use Rattle.routes.specs.Faults.{IsRead};
 ghost use Rattle.routes.specs.Places.{IsRow, fits, is_path_number};
+ghost use Rattle.trec_formats.specs.RunStates.{IsAfter};
 
-use crate::bodies::{read_grade, read_judgement, read_ranked_run};
+use crate::bodies::{rank_read, read_grade, read_judgement};
 use crate::faults::RouteFault;
 use crate::keys::Keys;
 use crate::openings::read_opening;
@@ -17,7 +18,7 @@ use decimal_rank::{Memory, Rows, Text};
 use http_wire::HttpRequest;
 use rulebook::{Ask, Caller, Command, Query};
 use std::alloc::Global;
-use trec_formats::{FormatEnd, read_topics};
+use trec_formats::{FormatEnd, RunReader, read_topics};
 
 // The fault of a text that isn't of its format.
 fn fault_of(end: FormatEnd) -> RouteFault
@@ -46,7 +47,16 @@ fn ask_submit(alloc: Global, run: &[u8], body: &[u8]) -> Result<Ask, RouteFault>
     requires { length body.now ≤ 16777216 }
     ensures { IsRead (Asks question.Submit run.now body.now) result }
 {
-    match read_ranked_run(alloc, body) {
+    let mut reader = RunReader::new(alloc);
+    reader.feed(body)?;
+    ask_run(alloc, run, reader)
+}
+
+/// The command of a run whose body was fed to a reader.
+pub(crate) fn ask_run(alloc: Global, run: &[u8], reader: RunReader) -> Result<Ask, RouteFault>
+    ensures { (body : List ℕ) → IsAfter body reader → IsRead (Asks question.Submit run.now body) result }
+{
+    match rank_read(alloc, reader) {
         Ok(lists) => Ok(Ask::Act(Command::Submit {
             run: Text::from_slice(alloc, run)?,
             lists: Rows::new(lists),
@@ -139,8 +149,13 @@ fn ask_scores(alloc: Global, run: &[u8]) -> Result<Ask, RouteFault>
     Ok(Ask::See(Query::Scores { run }))
 }
 
-// What is asked at a row, by the parameter of its path and the body.
-fn ask_at(alloc: Global, place: Place, text: &[u8], body: &[u8]) -> Result<Ask, RouteFault>
+/// What is asked at a row, by the parameter of its path and the body.
+pub(crate) fn ask_at(
+    alloc: Global,
+    place: Place,
+    text: &[u8],
+    body: &[u8],
+) -> Result<Ask, RouteFault>
     requires known { IsRow place }
     requires fitting { IsTrue (fits place.parameter text.now) }
     requires few { length body.now ≤ 16777216 }
@@ -185,24 +200,9 @@ pub fn read_ask(
         → IsTrue (is_well_addressed asked.0 asked.1 asked.2 moment)) }
 {
     let paths = Paths::new(alloc)?;
-    read_ask_by(alloc, &paths, request, keys)
-}
-
-/// The same by a table of the paths that was made before.
-pub fn read_ask_by(
-    alloc: Global,
-    paths: &Paths,
-    request: &HttpRequest,
-    keys: &Keys,
-) -> Result<(Caller, Option<u64>, Ask), RouteFault>
-    requires { length request.now.body ≤ 16777216 }
-    ensures reading { IsRead (Reads request.now keys.now) result }
-    ensures addressed { IfOk result (λ asked. (moment : ℕ) → moment ≤ MAX_MOMENT
-        → IsTrue (is_well_addressed asked.0 asked.1 asked.2 moment)) }
-{
     let path = request.path.bytes();
     let opening = read_opening(
-        paths,
+        &paths,
         request.method.bytes(),
         path,
         request.fields.items(),

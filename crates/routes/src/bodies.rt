@@ -1,8 +1,9 @@
-ghost use Rattle.std.specs.Prelude.{◌≡◌, ◌≤◌, IfOk, length, option_and_then, option_map};
+ghost use Rattle.std.specs.Prelude.{◌≡◌, ℕ, List, IfOk, option_and_then, option_map};
 ghost use Rattle.std.specs.List.{list_all};
 ghost use Rattle.serde_json.specs.View.{view};
 ghost use Rattle.trec_formats.specs.Faults.{IfFault};
 ghost use Rattle.trec_formats.specs.Lists.{IsRankedRun, IsRankedRunFault};
+ghost use Rattle.trec_formats.specs.RunStates.{IsAfter};
 ghost use Rattle.trec_formats.specs.Names.{is_between, is_docno};
 ghost use Rattle.routes.specs.Bodies.{doc_at, grade_at, grade_in, has_members, json_of, judgement_in};
 ghost use Rattle.routes.specs.BodyParts.{judgement_shown};
@@ -10,7 +11,7 @@ ghost use Rattle.routes.specs.BodyParts.{judgement_shown};
 use decimal_rank::{Memory, Text};
 use serde_json::Value;
 use std::alloc::Global;
-use trec_formats::{FormatEnd, TopicList, rank_run, read_run};
+use trec_formats::{FormatEnd, RunReader, TopicList, rank_run};
 
 /// A document and its grade.
 #[derive(Drop)]
@@ -123,13 +124,12 @@ pub(crate) fn read_judgement(alloc: Global, body: &[u8]) -> Result<Option<Judgem
     }
 }
 
-/// The ranked lists of a run's text.
-pub(crate) fn read_ranked_run(alloc: Global, body: &[u8]) -> Result<Vec<TopicList>, FormatEnd>
-    requires { length body.now ≤ 16777216 }
-    ensures lists { IfOk result (λ lists. IsRankedRun body.now lists.items) }
-    ensures fault { IfFault result (IsRankedRunFault body.now) }
+/// The ranked lists of a run that was read.
+pub(crate) fn rank_read(alloc: Global, reader: RunReader) -> Result<Vec<TopicList>, FormatEnd>
+    ensures lists { IfOk result (λ lists. (body : List ℕ) → IsAfter body reader → IsRankedRun body lists.items) }
+    ensures fault { IfFault result (λ fault. (body : List ℕ) → IsAfter body reader → IsRankedRunFault body fault) }
 {
-    let lines = read_run(alloc, body)?;
+    let lines = reader.finish()?;
     let lists = rank_run(alloc, &lines)?;
     Ok(lists)
 }

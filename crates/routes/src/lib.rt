@@ -3,6 +3,7 @@
 #![tactic(auto)]
 
 mod answers;
+mod ask_reader;
 mod asks;
 mod bodies;
 mod faults;
@@ -14,7 +15,8 @@ mod paths;
 mod places;
 
 pub use answers::{Answered, render};
-pub use asks::{read_ask, read_ask_by};
+pub use ask_reader::AskReader;
+pub use asks::read_ask;
 pub use faults::RouteFault;
 pub use keys::{KeyRow, Keys, are_rows};
 pub use laws::{one_request_reading, roles_are_the_rules};

@@ -1,9 +1,9 @@
-ghost use Rattle.std.specs.Prelude.{◌≡◌, IfOk};
+ghost use Rattle.std.specs.Prelude.{◌≡◌, ◌+◌, ◌≤◌, IfOk, length};
 ghost use Rattle.routes.specs.declared.KeyRow.{KeyRow};
 
 use decimal_rank::{Memory, Rows, Text};
-use http_wire::{HttpField, HttpRequest, WireFault};
-use routes::{Answered, KeyRow, Keys, RouteFault, are_rows, read_ask, render};
+use http_wire::{HttpField, HttpHead, HttpRequest, WireFault};
+use routes::{Answered, AskReader, KeyRow, Keys, RouteFault, are_rows, read_ask, render};
 use rulebook::{Ask, Caller, Command, Phase, Quantity, Query, Refusal, Reply, Role};
 use std::alloc::Global;
 use std::process::Abort;
@@ -235,6 +235,16 @@ fn tell_asked(told: &mut Vec<u8>, asked: &(Caller, Option<u64>, Ask)) -> Result<
     }
 }
 
+fn tell_reading(
+    told: &mut Vec<u8>,
+    reading: Result<(Caller, Option<u64>, Ask), RouteFault>,
+) -> Result<(), Fail> {
+    match reading {
+        Ok(asked) => Ok(tell_asked(told, &asked)?),
+        Err(fault) => Ok(render(&Answered::Route(fault), false, told)?),
+    }
+}
+
 fn tell_read(
     alloc: Global,
     request: &HttpRequest,
@@ -244,10 +254,55 @@ fn tell_read(
     if request.body.bytes().len() > 16_777_216 {
         return Err(Fail::from("too long"));
     }
-    match read_ask(alloc, request, keys) {
-        Ok(asked) => Ok(tell_asked(told, &asked)?),
-        Err(fault) => Ok(render(&Answered::Route(fault), false, told)?),
+    tell_reading(told, read_ask(alloc, request, keys))
+}
+
+fn feed_bytes(reader: &mut AskReader, bytes: &[u8]) -> Result<(), Memory>
+    requires { reader.old.fed + length bytes.now ≤ 16777216 }
+{
+    for byte in bytes {
+        reader.feed(&[*byte])?;
     }
+    Ok(())
+}
+
+// What a request is read as whose body comes in pieces of one byte.
+fn read_in_bytes(
+    alloc: Global,
+    request: HttpRequest,
+    keys: &Keys,
+) -> Result<(Caller, Option<u64>, Ask), RouteFault>
+    requires { length request.body ≤ 16777216 }
+{
+    let HttpRequest {
+        method,
+        path,
+        fields,
+        body,
+        close,
+    } = request;
+    let head = HttpHead {
+        method,
+        path,
+        fields,
+        length: body.bytes().len() as u32,
+        close,
+    };
+    let mut reader = AskReader::new(alloc, &head, keys)?;
+    feed_bytes(&mut reader, body.bytes())?;
+    reader.finish()
+}
+
+fn tell_read_in_bytes(
+    alloc: Global,
+    request: HttpRequest,
+    keys: &Keys,
+    told: &mut Vec<u8>,
+) -> Result<(), Fail> {
+    if request.body.bytes().len() > 16_777_216 {
+        return Err(Fail::from("too long"));
+    }
+    tell_reading(told, read_in_bytes(alloc, request, keys))
 }
 
 // Method, path, keys, number and body; and behind `=>` what is asked, or how the answer ends.
@@ -259,6 +314,7 @@ POST /runs/X g - 1 Q0 a 1 2 X|1 Q0 b 2 3 X| => grp submit X 1 1 b a
 POST /runs/X g - 1 Q0 a 1 2 X|1 Q0 a 2 3 X| => {"first":1,"kind":"twice","line":2,"refusal":"format"}
 POST /runs/X g - 1 Q0 a 1 2 X|1 Q0 b 2 1e401 X| => {"cause":"exponent","kind":"score","line":2,"refusal":"format"}
 POST /runs/X g - 1 Q0 a 1 2| => {"kind":"fields","line":1,"refusal":"format"}
+POST /runs/X g - 1 Q0 a 1 3 X|1 Q0 b 2 2|1 Q0 e 3 1 X| => {"kind":"fields","line":2,"refusal":"format"}
 POST /runs/X g - 1 Q0 ^ 1 3 X| => {"kind":"docno","line":1,"refusal":"format"}
 POST /runs/X g - 1~Q0~~a 1~3 X => grp submit X 1 1 a
 POST /runs/X g - - => {"kind":"empty","line":0,"refusal":"format"}
@@ -338,6 +394,44 @@ fn each_request_is_read_by_its_row(rt: HostRuntime) -> Result<(), Fail> {
             "at {row}"
         );
     }
+    Ok(())
+}
+
+#[test]
+fn each_request_is_read_the_same_in_pieces_of_one_byte(rt: HostRuntime) -> Result<(), Fail> {
+    let keys = keys(rt.alloc())?;
+    for row in REQUESTS.lines() {
+        let (columns, want) = row.split_once(" => ").ok_or("no row")?;
+        let mut told = Vec::new(rt.alloc());
+        let request = request(rt.alloc(), columns)?;
+        tell_read_in_bytes(rt.alloc(), request, &keys, &mut told)?;
+        assert!(rt;
+            told.trim_ascii_end().ends_with(want.as_bytes()),
+            "at {row}"
+        );
+    }
+    Ok(())
+}
+
+// A run of one line, whose second field has so many bytes.
+fn long_run(alloc: Global, count: usize) -> Result<Text, Memory> {
+    let mut bytes = Vec::new(alloc);
+    bytes.extend_from_slice(b"1 ")?;
+    for _ in 0..count {
+        bytes.push(b'Q')?;
+    }
+    bytes.extend_from_slice(b" a 1 3 X\n")?;
+    Ok(Text::new(bytes))
+}
+
+#[test]
+fn a_field_of_a_run_may_be_long_that_is_not_looked_at(rt: HostRuntime) -> Result<(), Fail> {
+    let keys = keys(rt.alloc())?;
+    let mut told = Vec::new(rt.alloc());
+    let mut request = request(rt.alloc(), "POST /runs/X g - -")?;
+    request.body = long_run(rt.alloc(), 100_000)?;
+    tell_read_in_bytes(rt.alloc(), request, &keys, &mut told)?;
+    assert_eq!(rt; told.as_slice(), b"grp submit X 1 1 a".as_slice());
     Ok(())
 }
 

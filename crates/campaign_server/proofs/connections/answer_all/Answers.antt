@@ -1,38 +1,55 @@
-use Rattle.std.proofs.Common.{◌∙◌, inl}
+use Rattle.std.proofs.Common.{◌∙◌, inl, refl}
 use Rattle.campaign_server.proofs.Speaking.{turn_more, turn_closes, turn_part, refused_ends, spoke_pause}
+use Rattle.http_wire.specs.Heads.{passed}
 use Rattle.campaign_server.proofs.connections.answer_all.Goals as goal
 
+pub requests-init : goal.requests-init
+requests-init g c = record { goes_on = λ old was bytes rest stands spoke. (rest, stands, spoke); reading_kept = refl }
+
 pub returns-in-Err-clause-ends : goal.returns-in-Err-clause-ends
-returns-in-Err-clause-ends g c = λ old was bytes spoke. (c.requests.reader, c.requests.invariant.goes_on old was bytes spoke)
+returns-in-Err-clause-ends g c = λ old was bytes rest stands spoke.
+    let now = c.requests.invariant.goes_on old was bytes rest stands spoke in (now.0, now.2)
 
 pub returns-in-Ok-Need-clause-pause : goal.returns-in-Ok-Need-clause-pause
-returns-in-Ok-Need-clause-pause g c = λ old was bytes spoke.
-    spoke_pause g.T.Teller.tells c.args.keys.now c.readings_go_on.ensures c.steps_are_messages.ensures old was bytes c.requests.reader c.requests.teller (g.I.Link.seen c.requests.link)
-    (c.requests.invariant.goes_on old was bytes spoke) c.in-Ok-Need.clean c.next.new.self (rw c.in-Ok-Need.field-0-is at c.in-Ok-Need.ensures.ok)
+returns-in-Ok-Need-clause-pause g c = λ old was bytes rest stands spoke.
+    let (at, on, said) = c.requests.invariant.goes_on old was bytes rest stands spoke in
+    let need = (rw c.in-Ok-Need.field-0-is at c.in-Ok-Need.ensures.asks) at on in (
+      passed at,
+      need.1,
+      spoke_pause g.T.Teller.tells c.args.keys.now c.readings_go_on.ensures c.fronts_are_messages.ensures old was bytes at c.requests.teller (g.I.Link.seen c.requests.link)
+          said c.in-Ok-Need.clean need.0,
+    )
 
 pub returns-in-Ok-Refused-clause-ends : goal.returns-in-Ok-Refused-clause-ends
-returns-in-Ok-Refused-clause-ends g c = λ old was bytes spoke.
-    refused_ends g.T.Teller.tells c.args.keys.now c.readings_go_on.ensures c.steps_are_messages.ensures old was bytes c.requests.reader c.requests.teller (g.I.Link.seen c.requests.link)
-    (c.requests.invariant.goes_on old was bytes spoke) c.in-Ok-Refused.fault c.next.new.self (g.I.Link.seen c.refuse_with.new.link) c.refuse_with.result
-    (rw c.in-Ok-Refused.field-0-is at c.in-Ok-Refused.ensures.ok) c.refuse_with.ensures.clock_kept c.refuse_with.ensures.ends
+returns-in-Ok-Refused-clause-ends g c = λ old was bytes rest stands spoke.
+    let (at, on, said) = c.requests.invariant.goes_on old was bytes rest stands spoke in
+    let front = (rw c.in-Ok-Refused.field-0-is at c.in-Ok-Refused.ensures.asks) at on in
+    refused_ends g.T.Teller.tells c.args.keys.now c.readings_go_on.ensures c.fronts_are_messages.ensures old was bytes at c.requests.teller (g.I.Link.seen c.requests.link)
+    said c.in-Ok-Refused.fault (g.I.Link.seen c.refuse_with.new.link) c.refuse_with.result front c.refuse_with.ensures.clock_kept c.refuse_with.ensures.ends
 
 pub returns-then-close-clause-ends : goal.returns-then-close-clause-ends
-returns-then-close-clause-ends g c = λ old was bytes spoke.
-    turn_closes g.T.Teller.tells c.args.keys.now c.readings_go_on.ensures c.steps_are_messages.ensures old was bytes c.requests.reader c.requests.teller (g.I.Link.seen c.requests.link)
-    (c.requests.invariant.goes_on old was bytes spoke) c.in-Ok-Whole.reading c.in-Ok-Whole.close c.next.new.self c.answer.new.teller (g.I.Link.seen c.answer.new.link) tt
-    (rw c.in-Ok-Whole.field-0-is at c.in-Ok-Whole.ensures.ok) c.in-Ok.ensures.turn c.if-close.true
+returns-then-close-clause-ends g c = λ old was bytes rest stands spoke.
+    let (at, on, said) = c.requests.invariant.goes_on old was bytes rest stands spoke in
+    let (next, asked, behind) = (rw c.in-Ok-Whole.field-0-is at c.in-Ok-Whole.ensures.asks) at on in
+    turn_closes g.T.Teller.tells c.args.keys.now c.readings_go_on.ensures c.fronts_are_messages.ensures old was bytes at c.requests.teller (g.I.Link.seen c.requests.link)
+    said c.in-Ok-Whole.reading c.in-Ok-Whole.close next c.answer.new.teller (g.I.Link.seen c.answer.new.link) tt asked c.in-Ok.ensures.turn c.if-close.true
 
 pub requests-preserved : goal.requests-preserved
 requests-preserved g c = record {
-  goes_on = λ old was bytes spoke.
-      turn_more g.T.Teller.tells c.args.keys.now c.readings_go_on.ensures c.steps_are_messages.ensures old was bytes c.requests.reader c.requests.teller (g.I.Link.seen c.requests.link)
-      (c.requests.invariant.goes_on old was bytes spoke) c.in-Ok-Whole.reading c.in-Ok-Whole.close c.next.new.self c.answer.new.teller (g.I.Link.seen c.answer.new.link) tt
-      (rw c.in-Ok-Whole.field-0-is at c.in-Ok-Whole.ensures.ok) c.in-Ok.ensures.turn c.in-Ok.ensures.cause.later c.if-close.false;
+  goes_on = λ old was bytes rest stands spoke.
+      let (at, on, said) = c.requests.invariant.goes_on old was bytes rest stands spoke in
+      let (next, asked, behind) = (rw c.in-Ok-Whole.field-0-is at c.in-Ok-Whole.ensures.asks) at on in (
+        next,
+        behind,
+        turn_more g.T.Teller.tells c.args.keys.now c.readings_go_on.ensures c.fronts_are_messages.ensures old was bytes at c.requests.teller (g.I.Link.seen c.requests.link)
+            said c.in-Ok-Whole.reading c.in-Ok-Whole.close next c.answer.new.teller (g.I.Link.seen c.answer.new.link) tt asked c.in-Ok.ensures.turn c.in-Ok.ensures.cause.later c.if-close.false,
+      );
   reading_kept = c.in-Ok.ensures.reading_kept ∙ c.requests.invariant.reading_kept;
 }
 
 pub returns-in-Err-answer-clause-ends : goal.returns-in-Err-answer-clause-ends
-returns-in-Err-answer-clause-ends g c = λ old was bytes spoke.
-    inl (turn_part g.T.Teller.tells c.args.keys.now c.readings_go_on.ensures c.steps_are_messages.ensures old was bytes c.requests.reader c.requests.teller (g.I.Link.seen c.requests.link)
-    (c.requests.invariant.goes_on old was bytes spoke) c.in-Ok-Whole.reading c.in-Ok-Whole.close c.next.new.self c.answer.new.teller (g.I.Link.seen c.answer.new.link) c.in-Err-answer.field-0
-    (rw c.in-Ok-Whole.field-0-is at c.in-Ok-Whole.ensures.ok) c.in-Err-answer.ensures.turn c.in-Err-answer.ensures.cause.failed)
+returns-in-Err-answer-clause-ends g c = λ old was bytes rest stands spoke.
+    let (at, on, said) = c.requests.invariant.goes_on old was bytes rest stands spoke in
+    let (next, asked, behind) = (rw c.in-Ok-Whole.field-0-is at c.in-Ok-Whole.ensures.asks) at on in
+    inl (turn_part g.T.Teller.tells c.args.keys.now c.readings_go_on.ensures c.fronts_are_messages.ensures old was bytes at c.requests.teller (g.I.Link.seen c.requests.link)
+    said c.in-Ok-Whole.reading c.in-Ok-Whole.close next c.answer.new.teller (g.I.Link.seen c.answer.new.link) c.in-Err-answer.field-0 asked c.in-Err-answer.ensures.turn c.in-Err-answer.ensures.cause.failed)

@@ -1,12 +1,13 @@
-use Rattle.std.proofs.Common.{◌≡◌, length}
+use Rattle.std.proofs.Common.{◌≡◌}
+use Rattle.http_wire.specs.Pieces.{size}
 use Rattle.campaign_server.specs.LoopParts.{Continues}
 use Rattle.campaign_server.proofs.connections.answer_all.Given as goal
 
 abbrev pub invariant-requests : goal.invariant-requests
 invariant-requests g l = record {
-  goes_on : Continues g.T.Teller.tells l.keys l.initial.teller (g.I.Link.seen l.initial.link) l.initial.reader l.teller (g.I.Link.seen l.link) l.reader;
+  goes_on : Continues g.T.Teller.tells l.keys l.initial.teller (g.I.Link.seen l.initial.link) l.initial.stream l.teller (g.I.Link.seen l.link) l.stream;
   reading_kept : (g.I.Link.seen l.link).reading ≡ (g.I.Link.seen l.initial.link).reading;
 }
 
 abbrev pub decreases-requests : goal.decreases-requests
-decreases-requests g l = length l.reader
+decreases-requests g l = size l.stream.wire

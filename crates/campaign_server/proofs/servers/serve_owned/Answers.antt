@@ -1,4 +1,4 @@
-use Rattle.std.proofs.Common.{rules, ◌≡◌, ◌≤◌, [], IfSome, None, length, ap, subst, sym}
+use Rattle.std.proofs.Common.{rules, ◌≡◌, [], IfSome, None, ap, subst, sym}
 use Rattle.hall.specs.Stories.{AtMost as MostOf}
 use Rattle.rulebook.specs.Stories.{AtMost}
 use Rattle.book.specs.Halls.{seen_as, story_in}

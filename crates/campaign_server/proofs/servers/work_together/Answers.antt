@@ -1,4 +1,4 @@
-use Rattle.std.proofs.Common.{rules, ◌≡◌, ◌+◌, ◌≤◌, [], ◌∷◌, ◌++◌, All, IfSome, Some, ap, arith, length, length-append, subst, sym, vec_capacity, vec_len, ◌∙◌}
+use Rattle.std.proofs.Common.{rules, ◌≡◌, ◌+◌, [], ◌∷◌, ◌++◌, All, Some, ap, arith, length, length-append, subst, sym, vec_len, ◌∙◌}
 use Rattle.std.proofs.lemmas.List.{length-map, with_items_is}
 use Rattle.std.proofs.lemmas.List.Elements.{All-pop}
 use Rattle.book.specs.Halls.{seen_as}

@@ -1,4 +1,4 @@
-use Rattle.std.proofs.Common.{rules, ◌≡◌, ◌∙◌, ◌++◌, ◌∷◌, [], IfSome, ap, subst, sym}
+use Rattle.std.proofs.Common.{◌≡◌, ◌∙◌, ◌++◌, ◌∷◌, [], IfSome, ap, subst, sym}
 use Rattle.book.specs.Halls.{seen_as}
 use Rattle.campaign_server.specs.Doors.{IsNew}
 use Rattle.campaign_server.specs.Records.{ended_of}

@@ -18,7 +18,7 @@ read_message-requires-clause-inside c = omega (arith, c.in-Some.ensures.inside, 
 
 pub returns-in-None : goal.returns-in-None
 returns-in-None c =
-    subst (λ k. IsFound c.args.message.now (found.Unfinished 0 k)) (sym c.saturating_sub.ensures)
+    subst (λ k. IsFound c.args.message.now (found.Unfinished k)) (sym c.saturating_sub.ensures)
     (unfinished_head c.args.message.now (sym (c.in-None.ensures.value ∙ ap head_length c.head_bytes.ensures)) c.if-message-lt-MOST_HEAD.true)
 
 pub returns-in-None-2 : goal.returns-in-None-2

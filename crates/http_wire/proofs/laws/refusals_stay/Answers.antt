@@ -1,4 +1,4 @@
-use Rattle.http_wire.proofs.ReadingLaws.{refuses_again}
+use Rattle.http_wire.proofs.PieceLaws.{refuses_again}
 use Rattle.http_wire.proofs.laws.refusals_stay.Goals as goal
 
 pub returns : goal.returns

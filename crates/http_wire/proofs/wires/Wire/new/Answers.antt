@@ -1,7 +1,6 @@
 use Rattle.std.proofs.Common.{arith}
-use Rattle.http_wire.proofs.Looks.{awaits_none}
 use Rattle.http_wire.proofs.Searching.{searched_none}
 use Rattle.http_wire.proofs.wires.Wire.new.Goals as goal
 
 pub invariant_of-result : goal.invariant_of-result
-invariant_of-result c = record { half = omega arith; awaiting = awaits_none _; searched = searched_none _ }
+invariant_of-result c = record { half = omega arith; searched = searched_none _ }

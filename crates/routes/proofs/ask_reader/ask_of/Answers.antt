@@ -1,0 +1,13 @@
+use Rattle.std.proofs.Common.{[], subst, sym}
+use Rattle.routes.specs.Asks.{Asks}
+use Rattle.routes.specs.Faults.{IsRead}
+use Rattle.routes.proofs.AskFeeds.{query_asked}
+use Rattle.routes.proofs.ask_reader.ask_of.Goals as goal
+
+pub returns-in-Passed-clause-ask : goal.returns-in-Passed-clause-ask
+returns-in-Passed-clause-ask c = λ told kept.
+    query_asked c.args.place.question c.args.text.now [] told c.ask_at.result (rw c.in-Passed.is at c.requires.suits) c.ask_at.ensures.ask
+
+pub returns-in-Run-clause-ask : goal.returns-in-Run-clause-ask
+returns-in-Run-clause-ask c = λ told kept.
+    subst (λ asked. IsRead (Asks asked c.args.text.now told) c.ask_run.result) (sym (rw c.in-Run.is at c.requires.suits)) (c.ask_run.ensures told (rw c.in-Run.is at kept))

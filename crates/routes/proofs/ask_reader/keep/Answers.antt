@@ -1,0 +1,12 @@
+use Rattle.std.proofs.Common.{◌++◌, arith, length-append}
+use Rattle.routes.proofs.ask_reader.keep.Goals as goal
+
+pub returns-in_ok-feed-in-Run-clause-kept : goal.returns-in_ok-feed-in-Run-clause-kept
+returns-in_ok-feed-in-Run-clause-kept c = λ told kept. c.in_ok-feed-in-Run.ensures.ok told (rw c.in-Run.is at kept)
+
+pub returns-in_ok-feed-in-Run-clause-few : goal.returns-in_ok-feed-in-Run-clause-few
+returns-in_ok-feed-in-Run-clause-few c = λ fed few.
+    let (fewer, (text, short, after)) = rw c.in-Run.is at few in (
+      omega (arith, fewer, c.in_ok-feed-in-Run.ensures.fed),
+      (text ++ c.args.piece.now, omega (arith, short, length-append text c.args.piece.now), c.in_ok-feed-in-Run.ensures.ok text after),
+    )

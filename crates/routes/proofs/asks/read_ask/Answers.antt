@@ -1,0 +1,17 @@
+use Rattle.std.proofs.Common.{◌∙◌, rules, sym, Ok}
+use Rattle.routes.specs.Asks.{Asks}
+use Rattle.routes.specs.Places.{parameter}
+use Rattle.routes.proofs.Addressed.{addressed_at}
+use Rattle.routes.proofs.TableRows.{parameter_is, role_is}
+use Rattle.routes.proofs.asks.read_ask.Goals as goal
+
+pub returns-clause-addressed : goal.returns-clause-addressed
+returns-clause-addressed c = λ moment latest.
+    let opening = c.in_ok-opening.opening in
+    let opened = c.in_ok-opening.ensures in
+    let text = parameter c.bytes-path.result.now in
+    let body = c.args.request.now.body in
+    let asks : Asks opening.place.question text body (Ok c.in_ok-ask.ask) = search (rules, c.in_ok-ask.ensures.ask) in
+    rw c.in_ok-caller.ensures
+    (addressed_at opening.place.question opening.row.now opening.number text body c.in_ok-ask.ask moment opened.named opened.number
+    (sym (role_is opening.place opened.known opening.row.now.role) ∙ opened.role) (sym (parameter_is opening.place opened.known text) ∙ opened.fitting) asks c.in_ok-ask.ensures.sound c.requires latest)

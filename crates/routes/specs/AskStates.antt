@@ -1,0 +1,125 @@
+-- How far a request was read whose body comes in pieces, and what is kept of it.
+use Rattle.std.specs.Prelude.{◌≡◌, ◌≤◌, ◌+◌, ℕ, Bool, true, false, List, [], length, Result, Ok, Err, IsTrue}
+use Rattle.http_wire.specs.declared.messages.HttpHead.{HttpHead}
+use Rattle.trec_formats.specs.RunStates.{IsAfter}
+use Rattle.trec_formats.specs.Names.{is_name}
+use Rattle.rulebook.specs.Spelling.{is_number}
+use Rattle.routes.specs.declared.ask_reader.Body.{Body}
+use Rattle.routes.specs.declared.ask_reader.Body.TheVariants.{Passed, Run, Gathered}
+use Rattle.routes.specs.declared.ask_reader.Opened.{Opened}
+use Rattle.routes.specs.declared.ask_reader.Progress.{Progress}
+use Rattle.routes.specs.declared.ask_reader.Progress.TheVariants.{Reads, Faulty, Failed}
+use Rattle.routes.specs.declared.faults.RouteFault.{RouteFault}
+use Rattle.routes.specs.declared.keys.KeyRow.{KeyRow}
+use Rattle.routes.specs.declared.places.Question.{Question}
+use Rattle.routes.specs.declared.places.Question.TheVariants as question
+use Rattle.routes.specs.Keys.{caller}
+use Rattle.routes.specs.Openings.{Opening, opening_of}
+use Rattle.routes.specs.Places.{IsRow, fits, may_ask, parameter}
+
+-- a query, whose body isn't looked at
+abbrev pub is_query : Question → Bool
+is_query question.Topics = false
+is_query question.Submit = false
+is_query question.Open = false
+is_query question.Lease = false
+is_query question.Grade = false
+is_query question.Release = false
+is_query question.Amend = false
+is_query question.Rule = false
+is_query question.Withdraw = false
+is_query question.Publish = false
+is_query question.Pool = true
+is_query question.Qrels = true
+is_query question.Scores = true
+is_query question.Table = true
+is_query question.Disagreements = true
+is_query question.Progress = true
+is_query question.ReleaseQrels = true
+is_query question.ReleaseScores = true
+
+-- a body is kept in this way where this is asked
+abbrev pub SuitsBody : Question → Body → Type 0
+SuitsBody asked Passed = is_query asked ≡ true
+SuitsBody asked (Run reader) = asked ≡ question.Submit
+SuitsBody asked (Gathered bytes) = Unit {0}
+
+-- what is kept of a body that may be this text
+abbrev pub KeepsBody : List ℕ → Body → Type 0
+KeepsBody text Passed = Unit {0}
+KeepsBody text (Run reader) = IsAfter text reader
+KeepsBody text (Gathered bytes) = bytes.items ≡ text
+
+-- there is such a text of at most so many bytes, and no more were fed
+abbrev pub IsFew : ℕ → Body → Type 0
+IsFew most Passed = Unit {0}
+IsFew most (Run reader) = (reader.fed ≤ most) × ((text : List ℕ) × (length text ≤ most) × IsAfter text reader)
+IsFew most (Gathered bytes) = length bytes.items ≤ most
+
+-- a body may go on with so many bytes
+abbrev pub HasRoom : Body → ℕ → Type 0
+HasRoom Passed more = Unit {0}
+HasRoom (Run reader) more = reader.fed + more ≤ 268435456
+HasRoom (Gathered bytes) more = Unit {0}
+
+pub record BeginsBody (asked : Question) (body : Body) : Type 0 where
+  pub suits : SuitsBody asked body
+  pub kept : KeepsBody [] body
+  pub few : IsFew 0 body
+
+-- what is asked at this opening, with a body that may be this text so far
+pub record IsOpened (opening : Opening) (path body : List ℕ) (opened : Opened) : Type 0 where
+  pub who : opened.who ≡ caller opening.row
+  pub number : opened.number ≡ opening.number
+  pub place : opened.place ≡ opening.place
+  pub text : opened.text ≡ parameter path
+  pub body_is : KeepsBody body opened.body
+
+-- what is read behind it may be asked
+pub record IsAddressable (opened : Opened) : Type 0 where
+  pub named : IsTrue (is_name opened.who.name)
+  pub number : IsTrue (is_number opened.number)
+  pub role : IsTrue (may_ask opened.who.role opened.place.askers)
+  pub known : IsRow opened.place
+  pub fitting : IsTrue (fits opened.place.parameter opened.text)
+  pub suits : SuitsBody opened.place.question opened.body
+
+-- how far a request was read with this opening or fault of its head, and this text of its body
+abbrev pub IsAt : Result Opening RouteFault → List ℕ → List ℕ → Progress → Type 0
+IsAt opening path body (Reads opened) = (found : Opening) × (opening ≡ Ok found) × IsOpened found path body opened
+IsAt opening path body (Faulty cause) = opening ≡ Err cause
+IsAt opening path body Failed = ⊥
+
+abbrev pub OrFailed : Progress → Type 0 → Type 0
+OrFailed (Reads opened) P = P
+OrFailed (Faulty cause) P = P
+OrFailed Failed P = Unit {0}
+
+-- a request may go on with so many bytes
+abbrev pub MayGo : Progress → ℕ → Type 0
+MayGo (Reads opened) more = HasRoom opened.body more
+MayGo (Faulty cause) more = Unit {0}
+MayGo Failed more = Unit {0}
+
+-- what is kept where so many bytes were fed
+abbrev pub IsHeld : ℕ → Progress → Type 0
+IsHeld fed (Reads opened) = IsAddressable opened × IsFew fed opened.body
+IsHeld fed (Faulty cause) = Unit {0}
+IsHeld fed Failed = Unit {0}
+
+pub record IsSound (fed : ℕ) (progress : Progress) : Type 0 where
+  pub few : fed ≤ 16777216
+  pub held : IsHeld fed progress
+
+-- how many bytes of the body were fed to a reader, and what it keeps
+pub record AskFed : Type 0 where
+  pub fed : ℕ
+  pub progress : Progress
+
+-- a reader that was made of this head and fed what may be this text
+abbrev pub IsAsking : HttpHead → List KeyRow → List ℕ → AskFed → Type 0
+IsAsking head keys body reader = IsAt (opening_of head.method head.path head.fields keys) head.path body reader.progress
+
+-- there was no memory for what had to be kept
+abbrev pub HasFailed : AskFed → Type 0
+HasFailed reader = reader.progress ≡ Failed

@@ -1,0 +1,328 @@
+//! A request read as its body comes. Who asks and where is read of the head alone; a run's body goes to its
+//! reader, the body of a query is passed over, and another one is gathered.
+ghost use Rattle.std.specs.Prelude.{◌≡◌, ◌≢◌, ◌≤◌, ◌+◌, ◌++◌, ℕ, List, [], IsTrue, IfOk, OnOk, OnErr, IsErr, MatchBool, Ok, Err, Result, length};
+ghost use Rattle.http_wire.specs.Messages.{request_with};
+ghost use Rattle.routes.specs.declared.keys.KeyRow.{KeyRow};
+ghost use Rattle.routes.specs.declared.places.Question.TheVariants as question;
+ghost use Rattle.routes.specs.AskStates.{BeginsBody, HasFailed, HasRoom, IsAddressable, IsAsking, IsAt, IsFew, IsHeld, IsOpened, KeepsBody, MayGo, OrFailed, SuitsBody};
+ghost use Rattle.routes.specs.Asks.{Asks, HasSoundTopics, Reads, ReadsBehind};
+ghost use Rattle.routes.specs.Faults.{IsRead};
+ghost use Rattle.routes.specs.OpeningParts.{opening_shown};
+ghost use Rattle.routes.specs.Openings.{Opening as SeenOpening, opening_of};
+ghost use Rattle.routes.specs.Places.{IsRow, fits, may_ask, parameter};
+ghost use Rattle.rulebook.specs.declared.limits.TheConstants.{MAX_MOMENT};
+ghost use Rattle.rulebook.specs.Legal.{is_well_addressed};
+ghost use Rattle.rulebook.specs.Spelling.{is_number};
+ghost use Rattle.trec_formats.specs.Names.{is_name};
+
+use crate::asks::{ask_at, ask_run};
+use crate::faults::RouteFault;
+use crate::keys::Keys;
+use crate::openings::{Opening, read_opening};
+use crate::paths::parameter;
+use crate::places::{Paths, Place, Question};
+use decimal_rank::{Memory, Text};
+use http_wire::{HttpField, HttpHead};
+use rulebook::{Ask, Caller};
+use std::alloc::Global;
+use std::marker::Model;
+use std::mem::replace;
+use trec_formats::RunReader;
+
+/// What is kept of a body.
+#[derive(Drop)]
+enum Body {
+    /// That of a query isn't looked at.
+    Passed,
+    Run(RunReader),
+    Gathered(Vec<u8>),
+}
+
+/// Who asks at which row, with which number and parameter, and what is kept of the body.
+#[derive(Drop)]
+struct Opened {
+    who: Caller,
+    number: Option<u64>,
+    place: Place,
+    text: Text,
+    body: Body,
+}
+
+/// How far a request was read.
+#[derive(Drop)]
+enum Progress {
+    Reads(Opened),
+    /// The fault of its head.
+    Faulty(RouteFault),
+    /// There was no memory for its body.
+    Failed,
+}
+
+/// A request that is read as its body comes. Contracts see how many bytes of the body were fed, and what is
+/// kept of it.
+#[derive(Drop)]
+pub struct AskReader {
+    alloc: Global,
+    progress: Progress,
+    fed: usize,
+}
+
+impl Model for AskReader {
+    ghost use Rattle.routes.specs.AskStates.{AskFed, IsSound};
+
+    ghost Value = { AskFed };
+
+    ghost view = { λ reader. record { fed = reader.fed; progress = reader.progress } };
+
+    ghost invariant = { λ reader. IsSound reader.fed reader.progress };
+}
+
+// What is kept of a body of which nothing came so far.
+fn begin_body(alloc: Global, question: Question) -> Body
+    ensures { BeginsBody question result }
+{
+    match question {
+        Question::Submit => Body::Run(RunReader::new(alloc)),
+        Question::Topics
+        | Question::Open
+        | Question::Lease
+        | Question::Grade
+        | Question::Release
+        | Question::Amend
+        | Question::Rule
+        | Question::Withdraw
+        | Question::Publish => Body::Gathered(Vec::new(alloc)),
+        Question::Pool
+        | Question::Qrels
+        | Question::Scores
+        | Question::Table
+        | Question::Disagreements
+        | Question::Progress
+        | Question::ReleaseQrels
+        | Question::ReleaseScores => Body::Passed,
+    }
+}
+
+fn begin_opened(alloc: Global, opening: &Opening, path: &[u8]) -> Result<Opened, Memory>
+    requires named { IsTrue (is_name opening.now.row.now.name) }
+    requires role { IsTrue (may_ask opening.now.row.now.role opening.now.place.askers) }
+    requires fitting { IsTrue (fits opening.now.place.parameter (parameter path.now)) }
+    requires known { IsRow opening.now.place }
+    requires number { IsTrue (is_number opening.now.number) }
+    ensures opened { IfOk result (IsOpened (opening_shown opening.now) path.now []) }
+    ensures addressable { IfOk result IsAddressable }
+    ensures few { IfOk result (λ opened. IsFew 0 opened.body) }
+{
+    Ok(Opened {
+        who: opening.row.caller()?,
+        number: opening.number,
+        place: opening.place,
+        text: Text::from_slice(alloc, parameter(path))?,
+        body: begin_body(alloc, opening.place.question),
+    })
+}
+
+// What a head comes to.
+fn begin<'a>(
+    alloc: Global,
+    paths: &'a Paths,
+    method: &'a [u8],
+    path: &'a [u8],
+    fields: &'a [HttpField],
+    keys: &'a Keys,
+) -> Result<Progress, Memory>
+    ensures at { IfOk result (IsAt (opening_of method.now path.now fields.now keys.now) path.now []) }
+    ensures held { IfOk result (IsHeld 0) }
+{
+    match read_opening(paths, method, path, fields, keys) {
+        Ok(opening) => Ok(Progress::Reads(begin_opened(alloc, &opening, path)?)),
+        Err(RouteFault::Memory) => Err(Memory),
+        Err(fault) => Ok(Progress::Faulty(fault)),
+    }
+}
+
+// Keeps a piece of a body.
+fn keep(body: Body, piece: &[u8]) -> Result<Body, Memory>
+    requires { HasRoom body (length piece.now) }
+    ensures kept { IfOk result (λ after. (told : List ℕ) → KeepsBody told body → KeepsBody (told ++ piece.now) after) }
+    ensures suits { IfOk result (λ after. (asked : Question) → SuitsBody asked body → SuitsBody asked after) }
+    ensures few { IfOk result (λ after. (fed : ℕ) → IsFew fed body → IsFew (fed + length piece.now) after) }
+{
+    match body {
+        Body::Passed => Ok(Body::Passed),
+        Body::Run(mut reader) => {
+            reader.feed(piece)?;
+            Ok(Body::Run(reader))
+        }
+        Body::Gathered(mut bytes) => {
+            bytes.extend_from_slice(piece)?;
+            Ok(Body::Gathered(bytes))
+        }
+    }
+}
+
+// A request behind a piece of its body.
+fn read_on(opened: Opened, piece: &[u8]) -> Result<Opened, Memory>
+    requires { HasRoom opened.body (length piece.now) }
+    ensures ok { IfOk result (λ after. (opening : SeenOpening) (path body : List ℕ) → IsOpened opening path body opened
+        → IsOpened opening path (body ++ piece.now) after) }
+    ensures addressable { IfOk result (λ after. IsAddressable opened → IsAddressable after) }
+    ensures few { IfOk result (λ after. (fed : ℕ) → IsFew fed opened.body → IsFew (fed + length piece.now) after.body) }
+{
+    let Opened {
+        who,
+        number,
+        place,
+        text,
+        body,
+    } = opened;
+    match keep(body, piece) {
+        Ok(body) => Ok(Opened {
+            who,
+            number,
+            place,
+            text,
+            body,
+        }),
+        Err(memory) => Err(memory),
+    }
+}
+
+// How far a request was read behind a piece.
+fn after_piece(progress: Progress, piece: &[u8]) -> Progress
+    requires { MayGo progress (length piece.now) }
+    ensures ok { OrFailed result ((opening : Result SeenOpening RouteFault) (path body : List ℕ) → IsAt opening path body progress
+        → IsAt opening path (body ++ piece.now) result) }
+    ensures failed { progress ≡ Progress.Failed → result ≡ Progress.Failed }
+    ensures held { (fed : ℕ) → IsHeld fed progress → IsHeld (fed + length piece.now) result }
+{
+    match progress {
+        Progress::Reads(opened) => match read_on(opened, piece) {
+            Ok(opened) => Progress::Reads(opened),
+            Err(Memory) => Progress::Failed,
+        },
+        Progress::Faulty(fault) => Progress::Faulty(fault),
+        Progress::Failed => Progress::Failed,
+    }
+}
+
+fn has_failed(progress: &Progress) -> bool
+    ensures { MatchBool result (progress.now ≡ Progress.Failed) (progress.now ≢ Progress.Failed) }
+{
+    match progress {
+        Progress::Failed => true,
+        Progress::Reads(_) | Progress::Faulty(_) => false,
+    }
+}
+
+// What is asked at a row, by what is kept of the body.
+fn ask_of(alloc: Global, place: Place, text: &[u8], body: Body) -> Result<Ask, RouteFault>
+    requires known { IsRow place }
+    requires fitting { IsTrue (fits place.parameter text.now) }
+    requires suits { SuitsBody place.question body }
+    requires few { IsFew 16777216 body }
+    ensures ask { (told : List ℕ) → KeepsBody told body → IsRead (Asks place.question text.now told) result }
+    ensures sound { place.question ≡ question.Topics → IfOk result HasSoundTopics }
+{
+    match body {
+        Body::Passed => ask_at(alloc, place, text, &[]),
+        Body::Run(reader) => ask_run(alloc, text, reader),
+        Body::Gathered(bytes) => ask_at(alloc, place, text, bytes.as_slice()),
+    }
+}
+
+// What a request is read as whose body is whole.
+fn end_opened(alloc: Global, opened: Opened) -> Result<(Caller, Option<u64>, Ask), RouteFault>
+    requires addressable { IsAddressable opened }
+    requires few { IsFew 16777216 opened.body }
+    ensures reading { (opening : SeenOpening) (head : HttpHead) (body : List ℕ) → IsOpened opening head.path body opened
+        → IsRead (ReadsBehind (Ok opening) (request_with head body)) result }
+    ensures addressed { IfOk result (λ asked. (moment : ℕ) → moment ≤ MAX_MOMENT
+        → IsTrue (is_well_addressed asked.0 asked.1 asked.2 moment)) }
+{
+    let Opened {
+        who,
+        number,
+        place,
+        text,
+        body,
+    } = opened;
+    match ask_of(alloc, place, text.bytes(), body) {
+        Ok(ask) => Ok((who, number, ask)),
+        Err(fault) => Err(fault),
+    }
+}
+
+impl AskReader {
+    /// The reader of the request that this head begins.
+    pub fn new(alloc: Global, head: &HttpHead, keys: &Keys) -> Result<AskReader, Memory>
+        ensures asking { IfOk result (IsAsking head.now keys.now []) }
+        ensures fed { IfOk result (λ reader. reader.fed ≡ 0) }
+    {
+        let paths = Paths::new(alloc)?;
+        AskReader::new_by(alloc, &paths, head, keys)
+    }
+
+    /// The same by a table of the paths that was made before.
+    pub fn new_by(
+        alloc: Global,
+        paths: &Paths,
+        head: &HttpHead,
+        keys: &Keys,
+    ) -> Result<AskReader, Memory>
+        ensures asking { IfOk result (IsAsking head.now keys.now []) }
+        ensures fed { IfOk result (λ reader. reader.fed ≡ 0) }
+    {
+        let progress = begin(
+            alloc,
+            paths,
+            head.method.bytes(),
+            head.path.bytes(),
+            head.fields.items(),
+            keys,
+        )?;
+        Ok(AskReader {
+            alloc,
+            progress,
+            fed: 0,
+        })
+    }
+
+    /// The next bytes of the body. After `Memory` each later call answers `Memory`.
+    pub fn feed(&mut self, piece: &[u8]) -> Result<(), Memory>
+        requires { self.old.fed + length piece.now ≤ 16777216 }
+        ensures ok { OnOk result ((head : HttpHead) (keys : List KeyRow) (body : List ℕ) → IsAsking head keys body self.old
+            → IsAsking head keys (body ++ piece.now) self.new) }
+        ensures err { OnErr result (HasFailed self.new) }
+        ensures stays { HasFailed self.old → IsErr result }
+        ensures fed { self.new.fed ≡ self.old.fed + length piece.now }
+    {
+        let progress = replace(&mut self.progress, Progress::Failed);
+        self.progress = after_piece(progress, piece);
+        self.fed += piece.len();
+        if has_failed(&self.progress) {
+            return Err(Memory);
+        }
+        Ok(())
+    }
+
+    /// What is read of the request of the head and the pieces.
+    pub fn finish(self) -> Result<(Caller, Option<u64>, Ask), RouteFault>
+        ensures reading { (head : HttpHead) (keys : List KeyRow) (body : List ℕ) → IsAsking head keys body self
+            → IsRead (Reads (request_with head body) keys) result }
+        ensures addressed { IfOk result (λ asked. (moment : ℕ) → moment ≤ MAX_MOMENT
+            → IsTrue (is_well_addressed asked.0 asked.1 asked.2 moment)) }
+        ensures failed { HasFailed self → result ≡ Err RouteFault.Memory }
+    {
+        let AskReader {
+            alloc,
+            progress,
+            ..
+        } = self;
+        match progress {
+            Progress::Reads(opened) => end_opened(alloc, opened),
+            Progress::Faulty(fault) => Err(fault),
+            Progress::Failed => Err(RouteFault::Memory),
+        }
+    }
+}
