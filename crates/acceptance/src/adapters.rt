@@ -1,3 +1,4 @@
+//! The adapters over standard input and output, and the link in memory.
 use crate::links::pieces;
 use campaign_server::{Failed, Link, MemoryLink, StreamLink, write_all};
 use std::test::Fail;

@@ -1,3 +1,4 @@
+//! Journals that a session leaves, opened again through the top call.
 ghost use Rattle.campaign_server.specs.Doors.{IsShut};
 ghost use Rattle.campaign_server.specs.MemoryDoors.{told_by};
 

@@ -1,3 +1,4 @@
+//! Links for the tests of this crate.
 ghost use Rattle.std.specs.Prelude.{◌≤◌, IfOk, IsTrue, None, length};
 ghost use Rattle.campaign_server.specs.Doors.{IsNew};
 ghost use Rattle.campaign_server.specs.MemoryLinks.{told_by};

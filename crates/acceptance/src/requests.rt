@@ -1,3 +1,4 @@
+//! Tables of requests with their answers, through `campaign session`.
 use crate::journals::ended_with;
 use crate::links::link_of;
 use crate::settings::{SETTINGS, settings_shelf};

@@ -1,3 +1,4 @@
+//! `serve` through the top call.
 ghost use Rattle.std.specs.Prelude.{◌≡◌, ◌≤◌, All, IfOk};
 ghost use Rattle.campaign_server.specs.Doors.{IsNew, IsShut};
 ghost use Rattle.campaign_server.specs.MemoryLinks.{told_by};

@@ -1,3 +1,4 @@
+//! `session` through the top call.
 use crate::journals::ended_with;
 use crate::links::{AnsweredFirst, link_of};
 use crate::settings::{SETTINGS, settings_shelf};

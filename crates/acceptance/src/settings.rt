@@ -1,3 +1,4 @@
+//! Settings, read and refused.
 use crate::journals::ended_with;
 use crate::links::idle_link;
 use campaign_cli::{MemoryShelf, MemorySink, SettingsEnd, read_settings};

@@ -1,6 +1,8 @@
 //! A book: the accepted entries, and the journal that keeps them. A request is answered by the entries;
 //! the entry that it adds joins them once it is journaled.
-ghost use Rattle.std.specs.Prelude.{◌≡◌, length, Some};
+ghost use Rattle.std.specs.Prelude.{◌≡◌, length, IsSome, Some};
+ghost use Rattle.std.specs.Option.{option_map};
+ghost use Rattle.campaign_core.specs.Tallies.{IsTally, submitted_at};
 ghost use Rattle.rulebook.specs.Campaign.{phase as phase_of};
 ghost use Rattle.rulebook.specs.Stories.{IsAddressed};
 ghost use Rattle.book.specs.Books.{Acts, IsSound};
@@ -10,8 +12,9 @@ use crate::commits::commit;
 use crate::journaling::{frame_of, keep};
 use crate::laws::rule_laws;
 use crate::pending::Pending;
-use campaign_core::{Prepared, State, Verdict};
+use campaign_core::{Prepared, State, Tally, Verdict};
 use decimal_rank::Memory;
+use depth_pool::RunId;
 use journal::{Disk, Failed, Journal};
 use rulebook::{Addressed, Answer, Phase};
 use std::alloc::Global;
@@ -58,6 +61,21 @@ impl<D: Disk> Book<D> {
         ensures { result ≡ phase_of self.now.history }
     {
         self.state.phase()
+    }
+
+    /// How the judgements and the runs stand.
+    pub fn tally(&self) -> Tally
+        ensures { IsTally self.now.history result }
+    {
+        self.state.tally()
+    }
+
+    /// The name of a submitted run, by its number of submission from 0.
+    pub fn run_name(&self, run: RunId) -> &[u8]
+        requires { IsSome (submitted_at self.now.history run) }
+        ensures { option_map (λ run. run.name) (submitted_at self.now.history run) ≡ Some result.now }
+    {
+        self.state.run_name(run)
     }
 
     /// What a book keeps true.

@@ -1,3 +1,4 @@
+//! The files of the folder that the program runs in.
 ghost use Rattle.std.specs.Prelude.{◌≡◌, ◌≤◌, None, IfOk, length};
 
 use crate::faults::ShelfFault;

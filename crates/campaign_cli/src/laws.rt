@@ -1,3 +1,4 @@
+//! What each status says, and what stays behind a session and a server, as laws.
 ghost use Rattle.std.specs.Prelude.{ℕ};
 ghost use Rattle.campaign_cli.specs.Endings.{Ends};
 ghost use Rattle.campaign_cli.specs.Outside.{Outside};

@@ -1,3 +1,4 @@
+//! A shelf in memory, whose reads fail as it is told.
 ghost use Rattle.std.specs.Prelude.{◌≡◌, ◌≤◌, ◌↔◌, Some, None, IsTrue, IfOk, IfSome, length, option_copied};
 ghost use Rattle.decimal_rank.specs.FailurePlans.{fails_next};
 ghost use Rattle.campaign_cli.specs.Shelves.{Gives, Lacks, file_at, told_by, after_read};

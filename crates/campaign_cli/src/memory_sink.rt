@@ -1,3 +1,4 @@
+//! An output in memory, whose writes fail as it is told.
 ghost use Rattle.std.specs.Prelude.{◌≡◌, [], Some, IsTrue, IsErr, IfOk, length};
 ghost use Rattle.decimal_rank.specs.FailurePlans.{fails_next};
 ghost use Rattle.campaign_cli.specs.Sinks.{told_by, after_write};

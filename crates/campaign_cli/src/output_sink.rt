@@ -1,3 +1,4 @@
+//! Standard output.
 ghost use Rattle.std.specs.Prelude.{◌≡◌, None};
 
 use campaign_server::taken_by;

@@ -1,3 +1,4 @@
+//! A text that is printed, and the status behind it.
 ghost use Rattle.campaign_cli.specs.Outside.{Prints};
 
 use crate::statuses::Status;

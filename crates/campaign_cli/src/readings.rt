@@ -1,3 +1,4 @@
+//! A file that a command reads.
 ghost use Rattle.std.specs.Prelude.{IfOk, IfErr};
 ghost use Rattle.campaign_cli.specs.Outside.{IsUnread};
 ghost use Rattle.campaign_cli.specs.Shelves.{Follows, Gives};

@@ -1,3 +1,4 @@
+//! What files are read from.
 ghost use Rattle.std.specs.Prelude.{◌≡◌, IfOk};
 ghost use Rattle.decimal_rank.specs.Causes.{Rose};
 ghost use Rattle.campaign_cli.specs.Shelves.{ShelfState, Gives, Lacks, Follows};

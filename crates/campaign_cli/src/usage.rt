@@ -1,3 +1,4 @@
+//! The line of usage.
 ghost use Rattle.campaign_server.specs.Doors.{DoorState};
 ghost use Rattle.campaign_server.specs.Links.{LinkState};
 ghost use Rattle.campaign_cli.specs.Shelves.{ShelfState};

@@ -40,3 +40,5 @@ mod Fitting
 mod KnownRuns
 mod NumberTables
 mod Withdrawals
+mod BestRuns
+mod TopicsAt

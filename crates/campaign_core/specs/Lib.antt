@@ -13,3 +13,4 @@ pub mod Texts
 pub mod Printed
 pub mod Scoring
 pub mod Submissions
+pub mod Tallies

@@ -1,3 +1,4 @@
+//! Amendments of labels, and rulings: whether they are refused, and what they are answered.
 ghost use Rattle.std.specs.Prelude.{◌≡◌, List, map};
 ghost use Rattle.assessment.specs.TopicFacts.{facts_of};
 ghost use Rattle.lease_desk.specs.declared.leases.Lease.{Lease};

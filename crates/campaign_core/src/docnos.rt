@@ -1,3 +1,4 @@
+//! The docnos of a campaign by number: those of a run join the others.
 ghost use Rattle.std.specs.Prelude.{◌≡◌, ◌+◌, ◌<◌, ◌≤◌, ◌^◌, length, OnOk};
 ghost use Rattle.std.specs.List.{fold};
 ghost use Rattle.decimal_rank.specs.Names.{with_name};

@@ -1,3 +1,4 @@
+//! Leases, their grades and their releases: whether they are refused, and what they are answered.
 ghost use Rattle.std.specs.Prelude.{◌≡◌, ◌≤◌, ℕ, List, IfOk, length, map};
 ghost use Rattle.assessment.specs.TopicFacts.{facts_of};
 ghost use Rattle.decimal_rank.specs.Names.{docno_of};

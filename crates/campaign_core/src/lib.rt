@@ -15,9 +15,11 @@ mod score_pages;
 mod selection;
 mod state;
 mod submissions;
+mod tallies;
 mod texts;
 mod topics;
 mod verdict;
 
 pub use state::State;
+pub use tallies::Tally;
 pub use verdict::{Prepared, Verdict};

@@ -1,3 +1,4 @@
+//! What the first entries of a campaign give: its rules, its topics and their titles.
 ghost use Rattle.std.specs.Prelude.{◌≡◌, is_some};
 ghost use Rattle.std.specs.List.{list_any};
 ghost use Rattle.std.specs.Str.{bytes_eq};

@@ -1,3 +1,4 @@
+//! The page of the pool of a topic.
 ghost use Rattle.std.specs.Prelude.{◌≡◌, map, IfOk};
 ghost use Rattle.decimal_rank.specs.Names.{docno_of};
 ghost use Rattle.assessment.specs.TopicFacts.{facts_of};

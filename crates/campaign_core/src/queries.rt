@@ -1,3 +1,4 @@
+//! Queries: whether they are refused, and the page that is told.
 ghost use Rattle.std.specs.Prelude.{◌≡◌, ◌==◌, ◌&&◌, ◌<◌, IfOk, length};
 ghost use Rattle.assessment.specs.Changes.{facts};
 ghost use Rattle.rulebook.specs.declared.rules.Phase.TheVariants.{Published};

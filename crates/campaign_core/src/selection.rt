@@ -1,3 +1,4 @@
+//! The document that an assessor is told to grade.
 ghost use Rattle.std.specs.Prelude.{◌≡◌, ◌+◌, find, length, nat_lt};
 ghost use Rattle.labels.specs.Marked.{given_at};
 ghost use Rattle.lease_desk.specs.Leases.{live_on};

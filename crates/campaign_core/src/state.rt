@@ -1,6 +1,7 @@
 //! The state of a campaign: its history, and what is known of it by numbers. A request is answered
 //! first; the change of an accepted one is given room then, and made when its entry joins the history.
-ghost use Rattle.std.specs.Prelude.{◌≡◌, ◌<◌, ◌≤◌, ◌∷◌, [], ◌++◌, ℕ, List, length, vec_len, vec_capacity, IfOk, OnOk, OnErr, IsTrue, None, Ok, Some};
+ghost use Rattle.std.specs.Prelude.{◌≡◌, ◌<◌, ◌≤◌, ◌∷◌, [], ◌++◌, ℕ, List, length, vec_len, vec_capacity, IfOk, IsSome, OnOk, OnErr, IsTrue, None, Ok, Some};
+ghost use Rattle.std.specs.Option.{option_map};
 ghost use Rattle.assessment.specs.Changes.{facts};
 ghost use Rattle.rulebook.specs.declared.ask.Ask.TheVariants.{Act};
 ghost use Rattle.rulebook.specs.declared.limits.TheConstants.{MAX_ENTRIES, MAX_LINES, MAX_DOCNOS, MAX_RUNS};
@@ -18,16 +19,18 @@ ghost use Rattle.campaign_core.specs.NumberedRequests.{number_in, numbers_of, pl
 ghost use Rattle.campaign_core.specs.Kept.{IsAssessmentOf};
 ghost use Rattle.campaign_core.specs.Submissions.{AreSubmissions};
 ghost use Rattle.campaign_core.specs.State.{IsRuling, IsVerdict};
+ghost use Rattle.campaign_core.specs.Tallies.{IsTally, submitted_at};
 
 use crate::changes::change_of;
 use crate::queries::told;
 use crate::request_numbers::RequestNumbers;
 use crate::rulings::{moment_after, ruled};
-use crate::submissions::{Submission, line_count, lists_of, note_run};
+use crate::submissions::{Submission, line_count, lists_of, name_of, note_run};
+use crate::tallies::{Tally, tally_of};
 use crate::verdict::{Prepared, Verdict};
 use assessment::Assessment;
 use decimal_rank::{Memory, Names, Steps, Text};
-use depth_pool::greatest_run_goes_last;
+use depth_pool::{RunId, greatest_run_goes_last};
 use labels::{marks_follow_labels, marks_follow_rulings};
 use rulebook::{
     Ask, Caller, Command, Entry, EntryCore, MAX_ENTRIES, Phase, Quantity, Refusal, Reply, Role,
@@ -126,6 +129,23 @@ impl State {
         ensures { result ≡ phase_of self.now.history }
     {
         self.phase
+    }
+
+    /// How the judgements and the runs stand. It takes a few steps for each topic, and looks at each live run
+    /// once.
+    pub fn tally(&self) -> Tally
+        ensures { IsTally self.now.history result }
+    {
+        tally_of(self.assessment.topics(), &self.submissions)
+    }
+
+    /// The name of a submitted run, by its number of submission from 0.
+    pub fn run_name(&self, run: RunId) -> &[u8]
+        requires { IsSome (submitted_at self.now.history run) }
+        ensures { option_map (λ run. run.name) (submitted_at self.now.history run) ≡ Some result.now }
+    {
+        let place = self.submissions[usize::from(run.0)].place;
+        name_of(&self.history[place as usize])
     }
 
     /// Works out what the rules answer. What was prepared before and not committed is dropped.

@@ -1,3 +1,4 @@
+//! What `State::prepare` comes to.
 ghost use Rattle.std.specs.Prelude.{◌≡◌};
 
 use rulebook::{Entry, EntryCore, Reply};

@@ -1,0 +1,115 @@
+//! How the judgements and the runs of a campaign stand, from the counts that are kept.
+ghost use Rattle.std.specs.Prelude.{◌≡◌, ◌≤◌, ◌^◌, ◌||◌, ℕ, List, Some, is_none, length, map, nat_lt};
+ghost use Rattle.std.specs.Option.{option_map};
+ghost use Rattle.assessment.specs.TopicFacts.{facts_of};
+ghost use Rattle.lease_desk.specs.declared.leases.Lease.{Lease};
+ghost use Rattle.rulebook.specs.Campaign.{History, Run};
+ghost use Rattle.rulebook.specs.Grades.{non_relevant_count, relevant_count};
+ghost use Rattle.campaign_core.specs.Kept.{KnowsAll, KnowsRun};
+ghost use Rattle.campaign_core.specs.Printed.{IsTopicOf};
+ghost use Rattle.campaign_core.specs.Tallies.{IsTally, KnowsRuns, best_map, best_run, judged_in, map_of, relevant_in, submitted_at};
+
+use crate::submissions::Submission;
+use assessment::{Topic, Topics};
+use depth_pool::RunId;
+use rulebook::{graded_are_on_trail, graded_are_there};
+use score_index::Board;
+
+/// How the judgements and the runs stand. `judged` is how many documents have an effective grade, and
+/// `relevant` how many are relevant, over all topics. `best` is the live run with the greatest mean average
+/// precision, the earliest submitted of several, and `map` is that mean in units of 10^-15, or 0 where no run is
+/// live.
+#[derive(Clone, Copy, Debug, PartialEq, Eq)]
+pub struct Tally {
+    pub judged: u64,
+    pub relevant: u64,
+    pub best: Option<RunId>,
+    pub map: u64,
+}
+
+/// The counts are those that the topics keep, and each live run is looked at once.
+pub(crate) fn tally_of(topics: &Topics, submissions: &[Submission]) -> Tally
+    requires { (H : History) × KnowsRuns H topics.now submissions.now }
+    ensures { (H : History) → KnowsRuns H topics.now submissions.now → IsTally H result }
+{
+    let (relevant, judged) = judgements(topics.items());
+    let (best, map) = best_of(topics, submissions);
+    Tally {
+        judged,
+        relevant,
+        best,
+        map,
+    }
+}
+
+/// How many documents of all topics are relevant, and how many have an effective grade.
+fn judgements(topics: &[Topic]) -> (u64, u64)
+    requires { length topics.now ≤ 250 }
+    ensures { (H : History) (desk : List Lease) → KnowsAll H (map facts_of topics.now) desk
+        → (result.0 ≡ relevant_in H) × (result.1 ≡ judged_in H) }
+{
+    let mut relevant = 0;
+    let mut judged = 0;
+    for topic in topics {
+        let (more, lower) = counts_of(topic);
+        relevant += u64::from(more);
+        judged += u64::from(more) + u64::from(lower);
+    }
+    (relevant, judged)
+}
+
+/// How many documents of a topic are relevant, and how many have a lower effective grade.
+fn counts_of(topic: &Topic) -> (u32, u32)
+    ensures { (H : History) (names : List (List ℕ)) → IsTopicOf H names topic.now.facts
+        → (result.0 ≡ relevant_count H topic.now.facts.id) × (result.1 ≡ non_relevant_count H topic.now.facts.id) }
+{
+    // the documents with a grade are those of the trail that have one
+    graded_are_on_trail();
+    let grades = topic.grades();
+    (grades.relevant(), grades.non_relevant())
+}
+
+/// The live run with the greatest mean average precision, the earliest submitted of several, and that mean.
+fn best_of(topics: &Topics, submissions: &[Submission]) -> (Option<RunId>, u64)
+    requires { (H : History) × KnowsRuns H topics.now submissions.now }
+    ensures best { (H : History) → KnowsRuns H topics.now submissions.now
+        → (option_map (submitted_at H) result.0 ≡ option_map Some (best_run H)) × (result.1 ≡ best_map H) }
+    ensures fits { result.1 ≤ 10 ^ 15 }
+{
+    let items = topics.items();
+    let board = topics.board();
+    let mut best = None;
+    let mut greatest = 0;
+    for (number, submission) in submissions.iter().enumerate() {
+        let is_withdrawn = submission.is_withdrawn;
+        if is_withdrawn {
+            continue;
+        }
+        let run = RunId(number as u16);
+        let value = map_of(items, board, run);
+        let better = is_better(best, greatest, value);
+        if better {
+            best = Some(run);
+            greatest = value;
+        }
+    }
+    (best, greatest)
+}
+
+/// Whether a run with this value comes in place of the best one so far, which has the greatest.
+fn is_better(best: Option<RunId>, greatest: u64, value: u64) -> bool
+    ensures { result ≡ (is_none best || nat_lt greatest value) }
+{
+    best.is_none() || greatest < value
+}
+
+/// The mean average precision of a run.
+fn map_of(topics: &[Topic], board: &Board, run: RunId) -> u64
+    ensures map { (H : History) (r : Run) → KnowsRun H (map facts_of topics.now) board.now run r → result ≡ map_of H r }
+    ensures fits { result ≤ 10 ^ 15 }
+{
+    // a document with a grade is on the trail
+    graded_are_on_trail();
+    graded_are_there();
+    board.summary(run).map
+}

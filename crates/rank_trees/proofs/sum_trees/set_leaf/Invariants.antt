@@ -1,0 +1,9 @@
+use Rattle.std.proofs.Common.{◌≡◌, ◌+◌}
+use Rattle.rank_trees.proofs.Updates.{IsUpdated}
+use Rattle.rank_trees.proofs.sum_trees.set_leaf.Given as goal
+
+abbrev pub invariant-loop-level : goal.invariant-loop-level
+invariant-loop-level g l = record {
+  updated : IsUpdated l.fn.nodes l.nodes l.depth l.index l.value l.old l._level l.node;
+  cost : l.steps ≡ l.fn.steps + 1 + l._level;
+}
