@@ -3,16 +3,12 @@ use Rattle.std.specs.Prelude.{◌≡◌, ℕ, ◌-◌, ◌≤◌, List, Option, 
 use Rattle.std.specs.Io.KnownBytes.{WriteAppends}
 use Rattle.rulebook.specs.declared.limits.TheConstants.{MAX_MOMENT}
 use Rattle.decimal_rank.specs.FailurePlans.{count_more}
+use Rattle.decimal_rank.specs.Writings.{Writing}
 
 -- the bytes taken and the bytes left, where the link tells them, and how many reads failed
 pub record Reading : Type 0 where
   pub taken : Option (List ℕ)
   pub left : Option (List ℕ)
-  pub faults : ℕ
-
--- the bytes written, where the link tells them, and how many writes failed
-pub record Writing : Type 0 where
-  pub written : Option (List ℕ)
   pub faults : ℕ
 
 -- the moments that are given, where the link tells them, and how many were asked for

@@ -1,3 +1,4 @@
+//! One request's answer: the teller is asked at a moment, and its answer is written as one text.
 ghost use Rattle.std.specs.Prelude.{◌≡◌, ◌≤◌, ℕ, List, false, IsTrue, OnOk, OnErr};
 ghost use Rattle.std.specs.Io.KnownBytes.{Appends};
 ghost use Rattle.decimal_rank.specs.Causes.{HasCause};

@@ -1,3 +1,4 @@
+//! How a connection ends, and how a server does.
 use http_wire::WireFault;
 
 /// How a connection ended.

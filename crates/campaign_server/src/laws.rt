@@ -1,3 +1,4 @@
+//! What callers may rely on of a talk, as laws.
 ghost use Rattle.std.specs.Prelude.{ℕ, List};
 ghost use Rattle.routes.specs.declared.keys.KeyRow.{KeyRow};
 ghost use Rattle.rulebook.specs.Campaign.{History};

@@ -1,11 +1,13 @@
+//! A connection, as what comes, what goes and a clock.
 ghost use Rattle.std.specs.Prelude.{◌≡◌, ◌<◌, ◌≤◌, length, IfOk, OnOk, OnErr};
 ghost use Rattle.std.specs.Io.{ReadsAtMost};
 ghost use Rattle.std.specs.Io.KnownBytes.{Appends, ReadConsumes, WriteAppends};
 ghost use Rattle.decimal_rank.specs.Causes.{HasCause};
 ghost use Rattle.decimal_rank.specs.KnownBytes.{AppendsPart};
 ghost use Rattle.campaign_server.specs.Links.{LinkState, ReadTakes, Ticks};
+ghost use Rattle.std.proofs.Common.{◌∙◌, refl};
 
-use decimal_rank::Failed;
+use decimal_rank::{Failed, Output, write_all as write_whole};
 
 /// A connection: bytes that come, bytes that go, and the moments of a clock.
 pub trait Link {
@@ -41,7 +43,6 @@ pub trait Link {
 }
 
 /// Writes the whole text, in as many writes as it takes. A write that fails ends it.
-#[tactic(auto, using(decimal_rank::proofs::Growth::appends_next))]
 pub fn write_all<I: Link>(link: &mut I, text: &[u8]) -> Result<(), Failed>
     ensures all { OnOk result (Appends (I.seen link.old).writing.written (I.seen link.new).writing.written text.now) }
     ensures part { OnErr result (AppendsPart (I.seen link.old).writing.written (I.seen link.new).writing.written text.now) }
@@ -49,9 +50,24 @@ pub fn write_all<I: Link>(link: &mut I, text: &[u8]) -> Result<(), Failed>
     ensures reading_kept { (I.seen link.new).reading ≡ (I.seen link.old).reading }
     ensures clock_kept { (I.seen link.new).clock ≡ (I.seen link.old).clock }
 {
-    let mut done = 0;
-    while done < text.len() {
-        done += link.write(&text[done..])?;
+    write_whole(&mut Going(link), text)
+}
+
+/// What goes on a link, as an output. It stays the same link.
+#[derive(Drop)]
+struct Going<'a, I: Link>(&'a mut I);
+
+impl<I: Link> Output for Going<'_, I> {
+    ghost writing = { λ going. (I.seen going.0.now).writing };
+
+    ghost Keeps = { λ a b. (b.0.ghost_name ≡ a.0.ghost_name)
+        × ((I.seen b.0.now).reading ≡ (I.seen a.0.now).reading) × ((I.seen b.0.now).clock ≡ (I.seen a.0.now).clock) };
+
+    ghost keeps_itself = { λ a. (refl, refl, refl) };
+
+    ghost keeps_on = { λ a b c p q. (q.0 ∙ p.0, q.1 ∙ p.1, q.2 ∙ p.2) };
+
+    fn write(&mut self, piece: &[u8]) -> Result<usize, Failed> {
+        self.0.write(piece)
     }
-    Ok(())
 }

@@ -1,3 +1,4 @@
+//! A connection in memory, whose calls fail as it is told.
 ghost use Rattle.std.specs.Prelude.{◌≡◌, ◌≤◌, ◌<◌, ◌↔◌, ◌++◌, ℕ, [], IsTrue, IsSome, IsErr, IfOk, length, take, drop, min, slice_get, option_copied};
 ghost use Rattle.std.specs.List.{concat};
 ghost use Rattle.rulebook.specs.declared.limits.TheConstants.{MAX_MOMENT};

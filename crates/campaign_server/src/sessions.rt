@@ -1,3 +1,4 @@
+//! A session: one connection to a campaign on a disk.
 ghost use Rattle.book.specs.Books.{IsSound, Runs};
 ghost use Rattle.campaign_server.specs.Connections.{Ends};
 ghost use Rattle.campaign_server.specs.Sessions.{AreNumberedOnce, IsSession};

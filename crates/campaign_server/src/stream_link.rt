@@ -1,9 +1,10 @@
+//! A connection over standard input and output.
 ghost use Rattle.std.specs.Prelude.{◌≡◌, None};
 
 use crate::links::Link;
-use crate::system_writes::taken_by;
+use crate::system_calls::{given_by, taken_by};
 use crate::watches::Watch;
-use decimal_rank::{Failed, count_more};
+use decimal_rank::Failed;
 use std::io::Read;
 use std::rt::Clock;
 
@@ -43,13 +44,7 @@ impl<R: Input + Print + Clock + Drop> Link for StreamLink<R> {
     } };
 
     fn read(&mut self, out: &mut [u8]) -> Result<usize, Failed> {
-        match self.input.read(out) {
-            Ok(count) => Ok(count),
-            Err(_) => {
-                self.read_faults = count_more(self.read_faults);
-                Err(Failed)
-            }
-        }
+        given_by(self.input.read(out), &mut self.read_faults)
     }
 
     fn write(&mut self, piece: &[u8]) -> Result<usize, Failed> {

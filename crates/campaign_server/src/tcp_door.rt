@@ -5,7 +5,7 @@ ghost use Rattle.std.specs.Prelude.{◌≡◌, None};
 use crate::doors::Door;
 use crate::ends::End;
 use crate::links::Link;
-use crate::system_writes::taken_by;
+use crate::system_calls::{given_by, taken_by};
 use crate::watches::Watch;
 use decimal_rank::{Failed, Memory, count_more};
 use std::io::{ErrorKind, Read, Write};
@@ -34,13 +34,7 @@ impl<R: Clock + Drop> Link for TcpLink<R> {
     } };
 
     fn read(&mut self, out: &mut [u8]) -> Result<usize, Failed> {
-        match self.stream.read(out) {
-            Ok(count) => Ok(count),
-            Err(_) => {
-                self.read_faults = count_more(self.read_faults);
-                Err(Failed)
-            }
-        }
+        given_by(self.stream.read(out), &mut self.read_faults)
     }
 
     fn write(&mut self, piece: &[u8]) -> Result<usize, Failed> {

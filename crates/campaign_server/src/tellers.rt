@@ -1,3 +1,4 @@
+//! What a connection speaks to: a campaign that is told requests.
 ghost use Rattle.std.specs.Prelude.{IsTrue};
 ghost use Rattle.rulebook.specs.Legal.{is_well_addressed};
 ghost use Rattle.rulebook.specs.declared.answer.Answer.{Answer};

@@ -1,4 +1,4 @@
-//! What a write of the system comes to, for each adapter that writes.
+//! What a read and a write of the system come to, for the adapters over them.
 ghost use Rattle.std.specs.Prelude.{◌≡◌, ◌<◌, IfOk, Ok, length};
 ghost use Rattle.decimal_rank.specs.Causes.{HasCause};
 
@@ -18,6 +18,20 @@ pub fn taken_by<E: Drop>(
     match told {
         Ok(count) if count > 0 || piece.is_empty() => Ok(count),
         _ => {
+            *faults = count_more(*faults);
+            Err(Failed)
+        }
+    }
+}
+
+/// How many bytes a read gave, where it didn't fail. One that failed is counted as a fault.
+pub(crate) fn given_by<E: Drop>(told: Result<usize, E>, faults: &mut u64) -> Result<usize, Failed>
+    ensures given { IfOk result (λ count. told ≡ Ok count) }
+    ensures cause { HasCause faults.old faults.new result }
+{
+    match told {
+        Ok(count) => Ok(count),
+        Err(_) => {
             *faults = count_more(*faults);
             Err(Failed)
         }
