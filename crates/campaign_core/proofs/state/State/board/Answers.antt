@@ -1,6 +1,6 @@
-use Rattle.std.proofs.Common.{◌∙◌, List, ap, map, subst}
+use Rattle.std.proofs.Common.{◌∙◌, ap, map, subst}
 use Rattle.score_index.specs.Standing.{StandsFor}
-use Rattle.assessment.specs.TopicFacts.{TopicView, graded_of}
+use Rattle.assessment.specs.TopicFacts.{graded_of}
 use Rattle.assessment.specs.TopicsFacts.{TopicsView}
 use Rattle.campaign_core.specs.Lendings.{IsBoardOf}
 use Rattle.campaign_core.specs.Numbers.{names_of}
