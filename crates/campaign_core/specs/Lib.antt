@@ -1,6 +1,7 @@
 pub mod Growth
 pub mod Joining
 pub mod Kept
+pub mod Lendings
 pub mod Numbers
 pub mod NumberedRequests
 pub mod Changes

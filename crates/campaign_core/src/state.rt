@@ -17,9 +17,11 @@ ghost use Rattle.campaign_core.specs.Joining.{MayJoin};
 ghost use Rattle.campaign_core.specs.Numbers.{are_named};
 ghost use Rattle.campaign_core.specs.NumberedRequests.{number_in, numbers_of, place_of, repeated_reply};
 ghost use Rattle.campaign_core.specs.Kept.{IsAssessmentOf};
+ghost use Rattle.campaign_core.specs.Lendings.{IsBoardOf, IsQueueOf};
 ghost use Rattle.campaign_core.specs.Submissions.{AreSubmissions};
 ghost use Rattle.campaign_core.specs.State.{IsRuling, IsVerdict};
 ghost use Rattle.campaign_core.specs.Tallies.{IsTally, submitted_at};
+ghost use Rattle.campaign_core.specs.Topics.{topic_ids};
 
 use crate::changes::change_of;
 use crate::queries::told;
@@ -32,10 +34,12 @@ use assessment::Assessment;
 use decimal_rank::{Memory, Names, Steps, Text};
 use depth_pool::{RunId, greatest_run_goes_last};
 use labels::{marks_follow_labels, marks_follow_rulings};
+use mtf_queue::Queue;
 use rulebook::{
     Ask, Caller, Command, Entry, EntryCore, MAX_ENTRIES, Phase, Quantity, Refusal, Reply, Role,
     Rules, labels_join, quiet_entries_keep_grades, rulings_join,
 };
+use score_index::Board;
 use std::alloc::Global;
 use std::marker::Model;
 use std::snapshot::Snapshot;
@@ -146,6 +150,21 @@ impl State {
     {
         let place = self.submissions[usize::from(run.0)].place;
         name_of(&self.history[place as usize])
+    }
+
+    /// The board of the live runs' lists, which stands for the effective grades.
+    pub fn board(&self) -> &Board
+        ensures { IsBoardOf self.now.history result.now }
+    {
+        self.assessment.topics().board()
+    }
+
+    /// The live runs of a topic, by its number from 0, in the judging order.
+    pub fn queue(&self, topic: u16) -> &Queue
+        requires { topic < length (topic_ids self.now.history) }
+        ensures { IsQueueOf self.now.history topic result.now }
+    {
+        self.assessment.topics().items()[topic as usize].queue()
     }
 
     /// Works out what the rules answer. What was prepared before and not committed is dropped.
