@@ -1,0 +1,7 @@
+mod Connections
+mod Counts
+mod Founding
+mod Places
+mod Ranges
+mod Sending
+mod Talks

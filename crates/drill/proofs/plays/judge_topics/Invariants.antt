@@ -1,0 +1,10 @@
+use Rattle.std.proofs.Common.{◌≤◌, ◌*◌}
+use Rattle.drill.specs.Plays.{After, IsJudged, judging, unjudged}
+use Rattle.drill.proofs.plays.judge_topics.Given as goal
+
+abbrev pub invariant-loop-before : goal.invariant-loop-before
+invariant-loop-before g l = record {
+  judged : After (IsJudged l.numbers) l.before (unjudged l.fn.book.history) (judging l.book.history l.sent);
+  few : l.sent.number ≤ l.before * 2003;
+  few_leases : l.sent.leases ≤ l.before * 1001;
+}

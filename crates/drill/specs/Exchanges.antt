@@ -1,0 +1,39 @@
+-- What a message that is sent twice is answered by the rules, and what it adds to the accepted entries.
+use Rattle.std.specs.Prelude.{◌≡◌, ◌≢◌, ℕ, List, [], ◌∷◌, ◌++◌}
+use Rattle.http_wire.specs.Messages.{Messages, End, Closed, Refused, Clean, Cut}
+use Rattle.routes.specs.Answers.{status_of}
+use Rattle.routes.specs.declared.answers.Answered.{Answered}
+use Rattle.rulebook.specs.Campaign.{History}
+use Rattle.campaign_server.specs.Chains.{Said, requests_of, texts_of}
+use Rattle.campaign_server.specs.Talks.{Says}
+use Rattle.drill.specs.Messages.{Message, callers, message_text}
+
+-- an answer that tells neither want of memory nor a fault of the disk
+pub record IsMet (answer : Answered) : Type 0 where
+  pub no_disk_fault : status_of answer ≢ 503
+  pub no_want : status_of answer ≢ 507
+
+-- The answers of the rules at moment 0, each behind the entries that stand then; at the end S stands.
+abbrev pub AreTold : History → List Said → History → Type 0
+AreTold H [] S = S ≡ H
+AreTold H (x ∷ said) S = (more : History) × Says callers H x.request 0 x.answer more × IsMet x.answer × AreTold (H ++ more) said S
+
+-- the bytes are whole messages to their end
+abbrev pub IsWhole : End → Type 0
+IsWhole Clean = Unit {0}
+IsWhole Closed = Unit {0}
+IsWhole (Refused fault) = ⊥
+IsWhole Cut = ⊥
+
+-- a text that comes twice in one connection, its answers by the rules behind H, and the entries that stand then
+pub record IsExchange (H : History) (text : List ℕ) (S : History) (answers : List ℕ) : Type 0 where
+  pub said : List Said
+  pub ending : End
+  pub are_messages : Messages (text ++ text) (requests_of said) ending
+  pub whole : IsWhole ending
+  pub told : AreTold H said S
+  pub answers_are : answers ≡ texts_of said
+
+-- the message was sent twice, whatever its answers are
+abbrev pub IsSent : History → Message → History → Type 0
+IsSent H message S = (answers : List ℕ) × IsExchange H (message_text message) S answers

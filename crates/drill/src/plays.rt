@@ -1,0 +1,159 @@
+//! The messages of a generated campaign, in their order.
+ghost use Rattle.std.specs.Prelude.{◌≡◌, ◌+◌, ◌*◌, ◌≤◌, [], ◌∷◌, IfOk, IsTrue, MatchBool, OnOk};
+ghost use Rattle.rulebook.specs.Legal.{founding};
+ghost use Rattle.drill.specs.Exchanges.{IsSent};
+ghost use Rattle.drill.specs.Figures.{are_numbers};
+ghost use Rattle.drill.specs.Messages.{callers, rules, run_message as message_of_run};
+ghost use Rattle.drill.specs.Plays.{After, AreJudged, IsGraded, IsJudged, IsPlayed, IsRefused, judging};
+
+use crate::exchanges::send;
+use crate::figures::grade_of;
+use crate::messages::{
+    grade_message, lease_message, open_message, publish_message, run_message, topics_message,
+};
+use crate::numbers::DrillNumbers;
+use book::Book;
+use decimal_rank::Memory;
+use disk_model::MemoryDisk;
+use routes::Keys;
+use std::alloc::Global;
+
+/// How many messages the assessor sent, and how many leases were accepted.
+#[derive(Clone, Copy)]
+struct Sent {
+    number: u32,
+    leases: u32,
+}
+
+/// Plays the campaign from its founding to its publication.
+pub(crate) fn play<R>(
+    rt: &R,
+    alloc: Global,
+    numbers: &DrillNumbers,
+    book: &mut Book<MemoryDisk>,
+    keys: &Keys,
+) -> Result<(), Memory>
+    requires numbers { IsTrue (are_numbers numbers.now) }
+    requires keys { keys.now ≡ callers }
+    requires founded { book.old.history ≡ founding rules ∷ [] }
+    ensures { OnOk result (IsPlayed numbers.now book.new.history) }
+{
+    send(rt, alloc, book, keys, topics_message(alloc, numbers)?)?;
+    submit_runs(rt, alloc, numbers, book, keys)?;
+    send(rt, alloc, book, keys, open_message(alloc)?)?;
+    judge_topics(rt, alloc, numbers, book, keys)?;
+    send(rt, alloc, book, keys, publish_message(alloc)?)?;
+    Ok(())
+}
+
+/// Submits each run.
+fn submit_runs<R>(
+    rt: &R,
+    alloc: Global,
+    numbers: &DrillNumbers,
+    book: &mut Book<MemoryDisk>,
+    keys: &Keys,
+) -> Result<(), Memory>
+    requires numbers { IsTrue (are_numbers numbers.now) }
+    requires keys { keys.now ≡ callers }
+    ensures { OnOk result (After (λ r old new. IsSent old (message_of_run numbers.now r) new) numbers.now.runs book.old.history book.new.history) }
+{
+    for before in 0..numbers.runs {
+        send(
+            rt,
+            alloc,
+            book,
+            keys,
+            run_message(alloc, numbers, before + 1)?,
+        )?;
+    }
+    Ok(())
+}
+
+/// Leases and grades the documents of each topic.
+fn judge_topics<R>(
+    rt: &R,
+    alloc: Global,
+    numbers: &DrillNumbers,
+    book: &mut Book<MemoryDisk>,
+    keys: &Keys,
+) -> Result<(), Memory>
+    requires numbers { IsTrue (are_numbers numbers.now) }
+    requires keys { keys.now ≡ callers }
+    ensures { OnOk result (AreJudged numbers.now book.old.history book.new.history) }
+{
+    let mut sent = Sent {
+        number: 0,
+        leases: 0,
+    };
+    for before in 0..numbers.topics {
+        judge_topic(rt, alloc, numbers, before + 1, book, keys, &mut sent)?;
+    }
+    Ok(())
+}
+
+/// Leases and grades the documents of a topic, until no lease is accepted.
+fn judge_topic<R>(
+    rt: &R,
+    alloc: Global,
+    numbers: &DrillNumbers,
+    t: u32,
+    book: &mut Book<MemoryDisk>,
+    keys: &Keys,
+    sent: &mut Sent,
+) -> Result<(), Memory>
+    requires numbers { IsTrue (are_numbers numbers.now) }
+    requires keys { keys.now ≡ callers }
+    requires topic { t ≤ 250 }
+    requires few { sent.old.number ≤ 1000000 }
+    requires few_leases { sent.old.leases ≤ 1000000 }
+    ensures judged { OnOk result (IsJudged numbers.now t (judging book.old.history sent.old) (judging book.new.history sent.new)) }
+    ensures few { sent.new.number ≤ sent.old.number + 2003 }
+    ensures few_leases { sent.new.leases ≤ sent.old.leases + 1001 }
+{
+    for round in 0..numbers.docs + 1 {
+        let is_graded = judge_next(rt, alloc, numbers, t, book, keys, sent)?;
+        if !is_graded {
+            return Ok(());
+        }
+    }
+    // a topic has no more documents, so its leases came to an end
+    Err(Memory)
+}
+
+/// Asks for a lease on a topic, and grades its document. False is that the lease wasn't accepted.
+fn judge_next<R>(
+    rt: &R,
+    alloc: Global,
+    numbers: &DrillNumbers,
+    t: u32,
+    book: &mut Book<MemoryDisk>,
+    keys: &Keys,
+    sent: &mut Sent,
+) -> Result<bool, Memory>
+    requires keys { keys.now ≡ callers }
+    requires topic { t ≤ 250 }
+    requires few { sent.old.number ≤ 2000000 }
+    requires few_leases { sent.old.leases ≤ 2000000 }
+    ensures judged { IfOk result (λ is_graded. MatchBool is_graded
+        (IsGraded numbers.now t (judging book.old.history sent.old) (judging book.new.history sent.new))
+        (IsRefused t (judging book.old.history sent.old) (judging book.new.history sent.new))) }
+    ensures few { sent.new.number ≤ sent.old.number + 2 }
+    ensures few_leases { sent.new.leases ≤ sent.old.leases + 1 }
+{
+    let lease = lease_message(alloc, t, sent.number + 1)?;
+    match send(rt, alloc, book, keys, lease)? {
+        Some(doc) => {
+            let grade = grade_of(numbers, t, doc);
+            let text = grade_message(alloc, sent.leases + 1, sent.number + 2, grade)?;
+            send(rt, alloc, book, keys, text)?;
+            sent.number += 2;
+            sent.leases += 1;
+            Ok(true)
+        }
+        None => {
+            sent.number += 1;
+            Ok(false)
+        }
+    }
+}
