@@ -4,6 +4,8 @@
 #[cfg(test)]
 mod adapters;
 #[cfg(test)]
+mod drills;
+#[cfg(test)]
 mod evaluation;
 #[cfg(test)]
 mod journals;

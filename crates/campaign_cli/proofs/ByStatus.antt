@@ -14,16 +14,19 @@ use Rattle.campaign_server.specs.declared.ends.End.{End}
 use Rattle.campaign_server.specs.declared.ends.End.TheVariants as end
 use Rattle.campaign_server.specs.declared.ends.ServeEnd.{ServeEnd}
 use Rattle.campaign_server.specs.declared.ends.ServeEnd.TheVariants as serve_end
+use Rattle.drill.specs.Summaries.{summary_of}
+use Rattle.drill.specs.declared.numbers.DrillNumbers.{DrillNumbers}
 use Rattle.rulebook.specs.Words.{Text}
 use Rattle.eval.specs.Evaluations.{IsReport, IsInputFault}
 use Rattle.eval.specs.Findings.{AreExclusive}
 use Rattle.campaign_cli.specs.declared.settings.Settings.{Settings}
 use Rattle.campaign_cli.specs.BookEnds.{IsRefused, TellsFault, Unopened, entry_line, header_line, not_begun, not_opened, rules_line, settings_file, settings_line, settings_refused, settings_unread}
 use Rattle.campaign_cli.specs.CheckEnds.{CheckEnds, CheckWay, Shows, check_text, checked, unshown, untold}
+use Rattle.campaign_cli.specs.DrillEnds.{DrillWay, DrillEnds, played, unplayed}
 use Rattle.campaign_cli.specs.Endings.{Ends}
 use Rattle.campaign_cli.specs.EvalEnds.{EvalWay, EvalEnds, scored, refused, unread, short}
 use Rattle.campaign_cli.specs.Outside.{Outside, Streams, Prints, Misses}
-use Rattle.campaign_cli.specs.Requests.{Request, Eval, Session, Serve, Check, Nothing, ServerNumbers, usage_line}
+use Rattle.campaign_cli.specs.Requests.{Request, Eval, Session, Serve, Drill, Check, Nothing, ServerNumbers, usage_line}
 use Rattle.campaign_cli.specs.ServeEnds.{Served, ServeWay, ServeEnds, served, unserved}
 use Rattle.campaign_cli.specs.ServeEnds.{status_of as serve_status}
 use Rattle.campaign_cli.specs.SessionEnds.{Holds, SessionWay, SessionEnds, held, unheld, status_of}
@@ -98,6 +101,10 @@ eval_later run qrels old new status (scored r q text gr gq report prints) = prin
 eval_later run qrels old new status (refused r q line gr gq fault prints) = prints.later
 eval_later run qrels old new status (unread missed same e) = same_out old.out new.out same
 eval_later run qrels old new status (short same e) = same_out old.out new.out same
+
+drill_later : (numbers : DrillNumbers) (old new : Streams) (status : ℕ) → DrillWay numbers old new status → old.out.faults ≤ new.out.faults
+drill_later numbers old new status (played H plays prints) = prints.later
+drill_later numbers old new status (unplayed same e) = same_out old.out new.out same
 
 usage_later : (old new : Streams) (status : ℕ) → UsageWay old new status → old.out.faults ≤ new.out.faults
 usage_later old new status (told prints) = prints.later
@@ -199,6 +206,16 @@ module _ {D : Type 0} (content : D → Option (List ℕ)) (images : D → List �
       printed Check old new status (check_text book.history) Done prints (inl (text, settings, gives, is, (book, shows, refl))) (λ all. inl (check_text book.history, (text, settings, gives, is, (book, shows, refl)), all))
   check_told old new status (untold text settings book gives is shows same e) = (Memory, e, same)
   check_told old new status (unshown none) = unopened_told Check old new status tt (λ missed. missed) (λ text is. is) none
+
+  drill_told : (numbers : DrillNumbers) (old new : Outside D) (status : ℕ) → DrillWay numbers old.streams new.streams status → Told (Drill numbers) old new status
+  drill_told numbers old new status (played H plays prints) =
+      printed (Drill numbers) old new status (summary_of numbers H) Done prints (inl (H, plays, refl)) (λ all. inl (summary_of numbers H, (H, plays, refl), all))
+  drill_told numbers old new status (unplayed same e) = (Memory, e, same)
+
+  drill_complete : (numbers : DrillNumbers) (old new : Outside D) (status : ℕ) → IsCalm content images clock since faults old new → DrillWay numbers old.streams new.streams status
+      → (status ≡ 0) ⊎ ((status ≡ 7) ⊎ ((status ≡ 11) × IsCut content images clock since faults (Drill numbers) old new))
+  drill_complete numbers old new status calm (played H plays prints) = inl (prints_whole old.streams.out new.streams.out (summary_of numbers H) 0 status prints calm.out)
+  drill_complete numbers old new status calm (unplayed same e) = inr (inl e)
 
   usage_told : (old new : Outside D) (status : ℕ) → UsageWay old.streams new.streams status → Told Nothing old new status
   usage_told old new status (told prints) =
@@ -346,7 +363,7 @@ module _ {D : Type 0} (content : D → Option (List ℕ)) (images : D → List �
         shelf = ends.shelf;
         write_faults = eval_later run qrels old.streams new.streams status ends.way;
         own = λ other. ap (λ (w : Streams). w.own) ends.rest;
-        no_file = λ is. absurd (cc is);
+        no_file = λ other. absurd (other tt);
         no_door = λ other. ap (λ (w : Streams). w.door) ends.rest;
         no_disk = λ other. kept;
       }
@@ -360,7 +377,7 @@ module _ {D : Type 0} (content : D → Option (List ℕ)) (images : D → List �
         shelf = ends.shelf;
         write_faults = session_later old new status ends.way;
         own = λ other. absurd (other refl);
-        no_file = λ is. absurd (cc is);
+        no_file = λ other. absurd (other tt);
         no_door = λ other. ends.door;
         no_disk = λ other. absurd (other tt);
       }
@@ -374,9 +391,28 @@ module _ {D : Type 0} (content : D → Option (List ℕ)) (images : D → List �
         shelf = ends.shelf;
         write_faults = serve_later numbers old new status ends.way;
         own = λ other. ends.own;
-        no_file = λ is. absurd (cc is);
+        no_file = λ other. absurd (other tt);
         no_door = λ other. absurd (other tt);
         no_disk = λ other. absurd (other tt);
+      }
+  by_status exclusive (Drill numbers) old new status (ends, kept) =
+      let w = drill_told numbers old new status ends.way in
+      let same : new.streams.shelf ≡ old.streams.shelf = ap (λ (w : Streams). w.shelf) ends.rest in
+      record {
+        known = (w.0, w.1);
+        says = says (Drill numbers) old new status w;
+        complete = λ can calm. drill_complete numbers old new status calm ends.way;
+        refused = λ has calm. absurd has;
+        shelf = record {
+          files = ap (λ (s : ShelfState). s.files) same;
+          faults = omega (arith, ap (λ (s : ShelfState). s.faults) same);
+          misses = omega (arith, ap (λ (s : ShelfState). s.misses) same);
+        };
+        write_faults = drill_later numbers old.streams new.streams status ends.way;
+        own = λ other. ap (λ (w : Streams). w.own) ends.rest;
+        no_file = λ other. same;
+        no_door = λ other. ap (λ (w : Streams). w.door) ends.rest;
+        no_disk = λ other. kept;
       }
   by_status exclusive Check old new status ends =
       let w = check_told old new status ends.way in
@@ -388,7 +424,7 @@ module _ {D : Type 0} (content : D → Option (List ℕ)) (images : D → List �
         shelf = ends.shelf;
         write_faults = check_later old new status ends.way;
         own = λ other. ends.own;
-        no_file = λ is. absurd (cc is);
+        no_file = λ other. absurd (other tt);
         no_door = λ other. ends.door;
         no_disk = λ other. absurd (other tt);
       }
@@ -407,7 +443,7 @@ module _ {D : Type 0} (content : D → Option (List ℕ)) (images : D → List �
         };
         write_faults = usage_later old.streams new.streams status ends.way;
         own = λ other. ap (λ (w : Streams). w.own) ends.rest;
-        no_file = λ is. same;
+        no_file = λ other. same;
         no_door = λ other. ap (λ (w : Streams). w.door) ends.rest;
         no_disk = λ other. kept;
       }

@@ -14,13 +14,20 @@ use Rattle.campaign_server.specs.Servers.{Leaves}
 use Rattle.campaign_server.specs.Sessions.{IsSession}
 use Rattle.eval.specs.Evaluations.{IsReport, IsInputFault}
 use Rattle.routes.specs.declared.keys.KeyRow.{KeyRow}
+use Rattle.rulebook.specs.Campaign.{History}
+use Rattle.drill.specs.Plays.{IsPlayed}
+use Rattle.drill.specs.Summaries.{summary_of}
+use Rattle.drill.specs.declared.numbers.DrillNumbers.{DrillNumbers}
 use Rattle.campaign_cli.specs.declared.settings.Settings.{Settings}
 use Rattle.campaign_cli.specs.declared.statuses.Status.{Status}
 use Rattle.campaign_cli.specs.BookEnds.{IsOpened, IsRefused, Unopened, not_begun, not_opened, settings_file, settings_line, settings_refused, settings_unread}
 use Rattle.campaign_cli.specs.CheckEnds.{CheckEnds, CheckWay, Tells, checked, unshown, untold}
+use Rattle.campaign_cli.specs.DrillEnds.{DrillEnds, played, unplayed}
 use Rattle.campaign_cli.specs.EvalEnds.{EvalWay, EvalEnds, scored, refused, unread, short}
 use Rattle.campaign_cli.specs.Outside.{Outside, Streams, Prints, Misses, IsUnread}
-use Rattle.campaign_cli.specs.Requests.{ServerNumbers}
+use Rattle.campaign_cli.specs.Endings.{Ends as Finishes}
+use Rattle.campaign_cli.specs.Requests.{Request, Eval, Session, Serve, Drill, Check, Nothing, ServerNumbers}
+use Rattle.campaign_cli.specs.UsageEnds.{untold as unasked}
 use Rattle.campaign_cli.specs.ServeEnds.{Closes, ServeEnds, ServersStand, served, unserved}
 use Rattle.campaign_cli.specs.SessionEnds.{Answers, SessionEnds, SessionsStand, held, unheld}
 use Rattle.campaign_cli.specs.Settings.{settings_of}
@@ -81,6 +88,11 @@ qrels_unread run qrels a b c o status first second (inl missed) own door = recor
   rest = refl;
 }
 qrels_unread run qrels a b c o status first second (inr is) own door = record { way = short refl is; shelf = follows_on a b c first second; rest = refl }
+
+-- a generated campaign was played
+pub drill_played : (numbers : DrillNumbers) (a : ShelfState) (o p : Writing) (own : LinkState) (door : DoorState) (H : History) (text : List ℕ) (status : ℕ) → IsPlayed numbers H → text ≡ summary_of numbers H
+    → Prints o p text 0 status → DrillEnds numbers (outside a o own door) (outside a p own door) status
+drill_played numbers a o p own door H text status plays is prints = record { way = played H plays (subst (λ (t : List ℕ). Prints o p t 0 status) is prints); rest = refl }
 
 module _ {D : Type 0} (content : D → Option (List ℕ)) (images : D → List ℕ → Type 0) (clock : D → ℕ) (since : D → ℕ → List ℕ → Type 0) (faults : D → ℕ) where
   -- the outside, with its disk
@@ -189,3 +201,13 @@ module _ {D : Type 0} (content : D → Option (List ℕ)) (images : D → List �
       let alone = stands_alone images clock since faults server.closed server.sound
       (λ rose. calm (subst (λ (disk : D). Rose (faults old.disk) (faults disk)) (sym server.closes) (subst (λ n. Rose n (faults server.closed.disk)) same_opening rose))) in
       subst (λ (disk : D). StandsFor (images disk) server.closed.history None) (sym server.closes) alone
+
+  -- there was no memory to read the words: nothing was done, whatever they ask for
+  pub without_memory : (request : Request) (old : Outside D) → Finishes content images clock since faults request old old 7
+  without_memory (Eval run qrels) old = (record { way = short refl refl; shelf = record { files = refl; faults = omega arith; misses = omega arith }; rest = refl }, refl)
+  without_memory Session old = record { way = unheld (not_begun refl refl refl) refl; shelf = record { files = refl; faults = omega arith; misses = omega arith }; door = refl }
+  without_memory (Serve numbers) old = record { way = unserved (not_begun refl refl refl) refl; shelf = record { files = refl; faults = omega arith; misses = omega arith }; own = refl }
+  without_memory (Drill numbers) old = (record { way = unplayed refl refl; rest = refl }, refl)
+  without_memory Check old =
+      record { way = unshown (not_begun refl refl refl); shelf = record { files = refl; faults = omega arith; misses = omega arith }; own = refl; door = refl }
+  without_memory Nothing old = (record { way = unasked refl refl; rest = refl }, refl)

@@ -1,9 +1,10 @@
 -- How the program ends, by what its words ask for.
 use Rattle.std.specs.Prelude.{◌≡◌, ℕ, List, Option}
 use Rattle.campaign_cli.specs.CheckEnds.{CheckEnds}
+use Rattle.campaign_cli.specs.DrillEnds.{DrillEnds}
 use Rattle.campaign_cli.specs.EvalEnds.{EvalEnds}
 use Rattle.campaign_cli.specs.Outside.{Outside}
-use Rattle.campaign_cli.specs.Requests.{Request, Eval, Session, Serve, Check, Nothing}
+use Rattle.campaign_cli.specs.Requests.{Request, Eval, Session, Serve, Drill, Check, Nothing}
 use Rattle.campaign_cli.specs.ServeEnds.{ServeEnds}
 use Rattle.campaign_cli.specs.SessionEnds.{SessionEnds}
 use Rattle.campaign_cli.specs.UsageEnds.{UsageEnds}
@@ -14,5 +15,6 @@ module _ {D : Type 0} (content : D → Option (List ℕ)) (images : D → List �
   Ends (Eval run qrels) old new status = EvalEnds run qrels old.streams new.streams status × (new.disk ≡ old.disk)
   Ends Session old new status = SessionEnds content images clock images_since faults old new status
   Ends (Serve numbers) old new status = ServeEnds content images clock images_since faults numbers old new status
+  Ends (Drill numbers) old new status = DrillEnds numbers old.streams new.streams status × (new.disk ≡ old.disk)
   Ends Check old new status = CheckEnds content images clock images_since faults old new status
   Ends Nothing old new status = UsageEnds old.streams new.streams status × (new.disk ≡ old.disk)

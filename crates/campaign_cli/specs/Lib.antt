@@ -1,5 +1,6 @@
 pub mod BookEnds
 pub mod CheckEnds
+pub mod DrillEnds
 pub mod Endings
 pub mod EvalEnds
 pub mod Outside

@@ -1,9 +1,11 @@
 -- What the words of a call ask for.
-use Rattle.std.specs.Prelude.{ℕ, ◌≤◌, List, [], ◌∷◌, Option, Some, None, String, string_bytes, map, codes, bytes_eq, if◌then◌else◌}
+use Rattle.std.specs.Prelude.{ℕ, ◌≤◌, List, [], ◌∷◌, Option, Some, None, String, string_bytes, map, codes, bytes_eq, IsTrue, if◌then◌else◌}
 use Rattle.std.specs.Option.{option_map_or}
 use Rattle.std.specs.declared.alloc.Global.{Global}
 use Rattle.command_words.specs.Numbers.{number_in}
 use Rattle.command_words.specs.Words.{Form, given_by}
+use Rattle.drill.specs.Figures.{are_numbers}
+use Rattle.drill.specs.declared.numbers.DrillNumbers.{DrillNumbers}
 use Rattle.campaign_cli.specs.declared.words.Command.{Command}
 use Rattle.campaign_cli.specs.declared.words.Command.TheVariants as command
 use Rattle.campaign_cli.specs.declared.words.TheConstants.{FORMS}
@@ -19,6 +21,7 @@ pub data Request : Type 0 where
   Eval : List ℕ → List ℕ → Request
   Session : Request
   Serve : ServerNumbers → Request
+  Drill : DrillNumbers → Request
   Check : Request
   Nothing : Request
 
@@ -41,12 +44,43 @@ abbrev pub serve_of : List (List ℕ) → Request
 serve_of (port ∷ workers ∷ connections ∷ []) = serve_at (number_in 1 65535 port) (number_in 1 16 workers) (number_in 1 4294967295 connections)
 serve_of values = Nothing
 
+-- a campaign is generated from numbers within their ranges
+abbrev pub drill_by : DrillNumbers → Request
+drill_by numbers = if are_numbers numbers then Drill numbers else Nothing
+
+abbrev pub any_number : List ℕ → Option ℕ
+any_number word = number_in 0 4294967295 word
+
+-- how many runs, topics and documents
+abbrev pub Sizes : Type 0
+Sizes = ℕ × ℕ × ℕ
+
+abbrev pub all_three : Option ℕ → Option ℕ → Option ℕ → Option Sizes
+all_three (Some runs) (Some topics) (Some docs) = Some (runs, topics, docs)
+all_three (Some runs) (Some topics) None = None
+all_three (Some runs) None docs = None
+all_three None topics docs = None
+
+abbrev pub three_numbers : List (List ℕ) → Option Sizes
+three_numbers (runs ∷ topics ∷ docs ∷ []) = all_three (any_number runs) (any_number topics) (any_number docs)
+three_numbers words = None
+
+abbrev pub drill_at : Option ℕ → Option Sizes → Request
+drill_at (Some seed) (Some sizes) = drill_by (record { seed = seed; runs = sizes.0; topics = sizes.1; docs = sizes.2 })
+drill_at (Some seed) None = Nothing
+drill_at None sizes = Nothing
+
+abbrev pub drill_of : List (List ℕ) → Request
+drill_of (seed ∷ sizes) = drill_at (any_number seed) (three_numbers sizes)
+drill_of [] = Nothing
+
 -- the request of a command, by its name and its values in the order of its form
 abbrev pub request_at : List ℕ × List (List ℕ) → Request
 request_at found = if bytes_eq found.0 (codes "eval") then eval_of found.1
     else (if bytes_eq found.0 (codes "session") then Session
     else (if bytes_eq found.0 (codes "serve") then serve_of found.1
-    else (if bytes_eq found.0 (codes "check") then Check else Nothing)))
+    else (if bytes_eq found.0 (codes "drill") then drill_of found.1
+    else (if bytes_eq found.0 (codes "check") then Check else Nothing))))
 
 -- the request that words give by the forms
 abbrev pub request_of : List (List ℕ) → Request
@@ -61,14 +95,16 @@ abbrev pub meant : Command → Request
 meant (command.Eval run qrels) = Eval run.now qrels.now
 meant command.Session = Session
 meant (command.Serve port workers connections) = Serve (record { port = port; workers = workers; connections = connections })
+meant (command.Drill numbers) = Drill numbers
 meant command.Check = Check
 meant command.Usage = Nothing
 
--- a server has 1 to 16 workers, and takes one connection at least
+-- a server has 1 to 16 workers, and takes one connection at least; the numbers of a drill are within their ranges
 abbrev pub IsInRange : Command → Type 0
 IsInRange (command.Eval run qrels) = Unit {0}
 IsInRange command.Session = Unit {0}
 IsInRange (command.Serve port workers connections) = (1 ≤ workers) × (workers ≤ 16) × (1 ≤ connections)
+IsInRange (command.Drill numbers) = IsTrue (are_numbers numbers)
 IsInRange command.Check = Unit {0}
 IsInRange command.Usage = Unit {0}
 

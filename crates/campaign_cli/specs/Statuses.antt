@@ -12,7 +12,10 @@ use Rattle.book.specs.OpeningLaws.{MayOpen}
 use Rattle.book.specs.Stories.{BreaksAt}
 use Rattle.http_wire.specs.declared.messages.WireFault.{WireFault}
 use Rattle.journal.specs.Format.{decode}
+use Rattle.rulebook.specs.Campaign.{History}
 use Rattle.rulebook.specs.Words.{Text}
+use Rattle.drill.specs.Plays.{IsPlayed}
+use Rattle.drill.specs.Summaries.{summary_of}
 use Rattle.campaign_server.specs.declared.ends.End.{End}
 use Rattle.campaign_server.specs.declared.ends.End.TheVariants as end
 use Rattle.campaign_server.specs.declared.ends.ServeEnd.{ServeEnd}
@@ -22,7 +25,7 @@ use Rattle.campaign_cli.specs.declared.settings.Settings.{Settings}
 use Rattle.campaign_cli.specs.BookEnds.{entry_line, header_line, rules_line, settings_file, settings_line}
 use Rattle.campaign_cli.specs.CheckEnds.{Shows, check_text}
 use Rattle.campaign_cli.specs.Outside.{Outside, Misses}
-use Rattle.campaign_cli.specs.Requests.{Request, Eval, Session, Serve, Check, Nothing, ServerNumbers, usage_line}
+use Rattle.campaign_cli.specs.Requests.{Request, Eval, Session, Serve, Drill, Check, Nothing, ServerNumbers, usage_line}
 use Rattle.campaign_cli.specs.ServeEnds.{Served}
 use Rattle.campaign_cli.specs.SessionEnds.{Holds}
 use Rattle.campaign_cli.specs.Settings.{settings_of}
@@ -84,14 +87,25 @@ abbrev pub IsMissing : Request → ShelfState → ShelfState → Type 0
 IsMissing (Eval run qrels) old new = Misses old new run ⊎ Misses old new qrels
 IsMissing Session old new = Misses old new settings_file
 IsMissing (Serve numbers) old new = Misses old new settings_file
+IsMissing (Drill numbers) old new = ⊥
 IsMissing Check old new = Misses old new settings_file
 IsMissing Nothing old new = ⊥
+
+-- the command reads files
+abbrev pub NeedsFiles : Request → Type 0
+NeedsFiles (Eval run qrels) = Unit {0}
+NeedsFiles Session = Unit {0}
+NeedsFiles (Serve numbers) = Unit {0}
+NeedsFiles (Drill numbers) = ⊥
+NeedsFiles Check = Unit {0}
+NeedsFiles Nothing = ⊥
 
 -- the command keeps a campaign on the disk
 abbrev pub NeedsBook : Request → Type 0
 NeedsBook (Eval run qrels) = ⊥
 NeedsBook Session = Unit {0}
 NeedsBook (Serve numbers) = Unit {0}
+NeedsBook (Drill numbers) = ⊥
 NeedsBook Check = Unit {0}
 NeedsBook Nothing = ⊥
 
@@ -100,6 +114,7 @@ abbrev pub NeedsDoor : Request → Type 0
 NeedsDoor (Eval run qrels) = ⊥
 NeedsDoor Session = ⊥
 NeedsDoor (Serve numbers) = Unit {0}
+NeedsDoor (Drill numbers) = ⊥
 NeedsDoor Check = ⊥
 NeedsDoor Nothing = ⊥
 
@@ -129,6 +144,7 @@ module _ {D : Type 0} (content : D → Option (List ℕ)) (images : D → List �
   IsOutput (Eval run qrels) old new text = GivesBoth old.streams.shelf run qrels (λ r q. IsReport run r q text)
   IsOutput Session old new text = ⊥
   IsOutput (Serve numbers) old new text = ⊥
+  IsOutput (Drill numbers) old new text = (H : History) × IsPlayed numbers H × (text ≡ summary_of numbers H)
   IsOutput Check old new text =
       GivesSettings old.streams.shelf (λ settings. (book : Seen D) × Shows content images clock images_since faults settings old new book × (text ≡ check_text book.history))
   IsOutput Nothing old new text = ⊥
@@ -143,6 +159,7 @@ module _ {D : Type 0} (content : D → Option (List ℕ)) (images : D → List �
   IsRefusal (Eval run qrels) old new text = GivesBoth old.streams.shelf run qrels (λ r q. IsInputFault run qrels r q text)
   IsRefusal Session old new text = IsBookRefusal Session old new text
   IsRefusal (Serve numbers) old new text = IsBookRefusal (Serve numbers) old new text
+  IsRefusal (Drill numbers) old new text = ⊥
   IsRefusal Check old new text = IsBookRefusal Check old new text
   IsRefusal Nothing old new text = ⊥
 
@@ -195,6 +212,7 @@ module _ {D : Type 0} (content : D → Option (List ℕ)) (images : D → List �
   CanDo (Eval run qrels) old = TellsBoth old.streams.shelf run qrels (λ r q. (text : List ℕ) × IsReport run r q text)
   CanDo Session old = CanOpen old
   CanDo (Serve numbers) old = CanOpen old
+  CanDo (Drill numbers) old = Unit {0}
   CanDo Check old = CanOpen old
   CanDo Nothing old = ⊥
 
@@ -203,6 +221,7 @@ module _ {D : Type 0} (content : D → Option (List ℕ)) (images : D → List �
   HasToRefuse (Eval run qrels) old = TellsBoth old.streams.shelf run qrels (λ r q. (text : List ℕ) × IsInputFault run qrels r q text)
   HasToRefuse Session old = TellsSettings old.streams.shelf (λ bytes. settings_of bytes ≡ None)
   HasToRefuse (Serve numbers) old = TellsSettings old.streams.shelf (λ bytes. settings_of bytes ≡ None)
+  HasToRefuse (Drill numbers) old = ⊥
   HasToRefuse Check old = TellsSettings old.streams.shelf (λ bytes. settings_of bytes ≡ None)
   HasToRefuse Nothing old = ⊥
 
@@ -231,6 +250,6 @@ module _ {D : Type 0} (content : D → Option (List ℕ)) (images : D → List �
     pub write_faults : old.streams.out.faults ≤ new.streams.out.faults
     -- what the words don't need is as it was
     pub own : request ≢ Session → new.streams.own ≡ old.streams.own
-    pub no_file : request ≡ Nothing → new.streams.shelf ≡ old.streams.shelf
+    pub no_file : ¬ (NeedsFiles request) → new.streams.shelf ≡ old.streams.shelf
     pub no_door : ¬ (NeedsDoor request) → new.streams.door ≡ old.streams.door
     pub no_disk : ¬ (NeedsBook request) → new.disk ≡ old.disk

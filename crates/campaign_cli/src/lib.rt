@@ -5,6 +5,7 @@
 #![tactic(auto)]
 
 mod checks;
+mod drills;
 mod evaluations;
 mod faults;
 mod file_shelf;

@@ -3,6 +3,7 @@ ghost use Rattle.campaign_cli.specs.Endings.{Ends};
 ghost use Rattle.campaign_cli.specs.Requests.{asked};
 
 use crate::checks::show_campaign;
+use crate::drills::run_drill;
 use crate::evaluations::score_files;
 use crate::servers::run_server;
 use crate::sessions::hold_session;
@@ -56,6 +57,7 @@ pub fn campaign<W: Threads + Wait + Sync, F: Shelf, O: Sink, I: Link, D: Disk + 
             disk,
             door,
         ),
+        Ok(Command::Drill(numbers)) => (run_drill(rt, alloc, numbers, out), disk),
         Ok(Command::Check) => show_campaign(alloc, shelf, out, disk),
         Ok(Command::Usage) => (tell_usage(out), disk),
         Err(Memory) => (Status(7), disk),

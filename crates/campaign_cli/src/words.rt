@@ -1,23 +1,26 @@
 //! The commands of the program, and the words of a call as one of them.
 ghost use Rattle.std.specs.Prelude.{◌≡◌, ◌≤◌, IfOk, IfSome, map};
 ghost use Rattle.command_words.specs.Words.{view_of};
-ghost use Rattle.campaign_cli.specs.Requests.{IsInRange, asked, eval_of, meant, request_at, serve_at, serve_of};
+ghost use Rattle.campaign_cli.specs.Requests.{IsInRange, all_three, asked, drill_at, drill_by, drill_of, eval_of, meant, request_at, serve_at, serve_of, three_numbers};
 
 use command_words::{CommandForm, CommandWords, number_in, read_command};
 use decimal_rank::Memory;
+use drill::{DrillNumbers, are_numbers};
 use std::alloc::Global;
 
 /// The forms of the commands.
-static FORMS: [CommandForm<'static>; 4] = [
+static FORMS: [CommandForm<'static>; 5] = [
     ("eval", &["run", "qrels"], &[]),
     ("session", &[], &[]),
     ("serve", &[], &["port", "workers", "connections"]),
+    ("drill", &["seed", "runs", "topics", "docs"], &[]),
     ("check", &[], &[]),
 ];
 
 /// A command of the program. `Eval` scores the run in one file against the qrels in another, by the
 /// files' names. `Session` answers the messages of one connection. `Serve` answers those of so many
-/// connections to a port, by so many workers. `Check` tells what the journal holds.
+/// connections to a port, by so many workers. `Drill` plays a campaign that is generated from numbers. `Check`
+/// tells what the journal holds.
 #[derive(Clone, Copy, Debug, PartialEq, Eq)]
 pub enum Command<'a> {
     Eval {
@@ -30,6 +33,7 @@ pub enum Command<'a> {
         workers: u32,
         connections: u32,
     },
+    Drill(DrillNumbers),
     Check,
     Usage,
 }
@@ -56,6 +60,8 @@ fn command_of<'a>(found: &CommandWords<'a>) -> Command<'a>
         Command::Session
     } else if found.name == "serve" {
         serve_of(found.values.as_slice())
+    } else if found.name == "drill" {
+        drill_of(found.values.as_slice())
     } else if found.name == "check" {
         Command::Check
     } else {
@@ -109,5 +115,65 @@ fn serve_at<'a>(port: Option<u32>, workers: Option<u32>, connections: Option<u32
             connections,
         },
         _ => Command::Usage,
+    }
+}
+
+fn drill_of<'a>(values: &[&'a str]) -> Command<'a>
+    ensures meant { meant result ≡ drill_of (map (λ value. value.now) values.now) }
+    ensures in_range { IsInRange result }
+{
+    match values {
+        [seed, sizes @ ..] => drill_at(number_in(0, u32::MAX, seed), three_numbers(sizes)),
+        [] => Command::Usage,
+    }
+}
+
+/// The numbers that three words write, where each writes one.
+fn three_numbers(words: &[&str]) -> Option<(u32, u32, u32)>
+    ensures { result ≡ three_numbers (map (λ word. word.now) words.now) }
+{
+    match words {
+        [runs, topics, docs] => all_three(
+            number_in(0, u32::MAX, runs),
+            number_in(0, u32::MAX, topics),
+            number_in(0, u32::MAX, docs),
+        ),
+        _ => None,
+    }
+}
+
+fn all_three(runs: Option<u32>, topics: Option<u32>, docs: Option<u32>) -> Option<(u32, u32, u32)>
+    ensures { result ≡ all_three runs topics docs }
+{
+    match (runs, topics, docs) {
+        (Some(runs), Some(topics), Some(docs)) => Some((runs, topics, docs)),
+        _ => None,
+    }
+}
+
+/// The command with this seed and these sizes, where a campaign is generated from them.
+fn drill_at<'a>(seed: Option<u32>, sizes: Option<(u32, u32, u32)>) -> Command<'a>
+    ensures meant { meant result ≡ drill_at seed sizes }
+    ensures in_range { IsInRange result }
+{
+    match (seed, sizes) {
+        (Some(seed), Some((runs, topics, docs))) => drill_by(DrillNumbers {
+            seed,
+            runs,
+            topics,
+            docs,
+        }),
+        _ => Command::Usage,
+    }
+}
+
+fn drill_by<'a>(numbers: DrillNumbers) -> Command<'a>
+    ensures meant { meant result ≡ drill_by numbers }
+    ensures in_range { IsInRange result }
+{
+    if are_numbers(&numbers) {
+        Command::Drill(numbers)
+    } else {
+        Command::Usage
     }
 }

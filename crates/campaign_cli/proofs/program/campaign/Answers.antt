@@ -1,4 +1,6 @@
 use Rattle.std.proofs.Common.{refl}
+use Rattle.campaign_cli.specs.Requests.{asked}
+use Rattle.campaign_cli.proofs.Ways.{without_memory}
 use Rattle.campaign_cli.proofs.program.campaign.Goals as goal
 
 pub returns-in-Ok-Eval : goal.returns-in-Ok-Eval
@@ -22,3 +24,13 @@ run_server-requires-clause-workers g c κs within = let range = rw c.in-Ok-Serve
 
 pub run_server-requires-clause-connections : goal.run_server-requires-clause-connections
 run_server-requires-clause-connections g c κs within = let range = rw c.in-Ok-Serve.field-0-is at c.in-Ok-Serve.ensures.in_range in range.2
+
+pub returns-in-Ok-Drill : goal.returns-in-Ok-Drill
+returns-in-Ok-Drill g c =
+    rw (rw c.in-Ok-Drill.field-0-is at c.in-Ok-Drill.ensures.asked) (c.run_drill.ensures (g.F.Shelf.seen c.args.shelf.now) (g.I.Link.seen c.args.own.now) (g.R.Door.seen c.args.door.now), refl)
+
+pub run_drill-requires : goal.run_drill-requires
+run_drill-requires g c = rw c.in-Ok-Drill.field-0-is at c.in-Ok-Drill.ensures.in_range
+
+pub returns-in-Err : goal.returns-in-Err
+returns-in-Err g c = without_memory g.D.Disk.content g.D.Disk.images g.D.Disk.clock g.D.Disk.images_since g.D.Disk.fault_count (asked c.args.words.now) _
