@@ -1,3 +1,4 @@
+//! The index of a pool: for each document the runs that hold it, by number.
 ghost use Rattle.std.specs.Prelude.{◌≡◌, ◌≢◌, ℕ, ◌+◌, ◌<◌, ◌≤◌, ◌==◌, ◌&&◌, nat_lt, not, true, List, OnOk, IfOk, All, if◌then◌else◌, length};
 ghost use Rattle.std.specs.List.{position_or_len};
 ghost use Rattle.std.specs.BTreeMap.{IsOrdered};

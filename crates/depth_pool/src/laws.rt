@@ -1,3 +1,4 @@
+//! Where a run is put into a pool, and that documents are listed by docno in one way alone.
 ghost use Rattle.std.specs.Prelude.{◌≡◌, ◌<◌, ◌++◌, ◌∷◌, [], ℕ, List, All};
 ghost use Rattle.decimal_rank.specs.declared.naming.DocId.{DocId};
 ghost use Rattle.depth_pool.specs.Holdings.{AreByDocno, Held, has_doc, with_run};

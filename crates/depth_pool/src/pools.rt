@@ -1,3 +1,4 @@
+//! The pool of a topic: the documents that its runs have within the depth.
 ghost use Rattle.std.specs.Prelude.{◌≡◌, ◌+◌, ◌<◌, ◌≤◌, [], Bool, true, false, List, All, AllPairs, IfOk, IfErr, OnOk, OnErr, Some, None, IsTrue, length, take};
 ghost use Rattle.decimal_rank.specs.Names.{docno_of};
 ghost use Rattle.decimal_rank.specs.Places.{AreDistinct};

@@ -1,3 +1,4 @@
+//! The runs of a pool by number, each with the documents that it holds by rank.
 ghost use Rattle.std.specs.Prelude.{◌≡◌, ◌+◌, ◌<◌, ◌==◌, IsTrue, vec_len, vec_capacity, nat_lt};
 ghost use Rattle.std.specs.List.{position_or_len};
 ghost use Rattle.decimal_rank.specs.declared.naming.DocId.{DocId};

@@ -1,3 +1,4 @@
+//! The labels of one document: a grade of each assessor, the last ruling, and the effective grade.
 ghost use Rattle.std.specs.Prelude.{◌≡◌, ◌+◌, ◌<◌, ◌≤◌, ◌^◌, ◌-◌, [], None, Some, OnOk, length};
 ghost use Rattle.labels.specs.Grades.{effective_grade, shows_disagreement};
 ghost use Rattle.labels.specs.Labelled.{IsOncePerAssessor, grades_of, label_of, with_label};

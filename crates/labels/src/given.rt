@@ -1,3 +1,4 @@
+//! The grades that assessors gave one document, and whether they agree.
 ghost use Rattle.std.specs.Prelude.{◌≡◌, ◌==◌, map, position};
 ghost use Rattle.std.specs.List.{list_all};
 ghost use Rattle.std.specs.Str.{bytes_eq};

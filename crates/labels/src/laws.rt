@@ -1,3 +1,4 @@
+//! What a label and a ruling change, what they leave, and when labels alone make a grade effective.
 ghost use Rattle.std.specs.Prelude.{◌≡◌, ℕ, ◌≤◌, ◌↔◌, ◌==◌, ◌&&◌, ◌||◌, ◌++◌, List, [], ◌∷◌, All, None, Some, if◌then◌else◌, length};
 ghost use Rattle.std.specs.Str.{bytes_eq};
 ghost use Rattle.decimal_rank.specs.declared.naming.DocId.{DocId};

@@ -1,3 +1,4 @@
+//! The labels and rulings of a topic's documents, in the order of the first labels.
 ghost use Rattle.std.specs.Prelude.{◌≡◌, ℕ, ◌+◌, ◌-◌, ◌<◌, ◌≤◌, ◌^◌, ◌↔◌, [], None, Some, IfOk, IsTrue, OnOk, length};
 ghost use Rattle.indexmap.specs.IndexMap.{spare};
 ghost use Rattle.decimal_rank.specs.Places.{AreDistinct};

@@ -1,3 +1,4 @@
+//! Tried are the labels and effective grades of one document, and those of three documents of a topic.
 use super::*;
 use decimal_rank::{DocId, Text};
 use std::alloc::Global;

@@ -1,3 +1,4 @@
+//! Tried are the live leases of a document, assessor and topic, and leases by number, also against a walk over all.
 ghost use Rattle.std.specs.Prelude.{◌<◌};
 
 use crate::{Desk, LeaseEnd};

@@ -1,3 +1,4 @@
+//! The counts and sums from which the measures of one ranked list on one topic are taken.
 ghost use Rattle.std.specs.Prelude.{◌≡◌, ◌*◌, ◌^◌, ◌<◌, ◌≤◌, IfSome, length, map, count_by, position};
 ghost use Rattle.measures.specs.Grades.{is_relevant as relevant_is, is_non_relevant as non_relevant_is, relevant_to as relevant_to_rank, sum_over_relevant};
 ghost use Rattle.measures.specs.Cells.{cutoffs, first_relevant as first_relevant_rank, ap_sum_of, left_of_cap, bpref_num as bpref_num_of, bpref_den as bpref_den_of, cell_of, IsSound};

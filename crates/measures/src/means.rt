@@ -1,3 +1,4 @@
+//! The measures, the value of each for one cell in units of 10^-15, and the summary of a run.
 ghost use Rattle.std.specs.Prelude.{◌≡◌, ◌^◌, ◌<◌, ◌≤◌, ◌==◌, if◌then◌else◌};
 ghost use Rattle.measures.specs.Cells.{IsSound};
 ghost use Rattle.measures.specs.Means.{fixed_of, value_of as measured, IsMeasure};

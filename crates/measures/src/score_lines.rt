@@ -1,3 +1,4 @@
+//! The lines in which scores are printed: 16 of a cell, and 17 of a summary. A value has four decimals.
 ghost use Rattle.std.specs.Prelude.{◌≡◌, ◌^◌, ◌≤◌, ◌++◌, OnOk, OnErr};
 ghost use Rattle.measures.specs.Cells.{IsSound};
 ghost use Rattle.measures.specs.Means.{IsProper, mean_in};

@@ -1,3 +1,4 @@
+//! Tried are cells, their means and totals, the rounding to four decimals, and the printed lines.
 ghost use Rattle.measures.specs.Cells.{IsSound};
 
 use crate::{Cell, Summary, Totals, mean, scratch, write_cell, write_four, write_summary};

@@ -1,3 +1,4 @@
+//! The sums of a run's cells over its counted topics, and the means that are taken from them, rounded down.
 ghost use Rattle.std.specs.Prelude.{◌≡◌, ℕ, ◌+◌, ◌*◌, ◌/◌, ◌^◌, ◌<◌, ◌≤◌, ◌==◌, ◌++◌, ◌∷◌, [], if◌then◌else◌, All, List, length, map, slice_index};
 ghost use Rattle.std.specs.List.{range_with_len};
 ghost use Rattle.measures.specs.declared.cells.Cell.{Cell as OneCell};

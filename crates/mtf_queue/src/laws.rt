@@ -1,3 +1,4 @@
+//! The rule is a total order, an order outlasts changes of other runs, and which run is its first that passes a test.
 ghost use Rattle.std.specs.Prelude.{◌≡◌, ◌≢◌, ◌⊎◌, Bool, List, Contains, IsPermutation, filter, find};
 ghost use Rattle.depth_pool.specs.Holdings.{Held, KeepsOthers};
 ghost use Rattle.depth_pool.specs.declared.runs.RunId.{RunId};

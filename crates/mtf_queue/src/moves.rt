@@ -1,3 +1,4 @@
+//! The changes of a queue: a group of runs goes first, a run is taken out, a grade changes.
 ghost use Rattle.std.specs.Prelude.{◌≡◌, ◌+◌, ◌<◌, ◌≤◌, ◌==◌, not, filter, length, vec_len, vec_capacity};
 ghost use Rattle.depth_pool.specs.Holdings.{holds};
 ghost use Rattle.mtf_queue.specs.Rule.{moved, regraded};

@@ -1,3 +1,4 @@
+//! A topic of the tests, with its pool, its queue and the queue's trail.
 ghost use Rattle.std.specs.Prelude.{◌≡◌, ◌+◌, ◌<◌, ◌≤◌, ◌∷◌, [], ◌++◌, false, All, Contains, IfOk, IsTrue, Some, length, take};
 ghost use Rattle.std.specs.Bool.{OnFalse, OnTrue};
 ghost use Rattle.decimal_rank.specs.Places.{AreDistinct};

@@ -1,3 +1,4 @@
+//! The runs of a topic in judging order: a first grade moves the runs that hold its document to the front or back.
 ghost use Rattle.std.specs.Prelude.{◌≡◌, ◌+◌, ◌-◌, ◌≤◌, ◌==◌, [], ◌∷◌, ◌++◌, All, Contains, IsPermutation, IsTrue, OnOk, Some, filter, length, not};
 ghost use Rattle.depth_pool.specs.Holdings.{has_run};
 ghost use Rattle.mtf_queue.specs.Rule.{IsInOrder, regraded};

@@ -1,3 +1,4 @@
+//! The rule by which a queue's runs stand: the latest judged document that only one of two runs holds decides.
 ghost use Rattle.std.specs.Prelude.{◌≡◌, ◌≢◌, ◌<◌, AllPairs, IsPermutation, reverse};
 ghost use Rattle.depth_pool.specs.Holdings.{holds};
 ghost use Rattle.mtf_queue.specs.Rule.{IsBefore, rule_cmp};

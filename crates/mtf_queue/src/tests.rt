@@ -1,3 +1,4 @@
+//! Tried is the order of a queue after each call, and after random courses against the rule itself.
 ghost use Rattle.std.specs.Prelude.{◌<◌};
 
 use crate::played::{DOCS, Topic};

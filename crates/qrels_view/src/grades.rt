@@ -1,3 +1,4 @@
+//! A document with its grade, where it has one.
 use decimal_rank::DocId;
 
 /// A document and its grade. It is `None` while the document has no grade.

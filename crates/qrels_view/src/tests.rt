@@ -1,3 +1,4 @@
+//! Tried are the counts and the trail of a view after each grade, and its lines by docno.
 ghost use Rattle.std.specs.Prelude.{◌≡◌, ◌<◌, All, length};
 ghost use Rattle.std.specs.Bool.{OnTrue};
 

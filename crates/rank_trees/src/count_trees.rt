@@ -1,3 +1,4 @@
+//! A tree over places that are on or off, which counts those on before a place and finds one by its number.
 ghost use Rattle.std.specs.Prelude.{◌≡◌, ◌+◌, ◌-◌, ◌≤◌, false, IfOk, MatchOption, length, replicate, slice_set};
 ghost use Rattle.decimal_rank.specs.Places.{levels};
 ghost use Rattle.rank_trees.specs.Marks.{IsSelected, count_below, count_on};

@@ -1,3 +1,4 @@
+//! A tree over places that are on or off, which sums the weights of those that are on past a place.
 ghost use Rattle.std.specs.Prelude.{◌≡◌, ◌+◌, ◌-◌, ◌≤◌, ◌<◌, ◌^◌, false, IfOk, if◌then◌else◌, length, replicate, slice_set};
 ghost use Rattle.decimal_rank.specs.Places.{levels};
 ghost use Rattle.rank_trees.specs.Marks.{weight, weights_above};

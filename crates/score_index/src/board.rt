@@ -1,3 +1,4 @@
+//! The board of a campaign's scores: the cell of each run on each topic, and the summary of each run.
 ghost use Rattle.std.specs.Prelude.{◌≡◌, ℕ, ◌+◌, ◌-◌, ◌<◌, ◌≤◌, ◌^◌, ◌==◌, ◌&&◌, [], true, None, Some, List, IfOk, IfSome, OnOk, OnErr, if◌then◌else◌, length, map, replicate, slice_set, count_by, position, remove, vec_len};
 ghost use Rattle.std.specs.Option.{option_copied};
 ghost use Rattle.depth_pool.specs.declared.runs.RunId.{RunId};

@@ -1,3 +1,4 @@
+//! A random course of lists, withdrawals and grades, along which a board is held against cells from scratch.
 ghost use Rattle.std.specs.Prelude.{◌≡◌, ◌+◌, ◌<◌, ◌≤◌, All, IfOk, IfSome, OnOk, count_by, vec_len};
 ghost use Rattle.measures.specs.Cells.{IsSound};
 ghost use Rattle.measures.specs.Grades.{is_non_relevant, is_relevant};

@@ -1,3 +1,4 @@
+//! What follows for each topic where a board stands for grades.
 ghost use Rattle.std.specs.Prelude.{ℕ, ◌<◌, List, length};
 ghost use Rattle.qrels_view.specs.declared.grades.Graded.{Graded};
 ghost use Rattle.score_index.specs.Scores.{Scores, topic_at};

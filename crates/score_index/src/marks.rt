@@ -1,3 +1,4 @@
+//! The mark of a document by its grade: relevant, judged lower, or unjudged.
 ghost use Rattle.std.specs.Prelude.{◌≡◌};
 ghost use Rattle.decimal_rank.specs.Relevance.{is_non_relevant as lower_grade, is_relevant as relevant_grade};
 ghost use Rattle.score_index.specs.KeptSums.{is_lower_mark, is_relevant_mark};

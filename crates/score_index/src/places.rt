@@ -1,3 +1,4 @@
+//! Of its grades a list's cell depends only on which places are relevant and which are judged lower.
 ghost use Rattle.std.specs.Prelude.{◌≡◌, ℕ, List, Option, map};
 ghost use Rattle.measures.specs.Cells.{cell_of};
 ghost use Rattle.measures.specs.Grades.{is_non_relevant, is_relevant};

@@ -1,3 +1,4 @@
+//! A board of two topics for the tests, together with the grades that it stands for.
 ghost use Rattle.std.specs.Prelude.{◌≡◌, ◌≢◌, ◌+◌, ◌-◌, ◌<◌, ◌≤◌, List, All, IfOk, length, slice_set};
 ghost use Rattle.std.specs.Bool.{OnFalse};
 ghost use Rattle.decimal_rank.specs.Places.{AreDistinct};

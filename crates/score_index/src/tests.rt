@@ -1,3 +1,4 @@
+//! Tried are the cell, the summary and the rankings of a run after each list, withdrawal and grade.
 use crate::scored::Scored;
 use measures::Summary;
 use std::alloc::Global;

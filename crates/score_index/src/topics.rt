@@ -1,3 +1,4 @@
+//! One topic of a board: how many documents are relevant and how many judged lower, and the lists of its runs.
 ghost use Rattle.std.specs.Prelude.{◌≡◌, ℕ, ◌+◌, ◌-◌, ◌*◌, ◌<◌, ◌≤◌, ◌^◌, ◌++◌, ◌∷◌, [], true, All, IfOk, OnOk, List, length, map, if◌then◌else◌, sum_by, vec_capacity};
 ghost use Rattle.decimal_rank.specs.Places.{levels};
 ghost use Rattle.measures.specs.Cells.{IsSound};

@@ -1,3 +1,4 @@
+//! The faults of the formats, each with its line, and the names by which they are printed.
 ghost use Rattle.std.specs.Prelude.{◌≡◌};
 ghost use Rattle.trec_formats.specs.FaultNames.{cause_name, kind_name};
 

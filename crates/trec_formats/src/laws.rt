@@ -1,3 +1,4 @@
+//! Every text has exactly one reading as a run, as a run that can be ranked, and as qrels.
 ghost use Rattle.std.specs.Prelude.{ℕ, List};
 ghost use Rattle.trec_formats.specs.Faults.{ExactlyOne};
 ghost use Rattle.trec_formats.specs.Lists.{IsRankableReading};

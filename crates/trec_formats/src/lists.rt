@@ -1,3 +1,4 @@
+//! The ranked list of a run on each topic, by ascending topic: docnos by falling score, and then by falling docno.
 ghost use Rattle.std.specs.Prelude.{◌≡◌, ◌≤◌, ◌<◌, ℕ, List, length, map, IfOk, MatchOption, position, not, bytes_eq};
 ghost use Rattle.std.specs.List.Sorted.{IsStrictlyIncreasing};
 ghost use Rattle.decimal_rank.specs.Ranks.{standing_cmp};

@@ -1,3 +1,4 @@
+//! The text of qrels lines, in their order.
 ghost use Rattle.std.specs.Prelude.{◌≡◌, IfOk};
 ghost use Rattle.std.specs.List.{flat_map};
 ghost use Rattle.trec_formats.specs.QrelsText.{qrel_text};

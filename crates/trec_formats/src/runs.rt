@@ -1,3 +1,4 @@
+//! The lines of a run's text: topic, docno and score of each retrieved document, or the first fault.
 ghost use Rattle.std.specs.Prelude.{◌≡◌, ◌≤◌, ℕ, List, length, map, IfOk};
 ghost use Rattle.std.specs.List.Sorted.{IsStrictlyIncreasing};
 ghost use Rattle.trec_formats.specs.Faults.{IfFault};

@@ -1,3 +1,4 @@
+//! One topic as far as its lines are read, with the limits of its texts.
 ghost use Rattle.std.specs.Prelude.{◌≡◌, ℕ, List, [], IfOk, OnOk, length, nat_lt, unwrap_or};
 ghost use Rattle.std.specs.Option.{is_some, option_map};
 ghost use Rattle.trec_formats.specs.FieldTexts.{added};

@@ -1,3 +1,4 @@
+//! The text of a topic's field, gathered from its lines with a space between each two.
 ghost use Rattle.std.specs.Prelude.{◌≡◌, ℕ, List, ◌++◌, [], map, length, OnOk};
 ghost use Rattle.trec_formats.specs.Marks.{shown_byte};
 ghost use Rattle.trec_formats.specs.FieldTexts.{added};

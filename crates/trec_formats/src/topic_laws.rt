@@ -1,3 +1,4 @@
+//! Every text has exactly one reading as topics.
 ghost use Rattle.std.specs.Prelude.{ℕ, List};
 ghost use Rattle.trec_formats.specs.Faults.{ExactlyOne};
 ghost use Rattle.trec_formats.specs.Topics.{IsTopicsReading};

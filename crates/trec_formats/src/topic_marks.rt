@@ -1,3 +1,4 @@
+//! What a line of a topics text does: it opens or closes a topic, begins a field, or goes on with one.
 ghost use Rattle.std.specs.Prelude.{◌≡◌, false, true, MatchOption, bytes_eq};
 ghost use Rattle.trec_formats.specs.Marks.{back_stripped, begins_with, behind, field_mark, front_stripped, has_letter, is_tag, mark_of, shown_byte, stripped, unlabelled};
 ghost use Rattle.trec_formats.specs.MarkViews.{mark_seen};

@@ -1,3 +1,4 @@
+//! The topics of a text of blocks from `<top>` to `</top>`, or its first fault.
 ghost use Rattle.std.specs.Prelude.{◌≡◌, ◌≤◌, ℕ, List, [], length, map, Ok, Err, IfOk, MatchOption, MatchResult, true};
 ghost use Rattle.std.specs.List.{list_all};
 ghost use Rattle.trec_formats.specs.Faults.{IfFault, OfFault};

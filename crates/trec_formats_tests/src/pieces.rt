@@ -1,3 +1,4 @@
+//! Tried are runs that are fed byte by byte: they are read as at once, with the same lines and faults.
 ghost use Rattle.std.specs.Prelude.{◌+◌, ◌≤◌, length};
 
 use decimal_rank::Memory;

@@ -1,3 +1,4 @@
+//! Tried are topics texts, their faults and limits, and the text of qrels.
 use decimal_rank::Text;
 use std::alloc::Global;
 use std::test::Fail;

@@ -1,3 +1,4 @@
+-- What stands there and the texts that are left make what stood before and all texts.
 use Rattle.std.proofs.Common.{◌≡◌, ◌≤◌, ◌++◌, length, map}
 use Rattle.std.specs.Prelude.{vec_capacity}
 use Rattle.std.specs.List.{concat}

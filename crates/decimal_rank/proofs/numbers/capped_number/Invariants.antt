@@ -1,3 +1,4 @@
+-- The value is that of the digits so far, but at most the cap.
 use Rattle.std.proofs.Common.{◌≡◌, take}
 use Rattle.std.specs.Prelude.{min}
 use Rattle.std.specs.Str.Parse.{digits_value}

@@ -1,3 +1,4 @@
+-- The text up to what is done is appended to what was written, and the faults are no fewer than before.
 use Rattle.std.proofs.Common.{◌-◌, ◌≤◌, length, take}
 use Rattle.std.specs.Io.KnownBytes.{Appends}
 use Rattle.decimal_rank.proofs.outputs.write_all.Given as goal

@@ -1,3 +1,4 @@
+-- The documents so far are distinct, and the map has the place of each.
 use Rattle.std.proofs.Common.{◌≡◌, ℕ}
 use Rattle.std.specs.HashMap.{get}
 use Rattle.std.specs.Prelude.{nat_eq}

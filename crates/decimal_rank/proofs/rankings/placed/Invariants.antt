@@ -1,3 +1,4 @@
+-- The entries are those of the first documents, in their order.
 use Rattle.std.proofs.Common.{◌≡◌, take}
 use Rattle.decimal_rank.specs.Entries.{entries_in}
 use Rattle.decimal_rank.proofs.rankings.placed.Given as goal

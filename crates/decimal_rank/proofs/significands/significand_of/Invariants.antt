@@ -1,3 +1,4 @@
+-- The significand is that of the digits so far, first of the whole and then of the fraction.
 use Rattle.std.proofs.Common.{◌++◌, take}
 use Rattle.decimal_rank.specs.Significands.{IsSignificand}
 use Rattle.decimal_rank.proofs.significands.significand_of.Given as goal

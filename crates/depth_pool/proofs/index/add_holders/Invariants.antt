@@ -1,3 +1,4 @@
+-- The run stands at each document so far, the other holders stay, and the documents that had none are counted.
 use Rattle.std.proofs.Common.{◌≡◌, ℕ, ◌+◌, ◌<◌, ◌≤◌, true, take, get_or, length, if◌then◌else◌}
 use Rattle.decimal_rank.specs.declared.naming.DocId.{DocId}
 use Rattle.depth_pool.specs.Holdings.{IsCount, has_doc}

@@ -1,3 +1,4 @@
+-- The list so far and the held documents of the entries to come make all that are held.
 use Rattle.std.proofs.Common.{◌≡◌, ◌++◌}
 use Rattle.depth_pool.specs.Index.{held_docs}
 use Rattle.depth_pool.proofs.index.docs_held.Given as goal

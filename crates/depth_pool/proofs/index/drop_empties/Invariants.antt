@@ -1,3 +1,4 @@
+-- Each document keeps its holders.
 use Rattle.std.proofs.Common.{◌≡◌}
 use Rattle.decimal_rank.specs.declared.naming.DocId.{DocId}
 use Rattle.depth_pool.specs.Index.{holders_at}

@@ -1,3 +1,4 @@
+-- No holder so far has a greater number than the run.
 use Rattle.std.proofs.Common.{◌≡◌, ℕ, ◌<◌, nat_lt, false, get_or}
 use Rattle.depth_pool.proofs.index.place_of.Given as goal
 

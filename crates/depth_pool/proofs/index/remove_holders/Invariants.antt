@@ -1,3 +1,4 @@
+-- The run is gone from each document so far, room stays, and the documents that lost their last are counted.
 use Rattle.std.proofs.Common.{◌≡◌, ℕ, ◌+◌, ◌≤◌, true, take, if◌then◌else◌}
 use Rattle.decimal_rank.specs.declared.naming.DocId.{DocId}
 use Rattle.depth_pool.specs.Holdings.{IsCount, has_doc}

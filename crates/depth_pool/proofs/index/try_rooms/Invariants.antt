@@ -1,3 +1,4 @@
+-- Each document so far has room, and all keep their holders.
 use Rattle.std.proofs.Common.{◌≡◌, true, take}
 use Rattle.std.specs.List.{All}
 use Rattle.decimal_rank.specs.declared.naming.DocId.{DocId}

@@ -1,3 +1,4 @@
+-- The documents are those of the first places of the ranking.
 use Rattle.std.proofs.Common.{◌≡◌, take}
 use Rattle.depth_pool.proofs.pools.first_docs.Given as goal
 

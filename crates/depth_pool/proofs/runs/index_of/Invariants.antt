@@ -1,3 +1,4 @@
+-- No run so far has the number.
 use Rattle.std.proofs.Common.{◌≡◌, ℕ, ◌<◌, eqb, false, get_or}
 use Rattle.depth_pool.specs.Holdings.{Held}
 use Rattle.depth_pool.proofs.runs.index_of.Given as goal

@@ -1,3 +1,4 @@
+-- No run so far has a greater number.
 use Rattle.std.proofs.Common.{◌≡◌, ℕ, ◌<◌, nat_lt, false, get_or}
 use Rattle.depth_pool.specs.Holdings.{Held}
 use Rattle.depth_pool.proofs.runs.place_after.Given as goal

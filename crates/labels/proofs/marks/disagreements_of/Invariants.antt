@@ -1,3 +1,4 @@
+-- The list so far and the disagreements of the entries to come make all of them.
 use Rattle.std.proofs.Common.{◌≡◌, ◌++◌}
 use Rattle.labels.specs.Marked.{disagreeing}
 use Rattle.labels.specs.Markings.{marked_of}

@@ -1,3 +1,4 @@
+-- The count, with what counts from the next lease on backwards, is the whole count.
 use Rattle.std.proofs.Common.{◌+◌, ◌≤◌, Bool, length}
 use Rattle.std.specs.Option.{option_map}
 use Rattle.lease_desk.specs.Series.{IsSeriesOf, up_to}

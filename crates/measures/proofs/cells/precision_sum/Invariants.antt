@@ -1,3 +1,4 @@
+-- The sum of average precision, and the number of relevant documents, are those of the ranks so far.
 use Rattle.measures.proofs.PrecisionSum.{IsSummed}
 use Rattle.measures.proofs.cells.precision_sum.Given as goal
 

@@ -1,3 +1,4 @@
+-- The sum of bpref, and the number of documents judged lower, are those of the ranks so far.
 use Rattle.measures.proofs.PreferenceSum.{IsPreferred}
 use Rattle.measures.proofs.cells.preference_sum.Given as goal
 

@@ -1,3 +1,4 @@
+-- Each count so far is that of the relevant documents up to its cutoff.
 use Rattle.std.proofs.Common.{get_or}
 use Rattle.measures.specs.Cells.{cutoffs}
 use Rattle.measures.specs.Grades.{relevant_to}

@@ -1,3 +1,4 @@
+-- The totals are the sums of the cells so far, and count them.
 use Rattle.std.proofs.Common.{◌≡◌, take}
 use Rattle.measures.specs.Totals.{sums_of}
 use Rattle.measures.proofs.totals.mean.Given as goal

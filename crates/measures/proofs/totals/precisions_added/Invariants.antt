@@ -1,3 +1,4 @@
+-- Each precision so far has the cell's value added, and is at most 1 more than it was.
 use Rattle.std.proofs.Common.{ℕ, ◌+◌, ◌^◌, ◌<◌, ◌≤◌, get_or}
 use Rattle.measures.specs.declared.means.Measure.TheVariants.{Precision}
 use Rattle.measures.specs.Means.{value_of}

@@ -1,3 +1,4 @@
+-- Each mean so far is its sum over the number of topics, or 0, and at most 1.
 use Rattle.std.proofs.Common.{ℕ, ◌/◌, ◌^◌, ◌<◌, ◌≤◌, cond, eqb, get_or}
 use Rattle.measures.proofs.Places.{ArePlaced}
 use Rattle.measures.proofs.totals.shares.Given as goal

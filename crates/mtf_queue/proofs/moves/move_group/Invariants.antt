@@ -1,3 +1,4 @@
+-- Of the runs so far those that go first stand in front, and the others wait in the buffer, which has room.
 use Rattle.std.proofs.Common.{◌≡◌, ◌+◌, ◌≤◌, Some, length, vec_capacity}
 use Rattle.depth_pool.specs.Holdings.{holds}
 use Rattle.mtf_queue.specs.Rule.{is_first_side}

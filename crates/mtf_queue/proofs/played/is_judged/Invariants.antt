@@ -1,3 +1,4 @@
+-- No entry of the trail so far is of the document.
 use Rattle.std.proofs.Common.{◌≡◌, take}
 use Rattle.std.specs.List.{All}
 use Rattle.mtf_queue.proofs.played.is_judged.Given as goal

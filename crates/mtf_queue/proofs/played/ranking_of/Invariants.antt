@@ -1,3 +1,4 @@
+-- The list has documents below the next number, each once.
 use Rattle.mtf_queue.proofs.Playing.{IsListed}
 use Rattle.mtf_queue.proofs.played.ranking_of.Given as goal
 

@@ -1,3 +1,4 @@
+-- Each document so far has a name.
 use Rattle.std.proofs.Common.{ℕ, ◌<◌, get_or}
 use Rattle.qrels_view.proofs.tests.are_named.Given as goal
 

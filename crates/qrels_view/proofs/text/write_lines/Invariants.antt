@@ -1,3 +1,4 @@
+-- The lines of the documents so far are appended behind what stood before.
 use Rattle.std.proofs.Common.{◌≡◌, ◌++◌, length, take}
 use Rattle.std.specs.List.{flat_map}
 use Rattle.qrels_view.specs.Lines.{line_of}

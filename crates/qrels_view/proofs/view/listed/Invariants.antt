@@ -1,3 +1,4 @@
+-- The list so far and the entries to come make all the graded documents.
 use Rattle.std.proofs.Common.{◌≡◌, ◌++◌}
 use Rattle.qrels_view.specs.Grades.{graded_of}
 use Rattle.qrels_view.proofs.view.listed.Given as goal

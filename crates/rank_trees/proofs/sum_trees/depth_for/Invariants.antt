@@ -1,3 +1,4 @@
+-- The depth so far and the levels of the rest make the levels of the whole.
 use Rattle.std.proofs.Common.{◌≡◌, ◌+◌}
 use Rattle.decimal_rank.specs.Places.{levels}
 use Rattle.rank_trees.proofs.sum_trees.depth_for.Given as goal

@@ -1,3 +1,4 @@
+-- What stands left of the node and the rest make the number, the node exceeds the rest, and each level is a step.
 use Rattle.std.proofs.Common.{◌≡◌, ◌+◌}
 use Rattle.rank_trees.proofs.Sums.{IsNear}
 use Rattle.rank_trees.proofs.sum_trees.find_leaf.Given as goal

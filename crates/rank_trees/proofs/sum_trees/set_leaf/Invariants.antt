@@ -1,3 +1,4 @@
+-- The leaf has its new value, all nodes but that above the present one are sums, and each level is a step.
 use Rattle.std.proofs.Common.{◌≡◌, ◌+◌}
 use Rattle.rank_trees.proofs.Updates.{IsUpdated}
 use Rattle.rank_trees.proofs.sum_trees.set_leaf.Given as goal

@@ -1,3 +1,4 @@
+-- What was added and what stands to the left on this level make the sum before the leaf; each level is a step.
 use Rattle.std.proofs.Common.{◌≡◌, ◌+◌}
 use Rattle.rank_trees.proofs.Sums.{IsSummed}
 use Rattle.rank_trees.proofs.sum_trees.sum_before.Given as goal

@@ -1,3 +1,4 @@
+-- There is at most one cell for each topic so far, each of them sound.
 use Rattle.std.proofs.Common.{◌≤◌}
 use Rattle.std.specs.Prelude.{All, vec_len}
 use Rattle.measures.specs.Cells.{IsSound}

@@ -1,3 +1,4 @@
+-- The lists so far have the new mark, each for at most 20 steps for each level of its length and 20 more.
 use Rattle.std.proofs.Common.{◌≤◌, ◌+◌, ◌*◌, length, take}
 use Rattle.std.specs.Prelude.{sum_by}
 use Rattle.decimal_rank.specs.Places.{levels}

@@ -1,3 +1,4 @@
+-- None of the documents so far is the one sought.
 use Rattle.std.proofs.Common.{◌≢◌, take}
 use Rattle.std.specs.Prelude.{All}
 use Rattle.score_index.proofs.scored.is_listed.Given as goal

@@ -1,3 +1,4 @@
+-- The list has at most 1,000 documents, each once.
 use Rattle.std.proofs.Common.{◌≤◌, length}
 use Rattle.decimal_rank.specs.Places.{AreDistinct}
 use Rattle.score_index.proofs.scored.ranking_of.Given as goal

@@ -1,3 +1,4 @@
+-- The topics so far have no list of the run, the others are as before, and all keep their room.
 use Rattle.std.proofs.Common.{◌≤◌, ℕ}
 use Rattle.std.specs.Prelude.{All}
 use Rattle.score_index.specs.Kept.{HasEmptyCell, seen, spare, without_lists}

@@ -1,3 +1,4 @@
+-- There are as many new topics as were counted, each without lists and with the cell of the empty list.
 use Rattle.std.proofs.Common.{◌≡◌, length}
 use Rattle.std.specs.Prelude.{All}
 use Rattle.score_index.specs.Kept.{HasEmptyCell, seen}

@@ -1,3 +1,4 @@
+-- The topics so far have room for the lists, and all are seen as before.
 use Rattle.std.proofs.Common.{◌≡◌, ◌<◌, ◌≤◌, ℕ, get_or, map}
 use Rattle.std.specs.Prelude.{All}
 use Rattle.score_index.specs.Kept.{HasEmptyCell, seen, spare}

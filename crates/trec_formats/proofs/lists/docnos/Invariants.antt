@@ -1,3 +1,4 @@
+-- The docnos are those of the lines so far, in their order.
 use Rattle.std.proofs.Common.{◌≡◌, map, take}
 use Rattle.trec_formats.proofs.lists.docnos.Given as goal
 

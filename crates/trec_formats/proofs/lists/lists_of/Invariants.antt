@@ -1,3 +1,4 @@
+-- The lists are those of the lines so far, and their topics are below those of the lines to come.
 use Rattle.std.proofs.Common.{◌-◌, ◌≤◌, drop, length}
 use Rattle.trec_formats.specs.Groups.{shown}
 use Rattle.trec_formats.proofs.Listing.{IsListedTo}

@@ -1,3 +1,4 @@
+-- The bytes so far are digits, and their value is at most 255.
 use Rattle.trec_formats.proofs.Grades.{AreRead}
 use Rattle.trec_formats.proofs.names.grade_of.Given as goal
 

@@ -1,3 +1,4 @@
+-- The grades are those of the documents so far, in their order.
 use Rattle.std.proofs.Common.{◌≡◌, map, take}
 use Rattle.trec_formats.specs.Qrels.{grade_on}
 use Rattle.trec_formats.proofs.qrel_tables.grades_of.Given as goal

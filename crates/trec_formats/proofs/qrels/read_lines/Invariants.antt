@@ -1,3 +1,4 @@
+-- The rows so far are read as these lines, which with the bytes left are no more than all bytes.
 use Rattle.std.proofs.Common.{◌+◌, ◌≤◌, length}
 use Rattle.trec_formats.specs.Faults.{Stand}
 use Rattle.trec_formats.specs.Qrels.{qrel_of}

@@ -1,3 +1,4 @@
+-- The text is that of the lines so far.
 use Rattle.std.proofs.Common.{◌≡◌, take}
 use Rattle.std.specs.List.{flat_map}
 use Rattle.trec_formats.specs.QrelsText.{qrel_text}

@@ -1,3 +1,4 @@
+-- What was read of the piece goes on from what was read before, and the reading keeps its limits.
 use Rattle.std.proofs.Common.{length, take, ◌-◌, ◌≤◌, ◌+◌, ◌++◌, ℕ, List}
 use Rattle.trec_formats.specs.RunStates.{IsRead, IsWithin}
 use Rattle.trec_formats.proofs.run_reader.read_piece.Given as goal

@@ -1,3 +1,4 @@
+-- The bytes so far stand, as they are shown, behind what stood before.
 use Rattle.std.proofs.Common.{◌≡◌, ◌++◌, map, take}
 use Rattle.trec_formats.specs.Marks.{shown_byte}
 use Rattle.trec_formats.proofs.topic_fields.push_shown.Given as goal

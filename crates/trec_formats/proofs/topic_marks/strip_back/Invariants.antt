@@ -1,3 +1,4 @@
+-- What is kept has the same text when stripped behind as the whole.
 use Rattle.std.proofs.Common.{◌≡◌, length}
 use Rattle.trec_formats.specs.Marks.{back_stripped}
 use Rattle.trec_formats.proofs.topic_marks.strip_back.Given as goal

@@ -1,3 +1,4 @@
+-- The rest has the same text when stripped in front as the whole.
 use Rattle.std.proofs.Common.{◌≡◌, length}
 use Rattle.trec_formats.specs.Marks.{front_stripped}
 use Rattle.trec_formats.proofs.topic_marks.strip_front.Given as goal

@@ -1,3 +1,4 @@
+-- The lines so far are read as the topics and the block that is open.
 use Rattle.std.proofs.Common.{length}
 use Rattle.trec_formats.proofs.TopicProgress.{IsTopicsTo}
 use Rattle.trec_formats.proofs.topics.read_blocks.Given as goal

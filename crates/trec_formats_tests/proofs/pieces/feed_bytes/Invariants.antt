@@ -1,3 +1,4 @@
+-- The reader was fed one byte for each byte so far.
 use Rattle.std.proofs.Common.{◌≡◌, ◌+◌}
 use Rattle.trec_formats_tests.proofs.pieces.feed_bytes.Given as goal
 

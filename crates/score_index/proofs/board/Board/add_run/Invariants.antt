@@ -1,3 +1,4 @@
+-- The ledger in which the list is marked is the blank's.
 use Rattle.score_index.proofs.board.Board.add_run.Given as goal
 
 abbrev pub ghosts-listed : goal.ghosts-listed

@@ -1,3 +1,4 @@
+-- The totals are the sums of the run's kept cells on the topics so far.
 use Rattle.std.proofs.Common.{◌≡◌, ◌≤◌, map, take}
 use Rattle.measures.specs.Totals.{sums_of}
 use Rattle.score_index.specs.Kept.{kept_cells, seen}
