@@ -1,3 +1,4 @@
+//! `drill` through the top call.
 use crate::journals::ended_with;
 use crate::links::idle_link;
 use campaign_cli::{MemoryShelf, MemorySink, USAGE_LINE};

@@ -1,3 +1,5 @@
+//! The program's top call: the words are read as a command, which is run over the shelf, the sink, the link, the disk
+//! and the door that it is given, and the status to end with is told.
 ghost use Rattle.campaign_server.specs.Doors.{IsShut};
 ghost use Rattle.campaign_cli.specs.Endings.{Ends};
 ghost use Rattle.campaign_cli.specs.Requests.{asked};

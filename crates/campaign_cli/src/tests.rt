@@ -1,3 +1,5 @@
+//! Tries shelves and sinks: those in memory, whose calls fail as planned, a sink that takes one byte of each piece, and
+//! the files and the standard output of the system.
 ghost use Rattle.std.specs.Prelude.{◌≡◌, IfOk};
 ghost use Rattle.campaign_cli.specs.Sinks.{told_by};
 

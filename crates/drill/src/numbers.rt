@@ -1,3 +1,5 @@
+//! The numbers that a drill is generated from, seed, runs, topics and documents, with their ranges and the most lines
+//! that they may make.
 ghost use Rattle.std.specs.Prelude.{◌≡◌, ◌&&◌, nat_le};
 ghost use Rattle.drill.specs.Figures.{are_numbers};
 

@@ -1,3 +1,5 @@
+//! The text of an answer: the status line, `Content-Type`, `Content-Length`, `Connection: close` where it closes,
+//! an empty line, and the body.
 ghost use Rattle.std.specs.Prelude.{◌≡◌, ◌+◌, ◌++◌, ◌≤◌, IsTrue, IsOk, OnOk, OnErr, length, map, vec_len, vec_capacity};
 ghost use Rattle.std.specs.List.{concat};
 ghost use Rattle.http_wire.specs.Answers.{answer_text, closing, head_text, is_status, reason_of, type_of};

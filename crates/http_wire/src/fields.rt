@@ -1,3 +1,5 @@
+//! Fields of a head, found by their names, and what they say: how many bytes the body has, and whether the
+//! connection is to close.
 ghost use Rattle.std.specs.Prelude.{◌≡◌, [], ◌∷◌, min, codes, IsTrue, MatchOption};
 ghost use Rattle.std.specs.List.{list_all, list_any};
 ghost use Rattle.std.specs.Str.{str_eq_ignore_ascii_case};

@@ -1,3 +1,5 @@
+//! What stands at the front of a connection's bytes: a head, a piece of a body, the body's end, a fault, or too
+//! few bytes to tell.
 ghost use Rattle.std.specs.Prelude.{◌≡◌, ◌≤◌, ◌<◌, ◌^◌, None, Some, IfOk, length, drop, take};
 ghost use Rattle.http_wire.specs.Fronts.{IsFound, IsSearched, behind, found_with, wire_at};
 ghost use Rattle.http_wire.specs.Heads.{body_length, head_length, passed};

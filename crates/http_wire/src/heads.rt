@@ -1,3 +1,5 @@
+//! The head of a request: CR and LF in front are passed over, its end is found, and its parts are copied.
+//! It has at most 8,192 bytes and 32 fields.
 ghost use Rattle.std.specs.Prelude.{◌≡◌, ◌+◌, ◌≤◌, ℕ, List, [], true, length, drop, take, map, All, IfOk, IfSome, IfNone};
 ghost use Rattle.std.specs.Option.{option_map};
 ghost use Rattle.httparse.specs.Grammar.{RequestHead};

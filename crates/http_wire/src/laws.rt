@@ -1,3 +1,4 @@
+//! What holds of a wire: bytes are requests and an end in one way at most, however they were cut, and a refusal stays.
 ghost use Rattle.std.specs.Prelude.{◌≡◌, ℕ, List};
 ghost use Rattle.http_wire.specs.declared.messages.HttpRequest.{HttpRequest};
 ghost use Rattle.http_wire.specs.Messages.{End, Front, GoesOn, IsFront, Messages, ReadsOn, Stays};

@@ -1,3 +1,5 @@
+//! Tries which messages are requests and which faults others have, that it is the same however they are cut, the
+//! limits of a head, the texts of answers, and the search for a field by its name.
 use super::*;
 use decimal_rank::Memory;
 use std::alloc::Global;

@@ -1,3 +1,4 @@
+//! A connection's bytes, fed as they come in pieces of any size, and the steps that they make, given one by one.
 ghost use Rattle.std.specs.Prelude.{◌≡◌, ◌+◌, ◌≤◌, [], None, IfOk, OnOk, OnErr, drop, length};
 ghost use Rattle.http_wire.specs.Fronts.{wire_at};
 ghost use Rattle.http_wire.specs.Pieces.{BodyFits, Shortens, Steps, fed};

@@ -1,3 +1,5 @@
+//! Tries journals on a disk in memory: begun on an empty disk, cut at any byte, with other bytes behind or within, and
+//! mended after an append that failed.
 use disk_model::MemoryDisk;
 use journal::{Failed, Frame, Journal, OpenFault};
 use std::alloc::Global;

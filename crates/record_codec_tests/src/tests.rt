@@ -1,3 +1,5 @@
+//! Tries spellings of entries: each command's is read and written again as it was, other and cut bytes are none, and
+//! lists and texts are as many and as long as they may be.
 use crate::spellings::{NO_SPELLINGS, SPELLINGS};
 use decimal_rank::Text;
 use record_codec::{CodecFault, read_entry, write_entry};

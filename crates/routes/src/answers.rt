@@ -1,3 +1,5 @@
+//! The texts of answers: each has a status by what was answered, and a body, which is plain text for a page and a JSON
+//! object else.
 ghost use Rattle.std.specs.Prelude.{◌≡◌, ◌+◌, ◌-◌, ◌^◌, ◌<◌, ◌≤◌, ◌++◌, IsTrue, IsOk, OnOk, OnErr, drop, length, take, vec_len, vec_capacity};
 ghost use Rattle.http_wire.specs.Answers.{answer_text, head_text, is_status};
 ghost use Rattle.routes.specs.Answers.{body_of, detail, field_before, field_behind, format_body, graded_body, is_json, is_plain, is_short, leased_body, phase_name, pool_body, quantity_name, refusal_body, refusal_name, refusal_status, reply_body, reply_status, route_body, route_status, status_of, submitted_body, text_of, topics_body, wire_body, wire_status};

@@ -1,3 +1,5 @@
+//! What a request asks: the row of its path and its method, the path's parameter and the body make a command or a
+//! query, or the first fault.
 ghost use Rattle.std.specs.Prelude.{◌≡◌, ◌≤◌, ℕ, List, IsTrue, IfOk, length};
 ghost use Rattle.routes.specs.declared.places.Question.TheVariants as question;
 ghost use Rattle.routes.specs.Asks.{Asks, HasSoundTopics, Reads, fault_of, with_nothing};

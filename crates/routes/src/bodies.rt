@@ -1,3 +1,5 @@
+//! The bodies of asks: a JSON object of `grade` alone, or of `doc` and `grade` alone, or the text of a run, which
+//! becomes its ranked lists.
 ghost use Rattle.std.specs.Prelude.{◌≡◌, ℕ, List, IfOk, option_and_then, option_map};
 ghost use Rattle.std.specs.List.{list_all};
 ghost use Rattle.serde_json.specs.View.{view};

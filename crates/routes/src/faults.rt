@@ -1,3 +1,4 @@
+//! Why a request asks nothing, in the order in which the causes are looked for: path, method, key, role, number, body.
 use decimal_rank::Memory;
 use trec_formats::FormatFault;
 

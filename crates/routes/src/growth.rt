@@ -1,3 +1,5 @@
+//! A body, appended part by part: plain bytes, a number in decimal, a text with its quotes escaped, or a list of
+//! docnos. Where memory is short the bytes stay as they were.
 ghost use Rattle.std.specs.Prelude.{◌≡◌, ◌∷◌, ◌++◌, [], decimal, map};
 ghost use Rattle.std.specs.List.{flat_map, join_with_byte, list_all};
 ghost use Rattle.routes.specs.Answers.{escaped, escaped_byte, quoted};

@@ -1,3 +1,5 @@
+//! The callers of a campaign, each with a name, a role and the key by which it is known. No two have one name or one
+//! key.
 ghost use Rattle.std.specs.Prelude.{◌≡◌, IsTrue, IfOk, bytes_eq, map, option_copied};
 ghost use Rattle.std.specs.List.{list_all, list_any};
 ghost use Rattle.rulebook.specs.Spelling.{differ};

@@ -1,3 +1,5 @@
+//! What a request says in front of its body: the row of its path and method, the caller of its key, and the number of
+//! the field `X-Request-Number`, which a POST may have; or the first fault.
 ghost use Rattle.std.specs.Prelude.{◌≡◌, ◌∷◌, [], IsTrue, IfOk, codes};
 ghost use Rattle.http_wire.specs.Heads.{values_named};
 ghost use Rattle.routes.specs.Faults.{Gives};

@@ -1,3 +1,4 @@
+//! The second part of a path as a parameter: a name, or the number of a lease or a release, at most 4,294,967,295.
 ghost use Rattle.std.specs.Prelude.{◌≡◌, IsTrue, min, position};
 ghost use Rattle.std.specs.List.{list_all, before_first, after_first};
 ghost use Rattle.std.specs.Str.Parse.{digits_value};

@@ -1,3 +1,4 @@
+//! The table of the paths: 18 rows, each with a path, its method, its parameter, who may ask there, and what is asked.
 ghost use Rattle.std.specs.Prelude.{◌≡◌, IfOk, IsTrue, OnOk, map};
 ghost use Rattle.std.specs.List.{fold};
 ghost use Rattle.std.specs.Option.{option_map};

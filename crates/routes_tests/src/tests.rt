@@ -1,3 +1,5 @@
+//! Tries requests, read whole and in pieces of one byte, to what they ask or their first fault, callers whose names or
+//! keys are the same, and the texts of replies, refusals and faults.
 ghost use Rattle.std.specs.Prelude.{◌≡◌, ◌+◌, ◌≤◌, IfOk, length};
 ghost use Rattle.routes.specs.declared.KeyRow.{KeyRow};
 

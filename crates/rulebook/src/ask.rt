@@ -1,3 +1,4 @@
+//! What a caller asks of a campaign: a command, which adds an entry where it is accepted, or a query, which adds none.
 ghost use Rattle.std.specs.Prelude.{◌≡◌};
 ghost use Rattle.rulebook.specs.SameCommands.{same_command};
 

@@ -1,3 +1,4 @@
+//! An entry of a campaign: an accepted command with its caller, its number and its moment, and the reply that it got.
 use crate::ask::Command;
 use crate::reply::Reply;
 use crate::rules::Caller;

@@ -1,3 +1,5 @@
+//! What holds of every campaign by its rules: how labels, rulings and effective grades follow from entries, that a
+//! lease ends once, that a number is used once, and that entries have room in the journal.
 ghost use Rattle.rulebook.specs.Additions.{AddedAreAccepted, EntriesAreFew, FoundingFits, LegalFit, MomentsAreInTime, RunsAreFew};
 ghost use Rattle.rulebook.specs.Entries.{GradedAreOnTrail, GradedAreThere, LabelledAreListed, LabelsJoin, QuietEntriesKeepGrades, RulingsJoin};
 ghost use Rattle.rulebook.specs.Facts.{GradesTellTheirLeases, KeptRepliesAreFirst, LabelsAreFew, LabelsAreTheLastGrades, LabelsGoByLeases, LeasesEndOnce, LiveRunsAreNotWithdrawn, NumbersAreUsedOnce, TopicsAreGivenOnce};

@@ -1,3 +1,5 @@
+//! The limits of a campaign: its topics, runs, lines, docnos, entries and moments, and the bytes of an entry.
+
 /// How many topics a campaign has at most.
 pub const MAX_TOPICS: u32 = 250;
 

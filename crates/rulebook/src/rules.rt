@@ -1,3 +1,4 @@
+//! The roles of callers, the phases of a campaign, and its settings, which the first entry holds.
 ghost use Rattle.std.specs.Prelude.{◌≡◌, IfOk};
 
 use decimal_rank::{Memory, Rows, Text};

@@ -1,3 +1,4 @@
+//! Tries copies of callers and replies, and that commands are the same by all their fields.
 use decimal_rank::{Memory, Rows, Text};
 use rulebook::{Caller, Command, Quantity, Refusal, Reply, Role};
 use std::alloc::Global;

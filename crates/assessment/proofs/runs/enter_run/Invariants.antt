@@ -1,3 +1,4 @@
+-- The topics so far and the board have the run's lists so far, and the board has room for those that are left.
 use Rattle.std.proofs.Common.{◌≡◌, ◌++◌, ◌≤◌, ℕ, get_or, length, map}
 use Rattle.std.specs.Prelude.{count_by}
 use Rattle.std.specs.Vec.Iter.{into_iter_items, into_iter_len}

@@ -1,3 +1,4 @@
+-- The topics so far are without the run's list, and those behind stay as they were.
 use Rattle.std.proofs.Common.{◌≡◌, ◌<◌, ◌≤◌, ℕ, get_or}
 use Rattle.assessment.specs.TopicFacts.{TopicView, without_list}
 use Rattle.assessment.proofs.runs.leave_each.Given as goal

@@ -1,3 +1,4 @@
+-- The topics so far have room for the run, and the facts of all stay.
 use Rattle.std.proofs.Common.{◌≡◌, ◌<◌, ℕ, List, get_or, length, map}
 use Rattle.decimal_rank.specs.declared.naming.DocId.{DocId}
 use Rattle.assessment.specs.TopicFacts.{AwaitsRun, TopicView, facts_of}

@@ -1,3 +1,4 @@
+-- The topics so far are the new ones of the rules so far.
 use Rattle.std.proofs.Common.{◌≡◌, ◌++◌, length, map}
 use Rattle.std.specs.Vec.Iter.{into_iter_items, into_iter_len}
 use Rattle.assessment.specs.TopicFacts.{facts_of, new_topic}

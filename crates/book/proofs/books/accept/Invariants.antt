@@ -1,3 +1,4 @@
+-- The ledger that is committed is the blank's.
 use Rattle.book.proofs.books.accept.Given as goal
 
 abbrev pub ghosts-commit : goal.ghosts-commit

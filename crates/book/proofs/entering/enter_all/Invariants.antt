@@ -1,3 +1,4 @@
+-- The history went on with the payloads so far, one entry for each.
 use Rattle.std.proofs.Common.{◌≡◌, ◌+◌, length, take}
 use Rattle.journal.specs.Kept.{payloads as payloads_of}
 use Rattle.book.specs.Replays.{GoesOn}

@@ -1,3 +1,4 @@
+-- The copies so far are the names so far.
 use Rattle.std.proofs.Common.{◌≡◌, take}
 use Rattle.book.proofs.founding.copy_of_names.Given as goal
 

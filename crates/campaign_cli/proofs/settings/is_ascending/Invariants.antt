@@ -1,3 +1,4 @@
+-- All names ascend if the last one that was passed and those that are left do.
 use Rattle.std.proofs.Common.{◌≡◌, ◌∷◌, length}
 use Rattle.rulebook.specs.Spelling.{is_ascending}
 use Rattle.campaign_cli.proofs.settings.is_ascending.Given as goal

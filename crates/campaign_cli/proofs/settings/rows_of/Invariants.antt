@@ -1,3 +1,4 @@
+-- The callers of all items are those so far and those of the items that are left, if each of these is one.
 use Rattle.std.proofs.Common.{◌≡◌, ◌++◌, length, map, option_map}
 use Rattle.toml.specs.View.{view}
 use Rattle.campaign_cli.specs.Settings.{caller_of}

@@ -1,3 +1,4 @@
+-- The docnos that are left, added to those there are, give what all of them add to the first ones.
 use Rattle.std.proofs.Common.{◌≡◌, ◌+◌, ◌≤◌, drop, length}
 use Rattle.std.specs.List.{fold}
 use Rattle.decimal_rank.specs.Names.{with_name}

@@ -1,3 +1,4 @@
+-- None of the topics passed has the id: the title among those left is the campaign's.
 use Rattle.std.proofs.Common.{◌≡◌, [], drop, find}
 use Rattle.std.specs.Option.{option_map_or}
 use Rattle.std.specs.Str.{bytes_eq}

@@ -1,3 +1,4 @@
+-- The entries that were passed give no topics: those of the entries left are the history's.
 use Rattle.std.proofs.Common.{◌≡◌, drop}
 use Rattle.rulebook.specs.Campaign.{topics}
 use Rattle.campaign_core.proofs.looks.topics.Given as goal

@@ -1,3 +1,4 @@
+-- The ids stand in order, and what is printed is the page's parts of the topics so far.
 use Rattle.std.proofs.Common.{◌≡◌, map, take}
 use Rattle.std.specs.List.{flat_map}
 use Rattle.rulebook.specs.Campaign.{History}

@@ -1,3 +1,4 @@
+-- What is printed is the lines of the docnos so far.
 use Rattle.std.proofs.Common.{◌≡◌, ◌++◌, take}
 use Rattle.std.specs.List.{flat_map}
 use Rattle.rulebook.specs.Pages.{disagreement_line}

@@ -1,3 +1,4 @@
+-- The lists that are left have the documents on the topic that all lists have.
 use Rattle.std.proofs.Common.{◌≡◌, drop}
 use Rattle.rulebook.specs.Campaign.{docs_on}
 use Rattle.campaign_core.proofs.pools.docs_on.Given as goal

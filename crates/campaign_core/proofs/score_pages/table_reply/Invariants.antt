@@ -1,3 +1,4 @@
+-- What is printed is the summaries of the live runs among those so far.
 use Rattle.std.proofs.Common.{◌≡◌, take}
 use Rattle.std.specs.List.{flat_map}
 use Rattle.rulebook.specs.Campaign.{runs}

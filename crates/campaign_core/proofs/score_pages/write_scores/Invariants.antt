@@ -1,3 +1,4 @@
+-- The ids stand in order, and what is printed is the cells of the run on the topics so far.
 use Rattle.std.proofs.Common.{◌≡◌, ◌++◌, map, take}
 use Rattle.std.specs.List.{flat_map}
 use Rattle.rulebook.specs.Campaign.{History, Run}

@@ -1,3 +1,4 @@
+-- No document passed is open: the first among those left is the first among all.
 use Rattle.std.proofs.Common.{◌≡◌, drop, find}
 use Rattle.campaign_core.specs.Leasing.{is_open_in}
 use Rattle.campaign_core.proofs.selection.open_among.Given as goal

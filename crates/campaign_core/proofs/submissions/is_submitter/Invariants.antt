@@ -1,3 +1,4 @@
+-- The submissions that are left tell what all of them do, whether the caller submitted the run.
 use Rattle.std.proofs.Common.{◌≡◌, drop, map}
 use Rattle.campaign_core.specs.Submissions.{any_at, entry_place, is_submitted_by}
 use Rattle.campaign_core.proofs.submissions.is_submitter.Given as goal

@@ -1,3 +1,4 @@
+-- The counts are the sums over the topics so far, and small enough.
 use Rattle.std.proofs.Common.{◌≡◌, ◌≤◌, ◌*◌, ◌^◌, List, map, take}
 use Rattle.std.specs.List.{sum_by}
 use Rattle.assessment.specs.TopicFacts.{facts_of}

@@ -1,3 +1,4 @@
+-- The texts so far are the docnos of the documents so far.
 use Rattle.std.proofs.Common.{◌≡◌, map, take}
 use Rattle.decimal_rank.specs.Names.{docno_of}
 use Rattle.campaign_core.specs.Texts.{shown}

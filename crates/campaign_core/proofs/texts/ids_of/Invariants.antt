@@ -1,3 +1,4 @@
+-- The ids so far are those of the topics so far.
 use Rattle.std.proofs.Common.{◌≡◌, map, take}
 use Rattle.assessment.specs.TopicFacts.{facts_of}
 use Rattle.campaign_core.specs.Texts.{shown}

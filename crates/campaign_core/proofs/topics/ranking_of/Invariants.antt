@@ -1,3 +1,4 @@
+-- The numbers so far are those of the docnos so far.
 use Rattle.std.proofs.Common.{◌≡◌, take}
 use Rattle.campaign_core.specs.Numbers.{docs_in}
 use Rattle.campaign_core.proofs.topics.ranking_of.Given as goal

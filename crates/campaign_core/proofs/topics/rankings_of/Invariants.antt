@@ -1,3 +1,4 @@
+-- The rankings so far are those of the run's lists on the topics so far.
 use Rattle.std.proofs.Common.{◌≡◌, map, take}
 use Rattle.rulebook.specs.Campaign.{docs_on}
 use Rattle.assessment.specs.TopicFacts.{facts_of}

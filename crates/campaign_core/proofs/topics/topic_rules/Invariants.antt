@@ -1,3 +1,4 @@
+-- What is made so far is what the rules say of the topics so far, each of them empty and unlabelled.
 use Rattle.std.proofs.Common.{◌≡◌, map, take}
 use Rattle.assessment.specs.TopicFacts.{new_topic}
 use Rattle.campaign_core.specs.Topics.{empty_topic, kept, labelled_of, unlabelled}

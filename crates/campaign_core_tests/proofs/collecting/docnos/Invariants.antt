@@ -1,3 +1,4 @@
+-- The texts so far are those of one byte each, the bytes so far.
 use Rattle.std.proofs.Common.{◌≡◌, ◌∷◌, [], map, take}
 use Rattle.campaign_core_tests.proofs.collecting.docnos.Given as goal
 

@@ -1,3 +1,4 @@
+-- The request being read fits the wire, which shrinks with each step, and what they stand for stays.
 use Rattle.std.proofs.Common.{◌≤◌, ℕ, List}
 use Rattle.http_wire.specs.Pieces.{size}
 use Rattle.campaign_server.specs.Asking.{Fits, StandsFor, stream_at}

@@ -1,3 +1,4 @@
+-- The teller, the link and the stream went on, nothing was read, and each answered request leaves a smaller wire.
 use Rattle.std.proofs.Common.{◌≡◌}
 use Rattle.http_wire.specs.Pieces.{size}
 use Rattle.campaign_server.specs.LoopParts.{Continues}

@@ -1,3 +1,4 @@
+-- What was done so far is what the pieces read so far ask, what is taken is at most 2^40, and faults aren't fewer.
 use Rattle.std.proofs.Common.{◌-◌, ◌≤◌, ◌^◌, ℕ, List}
 use Rattle.campaign_server.specs.Asking.{StandsFor}
 use Rattle.campaign_server.specs.Chains.{Chain}

@@ -1,3 +1,4 @@
+-- The door was handed the records so far, in order, and its faults stay.
 use Rattle.std.proofs.Common.{◌≡◌, ◌++◌, length}
 use Rattle.std.specs.Vec.Iter.{into_iter_items, into_iter_len}
 use Rattle.campaign_server.specs.Doors.{HandsOver}

@@ -1,3 +1,4 @@
+-- The ledger is the blank's, and the opening is the port, the faults of the door and the limit of connections.
 use Rattle.campaign_server.proofs.servers.serve_named.Given as goal
 
 abbrev pub ghosts-serve_owned-J-Ledger : goal.ghosts-serve_owned-J-Ledger

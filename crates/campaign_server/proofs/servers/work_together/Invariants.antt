@@ -1,3 +1,4 @@
+-- The workers not yet taken apart have served, and the share, the records and what was seen are those of the others.
 use Rattle.std.proofs.Common.{◌≡◌, ◌+◌, ◌≤◌, All, length, vec_capacity, vec_len}
 use Rattle.book.specs.Halls.{seen_as}
 use Rattle.campaign_server.specs.Records.{ended_all, ended_of}

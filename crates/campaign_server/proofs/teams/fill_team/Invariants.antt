@@ -1,3 +1,4 @@
+-- The workers so far are fresh, the first pass is as it was, and the ledger's parts are those of the workers to come.
 use Rattle.std.proofs.Common.{◌≡◌, ◌+◌, ◌≤◌, All, vec_capacity, vec_len}
 use Rattle.book.specs.Halls.{seen_as}
 use Rattle.campaign_server.specs.Records.{ended_of}

@@ -1,3 +1,4 @@
+-- The records went on from those at first, the share counts them, and memory wasn't short.
 use Rattle.std.proofs.Common.{◌≡◌, ◌<◌, false, vec_len}
 use Rattle.book.specs.Halls.{seen_as}
 use Rattle.campaign_server.specs.Records.{ended_of}

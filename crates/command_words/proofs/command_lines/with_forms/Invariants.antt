@@ -1,3 +1,4 @@
+-- The forms left, added to the line as it is, give what all forms add to the first line.
 use Rattle.std.proofs.Common.{◌≡◌, length, map}
 use Rattle.std.specs.List.{fold}
 use Rattle.clap.specs.Words.{app_of}

@@ -1,3 +1,4 @@
+-- The places left, added to the line as it is, give what all places add to the first line.
 use Rattle.std.proofs.Common.{◌≡◌, length, map}
 use Rattle.std.specs.List.{fold}
 use Rattle.clap.specs.Words.{app_of}

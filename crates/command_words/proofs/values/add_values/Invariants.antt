@@ -1,3 +1,4 @@
+-- The values of all names are those so far and those of the names left, if each has one.
 use Rattle.std.proofs.Common.{◌≡◌, ◌++◌, length, map, option_map}
 use Rattle.clap.specs.Words.{found_of, rows_of}
 use Rattle.command_words.specs.CommandLines.{values_at}

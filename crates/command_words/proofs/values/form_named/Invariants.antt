@@ -1,3 +1,4 @@
+-- No form passed has the name: the first among those left is the first among all.
 use Rattle.std.proofs.Common.{◌≡◌, length, map}
 use Rattle.command_words.specs.Words.{form_named, form_of}
 use Rattle.command_words.proofs.values.form_named.Given as goal

@@ -1,3 +1,4 @@
+-- No word passed is stray: the words left tell what all do.
 use Rattle.std.proofs.Common.{◌≡◌, length, map, string_bytes}
 use Rattle.std.specs.List.{list_any}
 use Rattle.command_words.specs.Words.{is_stray}

@@ -1,3 +1,4 @@
+-- No byte passed is `=`: the value behind it in what is left is that of the whole option.
 use Rattle.std.proofs.Common.{◌≡◌, length}
 use Rattle.command_words.specs.Words.{value_behind}
 use Rattle.command_words.proofs.words.value_behind.Given as goal

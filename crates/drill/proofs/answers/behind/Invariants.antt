@@ -1,3 +1,4 @@
+-- The part begins nowhere in what was passed: what is behind it is the same for the text left.
 use Rattle.std.proofs.Common.{◌≡◌, length}
 use Rattle.drill.specs.Answers.{behind}
 use Rattle.drill.proofs.answers.behind.Given as goal

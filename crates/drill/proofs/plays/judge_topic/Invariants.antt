@@ -1,3 +1,4 @@
+-- The documents of the rounds so far are graded, at most two requests and one lease each.
 use Rattle.std.proofs.Common.{◌≤◌, ◌+◌, ◌*◌}
 use Rattle.drill.specs.Plays.{After, IsGraded, judging}
 use Rattle.drill.proofs.plays.judge_topic.Given as goal

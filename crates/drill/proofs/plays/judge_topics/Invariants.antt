@@ -1,3 +1,4 @@
+-- The topics so far are judged, at most 2,003 requests and 1,001 leases each.
 use Rattle.std.proofs.Common.{◌≤◌, ◌*◌}
 use Rattle.drill.specs.Plays.{After, IsJudged, judging, unjudged}
 use Rattle.drill.proofs.plays.judge_topics.Given as goal

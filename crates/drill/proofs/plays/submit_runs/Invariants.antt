@@ -1,3 +1,4 @@
+-- The runs so far were sent, one after another.
 use Rattle.drill.specs.Exchanges.{IsSent}
 use Rattle.drill.specs.Messages.{run_message}
 use Rattle.drill.specs.Plays.{After}

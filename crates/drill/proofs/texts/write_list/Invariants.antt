@@ -1,3 +1,4 @@
+-- What is appended is the lines of the documents so far.
 use Rattle.std.proofs.Common.{◌≡◌, ◌++◌}
 use Rattle.drill.specs.Texts.{line, texts_to}
 use Rattle.drill.proofs.texts.write_list.Given as goal

@@ -1,3 +1,4 @@
+-- What is appended is the run's lists on the topics so far.
 use Rattle.std.proofs.Common.{◌≡◌, ◌++◌}
 use Rattle.drill.specs.Texts.{list_text, texts_to}
 use Rattle.drill.proofs.texts.write_run.Given as goal

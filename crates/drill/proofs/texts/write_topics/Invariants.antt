@@ -1,3 +1,4 @@
+-- What is appended is the lines of the topics so far.
 use Rattle.std.proofs.Common.{◌≡◌, ◌++◌}
 use Rattle.drill.specs.Texts.{topic_text, texts_to}
 use Rattle.drill.proofs.texts.write_topics.Given as goal

@@ -1,3 +1,4 @@
+-- The cells so far are those of the judged topics so far, and sound.
 use Rattle.std.proofs.Common.{◌≡◌, map, take}
 use Rattle.std.specs.Prelude.{All}
 use Rattle.measures.specs.Cells.{IsSound}

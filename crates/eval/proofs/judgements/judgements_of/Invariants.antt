@@ -1,3 +1,4 @@
+-- The lines so far are tallied.
 use Rattle.std.proofs.Common.{take}
 use Rattle.eval.proofs.Tallies.{AreTallied}
 use Rattle.eval.proofs.judgements.judgements_of.Given as goal

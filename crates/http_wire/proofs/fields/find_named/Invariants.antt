@@ -1,3 +1,4 @@
+-- No field passed has the name: the values in those left are all of them.
 use Rattle.std.proofs.Common.{◌≡◌, length}
 use Rattle.http_wire.specs.Heads.{values_named}
 use Rattle.http_wire.proofs.fields.find_named.Given as goal

@@ -1,3 +1,4 @@
+-- No field passed says `close`: those left tell what all do.
 use Rattle.std.proofs.Common.{◌≡◌, length}
 use Rattle.http_wire.specs.Heads.{says_close}
 use Rattle.http_wire.proofs.fields.says_close.Given as goal

@@ -1,3 +1,4 @@
+-- The fields so far are those that the spans so far have in the text.
 use Rattle.std.proofs.Common.{◌≡◌, take, map}
 use Rattle.http_wire.specs.Fronts.{field_at}
 use Rattle.http_wire.proofs.heads.copy_fields.Given as goal

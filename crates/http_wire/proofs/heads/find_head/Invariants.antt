@@ -1,3 +1,4 @@
+-- No head ends in the bytes passed: its length is the one found in those left, and their count.
 use Rattle.std.proofs.Common.{◌≡◌, ◌+◌, length}
 use Rattle.std.specs.Option.{option_map}
 use Rattle.http_wire.specs.Heads.{head_length}

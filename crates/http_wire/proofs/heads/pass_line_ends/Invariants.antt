@@ -1,3 +1,4 @@
+-- The bytes passed are CR and LF, as many as are counted.
 use Rattle.std.proofs.Common.{◌≡◌, ◌+◌, length, drop}
 use Rattle.http_wire.specs.Heads.{passed}
 use Rattle.http_wire.proofs.heads.pass_line_ends.Given as goal

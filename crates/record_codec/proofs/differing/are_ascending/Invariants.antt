@@ -1,3 +1,4 @@
+-- The texts ascend up to the one before the place: those from that one on tell what all do.
 use Rattle.std.proofs.Common.{◌≡◌, ◌-◌, drop}
 use Rattle.rulebook.specs.Spelling.{is_ascending}
 use Rattle.record_codec.proofs.DifferingTexts.{shown}

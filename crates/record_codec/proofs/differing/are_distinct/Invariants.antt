@@ -1,3 +1,4 @@
+-- The texts seen are those so far, no two of them the same.
 use Rattle.std.proofs.Common.{take}
 use Rattle.record_codec.proofs.DifferingTexts.{AreSeen, shown}
 use Rattle.record_codec.proofs.differing.are_distinct.Given as goal

@@ -1,3 +1,4 @@
+-- What is lent so far is the texts so far.
 use Rattle.std.proofs.Common.{◌≡◌, take}
 use Rattle.record_codec.proofs.DifferingTexts.{shown}
 use Rattle.record_codec.proofs.differing.lent.Given as goal

@@ -1,3 +1,4 @@
+-- The texts so far are the topics of the lists so far.
 use Rattle.std.proofs.Common.{◌≡◌, map, take}
 use Rattle.record_codec.proofs.DifferingTexts.{shown}
 use Rattle.record_codec.proofs.differing.topics.Given as goal

@@ -1,3 +1,4 @@
+-- The lists so far, in front of those that the bytes left give, are what all the bytes give.
 use Rattle.std.proofs.Common.{◌≡◌, ◌-◌}
 use Rattle.record_codec.specs.Readings.{items_at, list_at}
 use Rattle.record_codec.proofs.Loops.{with_front}

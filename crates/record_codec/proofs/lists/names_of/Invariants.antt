@@ -1,3 +1,4 @@
+-- The names so far, in front of those that the bytes left give, are what all the bytes give.
 use Rattle.std.proofs.Common.{◌≡◌, ◌-◌}
 use Rattle.record_codec.specs.Readings.{items_at, name_at}
 use Rattle.record_codec.proofs.Loops.{with_front}

@@ -1,3 +1,4 @@
+-- What is appended is the count of all lists and the bytes of those so far.
 use Rattle.std.proofs.Common.{◌≡◌, ◌++◌, length, take}
 use Rattle.std.specs.Int.{w32, to_le_bytes}
 use Rattle.std.specs.List.{flat_map}

@@ -1,3 +1,4 @@
+-- The text left, appended escaped, gives what the whole text appends; neither length nor capacity falls.
 use Rattle.std.proofs.Common.{◌≡◌, ◌≤◌, ◌++◌, length}
 use Rattle.std.specs.Prelude.{vec_capacity}
 use Rattle.std.specs.List.{flat_map}

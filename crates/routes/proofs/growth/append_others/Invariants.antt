@@ -1,3 +1,4 @@
+-- The docnos left, each quoted behind a comma, give what all append; neither length nor capacity falls.
 use Rattle.std.proofs.Common.{◌≡◌, ◌≤◌, ◌++◌, ◌∷◌, ℕ, List, length}
 use Rattle.std.specs.Prelude.{vec_capacity}
 use Rattle.std.specs.List.{flat_map}

@@ -1,3 +1,4 @@
+-- The parts left, appended to the bytes so far, give what all parts append; neither length nor capacity falls.
 use Rattle.std.proofs.Common.{◌≡◌, ◌≤◌, ◌++◌, length}
 use Rattle.std.specs.Prelude.{vec_capacity}
 use Rattle.std.specs.List.{flat_map}

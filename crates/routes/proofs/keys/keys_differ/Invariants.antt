@@ -1,3 +1,4 @@
+-- The key of no row passed stands behind it: the keys left tell whether all differ.
 use Rattle.std.proofs.Common.{◌≡◌, length, map}
 use Rattle.rulebook.specs.Spelling.{differ}
 use Rattle.routes.proofs.keys.keys_differ.Given as goal

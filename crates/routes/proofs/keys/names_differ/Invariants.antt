@@ -1,3 +1,4 @@
+-- The name of no row passed stands behind it: the names left tell whether all differ.
 use Rattle.std.proofs.Common.{◌≡◌, length, map}
 use Rattle.rulebook.specs.Spelling.{differ}
 use Rattle.routes.proofs.keys.names_differ.Given as goal

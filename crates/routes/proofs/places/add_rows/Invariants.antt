@@ -1,3 +1,4 @@
+-- The rows left are free, and added to the router as it is they give what all rows add to the first one.
 use Rattle.std.proofs.Common.{◌≡◌, map, true, length}
 use Rattle.std.specs.List.{fold}
 use Rattle.routes.specs.Places.{are_free, place_at, with_route}

@@ -1,3 +1,4 @@
+-- The reader was fed one byte for each so far.
 use Rattle.std.proofs.Common.{◌≡◌, ◌+◌}
 use Rattle.routes_tests.proofs.tests.feed_bytes.Given as goal
 

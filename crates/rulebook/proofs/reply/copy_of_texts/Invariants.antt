@@ -1,3 +1,4 @@
+-- The copies so far are the texts so far.
 use Rattle.std.proofs.Common.{◌≡◌, take}
 use Rattle.rulebook.proofs.reply.copy_of_texts.Given as goal
 
