@@ -1,3 +1,4 @@
+mod FrontSteps
 mod ListFacts
 mod Marking
 mod Queueing

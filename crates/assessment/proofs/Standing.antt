@@ -1,16 +1,19 @@
 -- A board that stands for the grades of the topics.
-use Rattle.std.proofs.Common.{◌≡◌, ◌<◌, ◌^◌, ℕ, List, [], ◌∷◌, Option, length, map, get_or, set, refl, sym, ap, subst, ◌∙◌, arith}
-use Rattle.std.specs.Prelude.{replicate}
+use Rattle.std.proofs.Common.{◌≡◌, ◌+◌, ◌<◌, ◌≤◌, ◌^◌, ℕ, zero, suc, List, [], ◌∷◌, Option, Some, length, map, get_or, set, refl, sym, ap, subst, ◌∙◌, arith}
+use Rattle.std.specs.Prelude.{replicate, slice_get}
 use Rattle.std.specs.List.{AllZip}
+use Rattle.std.specs.Option.{option_map_or}
 use Rattle.std.proofs.lemmas.List.{length-map}
 use Rattle.std.proofs.lemmas.Slice.Zip.{AllZip-long}
 use Rattle.decimal_rank.specs.declared.naming.DocId.{DocId}
+use Rattle.depth_pool.specs.declared.runs.RunId.{RunId}
 use Rattle.qrels_view.specs.Grades.{effective_in, with_grade}
 use Rattle.qrels_view.specs.declared.grades.Graded.{Graded}
-use Rattle.score_index.specs.Scores.{Scores, TopicScores, topic_at}
+use Rattle.score_index.specs.Scores.{Scores, TopicScores, steps_of, topic_at}
 use Rattle.score_index.specs.Standing.{StandsFor, TopicStandsFor, grades_at}
+use Rattle.assessment.specs.Costs.{grade_steps, pool_size}
 use Rattle.assessment.specs.TopicFacts.{TopicFacts, TopicView, facts_of, graded_of, new_topic}
-use Rattle.assessment.specs.TopicsFacts.{IsRegraded, IsStanding, at_place}
+use Rattle.assessment.specs.TopicsFacts.{IsRegraded, IsStanding, at_place, told_by}
 use Rattle.assessment.specs.declared.topic.TopicRules.{TopicRules}
 use Rattle.assessment.proofs.ListFacts.{get_or-map, map-set, map-set_same, set-at_place}
 use Rattle.assessment.proofs.RunSteps.{grades-by, through}
@@ -54,6 +57,20 @@ facts-then change topics i T U within there is =
     map-set facts_of topics i U
     ∙ ap (set (map facts_of topics) i) (is ∙ ap change before)
     ∙ set-at_place change (map facts_of topics) i T.facts inside
+
+-- what a grade on a topic takes: its pool's runs and one more, and then the lists
+pub steps-then : (runs : List RunId) (board : Scores) (topics : List TopicView) (i : ℕ) (T : TopicView) (before between after : ℕ) → i < length topics → T ≡ get_or topics i T
+    → between ≤ before + length T.facts.pool + 1 → after ≤ between + steps_of runs (topic_at board i) → after ≤ before + grade_steps runs i (told_by topics board)
+steps-then runs board topics i T before between after within there first second =
+    let there_is : slice_get (map facts_of topics) i ≡ Some T.facts =
+    at-get (map facts_of topics) i T.facts (omega (arith, within, length-map topics facts_of)) ∙ ap (λ (facts : TopicFacts). Some facts) (get_or-map facts_of topics i T T.facts within ∙ ap facts_of (sym there)) in
+    let pool : pool_size i (told_by topics board) ≡ length T.facts.pool = ap (λ (o : Option TopicFacts). option_map_or (λ topic. length topic.pool) o 0) there_is in
+    omega (arith, first, second, pool)
+  where
+    at-get : {X : Type 0} (xs : List X) (k : ℕ) (d : X) → k < length xs → slice_get xs k ≡ Some (get_or xs k d)
+    at-get [] k d within = absurd (omega (arith, within))
+    at-get (x ∷ xs) zero d within = refl
+    at-get (x ∷ xs) (suc k) d within = at-get xs k d (omega (arith, within))
 
 -- topics that keep their facts, with a board that keeps its topics
 pub standing-same : (topics others : List TopicView) (board other : Scores) → map facts_of topics ≡ map facts_of others → board.topics ≡ other.topics → board.level ≡ other.level → IsStanding others other → IsStanding topics board

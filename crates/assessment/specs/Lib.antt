@@ -1,4 +1,6 @@
 pub mod TopicFacts
+pub mod Fronts
 pub mod RunLists
 pub mod TopicsFacts
 pub mod Changes
+pub mod Costs

@@ -6,7 +6,9 @@
 //! commit      the pending change is made, without memory; at rest again
 //! cancel      the room of the pending change is given back; at rest again
 //! ```
-ghost use Rattle.std.specs.Prelude.{◌≡◌, [], IfOk, IfSome, IsSome, None, OnErr, OnOk, Some};
+ghost use Rattle.std.specs.Prelude.{◌≡◌, ◌+◌, ◌≤◌, [], List, IfOk, IfSome, IsSome, None, OnErr, OnOk, Some};
+ghost use Rattle.depth_pool.specs.declared.runs.RunId.{RunId};
+ghost use Rattle.assessment.specs.Costs.{HaveLists, change_steps};
 ghost use Rattle.assessment.specs.Changes.{Fits, after, facts};
 ghost use Rattle.assessment.specs.TopicsFacts.{new_topics};
 
@@ -74,12 +76,14 @@ impl Assessment {
         }
     }
 
-    /// Makes the change that is pending.
+    /// Makes the change that is pending. A step is a node of a tree, an entry of a ranking that is
+    /// read, or a look into a pool.
     pub fn commit<L: Ledger>(&mut self, steps: &mut Steps<L>)
         requires { IsSome self.old.pending }
         ensures facts { IfSome self.old.pending (λ change. facts self.new ≡ after change (facts self.old)) }
         ensures pending { self.new.pending ≡ None }
         ensures unreserved { self.new.topics.board.rooms ≡ [] }
+        ensures cost { (runs : List RunId) → HaveLists runs (facts self.old).topics → IfSome self.old.pending (λ change. steps.new ≤ steps.old + change_steps runs change (facts self.old).topics) }
     {
         if let Some(change) = self.pending.take() {
             make(&mut self.topics, &mut self.desk, change, steps);

@@ -1,6 +1,9 @@
 //! What each change takes: room first, then its effect, or its room given back.
-ghost use Rattle.std.specs.Prelude.{◌≡◌, ◌-◌, ◌<◌, ◌≤◌, ◌^◌, [], OnErr, OnOk, length};
+ghost use Rattle.std.specs.Prelude.{◌≡◌, ◌+◌, ◌-◌, ◌<◌, ◌≤◌, ◌^◌, [], List, OnErr, OnOk, length};
 ghost use Rattle.lease_desk.specs.Leases.{granted};
+ghost use Rattle.depth_pool.specs.declared.runs.RunId.{RunId};
+ghost use Rattle.assessment.specs.Costs.{HaveLists, change_steps};
+ghost use Rattle.assessment.specs.TopicsFacts.{told};
 ghost use Rattle.assessment.specs.Changes.{Fits, HasRoom, IsReady, after, facts_in};
 
 use crate::change::{Change, Grant};
@@ -59,6 +62,7 @@ pub(crate) fn make<L: Ledger>(
     requires { IsReady change topics.old desk.old }
     ensures facts { facts_in topics.new desk.new.leases ≡ after change (facts_in topics.old desk.old.leases) }
     ensures none { topics.new.board.rooms ≡ [] }
+    ensures cost { (runs : List RunId) → HaveLists runs (told topics.old) → steps.new ≤ steps.old + change_steps runs change (told topics.old) }
 {
     match change {
         Change::Nothing => {}

@@ -1,11 +1,12 @@
 //! A document of a topic that gets a label or a ruling, and its grade on the board.
-ghost use Rattle.std.specs.Prelude.{◌≡◌, ◌<◌, ℕ, List, Option, length, slice_get, slice_set};
+ghost use Rattle.std.specs.Prelude.{◌≡◌, ◌+◌, ◌<◌, ◌≤◌, ℕ, List, Option, length, slice_get, slice_set};
 ghost use Rattle.std.specs.Option.{IsSomeAnd};
 ghost use Rattle.depth_pool.specs.declared.runs.RunId.{RunId};
 ghost use Rattle.qrels_view.specs.Grades.{effective_in, with_grade};
 ghost use Rattle.qrels_view.specs.declared.grades.Graded.{Graded};
-ghost use Rattle.score_index.specs.Scores.{docs_at};
+ghost use Rattle.score_index.specs.Scores.{HasRuns, docs_at, steps_of, topic_at};
 ghost use Rattle.score_index.specs.Standing.{StandsFor, grades_at};
+ghost use Rattle.assessment.specs.Costs.{HaveLists, grade_steps};
 ghost use Rattle.assessment.specs.TopicFacts.{AwaitsGrade, AwaitsLabel, MayLabel, MayRule};
 ghost use Rattle.assessment.specs.TopicsFacts.{IsRegraded, IsStanding, after_label, after_ruling, told_by};
 
@@ -28,6 +29,7 @@ pub(crate) fn label_document<L: Ledger>(
     ensures facts { told_by topics.new board.new ≡ after_label label (told_by topics.old board.old) }
     ensures standing { IsStanding topics.new board.new }
     ensures rooms { board.new.rooms ≡ board.old.rooms }
+    ensures cost { (runs : List RunId) → HaveLists runs (told_by topics.old board.old) → steps.new ≤ steps.old + grade_steps runs label.topic (told_by topics.old board.old) }
 {
     // a board that stands for grades does so on each topic
     each_topic_stands();
@@ -56,6 +58,7 @@ pub(crate) fn rule_document<L: Ledger>(
     ensures facts { told_by topics.new board.new ≡ after_ruling ruling (told_by topics.old board.old) }
     ensures standing { IsStanding topics.new board.new }
     ensures rooms { board.new.rooms ≡ board.old.rooms }
+    ensures cost { (runs : List RunId) → HaveLists runs (told_by topics.old board.old) → steps.new ≤ steps.old + grade_steps runs ruling.topic (told_by topics.old board.old) }
 {
     // a board that stands for grades does so on each topic
     each_topic_stands();
@@ -87,6 +90,7 @@ fn rescore<L: Ledger>(
     ensures lists { (run : RunId) (on : ℕ) → docs_at board.new run on ≡ docs_at board.old run on }
     ensures rooms { board.new.rooms ≡ board.old.rooms }
     ensures level { board.new.level ≡ board.old.level }
+    ensures cost { (runs : List RunId) → HasRuns runs (topic_at board.old number) → steps.new ≤ steps.old + steps_of runs (topic_at board.old number) }
 {
     let new = topic.grades().effective(doc);
     board.regrade(number, doc, old, new, steps);

@@ -6,6 +6,7 @@
 mod assessment;
 mod change;
 mod effects;
+mod fronts;
 mod grades;
 mod runs;
 mod topic;

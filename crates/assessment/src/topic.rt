@@ -1,9 +1,11 @@
 //! One topic by itself. Its queue has the runs of its pool in the judging order, by its grades.
 ghost use Rattle.std.specs.Prelude.{◌≡◌, ◌+◌, ◌<◌, ◌≤◌, false, IsTrue, OnOk, length, nat_le};
 ghost use Rattle.std.specs.Option.{option_map};
-ghost use Rattle.depth_pool.specs.Holdings.{has_run};
+ghost use Rattle.depth_pool.specs.Holdings.{docs_of, has_run};
+ghost use Rattle.assessment.specs.Fronts.{IsBehindLabelled};
 ghost use Rattle.assessment.specs.TopicFacts.{AwaitsGrade, AwaitsLabel, AwaitsRun, IsQueued, MayLabel, MayRule, new_topic, with_effective, with_label, with_list, with_ruling, without_list};
 
+use crate::fronts::{Fronts, advance};
 use decimal_rank::{DocId, Memory, Ranking, Steps, Text};
 use depth_pool::{Pool, RunId};
 use labels::Marks;
@@ -34,9 +36,12 @@ pub struct Topic {
     // the effective grades, by the documents' first ones
     grades: View,
     queue: Queue,
+    // past the documents that have all their labels
+    fronts: Fronts,
 }
 
 impl Model for Topic {
+    ghost use Rattle.assessment.specs.Fronts.{AreFronts};
     ghost use Rattle.assessment.specs.TopicFacts.{IsQueued, TopicView};
 
     ghost Value = { TopicView };
@@ -49,7 +54,7 @@ impl Model for Topic {
       queue_room = topic.queue.spare;
     } };
 
-    ghost invariant = { λ topic. IsQueued topic.grades.level topic.pool.runs topic.grades.graded topic.queue };
+    ghost invariant = { λ topic. IsQueued topic.grades.level topic.pool.runs topic.grades.graded topic.queue × AreFronts topic.need topic.marks.marked topic.pool.runs topic.fronts };
 }
 
 impl Topic {
@@ -70,6 +75,7 @@ impl Topic {
             marks: Marks::new(alloc),
             grades: View::new(alloc, level),
             queue: Queue::new(alloc),
+            fronts: Fronts::new(),
         }
     }
 
@@ -93,6 +99,7 @@ impl Topic {
         order_outlasts_other_runs();
         self.pool.add_run(run, list);
         self.queue.enter(run, &self.pool);
+        self.fronts.put(run, 0);
     }
 
     /// Takes a run out.
@@ -142,6 +149,13 @@ impl Topic {
     {
         self.marks.set(doc, assessor, grade);
         self.regrade(doc, steps);
+        advance(
+            &mut self.fronts,
+            self.queue.order(),
+            &self.pool,
+            &self.marks,
+            self.need,
+        );
     }
 
     /// Gives a document the grade of a ruling. At most one step for each run of the pool and one
@@ -198,6 +212,19 @@ impl Topic {
         ensures depth { result.now.depth ≡ self.now.facts.depth }
     {
         &self.pool
+    }
+
+    /// The documents that a run holds, by rank, but for first ones that have all their labels.
+    pub fn left_to_label(&self, run: RunId) -> &[DocId]
+        ensures { IsBehindLabelled self.now.facts.need self.now.facts.marked (docs_of self.now.facts.pool run) result.now }
+    {
+        let docs = self.pool.held(run);
+        let front = self.fronts.of(run);
+        if front < docs.len() {
+            &docs[front..]
+        } else {
+            &[]
+        }
     }
 
     /// The labels of the documents, and the rulings on them.

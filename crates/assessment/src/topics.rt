@@ -1,8 +1,10 @@
 //! The topics of a campaign by number, with one board of the runs' lists on them. The board stands
 //! for the topics' grades.
-ghost use Rattle.std.specs.Prelude.{◌≡◌, ◌<◌, ◌^◌, [], All, IfOk, OnErr, OnOk, Some, length, map, slice_get, vec_len};
+ghost use Rattle.std.specs.Prelude.{◌≡◌, ◌+◌, ◌<◌, ◌≤◌, ◌^◌, [], All, List, IfOk, OnErr, OnOk, Some, length, map, slice_get, vec_len};
 ghost use Rattle.std.specs.Option.{IsSomeAnd};
 ghost use Rattle.score_index.specs.Standing.{StandsFor};
+ghost use Rattle.depth_pool.specs.declared.runs.RunId.{RunId};
+ghost use Rattle.assessment.specs.Costs.{HaveLists, grade_steps};
 ghost use Rattle.assessment.specs.RunLists.{HasRooms, IsReservedFor};
 ghost use Rattle.assessment.specs.TopicFacts.{AwaitsGrade, AwaitsLabel, MayLabel, MayRule, facts_of, graded_of, new_topic};
 ghost use Rattle.assessment.specs.TopicsFacts.{IsEntered, IsNewRun, after_label, after_ruling, after_run, after_withdrawal, new_topics, told};
@@ -130,6 +132,7 @@ impl Topics {
         requires may_label { IsSomeAnd (slice_get (told self.old).topics label.topic) (MayLabel label.doc) }
         ensures facts { told self.new ≡ after_label label (told self.old) }
         ensures rooms { self.new.board.rooms ≡ self.old.board.rooms }
+        ensures cost { (runs : List RunId) → HaveLists runs (told self.old) → steps.new ≤ steps.old + grade_steps runs label.topic (told self.old) }
     {
         label_document(&mut self.topics, &mut self.board, label, steps);
     }
@@ -140,6 +143,7 @@ impl Topics {
         requires may_rule { IsSomeAnd (slice_get (told self.old).topics ruling.topic) (MayRule ruling.doc) }
         ensures facts { told self.new ≡ after_ruling ruling (told self.old) }
         ensures rooms { self.new.board.rooms ≡ self.old.board.rooms }
+        ensures cost { (runs : List RunId) → HaveLists runs (told self.old) → steps.new ≤ steps.old + grade_steps runs ruling.topic (told self.old) }
     {
         rule_document(&mut self.topics, &mut self.board, ruling, steps);
     }

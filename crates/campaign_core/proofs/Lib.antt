@@ -39,6 +39,8 @@ mod Listing
 mod Fitting
 mod KnownRuns
 mod NumberTables
+mod OpenDocs
+mod CommitSteps
 mod Withdrawals
 mod BestRuns
 mod TopicsAt

@@ -5,6 +5,7 @@ pub mod Lendings
 pub mod Numbers
 pub mod NumberedRequests
 pub mod Changes
+pub mod Costs
 pub mod Seen
 pub mod State
 pub mod Topics

@@ -1,5 +1,6 @@
 //! The document that an assessor is told to grade.
 ghost use Rattle.std.specs.Prelude.{◌≡◌, ◌+◌, find, length, nat_lt};
+ghost use Rattle.depth_pool.specs.Holdings.{docs_of};
 ghost use Rattle.labels.specs.Marked.{given_at};
 ghost use Rattle.lease_desk.specs.Leases.{live_on};
 ghost use Rattle.assessment.specs.TopicFacts.{IsQueued};
@@ -42,13 +43,29 @@ fn first_in(
         result ≡ first_open is_open topic.now.facts.pool order.now }
 {
     for run in order {
-        let docs = topic.pool().held(*run);
-        let open = open_among(topic, number, desk, assessor, now, docs);
+        let open = open_of(topic, number, desk, assessor, now, *run);
         if open.is_some() {
             return open;
         }
     }
     None
+}
+
+/// The first document of a run that is open to an assessor. It is none of those that have all their
+/// labels.
+fn open_of(
+    topic: &Topic,
+    number: u16,
+    desk: &Desk,
+    assessor: &[u8],
+    now: u64,
+    run: RunId,
+) -> Option<DocId>
+    ensures { let is_open = is_open_in topic.now.facts.need topic.now.facts.marked desk.now.leases number now assessor.now in
+        result ≡ find is_open (docs_of topic.now.facts.pool run) }
+{
+    let docs = topic.left_to_label(run);
+    open_among(topic, number, desk, assessor, now, docs)
 }
 
 /// The first of these documents that is open to an assessor.

@@ -1,6 +1,6 @@
 //! The state of a campaign: its history, and what is known of it by numbers. A request is answered
 //! first; the change of an accepted one is given room then, and made when its entry joins the history.
-ghost use Rattle.std.specs.Prelude.{◌≡◌, ◌<◌, ◌≤◌, ◌∷◌, [], ◌++◌, ℕ, List, length, vec_len, vec_capacity, IfOk, IsSome, OnOk, OnErr, IsTrue, None, Ok, Some};
+ghost use Rattle.std.specs.Prelude.{◌≡◌, ◌+◌, ◌<◌, ◌≤◌, ◌∷◌, [], ◌++◌, ℕ, List, length, vec_len, vec_capacity, IfOk, IsSome, OnOk, OnErr, IsTrue, None, Ok, Some};
 ghost use Rattle.std.specs.Option.{option_map};
 ghost use Rattle.assessment.specs.Changes.{facts};
 ghost use Rattle.rulebook.specs.declared.ask.Ask.TheVariants.{Act};
@@ -12,6 +12,7 @@ ghost use Rattle.rulebook.specs.Answers.{answer, moment_after as moment_of, rule
 ghost use Rattle.rulebook.specs.Legal.{is_well_addressed, founding, IsLegal};
 ghost use Rattle.rulebook.specs.Numbers.{used};
 ghost use Rattle.campaign_core.specs.Changes.{AwaitsEntry, phase_after};
+ghost use Rattle.campaign_core.specs.Costs.{commit_steps};
 ghost use Rattle.campaign_core.specs.Growth.{BeginsWith, lists_in};
 ghost use Rattle.campaign_core.specs.Joining.{MayJoin};
 ghost use Rattle.campaign_core.specs.Numbers.{are_named};
@@ -207,13 +208,15 @@ impl State {
         }
     }
 
-    /// Adds the prepared entry, and gives its reply.
+    /// Adds the prepared entry, and gives its reply. A step is a node of a tree, an entry of a ranked list that is read,
+    /// or a look into a pool.
     pub fn commit<L: Ledger>(&mut self, p: Prepared, steps: &mut Steps<L>) -> Reply
         requires { self.old.prepared ≡ Some p }
         ensures history { self.new.history ≡ self.old.history ++ p ∷ [] }
         ensures prepared { self.new.prepared ≡ None }
         ensures reply { result ≡ p.reply }
         ensures legal { IsLegal self.new.history }
+        ensures cost { steps.new ≤ steps.old + commit_steps self.old.history p.core.command }
     {
         let reply = p.reply;
         self.docnos_kept = self.docnos.len();

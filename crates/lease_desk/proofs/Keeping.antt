@@ -5,7 +5,7 @@ use Rattle.std.proofs.lemmas.List.{length-map, length_push}
 use Rattle.decimal_rank.specs.TextKeys.{text_key}
 use Rattle.decimal_rank.specs.declared.naming.DocId.{DocId}
 use Rattle.decimal_rank.specs.declared.secrets.Secret.{Secret}
-use Rattle.lease_desk.specs.Series.{AreInSeries, HasLink, IsSeriesOf, LeadBack, LeadPast, document_of, latest_at, same_document, up_to}
+use Rattle.lease_desk.specs.Series.{AreInSeries, HasLink, IsSeriesOf, LeadEarlier, LeadPast, document_of, latest_at, same_document, up_to}
 use Rattle.lease_desk.specs.DeskView.{IsKept}
 use Rattle.lease_desk.specs.Leases.{ended, granted, next_lease, with_end}
 use Rattle.lease_desk.specs.declared.series.Link.{Link}
@@ -50,8 +50,8 @@ module _ {K : Type 0} (same : K → K → Bool) (key_of : Lease → K) (leases :
       (subst (λ ls. IsSeriesOf passes leases ls read_newest) (sym links_are) (subst (IsSeriesOf passes leases links) (sym newest_is) (by_key.each key)))
 
   -- links lead back
-  pub lead_back : IsSame same → LeadBack links
-  lead_back laws place link h =
+  pub lead_earlier : IsSame same → LeadEarlier links
+  lead_earlier laws place link h =
       let within : place < length leases = let e = by_key.as_many in omega arith in
       let key = key_of (get_or leases place some_lease) in
       ((by_key.each key).leads_back place some_lease link within (laws.complete key)).earlier

@@ -22,8 +22,8 @@ up_to None = 0
 up_to (Some place) = place + 1
 
 -- each link leads to an earlier place
-abbrev pub LeadBack : List Link → Type 0
-LeadBack links = (place : ℕ) (link : Link) → place < length links → up_to (slice_index_or links place link).previous ≤ place
+abbrev pub LeadEarlier : List Link → Type 0
+LeadEarlier links = (place : ℕ) (link : Link) → place < length links → up_to (slice_index_or links place link).previous ≤ place
 
 -- from a place back to a lease that passes a test, or to none: those between that pass it have ended
 pub record LeadsBack (passes : Lease → Bool) (leases : List Lease) (place : ℕ) (previous : Option ℕ) : Type 0 where

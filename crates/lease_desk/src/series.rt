@@ -3,7 +3,7 @@
 ghost use Rattle.std.specs.Prelude.{◌≡◌, ◌+◌, ◌<◌, ◌≤◌, ◌^◌, max, Bool, None, Some, IfOk, IfSome, OnOk, List, [], ◌∷◌, ◌++◌, length, slice_index_or, vec_len, vec_capacity};
 ghost use Rattle.std.specs.Option.{option_copied};
 ghost use Rattle.indexmap.specs.IndexMap.{Updates, get, spare};
-ghost use Rattle.lease_desk.specs.Series.{HasLink, IsSeriesOf, LeadBack, LeadPast, LeadsBack, latest_at, up_to};
+ghost use Rattle.lease_desk.specs.Series.{HasLink, IsSeriesOf, LeadEarlier, LeadPast, LeadsBack, latest_at, up_to};
 ghost use Rattle.lease_desk.specs.declared.leases.Lease.{Lease};
 ghost use Rattle.lease_desk.specs.declared.series.Link.{Link};
 
@@ -59,7 +59,7 @@ impl<K: Eq + Hash + Drop> Series<K> {
         requires few { vec_len self.old.links < 2 ^ 32 }
         requires as_many { length self.old.links.items ≡ length leases.now }
         requires within { up_to (get K.eq self.old.newest key) ≤ length self.old.links.items }
-        requires back { LeadBack self.old.links.items }
+        requires back { LeadEarlier self.old.links.items }
         ensures newest { Updates K.eq self.old.newest self.new.newest key (Some (length self.old.links.items)) }
         ensures links { let newest = get K.eq self.old.newest key in
             HasLink leases.now self.old.links.items self.new.links.items newest (max until (latest_at self.old.links.items newest)) }
@@ -72,7 +72,7 @@ impl<K: Eq + Hash + Drop> Series<K> {
     // Leaves a lease that ends out of the walks.
     pub(crate) fn leave_out(&mut self, place: u32)
         requires within { place < length self.old.links.items }
-        requires back { LeadBack self.old.links.items }
+        requires back { LeadEarlier self.old.links.items }
         ensures newest { self.new.newest ≡ self.old.newest }
         ensures links { LeadPast place self.old.links.items self.new.links.items }
         ensures links_room { vec_capacity self.new.links ≡ vec_capacity self.old.links }
@@ -87,7 +87,7 @@ fn add_link(links: &mut Vec<Link>, leases: &[Lease], newest: Option<u32>, until:
     requires few { vec_len links.old < 2 ^ 32 }
     requires as_many { length links.old.items ≡ length leases.now }
     requires within { up_to newest ≤ length links.old.items }
-    requires back { LeadBack links.old.items }
+    requires back { LeadEarlier links.old.items }
     ensures { HasLink leases.now links.old.items links.new.items newest (max until (latest_at links.old.items newest)) }
 {
     let place = links.len() as u32;
@@ -109,7 +109,7 @@ fn add_link(links: &mut Vec<Link>, leases: &[Lease], newest: Option<u32>, until:
 fn unended(leases: &[Lease], links: &[Link], newest: Option<u32>) -> Option<u32>
     requires as_many { length links.now ≡ length leases.now }
     requires within { up_to newest ≤ length links.now }
-    requires back { LeadBack links.now }
+    requires back { LeadEarlier links.now }
     ensures within { up_to result ≤ length links.now }
     ensures back { (passes : Lease → Bool) → IsSeriesOf passes leases.now links.now newest → LeadsBack passes leases.now (length links.now) result }
 {
@@ -123,7 +123,7 @@ fn unended(leases: &[Lease], links: &[Link], newest: Option<u32>) -> Option<u32>
 // Where the link behind a place leads to it, it leads now to where the place's link leads.
 fn lead_past(links: &mut [Link], place: u32)
     requires within { place < length links.old }
-    requires back { LeadBack links.old }
+    requires back { LeadEarlier links.old }
     ensures { LeadPast place links.old links.new }
 {
     if let Some(behind) = behind(links, place) {

@@ -1,7 +1,7 @@
 //! The walk over the leases of one key that haven't ended, from the newest back.
 ghost use Rattle.std.specs.Prelude.{◌≡◌, ◌<◌, ◌≤◌, ◌^◌, ◌&&◌, Bool, count_by, length};
 ghost use Rattle.std.specs.Option.{option_map};
-ghost use Rattle.lease_desk.specs.Series.{IsSeriesOf, LeadBack, is_asked, up_to};
+ghost use Rattle.lease_desk.specs.Series.{IsSeriesOf, LeadEarlier, is_asked, up_to};
 ghost use Rattle.lease_desk.specs.Leases.{is_live};
 ghost use Rattle.lease_desk.specs.declared.leases.Lease.{Lease};
 
@@ -19,7 +19,7 @@ pub(crate) fn count_live(
 ) -> u32
     requires as_many { length links.now ≡ length leases.now }
     requires within { up_to newest ≤ length leases.now }
-    requires back { LeadBack links.now }
+    requires back { LeadEarlier links.now }
     requires few { length leases.now < 2 ^ 32 }
     ensures { (key : Lease → Bool) → IsSeriesOf key leases.now links.now newest
         → result ≡ count_by (λ lease. key lease && is_asked (option_map (λ name. name.now) assessor.entry) lease && is_live lease now) leases.now }

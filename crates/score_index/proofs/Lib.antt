@@ -1,5 +1,6 @@
 mod Boards
 pub mod ByPlaces
+mod Costs
 mod Grading
 pub mod KeptCells
 mod Listing

@@ -1,5 +1,5 @@
 -- What a board keeps beside what contracts see.
-use Rattle.std.specs.Prelude.{◌≡◌, ℕ, ◌+◌, ◌-◌, ◌<◌, ◌≤◌, ◌^◌, Bool, false, List, [], ◌∷◌, ◌++◌, Option, Some, None, All, filter, find, length, map, nat_lt, not, replicate, slice_set, vec_capacity, vec_len}
+use Rattle.std.specs.Prelude.{◌≡◌, ◌≢◌, ℕ, ◌+◌, ◌-◌, ◌<◌, ◌≤◌, ◌^◌, Bool, false, List, [], ◌∷◌, ◌++◌, Option, Some, None, All, AllPairs, filter, find, length, map, nat_lt, not, replicate, slice_set, vec_capacity, vec_len}
 use Rattle.std.specs.Option.{option_map_or}
 use Rattle.decimal_rank.specs.Places.{AreDistinct, place_in}
 use Rattle.decimal_rank.specs.declared.naming.DocId.{DocId}
@@ -29,10 +29,15 @@ pub record IsListKept (relevant non_relevant : ℕ) (list : ScoreList) : Type 0 
   pub rel_is : list.rel ≡ relevant
   pub low_is : list.low ≡ non_relevant
 
+-- no run has two lists on a topic
+abbrev pub AreOfOtherRuns : List ScoreList → Type 0
+AreOfOtherRuns lists = AllPairs (λ one other. one.run.0 ≢ other.run.0) lists
+
 pub record IsTopicKept (topic : TopicScores) : Type 0 where
   pub few_relevant : topic.relevant ≤ 268435456
   pub few_non_relevant : topic.non_relevant ≤ 268435456
   pub lists : All (IsListKept topic.relevant topic.non_relevant) topic.lists
+  pub once : AreOfOtherRuns topic.lists
 
 -- a topic keeps the cell of the empty list
 abbrev pub HasEmptyCell : ℕ → Topic → Type 0

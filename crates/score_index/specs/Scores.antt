@@ -1,5 +1,5 @@
 -- What contracts see of a board.
-use Rattle.std.specs.Prelude.{ℕ, ◌+◌, ◌*◌, ◌==◌, Bool, List, [], Option, count_by, find, length, slice_index_or, sum_by}
+use Rattle.std.specs.Prelude.{◌≡◌, ℕ, ◌+◌, ◌*◌, ◌==◌, Bool, List, [], Option, None, Some, Contains, count_by, find, length, slice_index_or, sum_by}
 use Rattle.std.specs.Option.{option_map}
 use Rattle.decimal_rank.specs.Places.{levels}
 use Rattle.decimal_rank.specs.declared.naming.DocId.{DocId}
@@ -49,6 +49,19 @@ docs_at scores run topic = docs_in run (topic_at scores topic)
 abbrev pub rooms_for : ℕ → Scores → ℕ
 rooms_for len scores = count_by (λ room. room == len) scores.rooms
 
--- how many steps the lists of a topic may take to follow a grade
-abbrev pub steps_of : TopicScores → ℕ
-steps_of topic = sum_by (λ list. 20 * (levels (length list.docs) + 1)) topic.lists
+-- how many steps a list of so many documents may take to follow a grade
+abbrev pub follow_steps : ℕ → ℕ
+follow_steps len = 20 * (levels len + 1)
+
+-- the same for a list, and none where there is no list
+abbrev pub list_steps : Option (List DocId) → ℕ
+list_steps None = 0
+list_steps (Some docs) = follow_steps (length docs)
+
+-- how many steps the lists of these runs on a topic may take to follow a grade
+abbrev pub steps_of : List RunId → TopicScores → ℕ
+steps_of runs topic = sum_by (λ run. list_steps (docs_in run topic)) runs
+
+-- each run that has a list on a topic is among these
+abbrev pub HasRuns : List RunId → TopicScores → Type 0
+HasRuns runs topic = (run : RunId) (docs : List DocId) → docs_in run topic ≡ Some docs → Contains runs run

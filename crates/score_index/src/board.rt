@@ -6,7 +6,7 @@ ghost use Rattle.measures.specs.Cells.{IsSound};
 ghost use Rattle.measures.specs.Means.{IsProper, summary_of};
 ghost use Rattle.qrels_view.specs.Grades.{as_number, effective_in, is_non_relevant, is_relevant, with_grade};
 ghost use Rattle.qrels_view.specs.declared.grades.Graded.{Graded};
-ghost use Rattle.score_index.specs.Scores.{docs_at, rooms_for, steps_of, topic_at};
+ghost use Rattle.score_index.specs.Scores.{HasRuns, docs_at, rooms_for, steps_of, topic_at};
 ghost use Rattle.score_index.specs.Standing.{StandsFor, StandsWith, TopicStandsFor, cell_from, cells_of, grades_at, listed_in};
 
 use crate::lists::{RunList, list_of, take_room};
@@ -143,7 +143,7 @@ impl Board {
         ensures rooms { self.new.rooms ≡ self.old.rooms }
         ensures level { self.new.level ≡ self.old.level }
         ensures topics { length self.new.topics ≡ length self.old.topics }
-        ensures cost { steps.new ≤ steps.old + steps_of (topic_at self.old topic) }
+        ensures cost { (runs : List RunId) → HasRuns runs (topic_at self.old topic) → steps.new ≤ steps.old + steps_of runs (topic_at self.old topic) }
     {
         let level = self.level;
         let topic = &mut self.topics[topic as usize];

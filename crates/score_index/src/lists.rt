@@ -6,7 +6,7 @@ ghost use Rattle.qrels_view.specs.Grades.{effective_in, is_non_relevant, is_rele
 ghost use Rattle.score_index.specs.Kept.{IsRoom, listed_with, remarked, without};
 ghost use Rattle.score_index.specs.KeptSums.{AreSums, CanRemark, is_lower_mark, is_relevant_mark};
 ghost use Rattle.score_index.specs.Places.{cell_by};
-ghost use Rattle.score_index.specs.Scores.{is_of};
+ghost use Rattle.score_index.specs.Scores.{is_of, list_steps};
 
 use crate::marks::{Mark, mark_of};
 use crate::sums::{Sums, cell_from, no_sums, put_mark, remark};
@@ -157,7 +157,7 @@ pub(crate) fn regrade_lists<L: Ledger>(
     requires few { counts.0 ≤ 268435456 }
     requires few_lower { counts.1 ≤ 268435456 }
     ensures lists { lists.new ≡ map (remarked doc (is_relevant_mark new) (is_lower_mark new) counts.0 counts.1) lists.old }
-    ensures cost { steps.new ≤ steps.old + sum_by (λ list. 20 * (levels (length list.docs) + 1)) lists.old }
+    ensures cost { steps.new ≤ steps.old + sum_by (λ list. list_steps (Some list.docs)) lists.old }
 {
     for list in lists.iter_mut() {
         list.regrade(doc, old, new, counts, steps);

@@ -1,13 +1,12 @@
 //! One topic of a board: how many documents are relevant and how many judged lower, and the lists of its runs.
 ghost use Rattle.std.specs.Prelude.{◌≡◌, ℕ, ◌+◌, ◌-◌, ◌*◌, ◌<◌, ◌≤◌, ◌^◌, ◌++◌, ◌∷◌, [], true, All, IfOk, OnOk, List, length, map, if◌then◌else◌, sum_by, vec_capacity};
-ghost use Rattle.decimal_rank.specs.Places.{levels};
 ghost use Rattle.measures.specs.Cells.{IsSound};
 ghost use Rattle.measures.specs.Totals.{sums_of};
 ghost use Rattle.measures.specs.declared.cells.Cell.{Cell as OneCell};
 ghost use Rattle.qrels_view.specs.Grades.{as_number, is_non_relevant, is_relevant};
 ghost use Rattle.score_index.specs.Kept.{HasEmptyCell, IsTopicKept, has_grades, kept_cell, seen, spare, with_list, with_regrade, without_lists};
 ghost use Rattle.score_index.specs.KeptSums.{CanRemark};
-ghost use Rattle.score_index.specs.Scores.{TopicScores, new_topic};
+ghost use Rattle.score_index.specs.Scores.{TopicScores, list_steps, new_topic};
 
 use crate::lists::{RunList, drop_lists, list_of, regrade_lists};
 use crate::marks::mark_of;
@@ -107,7 +106,7 @@ pub(crate) fn regrade<L: Ledger>(
     ensures seen { seen topic.new ≡ with_regrade level doc old new (seen topic.old) }
     ensures empty { HasEmptyCell level topic.new }
     ensures places { spare topic.new ≡ spare topic.old }
-    ensures cost { steps.new ≤ steps.old + sum_by (λ list. 20 * (levels (length list.docs) + 1)) topic.old.lists.items }
+    ensures cost { steps.new ≤ steps.old + sum_by (λ list. list_steps (Some list.docs)) topic.old.lists.items }
 {
     topic.relevant = recount(
         topic.relevant,

@@ -6,7 +6,7 @@ use Rattle.qrels_view.specs.declared.grades.Graded.{Graded}
 use Rattle.assessment.specs.TopicFacts.{AwaitsLabel, MayLabel, TopicFacts, TopicView, facts_of, graded_of, with_label}
 use Rattle.assessment.proofs.ListFacts.{get_or-map, get_or_default, some-at}
 use Rattle.assessment.proofs.RunSteps.{told-is}
-use Rattle.assessment.proofs.Standing.{as-long, facts-then, is-regraded, new-there, old-there, stands-then}
+use Rattle.assessment.proofs.Standing.{as-long, facts-then, is-regraded, new-there, old-there, stands-then, steps-then}
 use Rattle.assessment.proofs.grades.label_document.Goals as goal
 
 pub rescore-requires-clause-within : goal.rescore-requires-clause-within
@@ -62,3 +62,12 @@ returns-clause-standing g c =
           (old-there board topics label.topic T U label.doc c.effective-old.result grade within (get_or_default topics label.topic d T within) graded old)
           (new-there board topics label.topic T U label.doc c.effective-old.result grade within (get_or_default topics label.topic d T within) graded old));
     }
+
+pub returns-clause-cost : goal.returns-clause-cost
+returns-clause-cost g c = λ runs have.
+    let topics = c.args.topics.now in
+    let number = c.args.label.topic in
+    let T : TopicView = get_or topics number c.index-topics-number.result in
+    let within = (some-at (AwaitsLabel c.args.label.doc) topics number T c.requires.room).0 in
+    steps-then runs c.args.board.now topics number T _ _ _ within (get_or_default topics number c.index-topics-number.result T within) c.label.ensures.cost
+    (c.rescore.ensures.cost runs (λ run docs is. have run number docs is))

@@ -1,11 +1,10 @@
-use Rattle.std.proofs.Common.{◌+◌, ◌*◌, ◌∙◌, ℕ, ap, sym, subst, arith, length}
+use Rattle.std.proofs.Common.{◌+◌, ◌∙◌, ℕ, Some, ap, sym, subst, arith, length}
 use Rattle.std.specs.Prelude.{sum_by}
 use Rattle.std.proofs.lemmas.List.{map-id, take_all}
 use Rattle.std.proofs.lemmas.List.Sums.{sum_by_more}
-use Rattle.decimal_rank.specs.Places.{levels}
 use Rattle.score_index.specs.Kept.{remarked}
 use Rattle.score_index.specs.KeptSums.{CanRemark, is_lower_mark, is_relevant_mark}
-use Rattle.score_index.specs.Scores.{ScoreList}
+use Rattle.score_index.specs.Scores.{ScoreList, list_steps}
 use Rattle.score_index.proofs.Listing.{all_mapped, none_mapped, one_more_mapped}
 use Rattle.score_index.proofs.lists.regrade_lists.Goals as goal
 
@@ -24,7 +23,7 @@ loop-list-init g c = record {
 pub loop-list-preserved : goal.loop-list-preserved
 loop-list-preserved g c =
     let i = c.loop-list.list-index in
-    let cost : ScoreList → ℕ = λ list. 20 * (levels (length list.docs) + 1) in
+    let cost : ScoreList → ℕ = λ list. list_steps (Some list.docs) in
     let was = c.loop-list.invariant.mapped.left i c.list-item.result (omega arith) in
     let more = sum_by_more cost c.args.lists.now i c.list-item.result c.loop-list-test.true in
     let same = ap cost was in
@@ -42,6 +41,6 @@ returns-clause-lists g c =
 
 pub returns-clause-cost : goal.returns-clause-cost
 returns-clause-cost g c =
-    let cost : ScoreList → ℕ = λ list. 20 * (levels (length list.docs) + 1) in
+    let cost : ScoreList → ℕ = λ list. list_steps (Some list.docs) in
     let all = ap (sum_by cost) (take_all c.loop-list.list-index c.args.lists.now (omega (arith, c.loop-list-test.false))) in
     omega (arith, all, c.loop-list.invariant.cost)

@@ -1,9 +1,12 @@
-use Rattle.std.proofs.Common.{◌≡◌, ◌+◌, ◌++◌, ◌∷◌, [], ℕ, Option, Some, ap, arith, subst, ◌∙◌, refl}
+use Rattle.std.proofs.Common.{◌≡◌, ◌+◌, ◌≤◌, ◌++◌, ◌∷◌, [], ℕ, Option, Some, ap, arith, subst, ◌∙◌, refl}
 use Rattle.std.proofs.lemmas.Int.{ints}
 use Rattle.std.specs.Prelude.{IfSome}
 use Rattle.std.specs.Option.{option_map}
 use Rattle.assessment.specs.Changes.{after, facts}
 use Rattle.assessment.specs.declared.change.Change.{Change}
+use Rattle.assessment.specs.Costs.{change_steps}
+use Rattle.campaign_core.specs.Costs.{commit_steps}
+use Rattle.campaign_core.proofs.CommitSteps.{change-within, have-lists, live_numbers}
 use Rattle.rulebook.specs.declared.entry.Entry.{Entry}
 use Rattle.rulebook.specs.Campaign.{History, line_count}
 use Rattle.campaign_core.specs.Changes.{phase_after}
@@ -58,3 +61,17 @@ overflow_add-self g c =
     let seen : option_map (λ p. p.value) s.prepared ≡ Some e = ap (λ (seen : Seen). seen.prepared) c.self.view_is ∙ c.requires in
     let lines : c.line_count.result ≡ line_count (lists_in e.core.command) = c.line_count.ensures ∙ ap line_count c.lists_of.ensures ∙ ap (λ (e : Entry). line_count (lists_in e.core.command)) c.p.view_is in
     omega (arith, ints, lines, lines-fit s e c.self.invariant (is-ready s e seen c.self.invariant))
+
+pub returns-clause-cost : goal.returns-clause-cost
+returns-clause-cost g c =
+    let s = c.self.inside in
+    let e : Entry = c.args.p in
+    let seen : option_map (λ p. p.value) s.prepared ≡ Some e = ap (λ (seen : Seen). seen.prepared) c.self.view_is ∙ c.requires in
+    let ready = is-ready s e seen c.self.invariant in
+    let known = facts s.assessment in
+    let took =
+    subst (λ (o : Option Change). IfSome o (λ change. c.commit.new.steps ≤ c.args.steps.now + change_steps (live_numbers s.history.items) change known.topics)) ready.awaits.waits
+    (c.commit.ensures.cost (live_numbers s.history.items) (have-lists s.history.items known c.self.invariant.assessed)) in
+    let within = change-within s.history.items known c.self.invariant.assessed s.docnos e ready.awaits.change ready.awaits.carries_out in
+    let history : commit_steps s.history.items e.core.command ≡ commit_steps c.args.self.now.history e.core.command = ap (λ (seen : Seen). commit_steps seen.history e.core.command) c.self.view_is in
+    omega (arith, took, within, history)

@@ -6,12 +6,12 @@ use Rattle.lease_desk.specs.Series.{same_document}
 use Rattle.lease_desk.specs.DeskView.{DeskView, IsKept}
 use Rattle.lease_desk.specs.Leases.{ended, lease_numbered, with_end}
 use Rattle.lease_desk.specs.declared.leases.Lease.{Lease}
-use Rattle.lease_desk.proofs.Keeping.{documents_same, kept_end, lead_back, numbers_same}
+use Rattle.lease_desk.proofs.Keeping.{documents_same, kept_end, lead_earlier, numbers_same}
 use Rattle.lease_desk.proofs.Numbers.{end_is, there}
 use Rattle.lease_desk.proofs.desk.Desk.end.Goals as goal
 
 pub leave_out-requires-clause-back : goal.leave_out-requires-clause-back
-leave_out-requires-clause-back c = lead_back _ _ _ _ _ c.self.invariant.by_assessor numbers_same
+leave_out-requires-clause-back c = lead_earlier _ _ _ _ _ c.self.invariant.by_assessor numbers_same
 
 pub leave_out-requires-2-clause-within : goal.leave_out-requires-2-clause-within
 leave_out-requires-2-clause-within c =
@@ -21,7 +21,7 @@ leave_out-requires-2-clause-within c =
     omega (arith, within, long)
 
 pub leave_out-requires-2-clause-back : goal.leave_out-requires-2-clause-back
-leave_out-requires-2-clause-back c = lead_back _ _ _ _ _ c.self.invariant.by_document documents_same
+leave_out-requires-2-clause-back c = lead_earlier _ _ _ _ _ c.self.invariant.by_document documents_same
 
 pub leave_out-requires-3-clause-within : goal.leave_out-requires-3-clause-within
 leave_out-requires-3-clause-within c =
@@ -31,7 +31,7 @@ leave_out-requires-3-clause-within c =
     omega (arith, within, long)
 
 pub leave_out-requires-3-clause-back : goal.leave_out-requires-3-clause-back
-leave_out-requires-3-clause-back c = lead_back _ _ _ _ _ c.self.invariant.by_topic numbers_same
+leave_out-requires-3-clause-back c = lead_earlier _ _ _ _ _ c.self.invariant.by_topic numbers_same
 
 pub invariant_of-self : goal.invariant_of-self
 invariant_of-self c =

@@ -6,20 +6,20 @@ use Rattle.lease_desk.specs.declared.leases.Lease.{Lease}
 use Rattle.lease_desk.specs.Series.{HasLink, latest_at, same_document}
 use Rattle.lease_desk.specs.DeskView.{DeskView, IsKept}
 use Rattle.lease_desk.specs.Leases.{granted}
-use Rattle.lease_desk.proofs.Keeping.{documents_same, kept_grant, lead_back, newest_linked, numbers_same}
+use Rattle.lease_desk.proofs.Keeping.{documents_same, kept_grant, lead_earlier, newest_linked, numbers_same}
 use Rattle.lease_desk.proofs.desk.Desk.grant.Goals as goal
 
 pub add-requires-clause-within : goal.add-requires-clause-within
 add-requires-clause-within c = newest_linked _ _ _ _ _ c.self.invariant.by_assessor c.key_of-key.result
 
 pub add-requires-clause-back : goal.add-requires-clause-back
-add-requires-clause-back c = lead_back _ _ _ _ _ c.self.invariant.by_assessor numbers_same
+add-requires-clause-back c = lead_earlier _ _ _ _ _ c.self.invariant.by_assessor numbers_same
 
 pub add-requires-2-clause-back : goal.add-requires-2-clause-back
-add-requires-2-clause-back c = lead_back _ _ _ _ _ c.self.invariant.by_document documents_same
+add-requires-2-clause-back c = lead_earlier _ _ _ _ _ c.self.invariant.by_document documents_same
 
 pub add-requires-3-clause-back : goal.add-requires-3-clause-back
-add-requires-3-clause-back c = lead_back _ _ _ _ _ c.self.invariant.by_topic numbers_same
+add-requires-3-clause-back c = lead_earlier _ _ _ _ _ c.self.invariant.by_topic numbers_same
 
 pub add-requires-2-clause-within : goal.add-requires-2-clause-within
 add-requires-2-clause-within c = newest_linked _ _ _ _ _ c.self.invariant.by_document (c.args.topic, c.args.doc.0)

@@ -1,11 +1,11 @@
 use Rattle.std.proofs.Common.{◌∙◌, Bool, ap, sym, subst, arith, eqb, count_by, ◌&&◌, Some}
 use Rattle.decimal_rank.specs.TextKeys.{text_key}
-use Rattle.lease_desk.specs.Series.{LeadBack, up_to, is_asked}
+use Rattle.lease_desk.specs.Series.{LeadEarlier, up_to, is_asked}
 use Rattle.lease_desk.specs.DeskView.{DeskView}
 use Rattle.lease_desk.specs.Leases.{is_live, live_of}
 use Rattle.lease_desk.specs.declared.leases.Lease.{Lease}
 use Rattle.lease_desk.proofs.Asking.{of_assessor}
-use Rattle.lease_desk.proofs.Keeping.{numbers_same, series_read, lead_back, newest_within}
+use Rattle.lease_desk.proofs.Keeping.{numbers_same, series_read, lead_earlier, newest_within}
 use Rattle.lease_desk.proofs.desk.Desk.live_of.Goals as goal
 
 pub count_live-requires-clause-within : goal.count_live-requires-clause-within
@@ -16,7 +16,7 @@ count_live-requires-clause-within c =
     omega (arith, upper, long, within)
 
 pub count_live-requires-clause-back : goal.count_live-requires-clause-back
-count_live-requires-clause-back c = subst LeadBack (sym c.as_slice-links.ensures.value) (lead_back _ _ _ _ _ c.self.invariant.by_assessor numbers_same)
+count_live-requires-clause-back c = subst LeadEarlier (sym c.as_slice-links.ensures.value) (lead_earlier _ _ _ _ _ c.self.invariant.by_assessor numbers_same)
 
 pub returns : goal.returns
 returns c =

@@ -22,10 +22,11 @@ invariant_of-self c =
     let are : ListStandsFor level graded list = record { relevant_are = refl; lower_are = refl } in
     let stands = stands_here c.args.self.now _ i was graded c.self.view_is at c.requires.grades in
     let kept : IsTopicKept (seen was) = subst (λ (t : Topic). IsTopicKept (seen t)) (sym c.index_mut-topic.ensures.value) (c.self.invariant.0.topics_are i was within) in
+    let none : docs_in c.args.run (seen was) ≡ None = ap (docs_in c.args.run) (sym at) ∙ ap (λ (s : Scores). docs_at s c.args.run i) c.self.view_is ∙ c.requires.is_new in
     let empty : HasEmptyCell level was = subst (HasEmptyCell level) (sym c.index_mut-topic.ensures.value) (c.self.invariant.0.empties i was within) in
     let place : length c.self.inside.rooms.items ≤ spare was = subst (λ (t : Topic). length c.self.inside.rooms.items ≤ spare t) (sym c.index_mut-topic.ensures.value) (c.self.invariant.0.places i was within) in (
       kept_set level topics (length c.self.inside.rooms.items) (length c.take_room-room.new.rooms.items) i c.add_list.new.topic c.self.invariant.0 (omega (arith, c.take_room-room.ensures.one))
-          (subst IsTopicKept (sym seen_is) (kept-with_list level (seen was) graded list c.len.ensures.few c.len.ensures.distinct are refl refl stands kept))
+          (subst IsTopicKept (sym seen_is) (kept-with_list level (seen was) graded list c.len.ensures.few c.len.ensures.distinct are refl refl none stands kept))
           (empty_with_list level was c.add_list.new.topic list c.add_list.ensures.empty seen_is empty)
           (omega (arith, place, c.add_list.ensures.places, c.take_room-room.ensures.one)),
       c.take_room-room.ensures.fresh,

@@ -2,10 +2,11 @@ use Rattle.std.proofs.Common.{◌≡◌, ◌<◌, ◌≤◌, ◌+◌, ◌-◌, �
 use Rattle.std.proofs.lemmas.List.{get_or-map, length-map}
 use Rattle.qrels_view.specs.Grades.{as_number, is_non_relevant, is_relevant, with_grade}
 use Rattle.score_index.specs.Kept.{IsTopicKept, seen, spare}
-use Rattle.score_index.specs.Scores.{Scores, TopicScores, docs_at, docs_in, new_topic, topic_at}
+use Rattle.score_index.specs.Scores.{HasRuns, Scores, TopicScores, docs_at, docs_in, new_topic, steps_of, topic_at}
 use Rattle.score_index.specs.Standing.{StandsFor, TopicStandsFor, grades_at}
 use Rattle.score_index.specs.declared.topics.Topic.{Topic}
 use Rattle.score_index.proofs.Boards.{docs-with_regrade, docs_kept, kept_set, stands_here, stands_set}
+use Rattle.score_index.proofs.Costs.{lists_within}
 use Rattle.score_index.proofs.Grading.{counts_least}
 use Rattle.score_index.proofs.Listing.{zip_at}
 use Rattle.score_index.proofs.Standings.{can-remark, kept-regraded, stands-regraded}
@@ -103,3 +104,15 @@ returns-clause-lists g c = λ run on.
     docs_kept run topics i on was c.regrade.new.topic within at
     (ap (docs_in run) c.regrade.ensures.seen ∙ docs-with_regrade run c.self.inside.level c.args.doc c.args.old c.args.new (seen was))
     ∙ ap (λ (s : Scores). docs_at s run on) c.self.view_is
+
+pub returns-clause-cost : goal.returns-clause-cost
+returns-clause-cost g c = λ runs has.
+    let topics = c.self.inside.topics.items in
+    let i = c.args.topic in
+    let was = c.index_mut-topic.result.now in
+    let within : i < length topics = omega (arith, c.requires.topic, ap (λ (s : Scores). length s.topics) c.self.view_is, length-map topics seen) in
+    let at : get_or (map seen topics) i new_topic ≡ seen was = get_or-map seen topics i was new_topic within ∙ ap seen (sym c.index_mut-topic.ensures.value) in
+    let topic_is : topic_at c.args.self.now i ≡ seen was = ap (λ (s : Scores). topic_at s i) (sym c.self.view_is) ∙ at in
+    let kept : IsTopicKept (seen was) = subst (λ (t : Topic). IsTopicKept (seen t)) (sym c.index_mut-topic.ensures.value) (c.self.invariant.0.topics_are i was within) in
+    let steps : steps_of runs (topic_at c.args.self.now i) ≡ steps_of runs (seen was) = ap (steps_of runs) topic_is in
+    omega (arith, steps, lists_within runs was.lists.items kept.once (λ run docs is. subst (HasRuns runs) topic_is has run docs is), c.regrade.ensures.cost)
