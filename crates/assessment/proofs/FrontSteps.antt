@@ -1,9 +1,9 @@
 -- The fronts of a topic's runs, through each of its changes.
-use Rattle.std.proofs.Common.{◌≡◌, ◌≢◌, ◌≤◌, ◌<◌, ℕ, Bool, true, false, cond, drop, not, List, [], ◌∷◌, Some, get_or, length, set, take, refl, sym, ap, subst, ◌∙◌, arith, eq-eqb, eqb-true, ne_eqb, le-leb, leb-true, ⊎_elim}
+use Rattle.std.proofs.Common.{◌≡◌, ◌≢◌, ◌≤◌, ◌<◌, ℕ, suc, zero, Bool, true, false, cond, drop, not, List, [], ◌∷◌, Some, get_or, length, set, take, refl, sym, ap, subst, ◌∙◌, arith, eq-eqb, eqb-true, ne_eqb, le-leb, leb-true, ⊎_elim}
 use Rattle.std.specs.Prelude.{◌==◌, All, nat_le}
 use Rattle.std.specs.Str.{bytes_eq}
 use Rattle.std.proofs.lemmas.Bool.{cases_eq, cases_lt}
-use Rattle.std.proofs.lemmas.List.{append-nil, get_or-set_other, get_or-set_same, get_or_beyond, length-set, take-append-drop, take_all}
+use Rattle.std.proofs.lemmas.List.{append-nil, get_or-set_other, get_or-set_same, length-set, take-append-drop, take_all}
 use Rattle.decimal_rank.specs.declared.naming.DocId.{DocId}
 use Rattle.depth_pool.specs.declared.runs.RunId.{RunId}
 use Rattle.depth_pool.specs.Holdings.{Held, docs_of, has_run, put_before, with_run, without_run}
@@ -58,6 +58,17 @@ fronts-stay need marked later runs fronts grow all = λ run k d within.
 
 -- ---- fronts
 
+past : (fronts : List ℕ) (place : ℕ) → length fronts ≤ place → get_or fronts place 0 ≡ 0
+past [] place beyond = refl
+past (front ∷ fronts) zero beyond = absurd (omega (arith, beyond))
+past (front ∷ fronts) (suc place) beyond = past fronts place (omega (arith, beyond))
+
+-- nothing is put past the last
+pub put_past : (fronts : List ℕ) (place front : ℕ) → length fronts ≤ place → set fronts place front ≡ fronts
+put_past [] place front beyond = refl
+put_past (other ∷ fronts) zero front beyond = absurd (omega (arith, beyond))
+put_past (other ∷ fronts) (suc place) front beyond = ap (λ later. other ∷ later) (put_past fronts place front (omega (arith, beyond)))
+
 no-docs : (need : ℕ) (marked : List Marked) (docs : List DocId) → docs ≡ [] → HaveLabels need marked docs
 no-docs need marked docs none = subst (HaveLabels need marked) (sym none) (λ k d within. absurd (omega (arith, within)))
 
@@ -70,14 +81,14 @@ pub front-put : (need : ℕ) (marked : List Marked) (runs : List Held) (fronts :
 front-put need marked runs fronts run front all here = λ other.
     ⊎_elim
     (λ (same : other.0 ≡ run.0).
-      let run_is : run ≡ other = ap (λ n. let r : RunId = record { 0 = n } in r) (sym same) in
-      ⊎_elim
-      (λ (within : run.0 < length fronts).
-        subst (λ (r : RunId). HaveLabels need marked (take (get_or (set fronts run.0 front) r.0 0) (docs_of runs r))) run_is
-        (subst (λ (n : ℕ). HaveLabels need marked (take n (docs_of runs run))) (sym (get_or-set_same fronts run.0 front 0 within)) here))
-      (λ (beyond : length fronts ≤ run.0).
-        none-labelled need marked (docs_of runs other) _ (get_or_beyond (set fronts run.0 front) other.0 0 (omega (arith, beyond, same, length-set fronts run.0 front))))
-      (cases_lt run.0 (length fronts)))
+    let run_is : run ≡ other = ap (λ n. let r : RunId = record { 0 = n } in r) (sym same) in
+    ⊎_elim
+    (λ (within : run.0 < length fronts).
+    subst (λ (r : RunId). HaveLabels need marked (take (get_or (set fronts run.0 front) r.0 0) (docs_of runs r))) run_is
+    (subst (λ (n : ℕ). HaveLabels need marked (take n (docs_of runs run))) (sym (get_or-set_same fronts run.0 front 0 within)) here))
+    (λ (beyond : length fronts ≤ run.0).
+    none-labelled need marked (docs_of runs other) _ (past (set fronts run.0 front) other.0 (omega (arith, beyond, same, length-set fronts run.0 front))))
+    (cases_lt run.0 (length fronts)))
     (λ apart. subst (λ (n : ℕ). HaveLabels need marked (take n (docs_of runs other))) (sym (get_or-set_other fronts run.0 other.0 front 0 apart)) (all other))
     (cases_eq other.0 run.0)
 
@@ -96,24 +107,24 @@ fronts-enter need marked runs fronts new all = λ other.
     ⊎_elim
     (λ (same : other.0 ≡ new.run.0). none-labelled need marked (docs_of (with_run new runs) other) _ (put_there other same))
     (λ apart.
-      subst (λ (n : ℕ). HaveLabels need marked (take n (docs_of (with_run new runs) other))) (sym (get_or-set_other fronts new.run.0 other.0 0 0 apart))
-      (subst (λ (docs : List DocId). HaveLabels need marked (take (get_or fronts other.0 0) docs)) (sym (docs-with _ new runs other (ne_eqb new.run.0 other.0 (λ same. apart (sym same))))) (all other)))
+    subst (λ (n : ℕ). HaveLabels need marked (take n (docs_of (with_run new runs) other))) (sym (get_or-set_other fronts new.run.0 other.0 0 0 apart))
+    (subst (λ (docs : List DocId). HaveLabels need marked (take (get_or fronts other.0 0) docs)) (sym (docs-with _ new runs other (ne_eqb new.run.0 other.0 (λ same. apart (sym same))))) (all other)))
     (cases_eq other.0 new.run.0)
   where
     put_there : (other : RunId) → other.0 ≡ new.run.0 → get_or (set fronts new.run.0 0) other.0 0 ≡ 0
     put_there other same =
         ⊎_elim
         (λ (within : new.run.0 < length fronts). ap (λ n. get_or (set fronts new.run.0 0) n 0) same ∙ get_or-set_same fronts new.run.0 0 0 within)
-        (λ (beyond : length fronts ≤ new.run.0). get_or_beyond (set fronts new.run.0 0) other.0 0 (omega (arith, beyond, same, length-set fronts new.run.0 0)))
+        (λ (beyond : length fronts ≤ new.run.0). past (set fronts new.run.0 0) other.0 (omega (arith, beyond, same, length-set fronts new.run.0 0)))
         (cases_lt new.run.0 (length fronts))
 
 docs-gone : (run other : RunId) (runs : List Held) → run.0 ≡ other.0 → docs_of (without_run run runs) other ≡ []
 docs-gone run other [] same = refl
 docs-gone run other (held ∷ later) same = step (held.run.0 == run.0) (ap (λ n. held.run.0 == n) (sym same)) (docs-gone run other later same)
   where
-    step : (t : Bool) → (held.run.0 == other.0) ≡ (held.run.0 == run.0) → docs_of (without_run run later) other ≡ [] → docs_of (cond (not t) (held ∷ without_run run later) (without_run run later)) other ≡ []
-    step true tests rest = rest
-    step false tests rest = rest
+    step : (t : Bool) → (held.run.0 == other.0) ≡ t → docs_of (without_run run later) other ≡ [] → docs_of (cond (not t) (held ∷ without_run run later) (without_run run later)) other ≡ []
+    step true test rest = rest
+    step false test rest = ap (λ s. cond s held.docs (docs_of (without_run run later) other)) test ∙ rest
 
 docs-without : (run other : RunId) (runs : List Held) → run.0 ≢ other.0 → docs_of (without_run run runs) other ≡ docs_of runs other
 docs-without run other [] apart = refl
@@ -129,7 +140,7 @@ pub fronts-leave : (need : ℕ) (marked : List Marked) (runs : List Held) (front
 fronts-leave need marked runs fronts run all = λ other.
     ⊎_elim
     (λ (same : run.0 ≡ other.0).
-      no-docs need marked _ (ap (take (get_or fronts other.0 0)) (docs-gone run other runs same) ∙ take_all (get_or fronts other.0 0) [] (omega arith)))
+    no-docs need marked _ (ap (take (get_or fronts other.0 0)) (docs-gone run other runs same) ∙ take_all (get_or fronts other.0 0) [] (omega arith)))
     (λ apart. subst (λ (docs : List DocId). HaveLabels need marked (take (get_or fronts other.0 0) docs)) (sym (docs-without run other runs apart)) (all other))
     (cases_eq run.0 other.0)
 

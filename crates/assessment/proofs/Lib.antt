@@ -1,4 +1,4 @@
-mod FrontSteps
+pub mod FrontSteps
 mod ListFacts
 mod Marking
 mod Queueing

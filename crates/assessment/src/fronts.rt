@@ -41,11 +41,13 @@ impl Fronts {
         }
     }
 
+    #[tactic(auto, using(crate::proofs::FrontSteps::put_past))]
     pub(crate) fn put(&mut self, run: RunId, front: usize)
         ensures { self.new ≡ slice_set self.old run.0 front }
     {
-        if let Some(at) = self.fronts.get_mut(usize::from(run.0)) {
-            *at = front;
+        let place = usize::from(run.0);
+        if place < self.fronts.len() {
+            self.fronts[place] = front;
         }
     }
 }

@@ -153,9 +153,17 @@ impl State {
         name_of(&self.history[place as usize])
     }
 
+    /// How many topics the campaign has: none before they are given.
+    pub fn topic_count(&self) -> usize
+        ensures { result ≡ length (topic_ids self.now.history) }
+    {
+        self.assessment.topics().items().len()
+    }
+
     /// The board of the live runs' lists, which stands for the effective grades.
     pub fn board(&self) -> &Board
-        ensures { IsBoardOf self.now.history result.now }
+        ensures board { IsBoardOf self.now.history result.now }
+        ensures as_many { length result.now.topics ≡ length (topic_ids self.now.history) }
     {
         self.assessment.topics().board()
     }

@@ -9,6 +9,7 @@ use crate::requests::{
 };
 use campaign_core::State;
 use decimal_rank::Memory;
+use depth_pool::RunId;
 use rulebook::{Ask, Query, Refusal, Role};
 use std::alloc::Global;
 use std::test::Fail;
@@ -464,5 +465,38 @@ fn a_table_has_all_runs_by_submission(rt: HostRuntime) -> Result<(), Fail> {
     let alloc = rt.alloc();
     let steps = [(O, 1000, Request::Table, printed(TABLE.as_bytes()))];
     assert_eq!(rt; played_on(alloc, &ALL_GRADED, &steps)?, (None, None));
+    Ok(())
+}
+
+// What a state lends: the means of precision of its two runs from the board, and the runs of the first topic in the
+// judging order.
+type Lent = ([u64; 2], [u16; 2]);
+
+// The same of a state with two runs, and nothing where it has no topic.
+fn lent_by(state: &State) -> Option<Lent> {
+    let board = state.board();
+    let means = [board.summary(RunId(0)).map, board.summary(RunId(1)).map];
+    if state.topic_count() == 0 {
+        return None;
+    }
+    match *state.queue(0).order() {
+        [first, second] => Some((means, [first.0, second.0])),
+        _ => None,
+    }
+}
+
+// What a state lends after all documents are graded.
+fn lent_at_the_end(alloc: Global) -> Result<(Surprise, Option<Lent>), Memory> {
+    let mut state = founded(alloc, SINGLE)?;
+    let before = lent_by(&state);
+    started(alloc, &mut state, Start::TwoRuns)?;
+    let surprise = first_surprise(alloc, &mut state, &ALL_GRADED)?;
+    Ok((surprise, before.or(lent_by(&state))))
+}
+
+#[test]
+fn a_state_lends_its_board_and_its_queues(rt: HostRuntime) -> Result<(), Fail> {
+    let means = [166_666_666_666_666, 555_555_555_555_555];
+    assert_eq!(rt; lent_at_the_end(rt.alloc())?, (None, Some((means, [1, 0]))));
     Ok(())
 }

@@ -15,10 +15,10 @@ enter-requires-clause-in_order c =
 pub invariant_of-self : goal.invariant_of-self
 invariant_of-self c =
     let t = c.self.inside in (
-    record {
-      runs = rw c.add_run.ensures.runs (queued-runs t.pool.runs t.queue.order c.enter.new.self.order _ c.self.invariant.0.runs c.enter.ensures.runs);
-      in_order = c.enter.ensures.in_order;
-      trail_is = c.enter.ensures.trail ∙ c.self.invariant.0.trail_is;
-    },
-    rw (c.add_run.ensures.runs, c.put.ensures) (fronts-enter t.need t.marks.marked t.pool.runs t.fronts (record { run = c.args.run; docs = take t.pool.depth c.args.list.now }) c.self.invariant.1),
+      record {
+        runs = rw c.add_run.ensures.runs (queued-runs t.pool.runs t.queue.order c.enter.new.self.order _ c.self.invariant.0.runs c.enter.ensures.runs);
+        in_order = c.enter.ensures.in_order;
+        trail_is = c.enter.ensures.trail ∙ c.self.invariant.0.trail_is;
+      },
+      rw (c.add_run.ensures.runs, c.put.ensures) (fronts-enter t.need t.marks.marked t.pool.runs t.fronts (record { run = c.args.run; docs = take t.pool.depth c.args.list.now }) c.self.invariant.1),
     )

@@ -14,10 +14,10 @@ leave-requires-clause-is_in c =
 pub invariant_of-self : goal.invariant_of-self
 invariant_of-self c =
     let t = c.self.inside in (
-    record {
-      runs = rw (c.drop_run.ensures.runs, c.leave.ensures.runs) (left-runs t.pool.runs t.queue.order c.args.run c.self.invariant.0.runs);
-      in_order = c.order_outlasts_other_runs.ensures t.pool.runs c.drop_run.new.self.runs c.args.run c.leave.new.self.trail c.leave.new.self.order c.drop_run.ensures.others c.leave.ensures.gone c.leave.ensures.in_order;
-      trail_is = c.leave.ensures.trail ∙ c.self.invariant.0.trail_is;
-    },
-    rw c.drop_run.ensures.runs (fronts-leave t.need t.marks.marked t.pool.runs t.fronts c.args.run c.self.invariant.1),
+      record {
+        runs = rw (c.drop_run.ensures.runs, c.leave.ensures.runs) (left-runs t.pool.runs t.queue.order c.args.run c.self.invariant.0.runs);
+        in_order = c.order_outlasts_other_runs.ensures t.pool.runs c.drop_run.new.self.runs c.args.run c.leave.new.self.trail c.leave.new.self.order c.drop_run.ensures.others c.leave.ensures.gone c.leave.ensures.in_order;
+        trail_is = c.leave.ensures.trail ∙ c.self.invariant.0.trail_is;
+      },
+      rw c.drop_run.ensures.runs (fronts-leave t.need t.marks.marked t.pool.runs t.fronts c.args.run c.self.invariant.1),
     )

@@ -28,18 +28,18 @@ invariant_of-self g c =
     let at = place-some level doc t.grades.graded c.in-Some.place (sym c.in-Some.ensures.place) in
     let place = position_or_len (is_doc level doc) t.grades.graded in
     let relevant : c.relevance-relevant.result ≡ option_map (nat_le level) new = c.relevance-relevant.ensures ∙ ap (λ (l : ℕ). option_map (nat_le l) new) c.level.ensures in (
-    record {
-      runs = IsPermutation-trans _ _ _ c.self.invariant.0.runs c.regrade.ensures.runs;
-      in_order = c.regrade.ensures.in_order;
-      trail_is = c.regrade.ensures.trail
-          ∙ ap (λ (trail : List Judged). regraded trail (c.in-Some.place - 1) c.relevance-relevant.result) c.self.invariant.0.trail_is
-          ∙ ap (λ (i : ℕ). regraded (map (judged_of level) t.grades.graded) i c.relevance-relevant.result) at.1
-          ∙ ap (λ (r : Option Bool). regraded (map (judged_of level) t.grades.graded) place r) relevant
-          ∙ sym (regraded-at level doc new t.grades.graded at.0)
-          ∙ ap (λ (graded : List Graded). map (judged_of level) graded) (sym c.apply.ensures.graded)
-          ∙ ap (λ (l : ℕ). map (judged_of l) c.apply.new.self.graded) (sym c.apply.ensures.level);
-    },
-    c.self.invariant.1,
+      record {
+        runs = IsPermutation-trans _ _ _ c.self.invariant.0.runs c.regrade.ensures.runs;
+        in_order = c.regrade.ensures.in_order;
+        trail_is = c.regrade.ensures.trail
+            ∙ ap (λ (trail : List Judged). regraded trail (c.in-Some.place - 1) c.relevance-relevant.result) c.self.invariant.0.trail_is
+            ∙ ap (λ (i : ℕ). regraded (map (judged_of level) t.grades.graded) i c.relevance-relevant.result) at.1
+            ∙ ap (λ (r : Option Bool). regraded (map (judged_of level) t.grades.graded) place r) relevant
+            ∙ sym (regraded-at level doc new t.grades.graded at.0)
+            ∙ ap (λ (graded : List Graded). map (judged_of level) graded) (sym c.apply.ensures.graded)
+            ∙ ap (λ (l : ℕ). map (judged_of l) c.apply.new.self.graded) (sym c.apply.ensures.level);
+      },
+      c.self.invariant.1,
     )
 
 pub invariant_of-self-in-Some-relevant : goal.invariant_of-self-in-Some-relevant
@@ -50,17 +50,17 @@ invariant_of-self-in-Some-relevant g c =
     let new = c.effective-new.result in
     let r = c.in-Some-relevant.relevant in
     let relevant : option_map (nat_le level) new ≡ Some r = ap (λ (l : ℕ). option_map (nat_le l) new) (sym c.level.ensures) ∙ sym c.in-Some-relevant.ensures in (
-    record {
-      runs = IsPermutation-trans _ _ _ c.self.invariant.0.runs c.judge.ensures.runs;
-      in_order = c.judge.ensures.in_order;
-      trail_is = c.judge.ensures.trail
-          ∙ ap (λ (trail : List Judged). trail ++ record { doc = doc; relevant = Some r } ∷ []) c.self.invariant.0.trail_is
-          ∙ ap (λ (last : List Judged). map (judged_of level) t.grades.graded ++ last) (sym (first-judged level doc new r relevant))
-          ∙ sym (judged-last level doc new t.grades.graded (sym c.in-None.ensures.place))
-          ∙ ap (λ (graded : List Graded). map (judged_of level) graded) (sym c.apply.ensures.graded)
-          ∙ ap (λ (l : ℕ). map (judged_of l) c.apply.new.self.graded) (sym c.apply.ensures.level);
-    },
-    c.self.invariant.1,
+      record {
+        runs = IsPermutation-trans _ _ _ c.self.invariant.0.runs c.judge.ensures.runs;
+        in_order = c.judge.ensures.in_order;
+        trail_is = c.judge.ensures.trail
+            ∙ ap (λ (trail : List Judged). trail ++ record { doc = doc; relevant = Some r } ∷ []) c.self.invariant.0.trail_is
+            ∙ ap (λ (last : List Judged). map (judged_of level) t.grades.graded ++ last) (sym (first-judged level doc new r relevant))
+            ∙ sym (judged-last level doc new t.grades.graded (sym c.in-None.ensures.place))
+            ∙ ap (λ (graded : List Graded). map (judged_of level) graded) (sym c.apply.ensures.graded)
+            ∙ ap (λ (l : ℕ). map (judged_of l) c.apply.new.self.graded) (sym c.apply.ensures.level);
+      },
+      c.self.invariant.1,
     )
 
 pub invariant_of-self-in-None : goal.invariant_of-self-in-None
@@ -70,17 +70,17 @@ invariant_of-self-in-None g c =
     let doc = c.args.doc in
     let new = c.effective-new.result in
     let relevant : option_map (nat_le level) new ≡ None = ap (λ (l : ℕ). option_map (nat_le l) new) (sym c.level.ensures) ∙ sym c.in_default.ensures in (
-    record {
-      runs = c.self.invariant.0.runs;
-      in_order = c.self.invariant.0.in_order;
-      trail_is = c.self.invariant.0.trail_is
-          ∙ sym (append-nil (map (judged_of level) t.grades.graded))
-          ∙ ap (λ (last : List Judged). map (judged_of level) t.grades.graded ++ last) (sym (none-judged level doc new relevant))
-          ∙ sym (judged-last level doc new t.grades.graded (sym c.in-None.ensures.place))
-          ∙ ap (λ (graded : List Graded). map (judged_of level) graded) (sym c.apply.ensures.graded)
-          ∙ ap (λ (l : ℕ). map (judged_of l) c.apply.new.self.graded) (sym c.apply.ensures.level);
-    },
-    c.self.invariant.1,
+      record {
+        runs = c.self.invariant.0.runs;
+        in_order = c.self.invariant.0.in_order;
+        trail_is = c.self.invariant.0.trail_is
+            ∙ sym (append-nil (map (judged_of level) t.grades.graded))
+            ∙ ap (λ (last : List Judged). map (judged_of level) t.grades.graded ++ last) (sym (none-judged level doc new relevant))
+            ∙ sym (judged-last level doc new t.grades.graded (sym c.in-None.ensures.place))
+            ∙ ap (λ (graded : List Graded). map (judged_of level) graded) (sym c.apply.ensures.graded)
+            ∙ ap (λ (l : ℕ). map (judged_of l) c.apply.new.self.graded) (sym c.apply.ensures.level);
+      },
+      c.self.invariant.1,
     )
 
 pub returns-in-Some-relevant-clause-cost : goal.returns-in-Some-relevant-clause-cost

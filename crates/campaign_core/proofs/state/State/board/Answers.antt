@@ -1,15 +1,18 @@
-use Rattle.std.proofs.Common.{◌∙◌, ap, map, subst}
-use Rattle.score_index.specs.Standing.{StandsFor}
-use Rattle.assessment.specs.TopicFacts.{graded_of}
+use Rattle.std.proofs.Common.{◌≡◌, ◌∙◌, ap, arith, length, map, subst}
+use Rattle.std.proofs.lemmas.List.{length-map}
+use Rattle.std.proofs.lemmas.Slice.Zip.{AllZip-long}
+use Rattle.score_index.specs.Standing.{StandsFor, TopicStandsFor}
+use Rattle.assessment.specs.TopicFacts.{facts_of, graded_of}
 use Rattle.assessment.specs.TopicsFacts.{TopicsView}
 use Rattle.campaign_core.specs.Lendings.{IsBoardOf}
 use Rattle.campaign_core.specs.Numbers.{names_of}
 use Rattle.campaign_core.specs.Seen.{Seen}
+use Rattle.campaign_core.specs.Topics.{kept, kept_of, topic_ids}
 use Rattle.campaign_core.proofs.KnownRuns.{board-of, listed-at}
 use Rattle.campaign_core.proofs.state.State.board.Goals as goal
 
-pub returns : goal.returns
-returns c =
+pub returns-clause-board : goal.returns-clause-board
+returns-clause-board g c =
     let H = c.self.inside.history.items in
     let all = c.self.inside.assessment.topics in
     let known = c.self.invariant.assessed in
@@ -17,3 +20,14 @@ returns c =
     (board-of H all c.board.result.now c.self.inside.assessment.leases known.knows known.level_is (listed-at H (names_of H) _ known.lists_are)
     (c.board.ensures.board ∙ ap (λ (topics : TopicsView). topics.board) c.topics.ensures.topics)
     (subst (λ (topics : TopicsView). StandsFor c.board.result.now (map graded_of topics.topics)) c.topics.ensures.topics c.board.ensures.stands))
+
+pub returns-clause-as_many : goal.returns-clause-as_many
+returns-clause-as_many g c =
+    let H = c.self.inside.history.items in
+    let all = c.self.inside.assessment.topics in
+    let board = c.board.result.now in
+    let stands = subst (λ (topics : TopicsView). StandsFor board (map graded_of topics.topics)) c.topics.ensures.topics c.board.ensures.stands in
+    let long = AllZip-long (TopicStandsFor board.level) board.topics (map graded_of all.topics) stands in
+    let many = ap length c.self.invariant.assessed.knows.topics_are in
+    let ids : length (topic_ids H) ≡ length (topic_ids c.args.self.now.history) = ap (λ (s : Seen). length (topic_ids s.history)) c.self.view_is in
+    omega (arith, long, many, ids, length-map all.topics graded_of, length-map (map facts_of all.topics) kept, length-map all.topics facts_of, length-map (topic_ids H) (kept_of H))
