@@ -1,12 +1,12 @@
 -- The fronts of a topic's runs, through each of its changes.
-use Rattle.std.proofs.Common.{◌≡◌, ◌≢◌, ◌≤◌, ◌<◌, ℕ, suc, zero, Bool, true, false, cond, drop, not, List, [], ◌∷◌, Some, get_or, length, set, take, refl, sym, ap, subst, ◌∙◌, arith, eq-eqb, eqb-true, ne_eqb, le-leb, leb-true, ⊎_elim}
-use Rattle.std.specs.Prelude.{◌==◌, All, nat_le}
+use Rattle.std.proofs.Common.{◌≡◌, ◌≢◌, ◌≤◌, ◌<◌, ℕ, suc, zero, Bool, true, false, cond, drop, not, List, [], ◌∷◌, Some, get_or, length, set, take, refl, sym, ap, subst, ◌∙◌, arith, eqb-true, ne_eqb, le-leb, leb-true, ⊎_elim}
+use Rattle.std.specs.Prelude.{◌==◌}
 use Rattle.std.specs.Str.{bytes_eq}
 use Rattle.std.proofs.lemmas.Bool.{cases_eq, cases_lt}
 use Rattle.std.proofs.lemmas.List.{append-nil, get_or-set_other, get_or-set_same, length-set, take-append-drop, take_all}
 use Rattle.decimal_rank.specs.declared.naming.DocId.{DocId}
 use Rattle.depth_pool.specs.declared.runs.RunId.{RunId}
-use Rattle.depth_pool.specs.Holdings.{Held, docs_of, has_run, put_before, with_run, without_run}
+use Rattle.depth_pool.specs.Holdings.{Held, docs_of, put_before, with_run, without_run}
 use Rattle.labels.specs.Labelled.{with_label}
 use Rattle.labels.specs.Marked.{Marked, given_at, with_label_at, with_ruling_at}
 use Rattle.labels.specs.declared.given.Given.{Given}

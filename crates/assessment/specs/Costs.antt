@@ -1,5 +1,5 @@
 -- How many steps a change may take: nodes of trees and entries of rankings on the board, and looks into pools.
-use Rattle.std.specs.Prelude.{◌≡◌, ℕ, ◌+◌, List, Option, Some, Contains, length, slice_get, sum_by}
+use Rattle.std.specs.Prelude.{◌≡◌, ℕ, ◌+◌, List, Some, Contains, length, slice_get, sum_by}
 use Rattle.std.specs.Option.{option_map_or}
 use Rattle.decimal_rank.specs.declared.naming.DocId.{DocId}
 use Rattle.depth_pool.specs.declared.runs.RunId.{RunId}

@@ -1,9 +1,7 @@
 //! Of each run of a topic, how many of its first documents have all their labels: the next document to label is looked
 //! for behind them. A document that has all its labels keeps them, so a front is only led on.
-ghost use Rattle.std.specs.Prelude.{◌≡◌, nat_le, length, replicate, slice_index_or, slice_set, take};
-ghost use Rattle.labels.specs.Marked.{given_at};
+ghost use Rattle.std.specs.Prelude.{◌≡◌, replicate, slice_index_or, slice_set, take};
 ghost use Rattle.assessment.specs.Fronts.{AreFronts, HaveLabels, has_labels};
-ghost use Rattle.depth_pool.specs.Holdings.{docs_of};
 
 use decimal_rank::DocId;
 use depth_pool::{Pool, RunId};

@@ -1,5 +1,5 @@
 //! A run on all topics: room for its lists, its entry, and its withdrawal.
-ghost use Rattle.std.specs.Prelude.{◌≡◌, ◌+◌, ◌-◌, ◌<◌, ◌==◌, ◌&&◌, ℕ, [], List, Option, All, IsTrue, None, OnErr, OnOk, false, if◌then◌else◌, length, map, slice_index_or};
+ghost use Rattle.std.specs.Prelude.{◌≡◌, ◌+◌, ◌-◌, ◌<◌, ◌==◌, ◌&&◌, ℕ, [], List, All, IsTrue, None, OnErr, OnOk, false, if◌then◌else◌, length, map, slice_index_or};
 ghost use Rattle.decimal_rank.specs.declared.naming.DocId.{DocId};
 ghost use Rattle.depth_pool.specs.Holdings.{has_run};
 ghost use Rattle.depth_pool.specs.declared.runs.RunId.{RunId};

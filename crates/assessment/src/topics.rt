@@ -1,6 +1,6 @@
 //! The topics of a campaign by number, with one board of the runs' lists on them. The board stands
 //! for the topics' grades.
-ghost use Rattle.std.specs.Prelude.{◌≡◌, ◌+◌, ◌<◌, ◌≤◌, ◌^◌, [], All, List, IfOk, OnErr, OnOk, Some, length, map, slice_get, vec_len};
+ghost use Rattle.std.specs.Prelude.{◌≡◌, ◌+◌, ◌<◌, ◌≤◌, ◌^◌, [], List, IfOk, OnErr, OnOk, length, map, slice_get, vec_len};
 ghost use Rattle.std.specs.Option.{IsSomeAnd};
 ghost use Rattle.score_index.specs.Standing.{StandsFor};
 ghost use Rattle.depth_pool.specs.declared.runs.RunId.{RunId};

@@ -1,7 +1,7 @@
 -- The steps of a commit, by the history.
-use Rattle.std.proofs.Common.{◌≡◌, ◌≤◌, ◌+◌, ◌||◌, ◌&&◌, ℕ, suc, zero, Bool, true, false, cond, not, List, [], ◌∷◌, Option, None, Some, filter, get_or, length, map, sum_by, refl, sym, ap, subst, ◌∙◌, arith, eqb-true}
+use Rattle.std.proofs.Common.{◌≡◌, ◌≤◌, ◌+◌, ◌||◌, ◌&&◌, ℕ, suc, zero, Bool, true, false, cond, not, List, [], ◌∷◌, Option, None, Some, filter, length, map, sum_by, refl, sym, ap, ◌∙◌, arith, eqb-true}
 use Rattle.std.specs.Prelude.{◌==◌, Contains, slice_get}
-use Rattle.std.specs.List.{enumerate_from, list_any, position_or_len}
+use Rattle.std.specs.List.{enumerate_from, list_any}
 use Rattle.std.specs.Option.{option_map_or}
 use Rattle.std.specs.Str.{bytes_eq}
 use Rattle.std.proofs.lemmas.List.{length-map}
@@ -9,18 +9,14 @@ use Rattle.std.proofs.lemmas.List.Sums.{sum_by-cons}
 use Rattle.std.proofs.lemmas.Slice.Eq.{bytes_eq-Decides}
 use Rattle.assessment.specs.Changes.{Facts}
 use Rattle.assessment.specs.Costs.{HaveLists, change_steps, grade_steps as known_steps, pool_size}
-use Rattle.assessment.specs.RunLists.{RankedLists, unless_empty}
+use Rattle.assessment.specs.RunLists.{unless_empty}
 use Rattle.assessment.specs.TopicFacts.{TopicFacts}
-use Rattle.assessment.specs.TopicsFacts.{TopicsFacts}
 use Rattle.assessment.specs.declared.change.Change.{Change}
 use Rattle.assessment.specs.declared.change.Change.TheVariants as change
-use Rattle.decimal_rank.specs.declared.naming.DocId.{DocId}
 use Rattle.depth_pool.specs.declared.runs.RunId.{RunId}
-use Rattle.lease_desk.specs.declared.leases.Lease.{Lease as DeskLease}
-use Rattle.rulebook.specs.declared.ask.Command.{Command}
 use Rattle.rulebook.specs.declared.entry.Entry.{Entry}
 use Rattle.rulebook.specs.Campaign.{History, Run, docs_on, is_withdrawn, live, numbered, runs}
-use Rattle.rulebook.specs.Leases.{Lease, lease_numbered}
+use Rattle.rulebook.specs.Leases.{Lease}
 use Rattle.rulebook.specs.Words.{Text, contains_text}
 use Rattle.score_index.specs.Scores.{follow_steps, list_steps}
 use Rattle.campaign_core.specs.Changes.{CarriesOut}
@@ -32,13 +28,13 @@ use Rattle.campaign_core.specs.Scoring.{list_in, ranked_on, run_at}
 use Rattle.campaign_core.specs.Topics.{KeptTopic, kept, kept_of, pool_of, held_of, topic_ids}
 use Rattle.campaign_core.proofs.Accepting.{numbered-all}
 use Rattle.campaign_core.proofs.ListFacts.{Each}
-use Rattle.campaign_core.proofs.LiveRuns.{IsLive, at-live, live-at, live-there}
+use Rattle.campaign_core.proofs.LiveRuns.{at-live, live-at, live-there}
 
 -- the number of a run
-number_of : ℕ × Run → RunId
+abbrev pub number_of : ℕ × Run → RunId
 number_of p = record { 0 = p.0 }
 
-pub live_numbers : History → List RunId
+abbrev pub live_numbers : History → List RunId
 live_numbers H = map number_of (numbered H)
 
 -- ---- the runs of the lists
@@ -90,14 +86,11 @@ text-there (id ∷ ids) topic listed = step (bytes_eq topic id) refl listed (tex
     step : (t : Bool) → bytes_eq topic id ≡ t → (t || contains_text ids topic) ≡ true → (contains_text ids topic ≡ true → slice_get ids (topic_in ids topic) ≡ Some topic)
         → slice_get (id ∷ ids) (cond (not t) (1 + topic_in ids topic) 0) ≡ Some topic
     step true is listed rest = ap (λ text. let o : Option Text = Some text in o) (sym ((bytes_eq-Decides topic id).0 is))
-    step false is listed rest = rest listed
+    step false is listed rest = let on : 1 + topic_in ids topic ≡ suc (topic_in ids topic) = omega arith in ap (slice_get (id ∷ ids)) on ∙ rest listed
 
 -- ---- all lists of a topic
 
 module _ (H : History) (known : Facts) (assessed : IsAssessmentOf H known) where
-  ids : List Text
-  ids = topic_ids H
-
   pub have-lists : HaveLists (live_numbers H) known.topics
   have-lists run on docs is = step (run_at H run) refl (sym (assessed.lists_are run on) ∙ is)
     where
@@ -105,34 +98,34 @@ module _ (H : History) (known : Facts) (assessed : IsAssessmentOf H known) where
       none None is = cc is
       none (Some id) is = cc is
 
-      step : (o : Option Run) → run_at H run ≡ o → list_in (names_of H) ids o on ≡ Some docs → Contains (live_numbers H) run
-      step None at is = none (slice_get ids on) is
+      step : (o : Option Run) → run_at H run ≡ o → list_in (names_of H) (topic_ids H) o on ≡ Some docs → Contains (live_numbers H) run
+      step None at is = none (slice_get (topic_ids H) on) is
       step (Some r) at is = let there = live-at H run r at in among run.0 (numbered H) (live-there H run.0 r there.there there.live)
 
   -- of a topic of the campaign
-  module _ (topic : Text) (listed : contains_text ids topic ≡ true) where
-    one-list : (p : ℕ × Run) → run_at H (number_of p) ≡ Some p.1 → list_steps (known.topics.lists (number_of p) (topic_in ids topic)) ≡ ranked_steps (docs_on p.1.lists topic)
+  module _ (topic : Text) (listed : contains_text (topic_ids H) topic ≡ true) where
+    one-list : (p : ℕ × Run) → run_at H (number_of p) ≡ Some p.1 → list_steps (known.topics.lists (number_of p) (topic_in (topic_ids H) topic)) ≡ ranked_steps (docs_on p.1.lists topic)
     one-list p at =
-        ap list_steps (assessed.lists_are (number_of p) (topic_in ids topic)
-        ∙ ap (λ (o : Option Run). list_in (names_of H) ids o (topic_in ids topic)) at
-        ∙ ap (λ (o : Option Text). option_map_or (λ id. option_map_or (ranked_on (names_of H) id) (Some p.1) None) o None) (text-there ids topic listed))
+        ap list_steps (assessed.lists_are (number_of p) (topic_in (topic_ids H) topic)
+        ∙ ap (λ (o : Option Run). list_in (names_of H) (topic_ids H) o (topic_in (topic_ids H) topic)) at
+        ∙ ap (λ (o : Option Text). option_map_or (λ id. option_map_or (ranked_on (names_of H) id) (Some p.1) None) o None) (text-there (topic_ids H) topic listed))
         ∙ listed-steps (names_of H) (docs_on p.1.lists topic)
 
     each-list : (ps : List (ℕ × Run)) → Each (λ p. run_at H (number_of p) ≡ Some p.1) ps
-        → sum_by (λ run. list_steps (known.topics.lists run (topic_in ids topic))) (map number_of ps) ≡ sum_by (λ run. ranked_steps (docs_on run.lists topic)) (map (λ p. p.1) ps)
+        → sum_by (λ run. list_steps (known.topics.lists run (topic_in (topic_ids H) topic))) (map number_of ps) ≡ sum_by (λ run. ranked_steps (docs_on run.lists topic)) (map (λ p. p.1) ps)
     each-list [] all = refl
     each-list (p ∷ ps) all =
-        sum_by-cons (λ run. list_steps (known.topics.lists run (topic_in ids topic))) (number_of p) (map number_of ps)
-        ∙ ap (λ n. n + sum_by (λ run. list_steps (known.topics.lists run (topic_in ids topic))) (map number_of ps)) (one-list p all.0)
+        sum_by-cons (λ run. list_steps (known.topics.lists run (topic_in (topic_ids H) topic))) (number_of p) (map number_of ps)
+        ∙ ap (λ n. n + sum_by (λ run. list_steps (known.topics.lists run (topic_in (topic_ids H) topic))) (map number_of ps)) (one-list p all.0)
         ∙ ap (λ n. ranked_steps (docs_on p.1.lists topic) + n) (each-list ps all.1)
         ∙ sym (sum_by-cons (λ (run : Run). ranked_steps (docs_on run.lists topic)) p.1 (map (λ (p : ℕ × Run). p.1) ps))
 
-    pool-is : pool_size (topic_in ids topic) known.topics ≡ length (live H)
+    pool-is : pool_size (topic_in (topic_ids H) topic) known.topics ≡ length (live H)
     pool-is =
-        size-of known.topics.topics (topic_in ids topic)
-        ∙ ap (λ (ks : List KeptTopic). option_map_or (λ k. length k.runs) (slice_get ks (topic_in ids topic)) 0) assessed.knows.topics_are
-        ∙ size-at ids (topic_in ids topic)
-        ∙ ap (λ (o : Option Text). option_map_or (λ id. length (pool_of H id)) o 0) (text-there ids topic listed)
+        size-of known.topics.topics (topic_in (topic_ids H) topic)
+        ∙ ap (λ (ks : List KeptTopic). option_map_or (λ k. length k.runs) (slice_get ks (topic_in (topic_ids H) topic)) 0) assessed.knows.topics_are
+        ∙ size-at (topic_ids H) (topic_in (topic_ids H) topic)
+        ∙ ap (λ (o : Option Text). option_map_or (λ id. length (pool_of H id)) o 0) (text-there (topic_ids H) topic listed)
         ∙ length-map (numbered H) (held_of H topic)
         ∙ sym (length-map (numbered H) (λ (p : ℕ × Run). p.1))
       where
@@ -146,7 +139,7 @@ module _ (H : History) (known : Facts) (assessed : IsAssessmentOf H known) where
         size-at (name ∷ names) zero = refl
         size-at (name ∷ names) (suc i) = size-at names i
 
-    grade-takes : known_steps (live_numbers H) (topic_in ids topic) known.topics ≡ grade_steps H topic
+    grade-takes : known_steps (live_numbers H) (topic_in (topic_ids H) topic) known.topics ≡ grade_steps H topic
     grade-takes = let lists = each-list (numbered H) (live-runs-at H) in omega (arith, lists, pool-is)
 
   -- a change takes what its entry may
@@ -158,7 +151,7 @@ module _ (H : History) (known : Facts) (assessed : IsAssessmentOf H known) where
   change-within names e (change.Lease grant) carries = omega arith
   change-within names e (change.Grade number label) carries =
       let ours = numbered-all (is_known H (names_of H)) H number carries.lease assessed.knows.leased.are_known carries.found in
-      let listed : contains_text ids carries.lease.topic ≡ true = and-second (contains_text (names_of H) carries.lease.doc) (contains_text ids carries.lease.topic) ours in
+      let listed : contains_text (topic_ids H) carries.lease.topic ≡ true = and-second (contains_text (names_of H) carries.lease.doc) (contains_text (topic_ids H) carries.lease.topic) ours in
       let allowed : commit_steps H e.core.command ≡ grade_steps H carries.lease.topic = ap (commit_steps H) carries.command_is ∙ ap (λ (o : Option Lease). option_map_or (λ lease. grade_steps H lease.topic) o 0) carries.found in
       let taken = ap (λ n. known_steps (live_numbers H) n known.topics) carries.topic_is ∙ grade-takes carries.lease.topic listed in
       omega (arith, allowed, taken)

@@ -1,6 +1,5 @@
 -- No document that has all its labels is open.
-use Rattle.std.proofs.Common.{◌≡◌, ◌≤◌, ◌+◌, ◌&&◌, ℕ, Bool, true, false, cond, not, List, [], ◌∷◌, ◌++◌, Option, Some, find, length, nat_lt, sym, ap, refl, subst, ◌∙◌, arith, leb-true}
-use Rattle.std.specs.Prelude.{All}
+use Rattle.std.proofs.Common.{◌≡◌, ◌≤◌, ◌+◌, ◌&&◌, ℕ, Bool, true, false, cond, not, List, [], ◌∷◌, ◌++◌, Some, find, length, nat_lt, sym, ap, refl, ◌∙◌, arith, leb-true}
 use Rattle.std.specs.Option.{is_some}
 use Rattle.std.proofs.lemmas.Bool.Decides.{nat_tests}
 use Rattle.std.proofs.lemmas.List.Elements.{All-head, All-tail}
@@ -26,7 +25,7 @@ pub labelled-closed : (need : ℕ) (marked : List Marked) (desk : List DeskLease
 labelled-closed need marked desk topic now assessor doc labelled =
     ap (λ t. not (is_some (effective_at need marked doc)) && not (has_label assessor (given_at marked doc)) && not (has_live desk assessor topic doc now) && t)
     (enough need (length (given_at marked doc)) (live_on desk topic doc now) (leb-true need (length (given_at marked doc)) labelled))
-    ∙ none-of-all _ _ _
+    ∙ none-of-all (not (is_some (effective_at need marked doc))) (not (has_label assessor (given_at marked doc))) (not (has_live desk assessor topic doc now))
 
 -- so the first open one is behind those
 pub find-behind : (is_open : DocId → Bool) (need : ℕ) (marked : List Marked) (docs left : List DocId) → IsBehindLabelled need marked docs left → ((doc : DocId) → has_labels need marked doc ≡ true → is_open doc ≡ false)

@@ -1,5 +1,5 @@
 //! Commands: the first refusal that holds, or the reply.
-ghost use Rattle.std.specs.Prelude.{◌≡◌, ◌≤◌, ◌<◌, ◌^◌, ◌+◌, ◌∷◌, [], ◌++◌, length, IfOk, OnOk, IsTrue, nat_lt, map, max};
+ghost use Rattle.std.specs.Prelude.{◌≡◌, ◌≤◌, ◌<◌, ◌^◌, ◌+◌, length, IfOk, OnOk, nat_lt, map, max};
 ghost use Rattle.assessment.specs.TopicFacts.{facts_of};
 ghost use Rattle.rulebook.specs.declared.limits.TheConstants.{MAX_LINES, MAX_DOCNOS, MAX_ENTRIES, MAX_ENTRY_BYTES, MAX_MOMENT};
 ghost use Rattle.rulebook.specs.Words.{each_once};

@@ -1,7 +1,6 @@
 //! The leases of one key, found from the newest back, by links. What a link tells lets a walk stop early,
 //! and an ended lease is left out by the link behind it.
-ghost use Rattle.std.specs.Prelude.{◌≡◌, ◌+◌, ◌<◌, ◌≤◌, ◌^◌, max, Bool, None, Some, IfOk, IfSome, OnOk, List, [], ◌∷◌, ◌++◌, length, slice_index_or, vec_len, vec_capacity};
-ghost use Rattle.std.specs.Option.{option_copied};
+ghost use Rattle.std.specs.Prelude.{◌≡◌, ◌+◌, ◌<◌, ◌≤◌, ◌^◌, max, Bool, None, Some, IfSome, OnOk, [], length, slice_index_or, vec_len, vec_capacity};
 ghost use Rattle.indexmap.specs.IndexMap.{Updates, get, spare};
 ghost use Rattle.lease_desk.specs.Series.{HasLink, IsSeriesOf, LeadEarlier, LeadPast, LeadsBack, latest_at, up_to};
 ghost use Rattle.lease_desk.specs.declared.leases.Lease.{Lease};

@@ -1,5 +1,5 @@
 //! The board of a campaign's scores: the cell of each run on each topic, and the summary of each run.
-ghost use Rattle.std.specs.Prelude.{◌≡◌, ℕ, ◌+◌, ◌-◌, ◌<◌, ◌≤◌, ◌^◌, ◌==◌, ◌&&◌, [], true, None, Some, List, IfOk, IfSome, OnOk, OnErr, if◌then◌else◌, length, map, replicate, slice_set, count_by, position, remove, vec_len};
+ghost use Rattle.std.specs.Prelude.{◌≡◌, ℕ, ◌+◌, ◌-◌, ◌<◌, ◌≤◌, ◌==◌, ◌&&◌, [], None, Some, List, IfOk, OnOk, OnErr, if◌then◌else◌, length, map, replicate, slice_set};
 ghost use Rattle.std.specs.Option.{option_copied};
 ghost use Rattle.depth_pool.specs.declared.runs.RunId.{RunId};
 ghost use Rattle.measures.specs.Cells.{IsSound};

@@ -1,5 +1,5 @@
 //! A run's ranked list on a topic, whose cell follows each change of a grade.
-ghost use Rattle.std.specs.Prelude.{◌≡◌, ℕ, ◌+◌, ◌-◌, ◌*◌, ◌<◌, ◌≤◌, ◌==◌, false, if◌then◌else◌, All, count_by, find, length, map, min, position, replicate, sum_by, vec_capacity, vec_len};
+ghost use Rattle.std.specs.Prelude.{◌≡◌, ℕ, ◌+◌, ◌-◌, ◌*◌, ◌<◌, ◌≤◌, ◌==◌, if◌then◌else◌, All, count_by, find, length, map, min, position, sum_by, vec_capacity, vec_len};
 ghost use Rattle.std.specs.Option.{option_copied};
 ghost use Rattle.decimal_rank.specs.Places.{levels};
 ghost use Rattle.qrels_view.specs.Grades.{effective_in, is_non_relevant, is_relevant};

@@ -1,7 +1,6 @@
 //! A board of two topics for the tests, together with the grades that it stands for.
-ghost use Rattle.std.specs.Prelude.{◌≡◌, ◌≢◌, ◌+◌, ◌-◌, ◌<◌, ◌≤◌, List, All, IfOk, length, slice_set};
+ghost use Rattle.std.specs.Prelude.{◌≡◌, ◌≢◌, ◌+◌, ◌-◌, ◌<◌, ◌≤◌, List, All, length, slice_set};
 ghost use Rattle.std.specs.Bool.{OnFalse};
-ghost use Rattle.decimal_rank.specs.Places.{AreDistinct};
 ghost use Rattle.qrels_view.specs.Grades.{as_number, effective_in, is_non_relevant, is_relevant, with_grade};
 ghost use Rattle.qrels_view.specs.declared.grades.Graded.{Graded};
 ghost use Rattle.score_index.specs.Scores.{topic_at};

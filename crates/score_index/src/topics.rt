@@ -1,12 +1,12 @@
 //! One topic of a board: how many documents are relevant and how many judged lower, and the lists of its runs.
-ghost use Rattle.std.specs.Prelude.{◌≡◌, ℕ, ◌+◌, ◌-◌, ◌*◌, ◌<◌, ◌≤◌, ◌^◌, ◌++◌, ◌∷◌, [], true, All, IfOk, OnOk, List, length, map, if◌then◌else◌, sum_by, vec_capacity};
+ghost use Rattle.std.specs.Prelude.{◌≡◌, ℕ, ◌+◌, ◌-◌, ◌<◌, ◌≤◌, ◌^◌, ◌++◌, ◌∷◌, [], All, IfOk, OnOk, List, length, map, if◌then◌else◌, sum_by};
 ghost use Rattle.measures.specs.Cells.{IsSound};
 ghost use Rattle.measures.specs.Totals.{sums_of};
 ghost use Rattle.measures.specs.declared.cells.Cell.{Cell as OneCell};
 ghost use Rattle.qrels_view.specs.Grades.{as_number, is_non_relevant, is_relevant};
 ghost use Rattle.score_index.specs.Kept.{HasEmptyCell, IsTopicKept, has_grades, kept_cell, seen, spare, with_list, with_regrade, without_lists};
 ghost use Rattle.score_index.specs.KeptSums.{CanRemark};
-ghost use Rattle.score_index.specs.Scores.{TopicScores, list_steps, new_topic};
+ghost use Rattle.score_index.specs.Scores.{list_steps, new_topic};
 
 use crate::lists::{RunList, drop_lists, list_of, regrade_lists};
 use crate::marks::mark_of;

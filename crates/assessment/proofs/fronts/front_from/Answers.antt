@@ -1,4 +1,4 @@
-use Rattle.std.proofs.Common.{◌≡◌, ◌∙◌, true, length, subst, sym, arith, take, take_all}
+use Rattle.std.proofs.Common.{◌≡◌, ◌∙◌, true, length, subst, sym, arith, take_all}
 use Rattle.std.proofs.lemmas.List.Elements.{All-more}
 use Rattle.assessment.specs.Fronts.{HaveLabels, has_labels}
 use Rattle.assessment.proofs.fronts.front_from.Goals as goal

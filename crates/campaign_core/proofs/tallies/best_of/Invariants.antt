@@ -1,5 +1,5 @@
 -- The best run is the first with the greatest mean among the live ones so far, and the mean is at most 10^15.
-use Rattle.std.proofs.Common.{◌≡◌, ◌≤◌, ◌^◌, List, [], None, Some, take}
+use Rattle.std.proofs.Common.{◌≡◌, ◌≤◌, ◌^◌, [], None, Some, take}
 use Rattle.std.specs.Option.{option_map}
 use Rattle.rulebook.specs.Campaign.{History, runs}
 use Rattle.campaign_core.specs.Tallies.{KnowsRuns, first_best, greatest, map_of, submitted_at}

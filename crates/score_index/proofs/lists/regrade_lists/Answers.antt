@@ -1,4 +1,4 @@
-use Rattle.std.proofs.Common.{◌+◌, ◌∙◌, ℕ, Some, ap, sym, subst, arith, length}
+use Rattle.std.proofs.Common.{◌∙◌, ℕ, Some, ap, sym, subst, arith}
 use Rattle.std.specs.Prelude.{sum_by}
 use Rattle.std.proofs.lemmas.List.{map-id, take_all}
 use Rattle.std.proofs.lemmas.List.Sums.{sum_by_more}

@@ -12,7 +12,7 @@ use Rattle.campaign_core.proofs.KnownRuns.{board-of, listed-at}
 use Rattle.campaign_core.proofs.state.State.board.Goals as goal
 
 pub returns-clause-board : goal.returns-clause-board
-returns-clause-board g c =
+returns-clause-board c =
     let H = c.self.inside.history.items in
     let all = c.self.inside.assessment.topics in
     let known = c.self.invariant.assessed in
@@ -22,7 +22,7 @@ returns-clause-board g c =
     (subst (λ (topics : TopicsView). StandsFor c.board.result.now (map graded_of topics.topics)) c.topics.ensures.topics c.board.ensures.stands))
 
 pub returns-clause-as_many : goal.returns-clause-as_many
-returns-clause-as_many g c =
+returns-clause-as_many c =
     let H = c.self.inside.history.items in
     let all = c.self.inside.assessment.topics in
     let board = c.board.result.now in
