@@ -1,14 +1,15 @@
--- What a Submit comes to that no refusal meets.
+-- What Topics and Submit come to, past their refusals.
 use Rattle.std.proofs.Common.{◌≡◌, ◌+◌, ◌<◌, ◌≤◌, subst, true, false, List, [], ◌∷◌, ◌++◌, suc, arith, length-append, None, Err, Ok, length, refl}
-use Rattle.std.proofs.lemmas.Bool.{le-leb, le-ltb, lt-leb, lt-ltb}
+use Rattle.std.proofs.lemmas.Bool.{le-ltb, lt-leb, lt-ltb}
 use Rattle.std.specs.Prelude.{nat_lt}
 use Rattle.std.specs.List.{fold, flat_map}
 use Rattle.std.specs.Int.{to_le_bytes, w32}
 use Rattle.rulebook.specs.declared.ask.Command.TheVariants.{Submit}
 use Rattle.rulebook.specs.Spelling.{short, listed, list_bytes, command_bytes}
 use Rattle.std.proofs.lemmas.List.Sums.{fold-append, sum_by-cons}
+use Rattle.trec_formats.specs.declared.Topic.{Topic}
 use Rattle.trec_formats.specs.declared.TopicList.{TopicList}
-use Rattle.rulebook.specs.declared.limits.TheConstants.{MAX_RUNS, MAX_LINES, MAX_DOCNOS, MAX_ENTRY_BYTES}
+use Rattle.rulebook.specs.declared.limits.TheConstants.{MAX_RUNS, MAX_TOPICS, MAX_LINES, MAX_DOCNOS, MAX_ENTRY_BYTES}
 use Rattle.rulebook.specs.declared.ask.Command.{Command}
 use Rattle.rulebook.specs.declared.reply.Quantity.TheVariants as quantity
 use Rattle.rulebook.specs.declared.reply.Refusal.TheVariants as refusal
@@ -18,8 +19,8 @@ use Rattle.decimal_rank.specs.Names.{with_name}
 use Rattle.rulebook.specs.declared.rules.Phase.{Phase}
 use Rattle.rulebook.specs.declared.rules.Phase.TheVariants.{Collecting, Judging, Published}
 use Rattle.rulebook.specs.Refusals.{is_phase}
-use Rattle.rulebook.specs.Campaign.{History, phase, runs, is_taken, line_count, docnos, submitted_lines, submitted_docnos}
-use Rattle.rulebook.specs.Answers.{unknown_line, submit_ruling}
+use Rattle.rulebook.specs.Campaign.{History, phase, has_topics, runs, is_taken, line_count, docnos, submitted_lines, submitted_docnos}
+use Rattle.rulebook.specs.Answers.{topics_ruling, unknown_line, submit_ruling}
 
 -- the docnos of the history, and then those of a run
 pub each_once-submitted : (H : History) (lists : List TopicList)
@@ -30,6 +31,9 @@ pub collecting-from : (p : Phase) → is_phase Collecting p ≡ true → p ≡ C
 collecting-from Collecting is = refl
 collecting-from Judging is = cc is
 collecting-from Published is = cc is
+
+pub topics-accepted : (H : History) (given : List Topic) → phase H ≡ Collecting → has_topics H ≡ false → length given ≤ MAX_TOPICS → topics_ruling H given ≡ Ok (reply.Topics (length given))
+topics-accepted H given collecting none few = rw (collecting, none, le-ltb MAX_TOPICS (length given) few) refl
 
 pub submit-accepted : (H : History) (run : Text) (lists : List TopicList)
     → phase H ≡ Collecting
@@ -43,10 +47,6 @@ submit-accepted H run lists collecting new known runs_fit lines_fit docnos_fit =
     rw (collecting, new, known, lt-leb MAX_RUNS (length (runs H)) runs_fit, le-ltb MAX_LINES (submitted_lines H + line_count lists) lines_fit, le-ltb MAX_DOCNOS (length (each_once (submitted_docnos H ++ docnos lists))) docnos_fit) refl
 
 -- The limits: of the runs, then of the lines, then of the docnos.
-
-pub submit-too-many-runs : (H : History) (run : Text) (lists : List TopicList) → phase H ≡ Collecting → is_taken H run ≡ false → unknown_line H lists ≡ None → MAX_RUNS ≤ length (runs H)
-    → submit_ruling H run lists ≡ Err (refusal.Limit quantity.Runs)
-submit-too-many-runs H run lists collecting new known full = rw (collecting, new, known, le-leb MAX_RUNS (length (runs H)) full) refl
 
 pub submit-too-many-lines : (H : History) (run : Text) (lists : List TopicList) → phase H ≡ Collecting → is_taken H run ≡ false → unknown_line H lists ≡ None → length (runs H) < MAX_RUNS
     → nat_lt MAX_LINES (submitted_lines H + line_count lists) ≡ true → submit_ruling H run lists ≡ Err (refusal.Limit quantity.Lines)

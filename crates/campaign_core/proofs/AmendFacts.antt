@@ -16,14 +16,13 @@ use Rattle.rulebook.specs.Words.{Text, contains_text}
 use Rattle.rulebook.specs.Campaign.{History, is_topic, phase, rules_of, topics}
 use Rattle.rulebook.specs.Grades.{labels_on}
 use Rattle.campaign_core.specs.Labelling.{IsLabelled}
-use Rattle.campaign_core.specs.Numbers.{doc_in, names_of}
+use Rattle.campaign_core.specs.Numbers.{IsNumberOf, names_of}
 use Rattle.campaign_core.specs.Topics.{KeptTopic, LabelledTopic, kept, kept_of, labelled_of}
 use Rattle.assessment.specs.TopicFacts.{TopicFacts}
 use Rattle.campaign_core.specs.Kept.{KnowsAll}
 use Rattle.lease_desk.specs.declared.leases.Lease.{Lease as DeskLease}
 use Rattle.campaign_core.proofs.Accepting.{listed-id}
 use Rattle.campaign_core.proofs.LeaseFacts.{in-phase, known-topic, stands-at}
-use Rattle.campaign_core.proofs.Naming.{number-some}
 use Rattle.campaign_core.proofs.Places.{found-number}
 
 absent-past : (names : List Text) (doc : Text) → contains_text names doc ≡ false → length names ≤ position_or_len (bytes_eq doc) names
@@ -45,22 +44,17 @@ found-named names doc n is = step (contains_text names doc) refl
     step true there = refl
     step false absent = let both : ◌≡◌ {A = Option ℕ} (Some n) None = is ∙ absent-none names doc absent in cc both
 
-missed-absent : (names : List Text) (doc : Text) → (let found : Option ℕ = None in found ≡ number_of names doc) → contains_text names doc ≡ false
-missed-absent names doc is = step (contains_text names doc) refl
-  where
-    step : (t : Bool) → contains_text names doc ≡ t → t ≡ false
-    step true there = let both : ◌≡◌ {A = Option ℕ} None (Some (doc_in names doc).0) = is ∙ number-some names doc there in cc both
-    step false absent = refl
-
 -- the labels of a document that is found
 pub found-labels : (H : History) (names : List Text) (t : LabelledTopic) (doc : Text) (at : DocId) → (let found : Option ℕ = Some at.0 in found ≡ number_of names doc) → IsLabelled H names t → given_at t.marked at ≡ labels_on H t.id doc
 found-labels H names t doc at is labelled =
     let named = found-named names doc at.0 is in
     ap (given_at t.marked) (found-number names doc at (Some at) named is refl) ∙ labelled.given_are doc named
 
--- a document that isn't found has none
-pub missed-labels : (H : History) (names : List Text) (t : LabelledTopic) (doc : Text) → (let found : Option ℕ = None in found ≡ number_of names doc) → IsLabelled H names t → labels_on H t.id doc ≡ []
-missed-labels H names t doc is labelled = labelled.labels_named doc (missed-absent names doc is)
+-- what is found is the number of a docno that is among the names
+pub number-of-found : (names : List Text) (doc : Text) (at : DocId) → (let found : Option ℕ = Some at.0 in found ≡ number_of names doc) → IsNumberOf names doc at
+number-of-found names doc at is =
+    let named = found-named names doc at.0 is in
+    record { named = named; number_is = found-number names doc at (Some at) named is refl }
 
 -- What an amendment or a ruling comes to, test by test.
 

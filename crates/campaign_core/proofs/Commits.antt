@@ -1,9 +1,8 @@
--- What a state keeps true when its prepared entry joins the history.
-use Rattle.std.proofs.Common.{◌≡◌, ◌≢◌, inl, inr, ◌||◌, ◌<◌, ◌≤◌, ◌+◌, ℕ, suc, zero, Bool, true, false, List, ◌++◌, ◌∷◌, [], Option, None, Some, Ok, filter, length, map, get_or, set, length-append, subst, arith, refl, sym, ap, ◌∙◌, lit≤, cond, not}
-use Rattle.std.specs.Prelude.{All, MatchOption, slice_get}
+-- What is known of a campaign once an entry that is ready joined the history.
+use Rattle.std.proofs.Common.{◌≡◌, ◌≢◌, inl, inr, ◌||◌, ◌<◌, ◌≤◌, ◌+◌, ℕ, suc, zero, Bool, true, false, List, ◌++◌, ◌∷◌, [], Option, None, Ok, filter, length, map, get_or, set, length-append, subst, arith, refl, sym, ap, ◌∙◌, lit≤, cond, not}
+use Rattle.std.specs.Prelude.{All, slice_get}
 use Rattle.std.specs.List.{enumerate_from, filter_map}
-use Rattle.std.specs.Option.{option_and_then, option_map}
-use Rattle.std.proofs.Math.Seq.{take-length}
+use Rattle.std.specs.Option.{option_and_then}
 use Rattle.std.proofs.lemmas.Cmp.{nat_list_eq_equiv}
 use Rattle.std.proofs.lemmas.List.{append-nil, length-map}
 use Rattle.std.proofs.lemmas.List.Elements.{filter_map-append}
@@ -33,16 +32,15 @@ use Rattle.rulebook.specs.Refusals.{Ruling}
 use Rattle.rulebook.specs.Leases.{Lease, ends, lease_in, leases}
 use Rattle.rulebook.specs.Spelling.{differ}
 use Rattle.campaign_core.specs.Growth.{BeginsWith, lists_in}
-use Rattle.campaign_core.specs.Kept.{IsAssessmentOf, IsFew, IsKept, IsReady, IsUnjudged}
+use Rattle.campaign_core.specs.Kept.{IsAssessmentOf, IsFew, IsKnown, IsReady, IsUnjudged}
 use Rattle.campaign_core.specs.Labelling.{IsLabelled, graded_in}
 use Rattle.campaign_core.specs.Leasing.{IsLeased, is_known, topic_in}
 use Rattle.campaign_core.specs.Numbers.{doc_in, docs_in, names_of}
 use Rattle.campaign_core.specs.Changes.{CarriesOut, phase_after}
-use Rattle.campaign_core.specs.NumberedRequests.{numbers_of}
 use Rattle.campaign_core.specs.Scoring.{list_in, run_at, unless_withdrawn}
 use Rattle.campaign_core.specs.Submissions.{AreSubmissions, RunsAreKnown}
 use Rattle.campaign_core.specs.Topics.{KeptTopic, LabelledTopic, kept, kept_of, labelled_of, topic_ids, unlabelled}
-use Rattle.campaign_core.specs.declared.state.State.TheInside.{Inside}
+use Rattle.campaign_core.specs.declared.campaign.Campaign.{Campaign}
 use Rattle.assessment.specs.Changes.{Facts, after, facts}
 use Rattle.assessment.specs.RunLists.{RankedLists, each_with_list, with_lists}
 use Rattle.assessment.specs.TopicFacts.{TopicFacts, with_label, with_ruling, without_list}
@@ -61,7 +59,7 @@ use Rattle.campaign_core.proofs.ListFacts.{both_true, each_cons, get-map, map-at
 use Rattle.campaign_core.proofs.Fitting.{as-many, some-topic, topic-at, within-topics}
 use Rattle.campaign_core.proofs.Listing.{lists-without, none-listed, run-lists}
 use Rattle.campaign_core.proofs.LiveRuns.{known-fewer, known-more, known-stays, none-withdrawn, not-withdrawn, number-place, numbered-fewer, numbered-more, numbered-stays, run-at-stays, withdrawn-push}
-use Rattle.campaign_core.proofs.Planning.{state-ids}
+use Rattle.campaign_core.proofs.KeptIds.{state-ids}
 use Rattle.campaign_core.proofs.Naming.{docno-back}
 use Rattle.campaign_core.proofs.PoolSteps.{runs-added, runs-gone, topics-made, topics-stay}
 use Rattle.campaign_core.proofs.ScoresTold.{taken-named}
@@ -69,21 +67,13 @@ use Rattle.campaign_core.proofs.Quiet.{labelled-none, labelled-stays, leased-non
 use Rattle.campaign_core.proofs.Steps.{first-topics, had-none, no-run, one-run, phase-opens, phase-publishes, phase-stays, rules-stay, same-topics}
 use Rattle.campaign_core.proofs.Told.{open-told, plain-of, ruled_ok, some_lists, submit-told, topics-told, topics_known}
 
--- the topics that a state keeps
-abbrev pub topics_of : Inside → List TopicFacts
+-- the topics that are kept
+abbrev pub topics_of : Campaign → List TopicFacts
 topics_of s = (facts s.assessment).topics.topics
 
--- what holds of the entry that clauses see as prepared
-ready-of : {P : Type 0} (o : Option P) (value : P → Entry) (Holds : Entry → Type 0) (e : Entry) → option_map value o ≡ Some e → MatchOption o (Unit {0}) (λ p. Holds (value p)) → Holds e
-ready-of None value Holds e seen holds = cc seen
-ready-of (Some p) value Holds e seen holds = let shown : value p ≡ e = cc seen in subst Holds shown holds
-
-pub is-ready : (s : Inside) (e : Entry) → option_map (λ p. p.value) s.prepared ≡ Some e → IsKept s → IsReady s e
-is-ready s e seen kept_s = ready-of s.prepared (λ p. p.value) (IsReady s) e seen kept_s.ready
-
 -- the lines of all runs stay within the limit
-pub lines-fit : (s : Inside) (e : Entry) → IsKept s → IsReady s e → s.lines + line_count (lists_in e.core.command) ≤ MAX_LINES
-lines-fit s e kept_s ready = omega (arith, kept_s.lines_are, submitted_lines-push s.history.items e, ready.joins.lines_fit)
+pub lines-fit : (s : Campaign) (e : Entry) → IsKnown s → IsReady s e → s.lines + line_count (lists_in e.core.command) ≤ MAX_LINES
+lines-fit s e kept_s ready = omega (arith, kept_s.lines_are, submitted_lines-push s.history.items e, ready.lines_fit)
 
 -- The laws that the crates below tell.
 pub record Laws : Type 0 where
@@ -97,7 +87,7 @@ pub record Laws : Type 0 where
   pub given_stay : GivenStay
 
 -- What holds after the entry, once its change is made.
-pub record IsCarriedOut (s : Inside) (e : Entry) (c : Change) : Type 0 where
+pub record IsCarriedOut (s : Campaign) (e : Entry) (c : Change) : Type 0 where
   pub phase_is : phase_after e.core.command s.phase ≡ phase (s.history.items ++ e ∷ [])
   pub runs_fit : length (runs (s.history.items ++ e ∷ [])) ≤ MAX_RUNS
   pub topics_first : has_topics (s.history.items ++ e ∷ []) ≡ false → runs (s.history.items ++ e ∷ []) ≡ []
@@ -208,27 +198,27 @@ all-set-at P (x ∷ xs) (suc i) y here others =
     (all-set-at P xs i y here (λ k d within differs. others (suc k) d (omega (arith, within)) (λ e. differs (omega (arith, e)))))
 
 module _ (laws : Laws) where
-  keeps-all : (s : Inside) (e : Entry) → IsKept s → IsQuiet e → AreKept s.history.items (s.history.items ++ e ∷ [])
+  keeps-all : (s : Campaign) (e : Entry) → IsKnown s → IsQuiet e → AreKept s.history.items (s.history.items ++ e ∷ [])
   keeps-all s e kept_s quiet = laws.quiet_entries s.history.items e (rules-stay s.history.items e kept_s.legal) quiet
 
-  same-labels : (s : Inside) (e : Entry) (after : List LabelledTopic) → IsKept s → AreKept s.history.items (s.history.items ++ e ∷ []) → names_of (s.history.items ++ e ∷ []) ≡ names_of s.history.items → after ≡ map labelled_of (topics_of s)
+  same-labels : (s : Campaign) (e : Entry) (after : List LabelledTopic) → IsKnown s → AreKept s.history.items (s.history.items ++ e ∷ []) → names_of (s.history.items ++ e ∷ []) ≡ names_of s.history.items → after ≡ map labelled_of (topics_of s)
       → All (IsLabelled (s.history.items ++ e ∷ []) (names_of (s.history.items ++ e ∷ []))) after
   same-labels s e after kept_s keeps names_are is = subst (All (IsLabelled (s.history.items ++ e ∷ []) (names_of (s.history.items ++ e ∷ [])))) (sym is)
       (λ k d within. labelled-stays s.history.items (s.history.items ++ e ∷ []) (get_or (map labelled_of (topics_of s)) k d) keeps names_are (kept_s.assessed.knows.labels_are k d within))
 
   -- a topic that is unjudged before and after
-  fresh-labels : (s : Inside) (e : Entry) (after : List LabelledTopic) → AreKept s.history.items (s.history.items ++ e ∷ []) → given_labels (s.history.items ++ e ∷ []) ≡ given_labels s.history.items → leases (s.history.items ++ e ∷ []) ≡ leases s.history.items
+  fresh-labels : (s : Campaign) (e : Entry) (after : List LabelledTopic) → AreKept s.history.items (s.history.items ++ e ∷ []) → given_labels (s.history.items ++ e ∷ []) ≡ given_labels s.history.items → leases (s.history.items ++ e ∷ []) ≡ leases s.history.items
       → IsUnjudged s.history.items (map labelled_of (topics_of s)) → All (λ (t : LabelledTopic). t.marked ≡ []) after → All (λ (t : LabelledTopic). t.graded ≡ []) after
       → All (IsLabelled (s.history.items ++ e ∷ []) (names_of (s.history.items ++ e ∷ []))) after
   fresh-labels s e after keeps labels_are leases_are none no_mark no_grade k d within =
       let later = unjudged-stays s.history.items (s.history.items ++ e ∷ []) (map labelled_of (topics_of s)) keeps labels_are leases_are none in
       labelled-none (s.history.items ++ e ∷ []) (get_or after k d) later.no_label later.no_ruling later.no_trail (no_mark k d within) (no_grade k d within)
 
-  same-withdrawn : (s : Inside) (e : Entry) → IsPlain e.core.command → (name : Text) → is_withdrawn (s.history.items ++ e ∷ []) name ≡ is_withdrawn s.history.items name
+  same-withdrawn : (s : Campaign) (e : Entry) → IsPlain e.core.command → (name : Text) → is_withdrawn (s.history.items ++ e ∷ []) name ≡ is_withdrawn s.history.items name
   same-withdrawn s e plain = none-withdrawn s.history.items e plain.no_withdrawal
 
   -- the pools where the entry is plain
-  pools-stay : (s : Inside) (e : Entry) → IsKept s → IsPlain e.core.command → map kept (topics_of s) ≡ map (kept_of (s.history.items ++ e ∷ [])) (topic_ids (s.history.items ++ e ∷ []))
+  pools-stay : (s : Campaign) (e : Entry) → IsKnown s → IsPlain e.core.command → map kept (topics_of s) ≡ map (kept_of (s.history.items ++ e ∷ [])) (topic_ids (s.history.items ++ e ∷ []))
   pools-stay s e kept_s plain =
       let H = s.history.items in
       let J : History = H ++ e ∷ [] in
@@ -237,7 +227,7 @@ module _ (laws : Laws) where
       ∙ ap (map (kept_of J)) (sym (ids-stay H e plain.no_topics))
 
   -- the labels of all topics after one of them has changed
-  topic-after : (s : Inside) (e : Entry) (id : Text) (number : ℕ) (new : TopicFacts → LabelledTopic) → IsKept s → number ≡ topic_in (topic_ids s.history.items) id → contains_text (topic_ids s.history.items) id ≡ true
+  topic-after : (s : Campaign) (e : Entry) (id : Text) (number : ℕ) (new : TopicFacts → LabelledTopic) → IsKnown s → number ≡ topic_in (topic_ids s.history.items) id → contains_text (topic_ids s.history.items) id ≡ true
       → ((t : TopicFacts) → t.id ≡ id → t.need ≡ need s.history.items t.id → IsLabelled s.history.items (names_of s.history.items) (labelled_of t) → IsLabelled (s.history.items ++ e ∷ []) (names_of (s.history.items ++ e ∷ [])) (new t))
       → ((t : LabelledTopic) → bytes_eq id t.id ≡ false → IsLabelled s.history.items (names_of s.history.items) t → IsLabelled (s.history.items ++ e ∷ []) (names_of (s.history.items ++ e ∷ [])) t)
       → ((t : TopicFacts) → IsFew (length s.history.items) (labelled_of t) → IsFew (length s.history.items + 1) (new t))
@@ -273,7 +263,7 @@ module _ (laws : Laws) where
       apart false a b same k i ids this that differs = refl
 
   -- the labels after one more
-  label-after : (s : Inside) (e : Entry) (label : Label) (topic : ℕ) (doc : DocId) (assessor : Text) → IsKept s → AreWithLabel s.history.items (s.history.items ++ e ∷ []) label
+  label-after : (s : Campaign) (e : Entry) (label : Label) (topic : ℕ) (doc : DocId) (assessor : Text) → IsKnown s → AreWithLabel s.history.items (s.history.items ++ e ∷ []) label
       → ((id : Text) → need (s.history.items ++ e ∷ []) id ≡ need s.history.items id) → names_of (s.history.items ++ e ∷ []) ≡ names_of s.history.items
       → topic ≡ topic_in (topic_ids s.history.items) label.topic → doc ≡ doc_in (names_of s.history.items) label.doc → assessor ≡ label.assessor
       → contains_text (names_of s.history.items) label.doc ≡ true → contains_text (topic_ids s.history.items) label.topic ≡ true
@@ -292,7 +282,7 @@ module _ (laws : Laws) where
       (λ T few. few-here laws.given_follow (length H) (labelled_of T) doc assessor label.grade (effective_at T.need (with_label_at doc assessor label.grade T.marked) doc) few)
 
   -- the labels after a ruling
-  ruling-after : (s : Inside) (e : Entry) (id docno : Text) (topic : ℕ) (doc : DocId) (grade : ℕ) → IsKept s → AreWithRuling s.history.items (s.history.items ++ e ∷ []) id docno grade
+  ruling-after : (s : Campaign) (e : Entry) (id docno : Text) (topic : ℕ) (doc : DocId) (grade : ℕ) → IsKnown s → AreWithRuling s.history.items (s.history.items ++ e ∷ []) id docno grade
       → ((id : Text) → need (s.history.items ++ e ∷ []) id ≡ need s.history.items id) → names_of (s.history.items ++ e ∷ []) ≡ names_of s.history.items
       → topic ≡ topic_in (topic_ids s.history.items) id → doc ≡ doc_in (names_of s.history.items) docno
       → contains_text (names_of s.history.items) docno ≡ true → contains_text (topic_ids s.history.items) id ≡ true → is_labelled s.history.items id docno ≡ true
@@ -310,13 +300,13 @@ module _ (laws : Laws) where
       (λ t differs was. ruled-elsewhere laws.rulings_follow laws.given_stay H J id docno grade ruled needs names_are t differs was)
       (λ T few. few-ruled laws.given_stay (length H) (labelled_of T) doc grade (effective_at T.need (with_ruling_at doc grade T.marked) doc) few)
 
-  fresh-after : (s : Inside) (e : Entry) (after : List LabelledTopic) → AreKept s.history.items (s.history.items ++ e ∷ []) → given_labels (s.history.items ++ e ∷ []) ≡ given_labels s.history.items → leases (s.history.items ++ e ∷ []) ≡ leases s.history.items
+  fresh-after : (s : Campaign) (e : Entry) (after : List LabelledTopic) → AreKept s.history.items (s.history.items ++ e ∷ []) → given_labels (s.history.items ++ e ∷ []) ≡ given_labels s.history.items → leases (s.history.items ++ e ∷ []) ≡ leases s.history.items
       → IsUnjudged s.history.items (map labelled_of (topics_of s)) → All (λ (t : LabelledTopic). t.marked ≡ []) after → IsUnjudged (s.history.items ++ e ∷ []) after
   fresh-after s e after keeps labels_are leases_are none no_mark =
       let later = unjudged-stays s.history.items (s.history.items ++ e ∷ []) (map labelled_of (topics_of s)) keeps labels_are leases_are none in
       record { no_lease = later.no_lease; no_label = later.no_label; no_ruling = later.no_ruling; no_trail = later.no_trail; no_mark = no_mark }
 
-  no-grade : (s : Inside) → IsKept s → IsUnjudged s.history.items (map labelled_of (topics_of s)) → All (λ (t : LabelledTopic). t.graded ≡ []) (map labelled_of (topics_of s))
+  no-grade : (s : Campaign) → IsKnown s → IsUnjudged s.history.items (map labelled_of (topics_of s)) → All (λ (t : LabelledTopic). t.graded ≡ []) (map labelled_of (topics_of s))
   no-grade s kept_s none k d within =
       let t : LabelledTopic = get_or (map labelled_of (topics_of s)) k d in
       let labelled = kept_s.assessed.knows.labels_are k d within in
@@ -334,10 +324,10 @@ module _ (laws : Laws) where
   new-few n [] = λ k d within. absurd (omega (arith, within))
   new-few n (t ∷ given) = each_cons (IsFew n) (unlabelled t.id) (map (λ (topic : Topic). unlabelled topic.id) given) (record { few_labels = λ doc. omega arith; few_grades = omega arith }) (new-few n given)
 
-  same-level : (s : Inside) (e : Entry) → IsKept s → (facts s.assessment).topics.level ≡ (rules_of (s.history.items ++ e ∷ [])).level
+  same-level : (s : Campaign) (e : Entry) → IsKnown s → (facts s.assessment).topics.level ≡ (rules_of (s.history.items ++ e ∷ [])).level
   same-level s e kept_s = kept_s.assessed.level_is ∙ ap (λ (r : Rules). r.level) (sym (rules-stay s.history.items e kept_s.legal))
 
-  same-lists : (s : Inside) (e : Entry) → IsKept s → IsPlain e.core.command → (run : RunId) (on : ℕ)
+  same-lists : (s : Campaign) (e : Entry) → IsKnown s → IsPlain e.core.command → (run : RunId) (on : ℕ)
       → (facts s.assessment).topics.lists run on ≡ list_in (names_of (s.history.items ++ e ∷ [])) (topic_ids (s.history.items ++ e ∷ [])) (run_at (s.history.items ++ e ∷ []) run) on
   same-lists s e kept_s plain run on =
       let H = s.history.items in
@@ -348,7 +338,7 @@ module _ (laws : Laws) where
       ∙ ap (λ (o : Option Run). list_in (names_of J) (topic_ids J) o on) (sym (run-at-stays H J (no-run H e plain.no_run) (same-withdrawn s e plain) run))
 
   -- where the entry changes leases alone
-  quiet-assessed : (s : Inside) (e : Entry) (later : List DeskLease) → IsKept s → IsPlain e.core.command → IsQuiet e → IsLeased (s.history.items ++ e ∷ []) (names_of (s.history.items ++ e ∷ [])) later
+  quiet-assessed : (s : Campaign) (e : Entry) (later : List DeskLease) → IsKnown s → IsPlain e.core.command → IsQuiet e → IsLeased (s.history.items ++ e ∷ []) (names_of (s.history.items ++ e ∷ [])) later
       → IsAssessmentOf (s.history.items ++ e ∷ []) (record (facts s.assessment) { leases = later })
   quiet-assessed s e later kept_s plain quiet leased =
       let H = s.history.items in
@@ -368,7 +358,7 @@ module _ (laws : Laws) where
       }
 
   -- where the entry changes the labels or the rulings of a topic
-  marked-assessed : (s : Inside) (e : Entry) (number : ℕ) (step : TopicFacts → TopicFacts) (later : List DeskLease) → IsKept s → IsPlain e.core.command → ((t : TopicFacts) → kept (step t) ≡ kept t)
+  marked-assessed : (s : Campaign) (e : Entry) (number : ℕ) (step : TopicFacts → TopicFacts) (later : List DeskLease) → IsKnown s → IsPlain e.core.command → ((t : TopicFacts) → kept (step t) ≡ kept t)
       → (((later : List LabelledTopic) → ((d : TopicFacts) → later ≡ set (map labelled_of (topics_of s)) number (labelled_of (step (get_or (topics_of s) number d)))) → All (IsLabelled (s.history.items ++ e ∷ []) (names_of (s.history.items ++ e ∷ []))) later)
       × ((later : List LabelledTopic) → ((d : TopicFacts) → later ≡ set (map labelled_of (topics_of s)) number (labelled_of (step (get_or (topics_of s) number d)))) → All (IsFew (length s.history.items + 1)) later))
       → IsLeased (s.history.items ++ e ∷ []) (names_of (s.history.items ++ e ∷ [])) later
@@ -392,7 +382,7 @@ module _ (laws : Laws) where
         lists_are = same-lists s e kept_s plain;
       }
 
-  plain-carried : (s : Inside) (e : Entry) (c : Change) → IsKept s → IsPlain e.core.command → phase_after e.core.command s.phase ≡ phase (s.history.items ++ e ∷ []) → phase (s.history.items ++ e ∷ []) ≢ Collecting
+  plain-carried : (s : Campaign) (e : Entry) (c : Change) → IsKnown s → IsPlain e.core.command → phase_after e.core.command s.phase ≡ phase (s.history.items ++ e ∷ []) → phase (s.history.items ++ e ∷ []) ≢ Collecting
       → IsAssessmentOf (s.history.items ++ e ∷ []) (after c (facts s.assessment)) → IsCarriedOut s e c
   plain-carried s e c kept_s plain phase_is opened assessed =
       let H = s.history.items in
@@ -406,7 +396,7 @@ module _ (laws : Laws) where
       }
 
   -- where the entry changes nothing but the phase
-  still-assessed : (s : Inside) (e : Entry) (c : Command) → IsKept s → IsPlain e.core.command → e.core.command ≡ c → e.reply ≡ reply.Done → label_in e.core.caller.name c e.reply ≡ None
+  still-assessed : (s : Campaign) (e : Entry) (c : Command) → IsKnown s → IsPlain e.core.command → e.core.command ≡ c → e.reply ≡ reply.Done → label_in e.core.caller.name c e.reply ≡ None
       → ((topic doc : Text) → ruling_in topic doc c ≡ None) → ((number : ℕ) → ends number c ≡ false) → IsAssessmentOf (s.history.items ++ e ∷ []) (facts s.assessment)
   still-assessed s e c kept_s plain is reply_is no_label no_ruling no_end =
       let H = s.history.items in
@@ -416,17 +406,17 @@ module _ (laws : Laws) where
       quiet-assessed s e s.assessment.leases kept_s plain quiet
       (leased-stays H J s.assessment.leases no_lease (none-ended H e (λ n. ap (ends n) is ∙ no_end n)) (ids-stay H e plain.no_topics) (names-stay H e plain.no_docnos) kept_s.assessed.knows.leased)
 
-  pub carried-out : (s : Inside) (e : Entry) (c : Change) → IsKept s → IsReady s e → CarriesOut s.history.items s.docnos (topics_of s) s.assessment.leases e c → IsCarriedOut s e c
-  carried-out s e (change.Topics made) kept_s ready (given, is, made_is, labelled_is, is_new) =
+  pub carried-out : (s : Campaign) (names : List Text) (e : Entry) (c : Change) → IsKnown s → IsReady s e → names ≡ names_of (s.history.items ++ e ∷ []) → CarriesOut s.history.items names (topics_of s) s.assessment.leases e c → IsCarriedOut s e c
+  carried-out s names e (change.Topics made) kept_s ready names_is (given, is, made_is, labelled_is, is_new) =
       let H = s.history.items in
       let J : History = H ++ e ∷ [] in
-      let ruled = rw is at (ruled_ok H e ready.joins.accepted) in
+      let ruled = rw is at (ruled_ok H e ready.accepted) in
       let told = topics-told H given e.reply ruled in
       let none_run : runs J ≡ [] = no-run H e (ap run_in is) ∙ kept_s.topics_first told.1 in
       let rules_are = rules-stay H e kept_s.legal in
       let given_is : topics J ≡ given = first-topics H e given told.1 (ap topics_in is) in
       let ids_are : topic_ids J ≡ map (λ (t : Topic). t.id) given = ap (map (λ (t : Topic). t.id)) given_is in
-      let plain = rw is at (plain-of e.core.caller e.core.number e.core.command e.core.moment ready.joins.accepted.addressed) in
+      let plain = rw is at (plain-of e.core.caller e.core.number e.core.command e.core.moment ready.accepted.addressed) in
       let quiet : IsQuiet e = record { no_label = ap (λ c. label_in e.core.caller.name c e.reply) is; no_ruling = λ topic doc. ap (ruling_in topic doc) is } in
       let keeps = keeps-all s e kept_s quiet in
       let reply_is : e.reply ≡ reply.Topics (length given) = topics-reply H given e.reply ruled in
@@ -456,19 +446,19 @@ module _ (laws : Laws) where
         };
         unjudged = λ collecting. subst (IsUnjudged J) (sym labelled_is) (fresh-after s e new keeps labels_are no_lease none (new-marks given));
       }
-  carried-out s e (change.Run run entered) kept_s ready (name, lists, is, number, entered_is) =
+  carried-out s names e (change.Run run entered) kept_s ready names_is (name, lists, is, number, entered_is) =
       let H = s.history.items in
       let J : History = H ++ e ∷ [] in
       let ts = topics_of s in
-      let ruled = rw is at (ruled_ok H e ready.joins.accepted) in
+      let ruled = rw is at (ruled_ok H e ready.accepted) in
       let told = submit-told H name lists e.reply ruled in
-      let plain = rw is at (plain-of e.core.caller e.core.number e.core.command e.core.moment ready.joins.accepted.addressed) in
+      let plain = rw is at (plain-of e.core.caller e.core.number e.core.command e.core.moment ready.accepted.addressed) in
       let new : Run = record { name = name; lists = lists } in
       let run_is : runs J ≡ runs H ++ new ∷ [] = one-run H e new (ap run_in is) in
       let withdrawn_are = none-withdrawn H e (λ other. ap (withdraws other) is) in
       let live : is_withdrawn H name ≡ false = not-withdrawn H name kept_s.runs_known told.0 in
       let rules_are = rules-stay H e kept_s.legal in
-      let grown : BeginsWith (names_of H) (names_of J) = rw (← ready.joins.docnos_are) kept_s.docnos_are in
+      let grown : BeginsWith (names_of H) (names_of J) = ready.docnos_grow in
       let same : topics J ≡ topics H = same-topics H e (ap topics_in is) in
       let ids_are = ids-stay H e (ap topics_in is) in
       let quiet : IsQuiet e = record { no_label = ap (λ c. label_in e.core.caller.name c e.reply) is; no_ruling = λ topic doc. ap (ruling_in topic doc) is } in
@@ -478,7 +468,7 @@ module _ (laws : Laws) where
       let none = kept_s.unjudged (submit-collecting H name lists e.reply ruled) in
       let labels_are = labels-none H e quiet.no_label in
       let labelled_is = each-labelled run entered.items ts in
-      let listed : entered.items ≡ map (λ (t : TopicFacts). docs_in (names_of J) (docs_on lists t.id)) ts = entered_is ∙ ap (λ (names : List Text). map (λ (t : TopicFacts). docs_in names (docs_on lists t.id)) ts) ready.joins.docnos_are in
+      let listed : entered.items ≡ map (λ (t : TopicFacts). docs_in (names_of J) (docs_on lists t.id)) ts = entered_is ∙ ap (λ (names : List Text). map (λ (t : TopicFacts). docs_in names (docs_on lists t.id)) ts) names_is in
       record {
         phase_is = ap (λ c. phase_after c s.phase) is ∙ kept_s.phase_is ∙ sym (phase-stays H e (ap publishes is) (ap opens is));
         runs_fit = rw run_is (omega (arith, length-append (runs H) (new ∷ []), told.2));
@@ -487,7 +477,7 @@ module _ (laws : Laws) where
         assessed = record {
           knows = record {
             topics_are = ap (λ (ls : List (List DocId)). map kept (each_with_list run ls ts)) entered_is
-                ∙ runs-added H J name lists run s.docnos ts (topic_ids H) laws.goes_last rules_are grown (numbered-more H J new run_is withdrawn_are live) ready.joins.docnos_are number kept_s.assessed.knows.topics_are
+                ∙ runs-added H J name lists run names ts (topic_ids H) laws.goes_last rules_are grown (numbered-more H J new run_is withdrawn_are live) names_is number kept_s.assessed.knows.topics_are
                 ∙ ap (λ (ts : List Topic). map (kept_of J) (map (λ (t : Topic). t.id) ts)) (sym same);
             labels_are = subst (All (IsLabelled J (names_of J))) (sym labelled_is) (fresh-labels s e (map labelled_of ts) keeps labels_are no_lease none none.no_mark (no-grade s kept_s none));
             leased = leased-none H J s.assessment.leases none.no_lease no_lease (none-ended H e (λ n. ap (ends n) is)) kept_s.assessed.knows.leased;
@@ -502,11 +492,11 @@ module _ (laws : Laws) where
         };
         unjudged = λ collecting. subst (IsUnjudged J) (sym labelled_is) (fresh-after s e (map labelled_of ts) keeps labels_are no_lease none none.no_mark);
       }
-  carried-out s e (change.Withdraw run) kept_s ready (name, is, number) =
+  carried-out s names e (change.Withdraw run) kept_s ready names_is (name, is, number) =
       let H = s.history.items in
       let J : History = H ++ e ∷ [] in
       let ts = topics_of s in
-      let told = withdraw-told H e.core.caller name e.reply (rw is at (ruled_ok H e ready.joins.accepted)) in
+      let told = withdraw-told H e.core.caller name e.reply (rw is at (ruled_ok H e ready.accepted)) in
       let runs_are = no-run H e (ap run_in is) in
       let names_are = names-stay H e (ap (λ c. docnos (lists_in c)) is) in
       let ids_are = ids-stay H e (ap topics_in is) in
@@ -541,28 +531,28 @@ module _ (laws : Laws) where
             let none = kept_s.unjudged (sym phases ∙ collecting) in
             subst (IsUnjudged J) (sym labelled_is) (fresh-after s e (map labelled_of ts) keeps (labels-none H e quiet.no_label) no_lease none none.no_mark);
       }
-  carried-out s e change.Nothing kept_s ready (inl is) =
+  carried-out s names e change.Nothing kept_s ready names_is (inl is) =
       let H = s.history.items in
       let J : History = H ++ e ∷ [] in
-      let ruled = rw is at (ruled_ok H e ready.joins.accepted) in
+      let ruled = rw is at (ruled_ok H e ready.accepted) in
       let plain : IsPlain e.core.command = plain-by e.core.command command.Open is refl refl refl (λ name. refl) in
       let opened = phase-opens H e (open-told H e.reply ruled) (ap publishes is) (ap opens is) in
       plain-carried s e change.Nothing kept_s plain (ap (λ c. phase_after c s.phase) is ∙ sym opened) (not-collecting (phase J) opened)
       (still-assessed s e command.Open kept_s plain is (open-reply H e.reply ruled) refl (λ topic doc. refl) (λ n. refl))
-  carried-out s e change.Nothing kept_s ready (inr is) =
+  carried-out s names e change.Nothing kept_s ready names_is (inr is) =
       let H = s.history.items in
       let J : History = H ++ e ∷ [] in
-      let ruled = rw is at (ruled_ok H e ready.joins.accepted) in
+      let ruled = rw is at (ruled_ok H e ready.accepted) in
       let plain : IsPlain e.core.command = plain-by e.core.command command.Publish is refl refl refl (λ name. refl) in
       let published = phase-publishes H e (ap publishes is) in
       plain-carried s e change.Nothing kept_s plain (ap (λ c. phase_after c s.phase) is ∙ sym published) (not-published (phase J) published)
       (still-assessed s e command.Publish kept_s plain is (publish-told H e.reply ruled) refl (λ topic doc. refl) (λ n. refl))
-  carried-out s e (change.Lease grant) kept_s ready w =
+  carried-out s names e (change.Lease grant) kept_s ready names_is w =
       let H = s.history.items in
       let J : History = H ++ e ∷ [] in
       let wanted : Text = w.command_is.0 in
       let is : e.core.command ≡ command.Lease wanted = w.command_is.1 in
-      let told = lease-told H e.core.caller (moment_after H e.core.moment) wanted e.reply (rw is at (ruled_ok H e ready.joins.accepted)) in
+      let told = lease-told H e.core.caller (moment_after H e.core.moment) wanted e.reply (rw is at (ruled_ok H e ready.accepted)) in
       let plain : IsPlain e.core.command = plain-by e.core.command (command.Lease wanted) is refl refl refl (λ name. refl) in
       let quiet : IsQuiet e = record { no_label = ap (λ c. label_in e.core.caller.name c e.reply) is; no_ruling = λ topic doc. ap (ruling_in topic doc) is } in
       let names_are = names-stay H e plain.no_docnos in
@@ -570,17 +560,17 @@ module _ (laws : Laws) where
       let phases = phase-stays H e (ap publishes is) (ap opens is) in
       let granted_lease : Lease = record { number = length (leases H) + 1; assessor = e.core.caller.name; topic = wanted; doc = told.doc; until = moment_after H e.core.moment + (rules_of H).term } in
       let lease_is : w.lease ≡ granted_lease = some-same w.lease granted_lease (sym w.told ∙ ap (lease_in e.core.caller.name) told.reply_is) in
-      let docnos_are : s.docnos ≡ names_of H = ready.joins.docnos_are ∙ names_are in
+      let docnos_are : names ≡ names_of H = names_is ∙ names_are in
       let listed : contains_text (topic_ids H) w.lease.topic ≡ true = ap (λ (l : Lease). contains_text (topic_ids H) l.topic) lease_is ∙ sym (listed-id (topics H) wanted) ∙ told.listed in
       let leased = leased-granted H e w.lease s.assessment.leases grant.topic grant.doc grant.until grant.assessor w.told (ap (λ (l : Lease). l.number) lease_is) (λ n. ap (ends n) is) ids_are names_are
       w.topic_is (w.doc_is ∙ ap (λ names. doc_in names w.lease.doc) docnos_are) w.until_is w.assessor_is (ap (λ names. contains_text names w.lease.doc) (sym docnos_are) ∙ w.doc_named) listed kept_s.assessed.knows.leased in
       plain-carried s e (change.Lease grant) kept_s plain (ap (λ c. phase_after c s.phase) is ∙ kept_s.phase_is ∙ sym phases) (not-collecting (phase J) (phases ∙ told.judging))
       (quiet-assessed s e (granted s.assessment.leases grant.assessor grant.topic grant.doc grant.until) kept_s plain quiet leased)
-  carried-out s e (change.Grade number label) kept_s ready w =
+  carried-out s names e (change.Grade number label) kept_s ready names_is w =
       let H = s.history.items in
       let J : History = H ++ e ∷ [] in
       let is : e.core.command ≡ command.Grade number label.grade = w.command_is in
-      let told = grade-told H e.core.caller (moment_after H e.core.moment) number label.grade e.reply (rw is at (ruled_ok H e ready.joins.accepted)) in
+      let told = grade-told H e.core.caller (moment_after H e.core.moment) number label.grade e.reply (rw is at (ruled_ok H e ready.accepted)) in
       let l : Lease = told.0.lease in
       let lease_is : w.lease ≡ l = some-same w.lease l (sym w.found ∙ told.0.found) in
       let no_lease : leases J ≡ leases H = no-lease H e (ap (lease_in e.core.caller.name) told.1) in
@@ -593,19 +583,19 @@ module _ (laws : Laws) where
       let gives : GivesLabel e given = record { label_is = ap (λ c. label_in e.core.caller.name c e.reply) is ∙ ap (label_in e.core.caller.name (command.Grade number label.grade)) told.1; no_ruling = λ topic doc. ap (ruling_in topic doc) is } in
       let joined = laws.labels_join H e given rules_are gives in
       let needs : (id : Text) → need J id ≡ need H id = λ id. ap (λ (r : Rules). needed r id) rules_are in
-      let docnos_are : s.docnos ≡ names_of H = ready.joins.docnos_are ∙ names_are in
+      let docnos_are : names ≡ names_of H = names_is ∙ names_are in
       let known = numbered-all (is_known H (names_of H)) H number l kept_s.assessed.knows.leased.are_known told.0.found in
       let both = both_true (contains_text (names_of H) l.doc) (contains_text (topic_ids H) l.topic) known in
       let topic_is : label.topic ≡ topic_in (topic_ids H) l.topic = w.topic_is ∙ ap (λ (l : Lease). topic_in (topic_ids H) l.topic) lease_is in
-      let doc_is : label.doc ≡ doc_in (names_of H) l.doc = w.doc_is ∙ ap (λ (l : Lease). doc_in s.docnos l.doc) lease_is ∙ ap (λ names. doc_in names l.doc) docnos_are in
+      let doc_is : label.doc ≡ doc_in (names_of H) l.doc = w.doc_is ∙ ap (λ (l : Lease). doc_in names l.doc) lease_is ∙ ap (λ names. doc_in names l.doc) docnos_are in
       let labels = label-after s e given label.topic label.doc label.assessor kept_s joined needs names_are topic_is doc_is w.assessor_is both.0 both.1 in
       let leased = leased-ended H e number Graded (λ n. ap (ends n) is) ids_are names_are s.assessment.leases no_lease (numbered-within H number l told.0.found) kept_s.assessed.knows.leased in
       plain-carried s e (change.Grade number label) kept_s plain (ap (λ c. phase_after c s.phase) is ∙ kept_s.phase_is ∙ sym phases) (not-collecting (phase J) (phases ∙ told.0.judging))
       (marked-assessed s e label.topic (with_label label.doc label.assessor label.grade) (with_end s.assessment.leases number Graded) kept_s plain (λ t. refl) labels leased)
-  carried-out s e (change.Amend label) kept_s ready (topic, doc, is, assessor_is, w) =
+  carried-out s names e (change.Amend label) kept_s ready names_is (topic, doc, is, assessor_is, w) =
       let H = s.history.items in
       let J : History = H ++ e ∷ [] in
-      let told = amend-told H e.core.caller topic doc label.grade e.reply (rw is at (ruled_ok H e ready.joins.accepted)) in
+      let told = amend-told H e.core.caller topic doc label.grade e.reply (rw is at (ruled_ok H e ready.accepted)) in
       let no_lease : leases J ≡ leases H = no-lease H e (ap (lease_in e.core.caller.name) told.reply_is) in
       let plain : IsPlain e.core.command = plain-by e.core.command (command.Amend topic doc label.grade) is refl refl refl (λ name. refl) in
       let names_are = names-stay H e plain.no_docnos in
@@ -614,16 +604,16 @@ module _ (laws : Laws) where
       let rules_are = rules-stay H e kept_s.legal in
       let given : Label = record { topic = topic; doc = doc; assessor = e.core.caller.name; grade = label.grade } in
       let gives : GivesLabel e given = record { label_is = ap (λ c. label_in e.core.caller.name c e.reply) is; no_ruling = λ topic doc. ap (ruling_in topic doc) is } in
-      let docnos_are : s.docnos ≡ names_of H = ready.joins.docnos_are ∙ names_are in
+      let docnos_are : names ≡ names_of H = names_is ∙ names_are in
       let labels = label-after s e given label.topic label.doc label.assessor kept_s (laws.labels_join H e given rules_are gives) (λ id. ap (λ (r : Rules). needed r id) rules_are) names_are
       w.number_is (w.at_is ∙ ap (λ names. doc_in names doc) docnos_are) assessor_is (ap (λ names. contains_text names doc) (sym docnos_are) ∙ w.doc_named) w.listed in
       let leased = leased-stays H J s.assessment.leases no_lease (none-ended H e (λ n. ap (ends n) is)) ids_are names_are kept_s.assessed.knows.leased in
       plain-carried s e (change.Amend label) kept_s plain (ap (λ c. phase_after c s.phase) is ∙ kept_s.phase_is ∙ sym phases) (not-collecting (phase J) (phases ∙ told.judging))
       (marked-assessed s e label.topic (with_label label.doc label.assessor label.grade) s.assessment.leases kept_s plain (λ t. refl) labels leased)
-  carried-out s e (change.Rule ruling) kept_s ready (topic, doc, is, w) =
+  carried-out s names e (change.Rule ruling) kept_s ready names_is (topic, doc, is, w) =
       let H = s.history.items in
       let J : History = H ++ e ∷ [] in
-      let told = rule-told H topic doc ruling.grade e.reply (rw is at (ruled_ok H e ready.joins.accepted)) in
+      let told = rule-told H topic doc ruling.grade e.reply (rw is at (ruled_ok H e ready.accepted)) in
       let no_lease : leases J ≡ leases H = no-lease H e (ap (lease_in e.core.caller.name) told.reply_is) in
       let plain : IsPlain e.core.command = plain-by e.core.command (command.Rule topic doc ruling.grade) is refl refl refl (λ name. refl) in
       let names_are = names-stay H e plain.no_docnos in
@@ -631,16 +621,16 @@ module _ (laws : Laws) where
       let phases = phase-stays H e (ap publishes is) (ap opens is) in
       let rules_are = rules-stay H e kept_s.legal in
       let gives : GivesRuling e topic doc ruling.grade = record { no_label = ap (λ c. label_in e.core.caller.name c e.reply) is; command_is = is } in
-      let docnos_are : s.docnos ≡ names_of H = ready.joins.docnos_are ∙ names_are in
+      let docnos_are : names ≡ names_of H = names_is ∙ names_are in
       let labels = ruling-after s e topic doc ruling.topic ruling.doc ruling.grade kept_s (laws.rulings_join H e topic doc ruling.grade rules_are gives told.has_label) (λ id. ap (λ (r : Rules). needed r id) rules_are) names_are
       w.number_is (w.at_is ∙ ap (λ names. doc_in names doc) docnos_are) (ap (λ names. contains_text names doc) (sym docnos_are) ∙ w.doc_named) w.listed told.has_label in
       let leased = leased-stays H J s.assessment.leases no_lease (none-ended H e (λ n. ap (ends n) is)) ids_are names_are kept_s.assessed.knows.leased in
       plain-carried s e (change.Rule ruling) kept_s plain (ap (λ c. phase_after c s.phase) is ∙ kept_s.phase_is ∙ sym phases) (not-collecting (phase J) (phases ∙ told.judging))
       (marked-assessed s e ruling.topic (with_ruling ruling.doc ruling.grade) s.assessment.leases kept_s plain (λ t. refl) labels leased)
-  carried-out s e (change.Release number) kept_s ready (is, unended) =
+  carried-out s names e (change.Release number) kept_s ready names_is (is, unended) =
       let H = s.history.items in
       let J : History = H ++ e ∷ [] in
-      let told = release-told H e.core.caller (moment_after H e.core.moment) number e.reply (rw is at (ruled_ok H e ready.joins.accepted)) in
+      let told = release-told H e.core.caller (moment_after H e.core.moment) number e.reply (rw is at (ruled_ok H e ready.accepted)) in
       let plain : IsPlain e.core.command = plain-by e.core.command (command.Release number) is refl refl refl (λ name. refl) in
       let quiet : IsQuiet e = record { no_label = ap (λ c. label_in e.core.caller.name c e.reply) is; no_ruling = λ topic doc. ap (ruling_in topic doc) is } in
       let no_lease : leases J ≡ leases H = no-lease H e (ap (lease_in e.core.caller.name) told.1) in
@@ -649,38 +639,28 @@ module _ (laws : Laws) where
       plain-carried s e (change.Release number) kept_s plain (ap (λ c. phase_after c s.phase) is ∙ kept_s.phase_is ∙ sym phases) (not-collecting (phase J) (phases ∙ told.0.judging))
       (quiet-assessed s e (with_end s.assessment.leases number Released) kept_s plain quiet leased)
 
-pub kept-after : (s later : Inside) (e : Entry) (c : Change) → IsKept s → IsReady s e → IsCarriedOut s e c
+pub known-after : (s later : Campaign) (e : Entry) (c : Change) → IsKnown s → IsReady s e → IsCarriedOut s e c
     → later.history.items ≡ s.history.items ++ e ∷ []
     → later.phase ≡ phase_after e.core.command s.phase
-    → later.docnos ≡ s.docnos
-    → later.docnos_kept ≡ length s.docnos
-    → later.numbers ≡ s.numbers
-    → later.numbers_kept ≡ length s.numbers
     → later.lines ≡ s.lines + line_count (lists_in e.core.command)
     → facts later.assessment ≡ after c (facts s.assessment)
     → AreSubmissions (s.history.items ++ e ∷ []) later.submissions.items
-    → later.prepared ≡ None
-    → IsKept later
-kept-after s later e c kept_s ready done grown phase_is docnos_is docnos_kept_is numbers_is numbers_kept_is lines_is facts_are submissions_are forgotten =
+    → IsKnown later
+known-after s later e c kept_s ready done grown phase_is lines_is facts_are submissions_are =
     let J : History = s.history.items ++ e ∷ [] in
     record {
-      legal = rw grown (IsLegal-push s.history.items e kept_s.legal ready.joins.accepted);
+      legal = rw grown (IsLegal-push s.history.items e kept_s.legal ready.accepted);
       phase_is = phase_is ∙ done.phase_is ∙ ap phase (sym grown);
       moment_fits = rw (grown, moment_after-push s.history.items e 0) (omega (arith, ready.moment_fits));
       entries_fit = rw grown (omega (arith, length-append s.history.items (e ∷ []), ready.entries_fit));
-      lines_fit = rw grown ready.joins.lines_fit;
+      lines_fit = rw grown ready.lines_fit;
+      docnos_fit = rw grown ready.docnos_fit;
       runs_fit = rw grown done.runs_fit;
       topics_first = rw grown done.topics_first;
-      docnos_fit = rw docnos_kept_is ready.joins.docnos_fit;
-      docnos_are = rw (grown, docnos_is, ready.joins.docnos_are) (take-length (each_once (submitted_docnos J)));
-      docnos_kept_are = rw (docnos_kept_is, ready.joins.docnos_are, grown) refl;
-      numbers_are = rw (grown, numbers_is, ready.joins.numbers_are) (take-length (numbers_of J));
-      numbers_kept_are = rw (numbers_kept_is, ready.joins.numbers_are, grown) refl;
       submissions_are = subst (λ (J : History). AreSubmissions J later.submissions.items) (sym grown) submissions_are;
       runs_known = rw grown done.runs_known;
       lines_are = lines_is ∙ ap (λ n. n + line_count (lists_in e.core.command)) kept_s.lines_are ∙ sym (submitted_lines-push s.history.items e) ∙ ap submitted_lines (sym grown);
       assessed = subst (λ (J : History). IsAssessmentOf J (facts later.assessment)) (sym grown) (subst (IsAssessmentOf J) (sym facts_are) done.assessed);
       unjudged = subst (λ (J : History). phase J ≡ Collecting → IsUnjudged J (map labelled_of (topics_of later))) (sym grown)
           (λ collecting. subst (λ (known : Facts). IsUnjudged J (map labelled_of known.topics.topics)) (sym facts_are) (done.unjudged collecting));
-      ready = rw forgotten tt;
     }

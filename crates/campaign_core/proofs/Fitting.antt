@@ -31,7 +31,7 @@ use Rattle.campaign_core.proofs.LabelSteps.{marked-there}
 use Rattle.campaign_core.proofs.LeaseSteps.{desk-long}
 use Rattle.campaign_core.proofs.ListFacts.{at-some, both_true, each_cons, get-map, slice-past}
 use Rattle.campaign_core.proofs.Naming.{docno-back, number-within}
-use Rattle.campaign_core.proofs.Planning.{same-names}
+use Rattle.campaign_core.proofs.KeptIds.{same-names}
 use Rattle.campaign_core.proofs.Listing.{none-listed}
 use Rattle.campaign_core.proofs.PoolSteps.{not-in, numbers-below, pool-has}
 use Rattle.campaign_core.proofs.ScoresTold.{run-found}

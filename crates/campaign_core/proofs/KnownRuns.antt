@@ -12,11 +12,12 @@ use Rattle.assessment.specs.TopicsFacts.{TopicsView, told}
 use Rattle.rulebook.specs.Campaign.{History, Run, rules_of}
 use Rattle.rulebook.specs.Legal.{IsLegal}
 use Rattle.rulebook.specs.Words.{Text}
-use Rattle.campaign_core.specs.Kept.{KnowsAll, KnowsRun}
+use Rattle.campaign_core.specs.Kept.{IsKnown, KnowsAll, KnowsRun}
 use Rattle.campaign_core.specs.Lendings.{IsBoardOf}
 use Rattle.campaign_core.specs.Numbers.{names_of}
 use Rattle.campaign_core.specs.Scoring.{AreListed, graded_of, list_in, ranked_on, run_at}
 use Rattle.campaign_core.specs.Topics.{topic_ids}
+use Rattle.campaign_core.specs.declared.campaign.Campaign.{Campaign}
 use Rattle.campaign_core.proofs.ListFacts.{map-map}
 
 pub knows-run : (H : History) (all : TopicsView) (items : List TopicView) (board : Scores) (desk : List Lease) (number : RunId) (run : Run) → IsLegal H → KnowsAll H (told all).topics desk
@@ -51,3 +52,14 @@ board-of H all board desk knows level_is lists_are board_is stands = record {
 pub listed-at : (H : History) (names : List Text) (lists : RankedLists) → ((run : RunId) (on : ℕ) → lists run on ≡ list_in names (topic_ids H) (run_at H run) on) → AreListed H names lists
 listed-at H names lists are = λ run on d within.
     are run on ∙ ap (λ id. option_map_or (λ topic. option_map_or (ranked_on names topic) (run_at H run) None) id None) (slice_get-get_or (topic_ids H) on d within)
+
+-- a live run, by the topics and the board that a campaign lends
+pub known-run : (campaign : Campaign) (all : TopicsView) (items : List TopicView) (board : Scores) (number : RunId) (run : Run) → IsKnown campaign → all ≡ campaign.assessment.topics
+    → items ≡ all.topics → board ≡ all.board → StandsFor board (map graded_in all.topics) → run_at campaign.history.items number ≡ Some run → KnowsRun campaign.history.items (map facts_of items) board number run
+known-run campaign all items board number run known all_is items_are board_is stands run_is =
+    let H = campaign.history.items in
+    knows-run H all items board campaign.assessment.leases number run known.legal
+    (subst (λ (all : TopicsView). KnowsAll H (told all).topics campaign.assessment.leases) (sym all_is) known.assessed.knows)
+    (ap (λ (all : TopicsView). (told all).level) all_is ∙ known.assessed.level_is)
+    (subst (λ (all : TopicsView). AreListed H (names_of H) (told all).lists) (sym all_is) (listed-at H (names_of H) _ known.assessed.lists_are))
+    items_are board_is stands run_is

@@ -2,17 +2,17 @@
 use Rattle.std.proofs.Common.{◌≡◌, ◌||◌, ◌<◌, ◌≤◌, ◌+◌, ◌-◌, ℕ, suc, zero, Bool, true, false, not, cond, List, [], ◌∷◌, ◌++◌, Option, Some, None, Ok, Err, length, map, filter, find, get_or, slice_get, refl, sym, ap, ◌∙◌, arith, subst, nat_lt, lt-ltb, ltb-true, le-leb, leb-true, position, filter_map}
 use Rattle.std.specs.Prelude.{IsPermutation, if◌then◌else◌, nat_le}
 use Rattle.std.specs.List.{list_all, list_any, position_or_len}
-use Rattle.std.specs.Option.{option_map}
+use Rattle.std.specs.Option.{IsSomeAnd, is_some, option_map}
 use Rattle.std.specs.Str.{bytes_eq}
 use Rattle.std.proofs.lemmas.List.{length-map}
 use Rattle.std.proofs.lemmas.List.Sums.{passes_at_first}
 use Rattle.std.proofs.lemmas.Slice.Eq.{bytes_eq-Decides}
-use Rattle.decimal_rank.specs.Names.{docno_of}
 use Rattle.decimal_rank.specs.declared.naming.DocId.{DocId}
 use Rattle.depth_pool.specs.Holdings.{Held}
 use Rattle.depth_pool.specs.declared.runs.RunId.{RunId}
 use Rattle.lease_desk.specs.Leases.{lease_numbered as desk_lease}
 use Rattle.lease_desk.specs.declared.leases.Lease.{Lease as DeskLease}
+use Rattle.lease_desk.specs.declared.leases.LeaseEnd.{LeaseEnd}
 use Rattle.mtf_queue.specs.Rule.{IsInOrder, first_of as first_there}
 use Rattle.mtf_queue.specs.declared.rule.Judged.{Judged}
 use Rattle.rulebook.specs.declared.entry.Entry.{Entry}
@@ -33,13 +33,14 @@ use Rattle.campaign_core.specs.Labelling.{IsLabelled}
 use Rattle.campaign_core.specs.Leasing.{IsLeased, KnownLease, first_open, first_refusal, is_known, is_open_in, known, refusals_of, seen, topic_in}
 use Rattle.campaign_core.specs.Numbers.{doc_in, names_of}
 use Rattle.campaign_core.specs.Topics.{KeptTopic, kept, kept_of, labelled_of, pool_of, topic_ids}
+use Rattle.assessment.specs.Changes.{IsUnended}
 use Rattle.assessment.specs.TopicFacts.{IsQueued, TopicFacts, judged_of}
 use Rattle.mtf_queue.specs.QueueView.{QueueView}
 use Rattle.campaign_core.proofs.Accepting.{listed-id}
 use Rattle.campaign_core.proofs.LabelSteps.{bytes-swap}
 use Rattle.campaign_core.proofs.ListFacts.{both_true}
 use Rattle.campaign_core.proofs.Named.{named-known, named-same}
-use Rattle.campaign_core.proofs.Naming.{docno-back, number-within}
+use Rattle.campaign_core.proofs.Naming.{number-within}
 
 -- Tests in their order.
 
@@ -153,6 +154,22 @@ module _ (H : History) (names : List Text) (desk : List DeskLease) (who : Caller
           not-above true above = absurd (omega (arith, within, ltb-true (rules_of H).top_grade grade above))
           not-above false above = refl
 
+-- A lease that nothing refuses has no end.
+
+second-none : (r s : Refusal) (t u : Bool) (tests : List (Option Refusal)) → first_refusal ((r when t) ∷ (s when u) ∷ tests) ≡ None → u ≡ false
+second-none r s true u tests is = cc is
+second-none r s false true tests is = cc is
+second-none r s false false tests is = refl
+
+no-end : (o : Option LeaseEnd) → is_some o ≡ false → o ≡ None
+no-end None is = refl
+no-end (Some how) is = cc is
+
+pub unended : (desk : List DeskLease) (number : ℕ) (x : DeskLease) (caller : Text) (now : ℕ) → desk_lease desk number ≡ Some x → first_refusal (refusals_of x caller now) ≡ None → IsUnended number desk
+unended desk number x caller now there none =
+    subst (λ (o : Option DeskLease). IsSomeAnd o (λ lease. lease.end ≡ None)) (sym there)
+    (no-end x.end (second-none refusal.NotYours refusal.Ended (not (bytes_eq x.assessor caller)) (is_some x.end) ((refusal.Expired x.until when nat_le x.until now) ∷ []) none))
+
 -- The topics that are kept.
 
 module _ (H : History) where
@@ -224,6 +241,13 @@ unknown-topic H states topic same is = listed-id (topics H) topic ∙ step (cont
         ap (λ t. cond t (Some (position_or_len (λ (s : TopicFacts). bytes_eq s.id topic) states)) None) (lt-ltb (position_or_len (λ (s : TopicFacts). bytes_eq s.id topic) states) (length states) inside) in
         cc (is, found)
 
+-- the document that the rules name, by its number
+pub record NamedDoc (H : History) (now : ℕ) (assessor topic : Text) (doc : DocId) : Type 0 where
+  pub text : Text
+  pub named_is : named H now assessor topic ≡ Some text
+  pub doc_is : doc ≡ doc_in (names_of H) text
+  pub known : contains_text (names_of H) text ≡ true
+
 -- what is kept of a topic of the campaign
 pub record Standing (H : History) (s : TopicFacts) (topic : Text) : Type 0 where
   pub kept_is : kept s ≡ kept_of H topic
@@ -278,16 +302,17 @@ module _ (H : History) (states : List TopicFacts) (desk : List DeskLease) (stand
         step None none = refl
         step (Some doc) none = cc none
 
-    pub doc-named : (doc : DocId) → Some doc ≡ first_open (is_open_in s.need s.marked desk number now assessor) s.pool queue.order → named H now assessor topic ≡ Some (docno_of (names_of H) doc.0)
-    doc-named doc is = step (named H now assessor topic) refl (is ∙ named-there)
+    pub doc-told : (doc : DocId) → Some doc ≡ first_open (is_open_in s.need s.marked desk number now assessor) s.pool queue.order → NamedDoc H now assessor topic doc
+    doc-told doc is = step (named H now assessor topic) refl (is ∙ named-there)
       where
-        step : (o : Option Text) → named H now assessor topic ≡ o → Some doc ≡ option_map (doc_in (names_of H)) o → o ≡ Some (docno_of (names_of H) doc.0)
+        step : (o : Option Text) → named H now assessor topic ≡ o → Some doc ≡ option_map (doc_in (names_of H)) o → NamedDoc H now assessor topic doc
         step None found none = cc none
-        step (Some text) found some =
-            let same : doc ≡ doc_in (names_of H) text = cc some in
-            let known : contains_text (names_of H) text ≡ true = named-known H topic s.marked s.graded desk now assessor stands.leased at.labelled listed text found in
-            let back : docno_of (names_of H) doc.0 ≡ text = ap (λ (d : DocId). docno_of (names_of H) d.0) same ∙ docno-back (names_of H) text known in
-            ap (λ (t : Text). let o : Option Text = Some t in o) (sym back)
+        step (Some text) found some = record {
+          text = text;
+          named_is = found;
+          doc_is = cc some;
+          known = named-known H topic s.marked s.graded desk now assessor stands.leased at.labelled listed text found;
+        }
 
 -- What a wish for a document comes to.
 

@@ -17,10 +17,9 @@ pub mod LeaseSteps
 pub mod LabelSteps
 pub mod Accepting
 pub mod Places
-pub mod Planning
+pub mod KeptIds
 pub mod Following
 pub mod Named
-pub mod NamedDocs
 pub mod Preparing
 pub mod LeaseFacts
 pub mod AmendFacts

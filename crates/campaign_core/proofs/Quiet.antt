@@ -1,6 +1,5 @@
 -- What an entry leaves of labels and leases that gives none.
-use Rattle.std.proofs.Common.{◌≡◌, ◌||◌, ◌&&◌, ◌<◌, ℕ, Bool, true, false, List, ◌++◌, ◌∷◌, [], Option, None, Some, Ok, length, map, get_or, subst, refl, sym, ap, ◌∙◌}
-use Rattle.std.specs.Prelude.{All}
+use Rattle.std.proofs.Common.{◌≡◌, ◌||◌, ◌&&◌, ◌<◌, ℕ, Bool, true, false, List, ◌++◌, ◌∷◌, [], Option, None, Some, Ok, length, map, subst, refl, sym, ap, ◌∙◌}
 use Rattle.std.specs.List.{filter_map, list_all}
 use Rattle.std.proofs.lemmas.List.{append-nil}
 use Rattle.std.proofs.lemmas.List.Elements.{filter_map-append}
@@ -113,9 +112,6 @@ labelled-none J t no_label no_ruling no_trail no_mark no_grade = record {
   graded_are = no_grade ∙ sym (ap (map (graded_in J (names_of J) t.id)) (no_trail t.id));
   trail_named = ap (are_named (names_of J)) (no_trail t.id);
 }
-
-pub all-labelled : {P Q : LabelledTopic → Type 0} (ts : List LabelledTopic) → ((t : LabelledTopic) → P t → Q t) → All P ts → All Q ts
-all-labelled ts each all k d within = each (get_or ts k d) (all k d within)
 
 -- nothing is leased or labelled by an entry that keeps all and leases nothing
 pub unjudged-stays : (H J : History) (ts : List LabelledTopic) → AreKept H J → given_labels J ≡ given_labels H → leases J ≡ leases H → IsUnjudged H ts → IsUnjudged J ts

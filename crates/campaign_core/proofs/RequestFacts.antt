@@ -11,9 +11,7 @@ use Rattle.rulebook.specs.declared.entry.Entry.{Entry}
 use Rattle.rulebook.specs.declared.reply.Refusal.TheVariants as refusal
 use Rattle.rulebook.specs.declared.reply.Reply.{Reply}
 use Rattle.rulebook.specs.declared.reply.Reply.TheVariants as reply
-use Rattle.rulebook.specs.declared.ask.Ask.TheVariants.{Act}
-use Rattle.rulebook.specs.declared.rules.Caller.{Caller}
-use Rattle.rulebook.specs.Answers.{Answer, acted, answer, moment_after, repeated}
+use Rattle.rulebook.specs.Answers.{repeated}
 use Rattle.rulebook.specs.Campaign.{History}
 use Rattle.rulebook.specs.Numbers.{is_numbered, used}
 use Rattle.rulebook.specs.SameCommands.{same_command}
@@ -133,26 +131,3 @@ pub no-reply : (H : History) (name : Text) (number : ℕ) (o : Option ℕ) (c : 
 no-reply H name number o c some none =
     ap (option_map (λ (placed : ℕ × Entry). (repeated c placed).reply)) (sym (unused-there H name number none))
     ∙ ap (λ (o : Option ℕ). repeated_reply H name o c) (sym some)
-
--- The answer to a command whose caller used its number before, or didn't.
-
-pub told-again : (H : History) (who : Caller) (number : Option ℕ) (c : Command) (moment : ℕ) (r : Reply)
-    → Some r ≡ repeated_reply H who.name number c
-    → ((answer H who number (Act c) moment).added ≡ []) × (r ≡ (answer H who number (Act c) moment).reply)
-told-again H who number c moment r is = step (used H who.name number) is
-  where
-    otherwise : Answer
-    otherwise = acted H (record { caller = who; number = number; moment = moment_after H moment; command = c })
-
-    step : (o : Option (ℕ × Entry)) → Some r ≡ option_map (λ (placed : ℕ × Entry). (repeated c placed).reply) o
-        → ((option_map_or (repeated c) o otherwise).added ≡ []) × (r ≡ (option_map_or (repeated c) o otherwise).reply)
-    step None is = cc is
-    step (Some placed) is = let same : r ≡ (repeated c placed).reply = cc is in (refl, same)
-
-pub not-used : (H : History) (name : Text) (number : Option ℕ) (c : Command) → None ≡ repeated_reply H name number c
-    → used H name number ≡ None
-not-used H name number c is = step (used H name number) is
-  where
-    step : (o : Option (ℕ × Entry)) → None ≡ option_map (λ (placed : ℕ × Entry). (repeated c placed).reply) o → o ≡ None
-    step None is = refl
-    step (Some placed) is = cc is

@@ -119,11 +119,6 @@ passed-live H who name none = step (is_group who.role && not (is_submitter H who
 pub unpublished : (H : History) (p : Phase) (ruling : Ruling) → p ≡ phase H → false ≡ is_phase Published p → unless (wrong_phase_where Published H ∷ []) ruling ≡ ruling
 unpublished H p ruling phase_is before = ap (λ t. unless ((refusal.WrongPhase (phase H) when t) ∷ []) ruling) (ap (is_phase Published) (sym phase_is) ∙ sym before)
 
-pub withdraw-published : (H : History) (who : Caller) (name : Text) (p : Phase) → p ≡ phase H → true ≡ is_phase Published p → Err (refusal.WrongPhase p) ≡ withdraw_ruling H who name
-withdraw-published H who name p phase_is published =
-    ap (λ p. let r : Ruling = Err (refusal.WrongPhase p) in r) phase_is
-    ∙ sym (ap (λ t. unless ((refusal.WrongPhase (phase H) when t) ∷ []) (given (run_named H name) refusal.UnknownRun (λ run. unless (run_refusals H who name) (Ok reply.Done)))) (ap (is_phase Published) (sym phase_is) ∙ sym published))
-
 module _ (H : History) (who : Caller) (name : Text) (p : Phase) (phase_is : p ≡ phase H) (before : false ≡ is_phase Published p) where
   on-run : withdraw_ruling H who name ≡ given (run_named H name) refusal.UnknownRun (λ run. unless (run_refusals H who name) (Ok reply.Done))
   on-run = unpublished H p (given (run_named H name) refusal.UnknownRun (λ run. unless (run_refusals H who name) (Ok reply.Done))) phase_is before

@@ -1,5 +1,5 @@
 -- What is so where the rules accept a command.
-use Rattle.std.proofs.Common.{◌≡◌, ◌||◌, ◌<◌, ◌≤◌, ◌==◌, ℕ, Bool, true, false, not, cond, List, [], ◌∷◌, length, map, find, refl, ap, arith, Option, None, Some, Ok, Err, leb-true, subst}
+use Rattle.std.proofs.Common.{◌≡◌, ◌||◌, ◌<◌, ◌≤◌, ◌==◌, ℕ, Bool, true, false, not, cond, List, [], ◌∷◌, ◌++◌, length, length-append, map, find, refl, ap, arith, Option, None, Some, Ok, Err, leb-true, subst}
 use Rattle.std.proofs.lemmas.Bool.{leb-false}
 use Rattle.std.specs.Prelude.{◌&&◌, ◌-◌, ◌^◌, if◌then◌else◌, nat_le, nat_lt, min, slice_get, unwrap_or}
 use Rattle.std.specs.List.{filter_map, list_all, list_any, filter, reduce}
@@ -23,12 +23,14 @@ use Rattle.trec_formats.specs.declared.TopicList.{TopicList}
 use Rattle.rulebook.specs.Words.{Text}
 use Rattle.rulebook.specs.Refusals.{Ruling, ◌when◌, unless, is_phase}
 use Rattle.rulebook.specs.Answers.{acted, acting, adding_nothing, moment_after, open_ruling, repeated, ruled, submit_ruling, topics_ruling, unknown_line}
-use Rattle.rulebook.specs.Campaign.{History, docnos_with, docs_on, has_topics, is_taken, line_count, lines_with, phase, runs, topics, topics_in}
-use Rattle.rulebook.specs.Legal.{IsAccepted, core_of, is_well_addressed}
+use Rattle.rulebook.specs.Campaign.{History, docnos_with, docs_on, has_topics, is_taken, line_count, lines_with, phase, rules_of, runs, topics, topics_in}
+use Rattle.rulebook.specs.declared.rules.Rules.{Rules}
+use Rattle.rulebook.specs.Legal.{IsAccepted, IsLegal, core_of, is_well_addressed}
 use Rattle.rulebook.specs.Numbers.{used}
 use Rattle.rulebook.specs.Roles.{may_give}
 use Rattle.trec_formats.specs.Names.{is_between, is_docno, is_name}
-use Rattle.rulebook.specs.Spelling.{differ, entry_bytes, has_spelling, is_ascending, is_number, is_plain, is_plain_list}
+use Rattle.std.specs.Int.{to_le_bytes, w64}
+use Rattle.rulebook.specs.Spelling.{command_bytes, differ, entry_bytes, has_spelling, number_bytes, role_byte, short, is_ascending, is_number, is_plain, is_plain_list}
 use Rattle.campaign_core.specs.Growth.{lists_in}
 use Rattle.campaign_core.proofs.Accepted.{collecting-from}
 use Rattle.campaign_core.proofs.ListFacts.{all_head, all_tail, both_true}
@@ -149,6 +151,14 @@ moment-of who number c moment is =
     let f = both_true (is_name who.name && is_number number) (nat_le moment MAX_MOMENT) d.0 in
     leb-true _ _ f.1
 
+-- the bytes of a command are among those of its entry
+pub command-short : (who : Caller) (number : Option ℕ) (c : Command) (moment : ℕ) → is_well_addressed who number (Act c) moment ≡ true → length (command_bytes c) ≤ MAX_ENTRY_BYTES
+command-short who number c moment is =
+    let core = core_of who number moment c in
+    let a = both_true (may_give who.role c && has_spelling core) (nat_le (length (entry_bytes core)) MAX_ENTRY_BYTES) is in
+    let front = short who.name ++ role_byte who.role ∷ number_bytes number ++ to_le_bytes w64 moment in
+    omega (arith, leb-true (length (entry_bytes core)) MAX_ENTRY_BYTES a.1, length-append front (command_bytes c))
+
 abbrev some_few : List TopicList → Bool
 some_few lists = is_between 1 (2 ^ 32 - 1) (length lists)
 
@@ -199,3 +209,26 @@ docs-plain (command.Amend t doc grade) topic is = (omega arith, refl)
 docs-plain (command.Rule t doc grade) topic is = (omega arith, refl)
 docs-plain (command.Withdraw run) topic is = (omega arith, refl)
 docs-plain command.Publish topic is = (omega arith, refl)
+
+-- the term of the rules is short
+pub term-fits : (H : History) → IsLegal H → (rules_of H).term ≤ 2 ^ 40
+term-fits [] legal = absurd legal
+term-fits (first ∷ later) legal =
+    let r : Rules = legal.0.0 in
+    let d = is_between 1 1000 r.depth in
+    let t = is_between 1 (2 ^ 40) r.term in
+    let h = is_between 1 50 r.hold in
+    let g = is_between 1 255 r.top_grade in
+    let l = is_between 1 r.top_grade r.level in
+    let n = nat_le (length r.doubles) 250 in
+    let m = list_all is_name r.doubles in
+    let a1 = both_true (d && t && h && g && l && n && m) (is_ascending r.doubles) legal.0.1 in
+    let a2 = both_true (d && t && h && g && l && n) m a1.0 in
+    let a3 = both_true (d && t && h && g && l) n a2.0 in
+    let a4 = both_true (d && t && h && g) l a3.0 in
+    let a5 = both_true (d && t && h) g a4.0 in
+    let a6 = both_true (d && t) h a5.0 in
+    let a7 = both_true d t a6.0 in
+    let a8 = both_true (nat_le 1 r.term) (nat_le r.term (2 ^ 40)) a7.1 in
+    let same : (rules_of (first ∷ later)).term ≡ r.term = ap (λ (e : Entry). (rules_of (e ∷ later)).term) legal.0.2 in
+    omega (arith, same, leb-true r.term (2 ^ 40) a8.1)

@@ -12,7 +12,6 @@ use Rattle.campaign_core.specs.Kept.{KnowsAll}
 use Rattle.campaign_core.specs.Numbers.{names_of}
 use Rattle.campaign_core.specs.Topics.{topic_ids}
 use Rattle.campaign_core.proofs.LeaseFacts.{states-long}
-use Rattle.campaign_core.proofs.ListFacts.{get_or_default}
 use Rattle.campaign_core.proofs.Numbering.{docno-there, first-place}
 use Rattle.campaign_core.proofs.Paging.{PageTopic, ids-kept, page-topic}
 use Rattle.campaign_core.proofs.Places.{topic-found}

@@ -3,9 +3,8 @@ use Rattle.std.specs.Prelude.{◌≡◌, ◌⊎◌, ℕ, List, [], Some, None, I
 use Rattle.std.specs.List.{position}
 use Rattle.std.specs.Str.{bytes_eq}
 use Rattle.decimal_rank.specs.declared.naming.DocId.{DocId}
-use Rattle.lease_desk.specs.Leases.{lease_numbered as desk_lease}
 use Rattle.lease_desk.specs.declared.leases.Lease.{Lease as DeskLease}
-use Rattle.assessment.specs.Changes.{AssessmentView, IsUnended, facts}
+use Rattle.assessment.specs.Changes.{IsUnended}
 use Rattle.assessment.specs.TopicFacts.{TopicFacts, facts_of}
 use Rattle.assessment.specs.TopicsFacts.{TopicsFacts, told}
 use Rattle.assessment.specs.declared.change.Change.{Change}
@@ -19,14 +18,9 @@ use Rattle.trec_formats.specs.declared.TopicList.{TopicList}
 use Rattle.rulebook.specs.declared.ask.Command.{Command}
 use Rattle.rulebook.specs.declared.ask.Command.TheVariants as command
 use Rattle.rulebook.specs.declared.entry.Entry.{Entry}
-use Rattle.rulebook.specs.declared.entry.EntryCore.{EntryCore}
-use Rattle.rulebook.specs.declared.limits.TheConstants.{MAX_TOPICS}
-use Rattle.rulebook.specs.declared.reply.Reply.{Reply}
-use Rattle.rulebook.specs.declared.reply.Reply.TheVariants as reply
 use Rattle.rulebook.specs.Words.{Text, contains_text}
 use Rattle.rulebook.specs.Campaign.{History, docs_on, opens, publishes, rules_of, runs}
 use Rattle.rulebook.specs.Leases.{Lease, lease_in, lease_numbered}
-use Rattle.std.specs.Prelude.{◌≤◌}
 use Rattle.campaign_core.specs.Leasing.{topic_in}
 use Rattle.campaign_core.specs.Numbers.{doc_in, docs_in}
 use Rattle.campaign_core.specs.Topics.{empty_topic, kept, labelled_of, topic_ids, unlabelled}
@@ -52,38 +46,7 @@ pub record IsGradeChange (H : History) (names : List Text) (desk : List DeskLeas
   pub assessor_is : label.assessor ≡ e.core.caller.name
   pub unended : IsUnended number desk
 
--- what the reply of an accepted lease tells: a document of the names and a topic of the campaign, up to a moment
-pub record ToldLease (H : History) (topics : List TopicFacts) (names : List Text) (core : EntryCore) (topic : Text) (told : Reply) : Type 0 where
-  pub command_is : core.command ≡ command.Lease topic
-  pub number : ℕ
-  pub doc : Text
-  pub until : ℕ
-  pub title : Text
-  pub reply_is : told ≡ reply.Leased number topic doc until title
-  pub doc_named : IsTrue (contains_text names doc)
-  pub listed : IsTrue (contains_text (topic_ids H) topic)
-  pub ids_are : map (λ topic. topic.id) topics ≡ topic_ids H
-  pub ids_fit : length (topic_ids H) ≤ MAX_TOPICS
-
--- an accepted grade is of a lease of the desk that has no end
-pub record ToldGrade (H : History) (names : List Text) (desk : List DeskLease) (core : EntryCore) (number : ℕ) (grade : ℕ) : Type 0 where
-  pub command_is : core.command ≡ command.Grade number grade
-  pub there : DeskLease
-  pub found_there : desk_lease desk number ≡ Some there
-  pub unended : there.end ≡ None
-  pub lease : Lease
-  pub found : lease_numbered H number ≡ Some lease
-  pub topic_is : there.topic ≡ topic_in (topic_ids H) lease.topic
-  pub doc_is : there.doc ≡ doc_in names lease.doc
-
--- a topic of the campaign, and a document of the names
-pub record IsPlace (ids : List Text) (names : List Text) (topics : List TopicFacts) (topic doc : Text) : Type 0 where
-  pub ids_are : map (λ topic. topic.id) topics ≡ ids
-  pub ids_fit : length ids ≤ MAX_TOPICS
-  pub listed : IsTrue (contains_text ids topic)
-  pub doc_named : IsTrue (contains_text names doc)
-
--- their numbers
+-- the numbers of a topic of the campaign and of a document of the names
 pub record IsPlacedAt (ids : List Text) (names : List Text) (topic doc : Text) (number : ℕ) (at : DocId) : Type 0 where
   pub number_is : number ≡ topic_in ids topic
   pub at_is : at ≡ doc_in names doc
@@ -116,9 +79,3 @@ CarriesOut H names topics desk e (change.Rule ruling) =
 -- the phase after a command
 abbrev pub phase_after : Command → Phase → Phase
 phase_after command phase = if publishes command then Published else (if opens command then Judging else phase)
-
--- a change waits that carries out an entry
-pub record AwaitsEntry (H : History) (names : List Text) (assessment : AssessmentView) (e : Entry) : Type 0 where
-  pub change : Change
-  pub waits : assessment.pending ≡ Some change
-  pub carries_out : CarriesOut H names (facts assessment).topics.topics assessment.leases e change

@@ -1,11 +1,13 @@
 -- What a state keeps true of its fields.
-use Rattle.std.specs.Prelude.{◌≡◌, ◌<◌, ◌≤◌, ℕ, false, List, [], All, MatchOption, None, Some, IsTrue, length, map, vec_len, vec_capacity}
+use Rattle.std.specs.Prelude.{◌≡◌, ◌<◌, ◌≤◌, ◌++◌, ◌∷◌, ℕ, false, List, [], All, MatchOption, None, Some, Result, Ok, Err, IsTrue, length, map, vec_len, vec_capacity}
 use Rattle.rulebook.specs.declared.limits.TheConstants.{MAX_RUNS, MAX_ENTRIES, MAX_LINES, MAX_DOCNOS, MAX_MOMENT, MAX_TOPICS}
 use Rattle.rulebook.specs.declared.entry.Entry.{Entry}
-use Rattle.rulebook.specs.Words.{Text, each_once}
-use Rattle.rulebook.specs.Campaign.{History, Run, has_topics, phase, rules_of, runs, submitted_lines, submitted_docnos}
-use Rattle.rulebook.specs.Answers.{moment_after}
-use Rattle.rulebook.specs.Legal.{IsLegal}
+use Rattle.rulebook.specs.Words.{Text}
+use Rattle.rulebook.specs.Campaign.{History, Run, has_topics, phase, rules_of, runs, submitted_lines}
+use Rattle.rulebook.specs.declared.entry.EntryCore.{EntryCore}
+use Rattle.rulebook.specs.declared.reply.Refusal.{Refusal}
+use Rattle.rulebook.specs.Answers.{moment_after, ruled}
+use Rattle.rulebook.specs.Legal.{IsAccepted, IsLegal}
 use Rattle.rulebook.specs.Grades.{given_labels, ruling, trail}
 use Rattle.rulebook.specs.Leases.{leases}
 use Rattle.rulebook.specs.Spelling.{differ}
@@ -15,18 +17,19 @@ use Rattle.depth_pool.specs.declared.runs.RunId.{RunId}
 use Rattle.labels.specs.Marked.{given_at}
 use Rattle.lease_desk.specs.declared.leases.Lease.{Lease}
 use Rattle.score_index.specs.Scores.{Scores}
-use Rattle.campaign_core.specs.Joining.{MayJoin}
 use Rattle.campaign_core.specs.Labelling.{IsLabelled}
 use Rattle.campaign_core.specs.Leasing.{IsLeased}
 use Rattle.campaign_core.specs.Growth.{BeginsWith}
 use Rattle.campaign_core.specs.Numbers.{names_of}
-use Rattle.campaign_core.specs.NumberedRequests.{numbers_of}
-use Rattle.campaign_core.specs.Changes.{AwaitsEntry}
+use Rattle.campaign_core.specs.NumberedRequests.{Numbered, numbers_of}
+use Rattle.campaign_core.specs.Changes.{CarriesOut}
 use Rattle.campaign_core.specs.Scoring.{IsScored, graded_of, list_in, run_at}
 use Rattle.campaign_core.specs.Submissions.{AreSubmissions, RunsAreKnown}
 use Rattle.campaign_core.specs.Topics.{LabelledTopic, kept, kept_of, labelled_of, topic_ids}
+use Rattle.campaign_core.specs.declared.campaign.Campaign.{Campaign}
 use Rattle.campaign_core.specs.declared.state.State.TheInside.{Inside}
 use Rattle.assessment.specs.Changes.{Facts, facts}
+use Rattle.assessment.specs.declared.change.Change.{Change}
 use Rattle.assessment.specs.TopicFacts.{TopicFacts}
 
 -- The names are the docnos of the history, and each topic has its pool.
@@ -70,34 +73,67 @@ pub record IsAssessmentOf (H : History) (known : Facts) : Type 0 where
   pub level_is : known.topics.level ≡ (rules_of H).level
   pub lists_are : (run : RunId) (on : ℕ) → known.topics.lists run on ≡ list_in (names_of H) (topic_ids H) (run_at H run) on
 
--- The prepared entry may join the history, which has room for it, and the change that waits carries it out. There is room for a run.
-pub record IsReady (s : Inside) (e : Entry) : Type 0 where
-  pub joins : MayJoin s.history.items s.docnos s.numbers e
-  pub moment_fits : e.core.moment ≤ MAX_MOMENT
-  pub entries_fit : length s.history.items < MAX_ENTRIES
-  pub room : vec_len s.history < vec_capacity s.history
-  pub run_room : vec_len s.submissions < vec_capacity s.submissions
-  pub awaits : AwaitsEntry s.history.items s.docnos s.assessment e
-
--- The history is legal and within the limits, and the first docnos and numbers are those of the history. Others may follow, from requests that weren't committed.
-pub record IsKept (s : Inside) : Type 0 where
-  pub legal : IsLegal s.history.items
-  pub phase_is : s.phase ≡ phase s.history.items
-  pub moment_fits : moment_after s.history.items 0 ≤ MAX_MOMENT
-  pub entries_fit : length s.history.items ≤ MAX_ENTRIES
-  pub lines_fit : submitted_lines s.history.items ≤ MAX_LINES
-  pub runs_fit : length (runs s.history.items) ≤ MAX_RUNS
+-- What is known of a campaign is what its history says, which is legal and within the limits.
+pub record IsKnown (campaign : Campaign) : Type 0 where
+  pub legal : IsLegal campaign.history.items
+  pub phase_is : campaign.phase ≡ phase campaign.history.items
+  pub moment_fits : moment_after campaign.history.items 0 ≤ MAX_MOMENT
+  pub entries_fit : length campaign.history.items ≤ MAX_ENTRIES
+  pub lines_fit : submitted_lines campaign.history.items ≤ MAX_LINES
+  pub docnos_fit : length (names_of campaign.history.items) ≤ MAX_DOCNOS
+  pub runs_fit : length (runs campaign.history.items) ≤ MAX_RUNS
   -- no run comes before the topics
-  pub topics_first : has_topics s.history.items ≡ false → runs s.history.items ≡ []
-  pub docnos_fit : s.docnos_kept ≤ MAX_DOCNOS
-  pub docnos_are : BeginsWith (each_once (submitted_docnos s.history.items)) s.docnos
-  pub docnos_kept_are : s.docnos_kept ≡ length (each_once (submitted_docnos s.history.items))
-  pub numbers_are : BeginsWith (numbers_of s.history.items) s.numbers
-  pub numbers_kept_are : s.numbers_kept ≡ length (numbers_of s.history.items)
-  pub submissions_are : AreSubmissions s.history.items s.submissions.items
-  pub runs_known : RunsAreKnown s.history.items
-  pub lines_are : s.lines ≡ submitted_lines s.history.items
-  pub assessed : IsAssessmentOf s.history.items (facts s.assessment)
+  pub topics_first : has_topics campaign.history.items ≡ false → runs campaign.history.items ≡ []
+  pub submissions_are : AreSubmissions campaign.history.items campaign.submissions.items
+  pub runs_known : RunsAreKnown campaign.history.items
+  pub lines_are : campaign.lines ≡ submitted_lines campaign.history.items
+  pub assessed : IsAssessmentOf campaign.history.items (facts campaign.assessment)
   -- documents are judged once the campaign is opened
-  pub unjudged : phase s.history.items ≡ Collecting → IsUnjudged s.history.items (map labelled_of (facts s.assessment).topics.topics)
-  pub ready : MatchOption s.prepared (Unit {0}) (λ p. IsReady s p.value)
+  pub unjudged : phase campaign.history.items ≡ Collecting → IsUnjudged campaign.history.items (map labelled_of (facts campaign.assessment).topics.topics)
+
+-- the history and all that is known of it stay
+pub record IsUnchanged (old new : Campaign) : Type 0 where
+  pub history_is : new.history.items ≡ old.history.items
+  pub phase_is : new.phase ≡ old.phase
+  pub facts_are : facts new.assessment ≡ facts old.assessment
+  pub submissions_are : new.submissions.items ≡ old.submissions.items
+  pub lines_are : new.lines ≡ old.lines
+
+-- a change waits, and there is room for an entry and for a run
+pub record AwaitsChange (campaign : Campaign) (change : Change) : Type 0 where
+  pub waits : campaign.assessment.pending ≡ Some change
+  pub room : vec_len campaign.history < vec_capacity campaign.history
+  pub run_room : vec_len campaign.submissions < vec_capacity campaign.submissions
+
+-- An entry may join the history: the rules accept it, the limits hold with it, and a change waits that carries it out.
+pub record IsReady (campaign : Campaign) (e : Entry) : Type 0 where
+  pub accepted : IsAccepted campaign.history.items e
+  pub moment_fits : e.core.moment ≤ MAX_MOMENT
+  pub entries_fit : length campaign.history.items < MAX_ENTRIES
+  pub lines_fit : submitted_lines (campaign.history.items ++ e ∷ []) ≤ MAX_LINES
+  pub docnos_fit : length (names_of (campaign.history.items ++ e ∷ [])) ≤ MAX_DOCNOS
+  pub docnos_grow : BeginsWith (names_of campaign.history.items) (names_of (campaign.history.items ++ e ∷ []))
+  pub change : Change
+  pub awaits : AwaitsChange campaign change
+  pub carries_out : CarriesOut campaign.history.items (names_of (campaign.history.items ++ e ∷ [])) (facts campaign.assessment).topics.topics campaign.assessment.leases e change
+
+-- the same, where these are the docnos and the numbers of the history with the entry
+pub record IsReadyWith (campaign : Campaign) (names : List Text) (numbers : List Numbered) (e : Entry) : Type 0 where
+  pub ready : IsReady campaign e
+  pub names_are : names ≡ names_of (campaign.history.items ++ e ∷ [])
+  pub numbers_are : numbers ≡ numbers_of (campaign.history.items ++ e ∷ [])
+
+-- What a command comes to: the refusal of the rules; or its entry, which is ready.
+abbrev pub IsPrepared : Campaign → List Text → List Numbered → EntryCore → Result Entry Refusal → Type 0
+IsPrepared campaign names numbers core (Err refusal) = ruled campaign.history.items core.caller core.moment core.command ≡ Err refusal
+IsPrepared campaign names numbers core (Ok entry) =
+    (entry.core ≡ core) × (ruled campaign.history.items core.caller core.moment core.command ≡ Ok entry.reply) × IsReadyWith campaign names numbers entry
+
+-- The campaign is known, and the first docnos and numbers are those of its history. Others may follow, from requests that weren't committed.
+pub record IsKept (s : Inside) : Type 0 where
+  pub known : IsKnown s.campaign
+  pub docnos_are : BeginsWith (names_of s.campaign.history.items) s.docnos
+  pub docnos_kept_are : s.docnos_kept ≡ length (names_of s.campaign.history.items)
+  pub numbers_are : BeginsWith (numbers_of s.campaign.history.items) s.numbers
+  pub numbers_kept_are : s.numbers_kept ≡ length (numbers_of s.campaign.history.items)
+  pub ready : MatchOption s.prepared (Unit {0}) (λ p. IsReadyWith s.campaign s.docnos s.numbers p.value)

@@ -1,5 +1,5 @@
 pub mod Growth
-pub mod Joining
+pub mod Decisions
 pub mod Kept
 pub mod Lendings
 pub mod Numbers

@@ -1,5 +1,5 @@
 -- Docnos by their numbers.
-use Rattle.std.specs.Prelude.{List, map, Bool}
+use Rattle.std.specs.Prelude.{◌≡◌, List, map, Bool, IsTrue}
 use Rattle.std.specs.List.{list_all, position_or_len}
 use Rattle.std.specs.Str.{bytes_eq}
 use Rattle.decimal_rank.specs.declared.naming.DocId.{DocId}
@@ -20,3 +20,8 @@ docs_in names docs = map (doc_in names) docs
 -- each docno is among the names
 abbrev pub are_named : List Text → List Text → Bool
 are_named names docs = list_all (contains_text names) docs
+
+-- the number of a docno that is among the names
+pub record IsNumberOf (names : List Text) (doc : Text) (number : DocId) : Type 0 where
+  pub named : IsTrue (contains_text names doc)
+  pub number_is : number ≡ doc_in names doc

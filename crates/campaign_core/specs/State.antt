@@ -1,16 +1,9 @@
 -- What a state stands for, and how it answers.
-use Rattle.std.specs.Prelude.{◌≡◌, [], ◌∷◌, Option, None, Some, Result, Ok, Err}
+use Rattle.std.specs.Prelude.{◌≡◌, [], ◌∷◌, Option, None, Some}
 use Rattle.rulebook.specs.declared.entry.Entry.{Entry}
-use Rattle.rulebook.specs.declared.reply.Refusal.{Refusal}
-use Rattle.rulebook.specs.Refusals.{Ruling}
 use Rattle.rulebook.specs.Answers.{Answer}
 use Rattle.campaign_core.specs.declared.verdict.Verdict.{Verdict}
 use Rattle.campaign_core.specs.declared.verdict.Verdict.TheVariants.{Told, Ready}
-
--- A ruling in which the entry of an accepted command stands for its reply.
-abbrev pub IsRuling : Ruling → Result Entry Refusal → Type 0
-IsRuling ruling (Ok entry) = ruling ≡ Ok entry.reply
-IsRuling ruling (Err refusal) = ruling ≡ Err refusal
 
 -- Told is the reply of an answer that adds nothing, Ready the entry that an answer adds. The entry that is prepared afterwards is that one alone.
 abbrev pub IsVerdict : Answer → Verdict → Option Entry → Type 0

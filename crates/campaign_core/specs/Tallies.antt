@@ -1,21 +1,13 @@
 -- How the judgements and the runs of a campaign stand whose list of accepted entries is H.
-use Rattle.std.specs.Prelude.{◌≡◌, ◌+◌, ◌<◌, ◌≤◌, ◌^◌, ◌==◌, ℕ, max, List, Option, Some, find, length, map, slice_get, sum_by}
+use Rattle.std.specs.Prelude.{◌≡◌, ◌+◌, ◌≤◌, ◌^◌, ◌==◌, ℕ, max, List, Option, Some, find, map, slice_get, sum_by}
 use Rattle.std.specs.List.{fold}
 use Rattle.std.specs.Option.{option_map}
-use Rattle.assessment.specs.TopicsFacts.{TopicsView, told}
 use Rattle.depth_pool.specs.declared.runs.RunId.{RunId}
-use Rattle.lease_desk.specs.declared.leases.Lease.{Lease}
-use Rattle.rulebook.specs.Campaign.{History, Run, live, rules_of, runs}
+use Rattle.rulebook.specs.Campaign.{History, Run, live, runs}
 use Rattle.rulebook.specs.Grades.{non_relevant_count, relevant_count}
-use Rattle.rulebook.specs.Legal.{IsLegal}
 use Rattle.rulebook.specs.Scores.{summary_on}
 use Rattle.rulebook.specs.Words.{Text}
-use Rattle.campaign_core.specs.Kept.{KnowsAll}
-use Rattle.campaign_core.specs.Numbers.{names_of}
-use Rattle.campaign_core.specs.Scoring.{AreListed}
-use Rattle.campaign_core.specs.Submissions.{AreSubmissions}
 use Rattle.campaign_core.specs.Topics.{topic_ids}
-use Rattle.campaign_core.specs.declared.submissions.Submission.{Submission}
 use Rattle.campaign_core.specs.declared.tallies.Tally.{Tally}
 
 -- how many documents of all topics are relevant
@@ -61,13 +53,3 @@ pub record IsTally (H : History) (tally : Tally) : Type 0 where
   pub best_is : option_map (submitted_at H) tally.best ≡ option_map Some (best_run H)
   pub map_is : tally.map ≡ best_map H
   pub map_fits : tally.map ≤ 10 ^ 15
-
--- The topics, the board and the submissions are kept as the history has them.
-pub record KnowsRuns (H : History) (all : TopicsView) (submissions : List Submission) : Type 0 where
-  pub legal : IsLegal H
-  pub desk : List Lease
-  pub knows : KnowsAll H (told all).topics desk
-  pub submissions_are : AreSubmissions H submissions
-  pub level_is : (told all).level ≡ (rules_of H).level
-  pub lists_are : AreListed H (names_of H) (told all).lists
-  pub few_runs : length (runs H) < 65536

@@ -1,16 +1,13 @@
 //! The state of a campaign: the list of accepted entries, from which each request is answered.
 #![tactic(auto)]
 
-mod amending;
-mod changes;
+mod campaign;
+mod decisions;
 mod docnos;
-mod leasing;
-mod looks;
 mod pages;
 mod pools;
 mod queries;
 mod request_numbers;
-mod rulings;
 mod score_pages;
 mod selection;
 mod state;

@@ -1,48 +1,38 @@
 //! The pages of the scores of runs.
-ghost use Rattle.std.specs.Prelude.{◌≡◌, ◌++◌, ◌<◌, ℕ, List, IfOk, IsTrue, OnOk, length, map};
+ghost use Rattle.std.specs.Prelude.{◌≡◌, ◌++◌, ℕ, List, IfOk, IsTrue, OnOk, map};
 ghost use Rattle.assessment.specs.TopicFacts.{facts_of};
-ghost use Rattle.assessment.specs.TopicsFacts.{told};
-ghost use Rattle.lease_desk.specs.declared.leases.Lease.{Lease};
 ghost use Rattle.rulebook.specs.declared.reply.Reply.TheVariants as reply;
 ghost use Rattle.rulebook.specs.Answers.{reply_of, scores_ruling};
-ghost use Rattle.rulebook.specs.Campaign.{History, Run, rules_of, runs as runs_of};
-ghost use Rattle.rulebook.specs.Legal.{IsLegal};
+ghost use Rattle.rulebook.specs.Campaign.{History, Run};
 ghost use Rattle.rulebook.specs.Scores.{cell_lines, is_counted as counts, scores_page, summary_lines, table_page};
 ghost use Rattle.rulebook.specs.Words.{contains_text};
-ghost use Rattle.campaign_core.specs.Kept.{KnowsAll, KnowsRun};
-ghost use Rattle.campaign_core.specs.Numbers.{names_of};
+ghost use Rattle.campaign_core.specs.Kept.{IsKnown, KnowsRun};
 ghost use Rattle.campaign_core.specs.Printed.{IsTopicOf};
-ghost use Rattle.campaign_core.specs.Scoring.{AreListed};
-ghost use Rattle.campaign_core.specs.Submissions.{AreSubmissions};
 
-use crate::submissions::{Submission, name_of, run_number, run_refusal};
+use crate::campaign::Campaign;
+use crate::submissions::{name_of, run_number, run_refusal};
 use crate::texts::{ids_of, in_order};
 use crate::topics::topic_number;
-use assessment::{Topic, Topics};
+use assessment::Topic;
 use decimal_rank::{Memory, Text};
 use depth_pool::RunId;
 use measures::{write_cell, write_summary};
-use rulebook::{Caller, Entry, Refusal, Reply, graded_are_on_trail, graded_are_there};
+use rulebook::{Caller, Refusal, Reply, graded_are_on_trail, graded_are_there};
 use score_index::Board;
 use std::alloc::Global;
 
 /// The scores of the run of this name, as a caller is told them.
 pub(crate) fn scores_reply(
     alloc: Global,
-    history: &[Entry],
-    topics: &Topics,
-    submissions: &[Submission],
+    campaign: &Campaign,
     who: &Caller,
     name: &Text,
 ) -> Result<Reply, Memory>
-    requires legal { IsLegal history.now }
-    requires knows { (desk : List Lease) × KnowsAll history.now (told topics.now).topics desk }
-    requires submissions { AreSubmissions history.now submissions.now }
-    requires level { (told topics.now).level ≡ (rules_of history.now).level }
-    requires lists { AreListed history.now (names_of history.now) (told topics.now).lists }
-    requires few_runs { length (runs_of history.now) < 65536 }
-    ensures { IfOk result (λ reply. reply ≡ reply_of (scores_ruling history.now who.now name.now)) }
+    requires { IsKnown campaign.now }
+    ensures { IfOk result (λ reply. reply ≡ reply_of (scores_ruling campaign.now.history.items who.now name.now)) }
 {
+    let history = campaign.history.as_slice();
+    let submissions = campaign.submissions.as_slice();
     let Some(number) = run_number(history, submissions, name.bytes()) else {
         return Ok(Reply::Refused(Refusal::UnknownRun));
     };
@@ -50,6 +40,7 @@ pub(crate) fn scores_reply(
         return Ok(Reply::Refused(refusal));
     }
     let run = RunId(number as u16);
+    let topics = campaign.assessment.topics();
     let items = topics.items();
     let board = topics.board();
     let mut out = Vec::new(alloc);
@@ -60,29 +51,20 @@ pub(crate) fn scores_reply(
 }
 
 /// The summaries of the live runs, by submission.
-pub(crate) fn table_reply(
-    alloc: Global,
-    history: &[Entry],
-    topics: &Topics,
-    submissions: &[Submission],
-) -> Result<Reply, Memory>
-    requires legal { IsLegal history.now }
-    requires knows { (desk : List Lease) × KnowsAll history.now (told topics.now).topics desk }
-    requires submissions { AreSubmissions history.now submissions.now }
-    requires level { (told topics.now).level ≡ (rules_of history.now).level }
-    requires lists { AreListed history.now (names_of history.now) (told topics.now).lists }
-    requires few_runs { length (runs_of history.now) < 65536 }
-    ensures { IfOk result (λ told. told ≡ reply.Page (table_page history.now)) }
+pub(crate) fn table_reply(alloc: Global, campaign: &Campaign) -> Result<Reply, Memory>
+    requires { IsKnown campaign.now }
+    ensures { IfOk result (λ told. told ≡ reply.Page (table_page campaign.now.history.items)) }
 {
+    let topics = campaign.assessment.topics();
     let items = topics.items();
     let board = topics.board();
     let mut out = Vec::new(alloc);
-    for (number, submission) in submissions.iter().enumerate() {
+    for (number, submission) in campaign.submissions.iter().enumerate() {
         let is_withdrawn = submission.is_withdrawn;
         if is_withdrawn {
             continue;
         }
-        let name = name_of(&history[submission.place as usize]);
+        let name = name_of(&campaign.history[submission.place as usize]);
         let run = RunId(number as u16);
         write_run_summary(items, board, run, name, &mut out)?;
     }

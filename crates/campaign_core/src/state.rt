@@ -1,44 +1,35 @@
-//! The state of a campaign: its history, and what is known of it by numbers. A request is answered
-//! first; the change of an accepted one is given room then, and made when its entry joins the history.
-ghost use Rattle.std.specs.Prelude.{◌≡◌, ◌+◌, ◌<◌, ◌≤◌, ◌∷◌, [], ◌++◌, ℕ, List, length, vec_len, vec_capacity, IfOk, IsSome, OnOk, OnErr, IsTrue, None, Ok, Some};
+//! The state of a campaign. A request is answered first; the change of an accepted one is given room then, and
+//! made when its entry joins the history.
+ghost use Rattle.std.specs.Prelude.{◌≡◌, ◌+◌, ◌<◌, ◌≤◌, ◌∷◌, [], ◌++◌, ℕ, length, IfOk, IsSome, OnOk, OnErr, IsTrue, None, Some};
 ghost use Rattle.std.specs.Option.{option_map};
-ghost use Rattle.assessment.specs.Changes.{facts};
 ghost use Rattle.rulebook.specs.declared.ask.Ask.TheVariants.{Act};
-ghost use Rattle.rulebook.specs.declared.limits.TheConstants.{MAX_ENTRIES, MAX_LINES, MAX_DOCNOS, MAX_RUNS};
-ghost use Rattle.rulebook.specs.Words.{each_once};
-ghost use Rattle.rulebook.specs.Spelling.{are_rules, differ};
-ghost use Rattle.rulebook.specs.Campaign.{docnos_with, docs_on, opens, phase as phase_of, publishes, runs as runs_of, submitted_lines, submitted_docnos};
-ghost use Rattle.rulebook.specs.Answers.{answer, moment_after as moment_of, ruled as ruled_of};
+ghost use Rattle.rulebook.specs.Spelling.{are_rules};
+ghost use Rattle.rulebook.specs.Campaign.{phase as phase_of};
+ghost use Rattle.rulebook.specs.Answers.{answer};
 ghost use Rattle.rulebook.specs.Legal.{is_well_addressed, founding, IsLegal};
 ghost use Rattle.rulebook.specs.Numbers.{used};
-ghost use Rattle.campaign_core.specs.Changes.{AwaitsEntry, phase_after};
 ghost use Rattle.campaign_core.specs.Costs.{commit_steps};
-ghost use Rattle.campaign_core.specs.Growth.{BeginsWith, lists_in};
-ghost use Rattle.campaign_core.specs.Joining.{MayJoin};
-ghost use Rattle.campaign_core.specs.Numbers.{are_named};
+ghost use Rattle.campaign_core.specs.Decisions.{IsNew};
+ghost use Rattle.campaign_core.specs.Growth.{BeginsWith};
+ghost use Rattle.campaign_core.specs.Kept.{IsPrepared, IsUnchanged};
 ghost use Rattle.campaign_core.specs.NumberedRequests.{number_in, numbers_of, place_of, repeated_reply};
-ghost use Rattle.campaign_core.specs.Kept.{IsAssessmentOf};
 ghost use Rattle.campaign_core.specs.Lendings.{IsBoardOf, IsQueueOf};
-ghost use Rattle.campaign_core.specs.Submissions.{AreSubmissions};
-ghost use Rattle.campaign_core.specs.State.{IsRuling, IsVerdict};
+ghost use Rattle.campaign_core.specs.State.{IsVerdict};
 ghost use Rattle.campaign_core.specs.Tallies.{IsTally, submitted_at};
 ghost use Rattle.campaign_core.specs.Topics.{topic_ids};
 
-use crate::changes::change_of;
+use crate::campaign::Campaign;
+use crate::decisions::{Decision, decide};
 use crate::queries::told;
 use crate::request_numbers::RequestNumbers;
-use crate::rulings::{moment_after, ruled};
-use crate::submissions::{Submission, line_count, lists_of, name_of, note_run};
+use crate::submissions::name_of;
 use crate::tallies::{Tally, tally_of};
 use crate::verdict::{Prepared, Verdict};
-use assessment::Assessment;
-use decimal_rank::{Memory, Names, Steps, Text};
-use depth_pool::{RunId, greatest_run_goes_last};
-use labels::{marks_follow_labels, marks_follow_rulings};
+use decimal_rank::{Memory, Names, Steps};
+use depth_pool::RunId;
 use mtf_queue::Queue;
 use rulebook::{
-    Ask, Caller, Command, Entry, EntryCore, MAX_ENTRIES, Phase, Quantity, Refusal, Reply, Role,
-    Rules, labels_join, quiet_entries_keep_grades, rulings_join,
+    Ask, Caller, Command, Entry, EntryCore, MAX_ENTRIES, Phase, Quantity, Refusal, Reply, Rules,
 };
 use score_index::Board;
 use std::alloc::Global;
@@ -50,8 +41,7 @@ use std::sync::ledger::Ledger;
 /// one is.
 #[derive(Drop)]
 pub struct State {
-    history: Vec<Entry>,
-    phase: Phase,
+    campaign: Campaign,
     /// The docnos of the history, and then those of the last request that was prepared.
     docnos: Names,
     /// How many docnos the history has.
@@ -60,12 +50,6 @@ pub struct State {
     numbers: RequestNumbers,
     /// How many numbers the history has.
     numbers_kept: usize,
-    /// The topics, the runs' lists and the leases, and the change of the entry that is prepared.
-    assessment: Assessment,
-    /// The entries that submit runs, by submission.
-    submissions: Vec<Submission>,
-    /// How many lines the runs have that were ever submitted.
-    lines: u64,
     prepared: Option<Snapshot<Entry>>,
 }
 
@@ -78,7 +62,7 @@ impl Model for State {
     ghost use Rattle.campaign_core.specs.Kept.{IsKept};
 
     ghost view = { λ s. record {
-      history = s.history.items;
+      history = s.campaign.history.items;
       prepared = option_map (λ entry. entry.value) s.prepared;
     } };
 
@@ -92,32 +76,13 @@ impl State {
         ensures history { IfOk result (λ state. state.history ≡ founding rules ∷ []) }
         ensures prepared { IfOk result (λ state. state.prepared ≡ None) }
     {
-        let name = Text::from_slice(alloc, b"campaign")?;
-        let assessment = Assessment::new(alloc, rules.level)?;
-        let core = EntryCore {
-            caller: Caller {
-                name,
-                role: Role::Organiser,
-            },
-            number: None,
-            moment: 0,
-            command: Command::Found { rules },
-        };
-        let mut history = Vec::new(alloc);
-        history.push(Entry {
-            core,
-            reply: Reply::Done,
-        })?;
+        let campaign = Campaign::found(alloc, rules)?;
         Ok(State {
-            history,
-            phase: Phase::Collecting,
+            campaign,
             docnos: Names::new(alloc),
             docnos_kept: 0,
             numbers: RequestNumbers::new(alloc),
             numbers_kept: 0,
-            assessment,
-            submissions: Vec::new(alloc),
-            lines: 0,
             prepared: None,
         })
     }
@@ -127,13 +92,13 @@ impl State {
         ensures entries { result ≡ length self.now.history }
         ensures legal { IsLegal self.now.history }
     {
-        self.history.len() as u32
+        self.campaign.history.len() as u32
     }
 
     pub fn phase(&self) -> Phase
         ensures { result ≡ phase_of self.now.history }
     {
-        self.phase
+        self.campaign.phase
     }
 
     /// How the judgements and the runs stand. It takes a few steps for each topic, and looks at each live run
@@ -141,7 +106,7 @@ impl State {
     pub fn tally(&self) -> Tally
         ensures { IsTally self.now.history result }
     {
-        tally_of(self.assessment.topics(), &self.submissions)
+        tally_of(&self.campaign)
     }
 
     /// The name of a submitted run, by its number of submission from 0.
@@ -149,15 +114,15 @@ impl State {
         requires { IsSome (submitted_at self.now.history run) }
         ensures { option_map (λ run. run.name) (submitted_at self.now.history run) ≡ Some result.now }
     {
-        let place = self.submissions[usize::from(run.0)].place;
-        name_of(&self.history[place as usize])
+        let place = self.campaign.submissions[usize::from(run.0)].place;
+        name_of(&self.campaign.history[place as usize])
     }
 
     /// How many topics the campaign has: none before they are given.
     pub fn topic_count(&self) -> usize
         ensures { result ≡ length (topic_ids self.now.history) }
     {
-        self.assessment.topics().items().len()
+        self.campaign.assessment.topics().items().len()
     }
 
     /// The board of the live runs' lists, which stands for the effective grades.
@@ -165,7 +130,7 @@ impl State {
         ensures board { IsBoardOf self.now.history result.now }
         ensures as_many { length result.now.topics ≡ length (topic_ids self.now.history) }
     {
-        self.assessment.topics().board()
+        self.campaign.assessment.topics().board()
     }
 
     /// The live runs of a topic, by its number from 0, in the judging order.
@@ -173,7 +138,7 @@ impl State {
         requires { topic < length (topic_ids self.now.history) }
         ensures { IsQueueOf self.now.history topic result.now }
     {
-        self.assessment.topics().items()[topic as usize].queue()
+        self.campaign.assessment.topics().items()[topic as usize].queue()
     }
 
     /// Works out what the rules answer. What was prepared before and not committed is dropped.
@@ -197,20 +162,10 @@ impl State {
                 None => self.prepare_command(who, number, command, moment),
             },
             Ask::See(query) => {
-                let alloc = *self.history.allocator();
-                let now = moment_after(&self.history, moment);
+                let alloc = *self.campaign.history.allocator();
+                let now = self.campaign.moment_after(moment);
                 self.docnos.cut(self.docnos_kept);
-                let reply = told(
-                    alloc,
-                    &self.history,
-                    self.phase,
-                    &self.assessment,
-                    &self.docnos,
-                    &self.submissions,
-                    who,
-                    now,
-                    query,
-                )?;
+                let reply = told(alloc, &self.campaign, &self.docnos, who, now, query)?;
                 Ok(Verdict::Told(reply))
             }
         }
@@ -229,19 +184,7 @@ impl State {
         let reply = p.reply;
         self.docnos_kept = self.docnos.len();
         self.numbers_kept = self.numbers.len();
-        self.phase = phase_after(&p.entry.core.command, self.phase);
-        self.lines += line_count(lists_of(&p.entry.core.command));
-        note_run(&self.history, &mut self.submissions, &p.entry);
-        self.history.push_reserved(p.entry);
-        // a run of the greatest number stands last in a pool, and an entry changes the grades of
-        // one document at most
-        greatest_run_goes_last();
-        quiet_entries_keep_grades();
-        labels_join();
-        marks_follow_labels();
-        rulings_join();
-        marks_follow_rulings();
-        self.assessment.commit(steps);
+        self.campaign.commit(p.entry, steps);
         self.prepared = None;
         reply
     }
@@ -261,7 +204,7 @@ impl State {
         ensures prepared { self.new.prepared ≡ None }
     {
         self.prepared = None;
-        self.assessment.cancel();
+        self.campaign.assessment.cancel();
     }
 
     /// The reply to a command whose caller used its number before.
@@ -276,9 +219,16 @@ impl State {
         ensures prepared { self.new.prepared ≡ None }
         ensures reply { IfOk result (λ told. told ≡ repeated_reply self.old.history who.now.name number command.now) }
     {
-        let alloc = *self.history.allocator();
+        let alloc = *self.campaign.history.allocator();
         self.numbers.cut(self.numbers_kept);
-        kept_reply(alloc, &self.history, &self.numbers, who, number, command)
+        kept_reply(
+            alloc,
+            &self.campaign.history,
+            &self.numbers,
+            who,
+            number,
+            command,
+        )
     }
 
     /// What a command comes to whose caller didn't use its number before.
@@ -297,7 +247,7 @@ impl State {
             IfOk result (λ verdict. IsVerdict answer verdict self.new.prepared) }
         ensures err { OnErr result (self.new.prepared ≡ None) }
     {
-        if self.history.len() == MAX_ENTRIES as usize {
+        if self.campaign.history.len() == MAX_ENTRIES as usize {
             return Ok(Verdict::Told(Reply::Refused(Refusal::Limit {
                 which: Quantity::Entries,
             })));
@@ -305,19 +255,15 @@ impl State {
         let core = EntryCore {
             caller: who.copy()?,
             number,
-            moment: moment_after(&self.history, moment),
+            moment: self.campaign.moment_after(moment),
             command,
         };
         self.docnos.cut(self.docnos_kept);
         self.numbers.cut(self.numbers_kept);
-        match accepted(
-            &mut self.history,
-            self.phase,
-            &mut self.assessment,
+        match prepared(
+            &mut self.campaign,
             &mut self.docnos,
             &mut self.numbers,
-            &mut self.submissions,
-            self.lines,
             core,
         )? {
             Ok(prepared) => {
@@ -327,31 +273,6 @@ impl State {
             Err(refusal) => Ok(Verdict::Told(Reply::Refused(refusal))),
         }
     }
-}
-
-/// The phase after a command.
-fn phase_after(command: &Command, phase: Phase) -> Phase
-    ensures { result ≡ phase_after command.now phase }
-{
-    if publishes(command) {
-        Phase::Published
-    } else if opens(command) {
-        Phase::Judging
-    } else {
-        phase
-    }
-}
-
-fn publishes(command: &Command) -> bool
-    ensures { result ≡ publishes command.now }
-{
-    matches!(command, Command::Publish)
-}
-
-fn opens(command: &Command) -> bool
-    ensures { result ≡ opens command.now }
-{
-    matches!(command, Command::Open)
 }
 
 /// The reply to a command whose caller used its number before: the kept one where the command is the
@@ -382,64 +303,32 @@ fn kept_reply(
 
 /// The entry of a command, whose change then waits, with its docnos and its number added; or the
 /// first refusal of the command.
-fn accepted(
-    history: &mut Vec<Entry>,
-    phase: Phase,
-    assessment: &mut Assessment,
+fn prepared(
+    campaign: &mut Campaign,
     docnos: &mut Names,
     numbers: &mut RequestNumbers,
-    submissions: &mut Vec<Submission>,
-    lines: u64,
     core: EntryCore,
 ) -> Result<Result<Prepared, Refusal>, Memory>
-    requires addressed { IsTrue (is_well_addressed core.caller core.number (Act core.command) core.moment) }
-    requires phase { phase ≡ phase_of history.old.items }
-    requires legal { IsLegal history.old.items }
-    requires assessed { IsAssessmentOf history.old.items (facts assessment.old) }
-    requires submissions { AreSubmissions history.old.items submissions.old.items }
-    requires latest { moment_of history.old.items core.moment ≡ core.moment }
-    requires entries_fit { length history.old.items < MAX_ENTRIES }
-    requires docnos_are { docnos.old ≡ each_once (submitted_docnos history.old.items) }
-    requires docnos_fit { length docnos.old ≤ MAX_DOCNOS }
-    requires numbers_are { numbers.old ≡ numbers_of history.old.items }
-    requires unused { used history.old.items core.caller.name core.number ≡ None }
-    requires lines_are { lines ≡ submitted_lines history.old.items }
-    requires lines_fit { lines ≤ MAX_LINES }
-    requires runs_fit { length (runs_of history.old.items) ≤ MAX_RUNS }
-    ensures history { history.new.items ≡ history.old.items }
-    ensures facts { facts assessment.new ≡ facts assessment.old }
-    ensures submissions { submissions.new.items ≡ submissions.old.items }
+    requires { IsNew campaign.old docnos.old numbers.old core }
+    ensures unchanged { IsUnchanged campaign.old campaign.new }
     ensures docnos_grown { BeginsWith docnos.old docnos.new }
     ensures numbers_grown { BeginsWith numbers.old numbers.new }
-    ensures ruling { let ruling = ruled_of history.old.items core.caller core.moment core.command in
-        IfOk result (IsRuling ruling) }
-    ensures core { IfOk result (λ accepted. IfOk accepted (λ entry. entry.core ≡ core)) }
-    ensures joins { IfOk result (λ accepted. IfOk accepted (λ entry. MayJoin history.old.items docnos.new numbers.new entry)) }
-    ensures room { let has_room = vec_len history.new < vec_capacity history.new in
-        IfOk result (λ accepted. OnOk accepted has_room) }
-    ensures run_room { let has_room = vec_len submissions.new < vec_capacity submissions.new in
-        IfOk result (λ accepted. OnOk accepted has_room) }
-    ensures waits { IfOk result (λ accepted. IfOk accepted (AwaitsEntry history.old.items docnos.new assessment.new)) }
+    ensures prepared { IfOk result (IsPrepared campaign.new docnos.new numbers.new core) }
 {
-    let alloc = *history.allocator();
-    match ruled(
-        alloc,
-        history,
-        phase,
-        assessment.topics().items(),
-        docnos,
-        assessment.desk(),
-        submissions,
-        lines,
-        &core,
-    )? {
-        Ok(reply) => {
-            add_number(numbers, &core, history.len() as u32 + 1)?;
-            Ok(Ok(made_ready(history, assessment, docnos, submissions, core, reply)?))
-        }
-        Err(refusal) => {
+    let alloc = *campaign.history.allocator();
+    match decide(alloc, campaign, docnos, &core)? {
+        Decision::Refused(refusal) => {
             drop(core);
             Ok(Err(refusal))
+        }
+        Decision::Accepted(reply, change) => {
+            add_number(numbers, &core, campaign.history.len() as u32 + 1)?;
+            campaign.reserve(change)?;
+            let told = reply.copy(alloc)?;
+            Ok(Ok(Prepared {
+                entry: Entry { core, reply: told },
+                reply,
+            }))
         }
     }
 }
@@ -454,52 +343,4 @@ fn add_number(numbers: &mut RequestNumbers, core: &EntryCore, place: u32) -> Res
         Some(number) => numbers.add(core.caller.name.copy()?, number, place),
         None => Ok(()),
     }
-}
-
-/// The entry of an accepted command, whose change then waits. The history has room for it.
-fn made_ready(
-    history: &mut Vec<Entry>,
-    assessment: &mut Assessment,
-    docnos: &Names,
-    submissions: &mut Vec<Submission>,
-    core: EntryCore,
-    reply: Reply,
-) -> Result<Prepared, Memory>
-    requires legal { IsLegal history.old.items }
-    requires accepted { ruled_of history.old.items core.caller core.moment core.command ≡ Ok reply }
-    requires assessed { IsAssessmentOf history.old.items (facts assessment.old) }
-    requires submissions { AreSubmissions history.old.items submissions.old.items }
-    requires entries_fit { length history.old.items < MAX_ENTRIES }
-    requires docnos_are { docnos.now ≡ docnos_with history.old.items (lists_in core.command) }
-    requires few { (topic : List ℕ) → length (docs_on (lists_in core.command) topic) ≤ 1000 }
-    requires distinct { (topic : List ℕ) → IsTrue (differ (docs_on (lists_in core.command) topic)) }
-    requires named { (topic : List ℕ) → IsTrue (are_named docnos.now (docs_on (lists_in core.command) topic)) }
-    requires few_runs { length (runs_of history.old.items) < 65536 }
-    ensures history { history.new.items ≡ history.old.items }
-    ensures facts { facts assessment.new ≡ facts assessment.old }
-    ensures submissions { submissions.new.items ≡ submissions.old.items }
-    ensures room { OnOk result (vec_len history.new < vec_capacity history.new) }
-    ensures run_room { OnOk result (vec_len submissions.new < vec_capacity submissions.new) }
-    ensures entry { IfOk result (λ entry. entry ≡ record { core = core; reply = reply }) }
-    ensures waits { IfOk result (AwaitsEntry history.old.items docnos.now assessment.new) }
-{
-    history.reserve(1)?;
-    submissions.reserve(1)?;
-    let alloc = *history.allocator();
-    let change = change_of(
-        alloc,
-        history,
-        assessment.topics().items(),
-        docnos,
-        assessment.desk(),
-        submissions,
-        &core,
-        &reply,
-    )?;
-    let told = reply.copy(alloc)?;
-    assessment.reserve(change)?;
-    Ok(Prepared {
-        entry: Entry { core, reply: told },
-        reply,
-    })
 }

@@ -5,12 +5,12 @@ ghost use Rattle.assessment.specs.TopicFacts.{facts_of};
 ghost use Rattle.lease_desk.specs.declared.leases.Lease.{Lease};
 ghost use Rattle.rulebook.specs.Campaign.{History, Run};
 ghost use Rattle.rulebook.specs.Grades.{non_relevant_count, relevant_count};
-ghost use Rattle.campaign_core.specs.Kept.{KnowsAll, KnowsRun};
+ghost use Rattle.campaign_core.specs.Kept.{IsKnown, KnowsAll, KnowsRun};
 ghost use Rattle.campaign_core.specs.Printed.{IsTopicOf};
-ghost use Rattle.campaign_core.specs.Tallies.{IsTally, KnowsRuns, best_map, best_run, judged_in, map_of, relevant_in, submitted_at};
+ghost use Rattle.campaign_core.specs.Tallies.{IsTally, best_map, best_run, judged_in, map_of, relevant_in, submitted_at};
 
-use crate::submissions::Submission;
-use assessment::{Topic, Topics};
+use crate::campaign::Campaign;
+use assessment::Topic;
 use depth_pool::RunId;
 use rulebook::{graded_are_on_trail, graded_are_there};
 use score_index::Board;
@@ -28,12 +28,12 @@ pub struct Tally {
 }
 
 /// The counts are those that the topics keep, and each live run is looked at once.
-pub(crate) fn tally_of(topics: &Topics, submissions: &[Submission]) -> Tally
-    requires { (H : History) × KnowsRuns H topics.now submissions.now }
-    ensures { (H : History) → KnowsRuns H topics.now submissions.now → IsTally H result }
+pub(crate) fn tally_of(campaign: &Campaign) -> Tally
+    requires { IsKnown campaign.now }
+    ensures { IsTally campaign.now.history.items result }
 {
-    let (relevant, judged) = judgements(topics.items());
-    let (best, map) = best_of(topics, submissions);
+    let (relevant, judged) = judgements(campaign.topics());
+    let (best, map) = best_of(campaign);
     Tally {
         judged,
         relevant,
@@ -70,17 +70,18 @@ fn counts_of(topic: &Topic) -> (u32, u32)
 }
 
 /// The live run with the greatest mean average precision, the earliest submitted of several, and that mean.
-fn best_of(topics: &Topics, submissions: &[Submission]) -> (Option<RunId>, u64)
-    requires { (H : History) × KnowsRuns H topics.now submissions.now }
-    ensures best { (H : History) → KnowsRuns H topics.now submissions.now
-        → (option_map (submitted_at H) result.0 ≡ option_map Some (best_run H)) × (result.1 ≡ best_map H) }
+fn best_of(campaign: &Campaign) -> (Option<RunId>, u64)
+    requires { IsKnown campaign.now }
+    ensures best { option_map (submitted_at campaign.now.history.items) result.0 ≡ option_map Some (best_run campaign.now.history.items) }
+    ensures map { result.1 ≡ best_map campaign.now.history.items }
     ensures fits { result.1 ≤ 10 ^ 15 }
 {
+    let topics = campaign.assessment.topics();
     let items = topics.items();
     let board = topics.board();
     let mut best = None;
     let mut greatest = 0;
-    for (number, submission) in submissions.iter().enumerate() {
+    for (number, submission) in campaign.submissions.iter().enumerate() {
         let is_withdrawn = submission.is_withdrawn;
         if is_withdrawn {
             continue;

@@ -7,4 +7,4 @@ use Rattle.campaign_core.proofs.LiveRuns.{live_of}
 use Rattle.campaign_core.proofs.score_pages.table_reply.Given as goal
 
 abbrev pub invariant-loop-number : goal.invariant-loop-number
-invariant-loop-number l = l.out.items ≡ flat_map (summary_lines l.history) (live_of l.history (take l.number (runs l.history)))
+invariant-loop-number l = l.out.items ≡ flat_map (summary_lines l.fn.campaign.history.items) (live_of l.fn.campaign.history.items (take l.number (runs l.fn.campaign.history.items)))

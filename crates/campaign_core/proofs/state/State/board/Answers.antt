@@ -13,21 +13,21 @@ use Rattle.campaign_core.proofs.state.State.board.Goals as goal
 
 pub returns-clause-board : goal.returns-clause-board
 returns-clause-board c =
-    let H = c.self.inside.history.items in
-    let all = c.self.inside.assessment.topics in
-    let known = c.self.invariant.assessed in
+    let H = c.self.inside.campaign.history.items in
+    let all = c.self.inside.campaign.assessment.topics in
+    let known = c.self.invariant.known.assessed in
     subst (λ (s : Seen). IsBoardOf s.history c.board.result.now) c.self.view_is
-    (board-of H all c.board.result.now c.self.inside.assessment.leases known.knows known.level_is (listed-at H (names_of H) _ known.lists_are)
+    (board-of H all c.board.result.now c.self.inside.campaign.assessment.leases known.knows known.level_is (listed-at H (names_of H) _ known.lists_are)
     (c.board.ensures.board ∙ ap (λ (topics : TopicsView). topics.board) c.topics.ensures.topics)
     (subst (λ (topics : TopicsView). StandsFor c.board.result.now (map graded_of topics.topics)) c.topics.ensures.topics c.board.ensures.stands))
 
 pub returns-clause-as_many : goal.returns-clause-as_many
 returns-clause-as_many c =
-    let H = c.self.inside.history.items in
-    let all = c.self.inside.assessment.topics in
+    let H = c.self.inside.campaign.history.items in
+    let all = c.self.inside.campaign.assessment.topics in
     let board = c.board.result.now in
     let stands = subst (λ (topics : TopicsView). StandsFor board (map graded_of topics.topics)) c.topics.ensures.topics c.board.ensures.stands in
     let long = AllZip-long (TopicStandsFor board.level) board.topics (map graded_of all.topics) stands in
-    let many = ap length c.self.invariant.assessed.knows.topics_are in
+    let many = ap length c.self.invariant.known.assessed.knows.topics_are in
     let ids : length (topic_ids H) ≡ length (topic_ids c.args.self.now.history) = ap (λ (s : Seen). length (topic_ids s.history)) c.self.view_is in
     omega (arith, long, many, ids, length-map all.topics graded_of, length-map (map facts_of all.topics) kept, length-map all.topics facts_of, length-map (topic_ids H) (kept_of H))

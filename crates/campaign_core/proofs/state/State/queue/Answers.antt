@@ -10,9 +10,9 @@ use Rattle.campaign_core.proofs.state.State.queue.Goals as goal
 
 pub returns : goal.returns
 returns c =
-    let H = c.self.inside.history.items in
-    let all = c.self.inside.assessment.topics in
-    let known = c.self.invariant.assessed in
+    let H = c.self.inside.campaign.history.items in
+    let all = c.self.inside.campaign.assessment.topics in
+    let known = c.self.invariant.known.assessed in
     let i = c.args.topic in
     let topic = c.index-items-topic.result in
     let items_are : c.items.result.now ≡ all.topics = c.items.ensures.topics ∙ ap (λ (topics : TopicsView). topics.topics) c.topics.ensures.topics in
@@ -23,7 +23,7 @@ returns c =
     let here : get_or all.topics i topic ≡ topic = sym (c.index-items-topic.is ∙ ap (λ (items : List TopicView). get_or items i topic) items_are) in
     subst (λ (s : Seen). IsQueueOf s.history i c.queue.result.now) c.self.view_is (record {
       topics = map facts_of all.topics;
-      desk = c.self.inside.assessment.leases;
+      desk = c.self.inside.campaign.assessment.leases;
       knows = known.knows;
       facts = topic.facts;
       topic_is = slice_get-get_or (map facts_of all.topics) i topic.facts inside ∙ ap (λ (facts : TopicFacts). Some facts) (get_or-map facts_of all.topics i topic topic.facts within ∙ ap facts_of here);

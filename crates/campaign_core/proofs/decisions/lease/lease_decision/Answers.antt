@@ -1,0 +1,152 @@
+use Rattle.std.proofs.Common.{◌≡◌, ◌<◌, ◌+◌, ◌∙◌, ℕ, List, None, Ok, Some, ap, arith, get_or, length, map, subst, sym}
+use Rattle.assessment.specs.TopicFacts.{TopicView, facts_of}
+use Rattle.decimal_rank.specs.Names.{docno_of}
+use Rattle.decimal_rank.specs.declared.naming.DocId.{DocId}
+use Rattle.rulebook.specs.declared.reply.Reply.{Reply}
+use Rattle.rulebook.specs.declared.reply.Reply.TheVariants as reply
+use Rattle.rulebook.specs.declared.rules.Rules.{Rules}
+use Rattle.rulebook.specs.Answers.{ruled}
+use Rattle.rulebook.specs.Campaign.{rules_of, title}
+use Rattle.rulebook.specs.Leases.{Lease, lease_in, leases, live_leases_of}
+use Rattle.rulebook.specs.Words.{Text, contains_text}
+use Rattle.campaign_core.specs.Kept.{KnowsAll}
+use Rattle.campaign_core.specs.Leasing.{first_open, is_open_in}
+use Rattle.campaign_core.specs.Numbers.{doc_in, names_of}
+use Rattle.campaign_core.proofs.Desks.{live-of-same}
+use Rattle.campaign_core.proofs.LeaseFacts.{doc-told, few-leases, known-topic, lease-granted, lease-many, lease-nothing, lease-unknown, none-named, stands-at, unknown-topic}
+use Rattle.campaign_core.proofs.LeaseSteps.{desk-long}
+use Rattle.campaign_core.proofs.ListFacts.{get-map}
+use Rattle.campaign_core.proofs.Naming.{docno-back}
+use Rattle.campaign_core.proofs.Told.{moment-of, term-fits}
+use Rattle.campaign_core.proofs.decisions.lease.lease_decision.Goals as goal
+
+pub returns-in_default : goal.returns-in_default
+returns-in_default c =
+    let campaign = c.args.campaign.now in
+    let H = campaign.history.items in
+    let who = c.args.core.now.caller in
+    let now = c.args.core.now.moment in
+    let known = c.requires.asked.asked.known in
+    ap (ruled H who now) c.requires.asked.command_is
+    ∙ sym (lease-unknown H who now c.args.topic.now campaign.phase known.phase_is c.if-not-is_judging.ensures
+    (unknown-topic H (map facts_of campaign.assessment.topics.topics) c.args.topic.now known.assessed.knows.topics_are (rw (← c.bytes.ensures) c.in_default.ensures)))
+
+pub returns-then-live-from : goal.returns-then-live-from
+returns-then-live-from c =
+    let campaign = c.args.campaign.now in
+    let H = campaign.history.items in
+    let ts = map facts_of campaign.assessment.topics.topics in
+    let who = c.args.core.now.caller in
+    let now = c.args.core.now.moment in
+    let known = c.requires.asked.asked.known in
+    let desk = c.desk-desk.result.now.leases in
+    let knows : KnowsAll H ts desk = subst (KnowsAll H ts) (sym c.desk-desk.ensures) known.assessed.knows in
+    let at = known-topic H ts c.args.topic.now c.in-Some.number knows.topics_are (rw (← c.bytes.ensures) c.in-Some.ensures) in
+    let live_is : c.live_of-live.result ≡ length (live_leases_of H now who.name) =
+    c.live_of-live.ensures ∙ live-of-same H (names_of H) desk now c.bytes-assessor.result.now knows.leased
+    ∙ ap (λ (name : Text). length (live_leases_of H now name)) c.bytes-assessor.ensures in
+    let hold_is : c.from.result ≡ (rules_of H).hold = c.from.ensures ∙ ap (λ (r : Rules). r.hold) c.rules-rules.ensures in
+    ap (ruled H who now) c.requires.asked.command_is
+    ∙ sym (lease-many H who now c.args.topic.now campaign.phase known.phase_is c.if-not-is_judging.ensures at.listed c.live_of-live.result live_is
+    (omega (arith, hold_is, c.if-live-from.true)))
+
+pub overflow_add-reply : goal.overflow_add-reply
+overflow_add-reply c =
+    let known = c.requires.asked.asked.known in
+    let many = ap length c.desk-desk.ensures in
+    omega (arith, many, c.len.ensures.len, desk-long c.args.campaign.now.history.items c.args.campaign.now.assessment.leases known.assessed.knows.leased, few-leases c.args.campaign.now.history.items, known.entries_fit)
+
+pub overflow_add-until : goal.overflow_add-until
+overflow_add-until c =
+    let core = c.args.core.now in
+    let known = c.requires.asked.asked.known in
+    omega (arith, moment-of core.caller core.number core.command core.moment c.requires.asked.asked.addressed, term-fits c.args.campaign.now.history.items known.legal, ap (λ (r : Rules). r.term) c.rules-rules.ensures)
+
+pub returns : goal.returns
+returns c =
+    let campaign = c.args.campaign.now in
+    let H = campaign.history.items in
+    let all = campaign.assessment.topics.topics in
+    let ts = map facts_of all in
+    let who = c.args.core.now.caller in
+    let now = c.args.core.now.moment in
+    let topic = c.args.topic.now in
+    let known = c.requires.asked.asked.known in
+    let desk = c.desk-desk.result.now.leases in
+    let knows : KnowsAll H ts desk = subst (KnowsAll H ts) (sym c.desk-desk.ensures) known.assessed.knows in
+    let number = c.in-Some.number in
+    let at = known-topic H ts topic number knows.topics_are (rw (← c.bytes.ensures) c.in-Some.ensures) in
+    let live_is : c.live_of-live.result ≡ length (live_leases_of H now who.name) =
+    c.live_of-live.ensures ∙ live-of-same H (names_of H) desk now c.bytes-assessor.result.now knows.leased
+    ∙ ap (λ (name : Text). length (live_leases_of H now name)) c.bytes-assessor.ensures in
+    let hold_is : c.from.result ≡ (rules_of H).hold = c.from.ensures ∙ ap (λ (r : Rules). r.hold) c.rules-rules.ensures in
+    let few : length (live_leases_of H now who.name) < (rules_of H).hold = omega (arith, live_is, hold_is, c.if-live-from.false) in
+    let kept = c.index-topics-number.result in
+    let s = kept.facts in
+    let s_is : s ≡ get_or ts number s = ap facts_of (c.index-topics-number.is ∙ ap (λ (items : List TopicView). get_or items number kept) c.topics-topics.ensures) ∙ sym (get-map facts_of all number kept) in
+    let stands = stands-at H ts desk knows topic number at.number_is at.listed s s_is in
+    let doc = c.in-Some-named.doc in
+    let queue = c.in-Some-named.ensures.0 in
+    let is : Some doc ≡ first_open (is_open_in s.need s.marked desk number now who.name) s.pool queue.order =
+    c.in-Some-named.ensures.2 ∙ ap (λ (name : Text). first_open (is_open_in s.need s.marked desk number now name) s.pool queue.order) c.bytes-assessor.ensures in
+    let told = doc-told H ts desk knows topic number at.number_is at.listed s stands queue c.in-Some-named.ensures.1 now who.name c.first_that_passes.ensures doc is in
+    let doc_is : doc ≡ doc_in c.args.docnos.now told.text = told.doc_is ∙ ap (λ names. doc_in names told.text) (sym c.requires.names) in
+    let docno : c.in_ok-docno.field-0 ≡ told.text =
+    c.in_ok-docno.ensures ∙ ap (λ (names : List Text). docno_of names doc.0) c.requires.names
+    ∙ ap (λ (d : DocId). docno_of (names_of H) d.0) told.doc_is ∙ docno-back (names_of H) told.text told.known in
+    let titled : c.in_ok-from_slice.field-0 ≡ title H topic = c.in_ok-from_slice.ensures.text ∙ c.title.ensures ∙ ap (title H) c.bytes-2.ensures in
+    let many = ap length c.desk-desk.ensures in
+    let number_is : c.len.result + 1 ≡ length (leases H) + 1 = omega (arith, many, c.len.ensures.len, desk-long H campaign.assessment.leases known.assessed.knows.leased) in
+    let until : now + c.rules-rules.result.now.term ≡ now + (rules_of H).term = ap (λ (r : Rules). now + r.term) c.rules-rules.ensures in
+    let last = now + c.rules-rules.result.now.term in
+    let leased : ℕ → Text → Text → ℕ → Text → Reply = λ n t d u title. reply.Leased n t d u title in
+    let reply_is : leased (c.len.result + 1) c.in_ok-copy.field-0 c.in_ok-docno.field-0 last c.in_ok-from_slice.field-0 ≡ leased (length (leases H) + 1) topic told.text (now + (rules_of H).term) (title H topic) =
+    ap (λ n. leased n c.in_ok-copy.field-0 c.in_ok-docno.field-0 last c.in_ok-from_slice.field-0) number_is
+    ∙ ap (λ t. leased (length (leases H) + 1) t c.in_ok-docno.field-0 last c.in_ok-from_slice.field-0) c.in_ok-copy.ensures.copy
+    ∙ ap (λ d. leased (length (leases H) + 1) topic d last c.in_ok-from_slice.field-0) docno
+    ∙ ap (λ u. leased (length (leases H) + 1) topic told.text u c.in_ok-from_slice.field-0) until
+    ∙ ap (λ title. leased (length (leases H) + 1) topic told.text (now + (rules_of H).term) title) titled in
+    let granted = lease-granted H who now topic campaign.phase known.phase_is c.if-not-is_judging.ensures at.listed few told.text told.named_is in
+    let lease : Lease = record { number = length (leases H) + 1; assessor = who.name; topic = topic; doc = told.text; until = now + (rules_of H).term } in (
+      ap (ruled H who now) c.requires.asked.command_is ∙ sym granted ∙ ap Ok (sym reply_is),
+      record {
+        command_is = (topic, c.requires.asked.command_is);
+        lease = lease;
+        told = ap (lease_in who.name) reply_is;
+        topic_is = at.number_is;
+        doc_is = doc_is;
+        until_is = until;
+        assessor_is = c.in_ok-copy-2.ensures.copy;
+        doc_named = ap (λ names. contains_text names told.text) c.requires.names ∙ told.known;
+      },
+    )
+
+pub returns-in_default-named : goal.returns-in_default-named
+returns-in_default-named c =
+    let campaign = c.args.campaign.now in
+    let H = campaign.history.items in
+    let all = campaign.assessment.topics.topics in
+    let ts = map facts_of all in
+    let who = c.args.core.now.caller in
+    let now = c.args.core.now.moment in
+    let topic = c.args.topic.now in
+    let known = c.requires.asked.asked.known in
+    let desk = c.desk-desk.result.now.leases in
+    let knows : KnowsAll H ts desk = subst (KnowsAll H ts) (sym c.desk-desk.ensures) known.assessed.knows in
+    let number = c.in-Some.number in
+    let at = known-topic H ts topic number knows.topics_are (rw (← c.bytes.ensures) c.in-Some.ensures) in
+    let live_is : c.live_of-live.result ≡ length (live_leases_of H now who.name) =
+    c.live_of-live.ensures ∙ live-of-same H (names_of H) desk now c.bytes-assessor.result.now knows.leased
+    ∙ ap (λ (name : Text). length (live_leases_of H now name)) c.bytes-assessor.ensures in
+    let hold_is : c.from.result ≡ (rules_of H).hold = c.from.ensures ∙ ap (λ (r : Rules). r.hold) c.rules-rules.ensures in
+    let few : length (live_leases_of H now who.name) < (rules_of H).hold = omega (arith, live_is, hold_is, c.if-live-from.false) in
+    let kept = c.index-topics-number.result in
+    let s = kept.facts in
+    let s_is : s ≡ get_or ts number s = ap facts_of (c.index-topics-number.is ∙ ap (λ (items : List TopicView). get_or items number kept) c.topics-topics.ensures) ∙ sym (get-map facts_of all number kept) in
+    let stands = stands-at H ts desk knows topic number at.number_is at.listed s s_is in
+    let queue = c.in_default-named.ensures.0 in
+    let is : None ≡ first_open (is_open_in s.need s.marked desk number now who.name) s.pool queue.order =
+    c.in_default-named.ensures.2 ∙ ap (λ (name : Text). first_open (is_open_in s.need s.marked desk number now name) s.pool queue.order) c.bytes-assessor.ensures in
+    ap (ruled H who now) c.requires.asked.command_is
+    ∙ sym (lease-nothing H who now topic campaign.phase known.phase_is c.if-not-is_judging.ensures at.listed few
+    (none-named H ts desk knows topic number at.number_is at.listed s stands queue c.in_default-named.ensures.1 now who.name c.first_that_passes.ensures is))

@@ -1,0 +1,40 @@
+use Rattle.std.proofs.Common.{◌≡◌, ◌+◌, ◌++◌, ◌∙◌, ap, arith, length, subst, sym}
+use Rattle.assessment.specs.Changes.{facts}
+use Rattle.rulebook.specs.declared.entry.Entry.{Entry}
+use Rattle.rulebook.specs.Numbers.{used}
+use Rattle.campaign_core.specs.Decisions.{IsDecision, IsWithinLimits, KeepsLimits}
+use Rattle.campaign_core.specs.NumberedRequests.{number_in, place_of}
+use Rattle.campaign_core.specs.declared.decisions.Decision.TheVariants.{Accepted}
+use Rattle.campaign_core.proofs.Fitting.{fits}
+use Rattle.campaign_core.proofs.Preparing.{prepared-entry}
+use Rattle.campaign_core.proofs.RequestFacts.{unused-kept}
+use Rattle.campaign_core.proofs.state.prepared.Goals as goal
+
+pub add_number-requires : goal.add_number-requires
+add_number-requires c = λ number is.
+    let H = c.args.campaign.now.history.items in
+    let name = c.args.core.caller.name in
+    ap (place_of name number) c.requires.numbers_are ∙ unused-kept H name number (ap (used H name) (sym is) ∙ c.requires.unused)
+
+pub reserve-requires : goal.reserve-requires
+reserve-requires c =
+    let campaign = c.args.campaign.now in
+    let H = campaign.history.items in
+    let names = c.decide.new.docnos in
+    let e : Entry = record { core = c.args.core; reply = c.in-Accepted.reply } in
+    let decided : IsDecision campaign names c.args.core (Accepted c.in-Accepted.reply c.in-Accepted.change) = subst (IsDecision campaign names c.args.core) c.in-Accepted.is c.in_ok-refusal.ensures.decision in
+    let limits : IsWithinLimits H names c.args.core.command = subst (KeepsLimits H names c.args.core.command) c.in-Accepted.is c.in_ok-refusal.ensures.limits in
+    fits H (facts campaign.assessment) c.requires.asked.known.assessed c.requires.entries_fit names e c.in-Accepted.change decided.0 limits.names_are decided.1
+
+pub returns-in_ok-told-in-Accepted-clause-prepared : goal.returns-in_ok-told-in-Accepted-clause-prepared
+returns-in_ok-told-in-Accepted-clause-prepared c =
+    let campaign = c.args.campaign.now in
+    let H = campaign.history.items in
+    let names = c.decide.new.docnos in
+    let decided : IsDecision campaign names c.args.core (Accepted c.in-Accepted.reply c.in-Accepted.change) = subst (IsDecision campaign names c.args.core) c.in-Accepted.is c.in_ok-refusal.ensures.decision in
+    let limits : IsWithinLimits H names c.args.core.command = subst (KeepsLimits H names c.args.core.command) c.in-Accepted.is c.in_ok-refusal.ensures.limits in
+    let place : c.len.result + 1 ≡ length H + 1 = omega (arith, c.len.ensures, campaign.history.ok.0) in
+    let numbers_are : c.add_number.new.numbers ≡ c.args.numbers.now ++ number_in (length H + 1) c.args.core =
+    c.in_ok-add_number-in-Accepted.ensures.ok ∙ ap (λ n. c.args.numbers.now ++ number_in n c.args.core) place in
+    prepared-entry campaign c.reserve.new.self c.args.docnos.now names c.args.numbers.now c.add_number.new.numbers c.args.core c.in_ok-told-in-Accepted.told c.in-Accepted.reply c.in-Accepted.change
+    c.requires c.in_ok-reserve-in-Accepted.ensures.unchanged c.in_ok-reserve-in-Accepted.ensures.room c.in_ok-refusal.ensures.grown decided limits numbers_are c.in_ok-told-in-Accepted.ensures

@@ -1,0 +1,56 @@
+-- What a command comes to, and what is asked with it.
+use Rattle.std.specs.Prelude.{◌≡◌, ◌<◌, ◌≤◌, List, Ok, Err, None, IsTrue, length}
+use Rattle.assessment.specs.Changes.{facts}
+use Rattle.rulebook.specs.declared.ask.Ask.TheVariants.{Act}
+use Rattle.rulebook.specs.declared.ask.Command.{Command}
+use Rattle.rulebook.specs.declared.entry.EntryCore.{EntryCore}
+use Rattle.rulebook.specs.declared.limits.TheConstants.{MAX_DOCNOS, MAX_ENTRIES, MAX_LINES}
+use Rattle.rulebook.specs.Answers.{moment_after, ruled}
+use Rattle.rulebook.specs.Campaign.{History, docnos_with, lines_with}
+use Rattle.rulebook.specs.Legal.{is_well_addressed}
+use Rattle.rulebook.specs.Numbers.{used}
+use Rattle.rulebook.specs.Words.{Text}
+use Rattle.campaign_core.specs.Changes.{CarriesOut}
+use Rattle.campaign_core.specs.Growth.{lists_in}
+use Rattle.campaign_core.specs.Kept.{IsKnown}
+use Rattle.campaign_core.specs.NumberedRequests.{Numbered, numbers_of}
+use Rattle.campaign_core.specs.Numbers.{names_of}
+use Rattle.campaign_core.specs.declared.campaign.Campaign.{Campaign}
+use Rattle.campaign_core.specs.declared.decisions.Decision.{Decision}
+use Rattle.campaign_core.specs.declared.decisions.Decision.TheVariants.{Accepted, Refused}
+
+-- a well addressed request of a campaign that is known
+pub record IsAsked (campaign : Campaign) (core : EntryCore) : Type 0 where
+  pub known : IsKnown campaign
+  pub addressed : IsTrue (is_well_addressed core.caller core.number (Act core.command) core.moment)
+
+-- the same, with this command
+pub record IsAskedFor (campaign : Campaign) (core : EntryCore) (command : Command) : Type 0 where
+  pub asked : IsAsked campaign core
+  pub command_is : core.command ≡ command
+
+-- The decision is what the rules say: the refusal; or the reply, with a change that carries the entry out, by the numbers of these docnos.
+abbrev pub IsDecision : Campaign → List Text → EntryCore → Decision → Type 0
+IsDecision campaign names core (Refused refusal) = ruled campaign.history.items core.caller core.moment core.command ≡ Err refusal
+IsDecision campaign names core (Accepted reply change) =
+    (ruled campaign.history.items core.caller core.moment core.command ≡ Ok reply)
+    × CarriesOut campaign.history.items names (facts campaign.assessment).topics.topics campaign.assessment.leases (record { core = core; reply = reply }) change
+
+-- where the command is accepted, these are the docnos with its own, and the limits of lines and docnos hold
+pub record IsWithinLimits (H : History) (names : List Text) (command : Command) : Type 0 where
+  pub names_are : names ≡ docnos_with H (lists_in command)
+  pub names_fit : length names ≤ MAX_DOCNOS
+  pub lines_fit : lines_with H (lists_in command) ≤ MAX_LINES
+
+abbrev pub KeepsLimits : History → List Text → Command → Decision → Type 0
+KeepsLimits H names command (Refused refusal) = Unit {0}
+KeepsLimits H names command (Accepted reply change) = IsWithinLimits H names command
+
+-- A request whose moment is the next entry's and whose caller didn't use its number before, with the docnos and the numbers of the history, which isn't full.
+pub record IsNew (campaign : Campaign) (names : List Text) (numbers : List Numbered) (core : EntryCore) : Type 0 where
+  pub asked : IsAsked campaign core
+  pub names_are : names ≡ names_of campaign.history.items
+  pub numbers_are : numbers ≡ numbers_of campaign.history.items
+  pub unused : used campaign.history.items core.caller.name core.number ≡ None
+  pub latest : moment_after campaign.history.items core.moment ≡ core.moment
+  pub entries_fit : length campaign.history.items < MAX_ENTRIES

@@ -1,0 +1,226 @@
+//! A campaign: its history, and what is known of it by numbers. An accepted entry has room made for its
+//! change first, and joins the history with its change then.
+ghost use Rattle.std.specs.Prelude.{◌≡◌, ◌+◌, ◌≤◌, ◌++◌, ◌∷◌, [], IfOk, IsTrue, OnOk, is_some, map};
+ghost use Rattle.std.specs.List.{list_any, position};
+ghost use Rattle.std.specs.Str.{bytes_eq};
+ghost use Rattle.assessment.specs.Changes.{Fits, facts};
+ghost use Rattle.assessment.specs.TopicFacts.{facts_of};
+ghost use Rattle.rulebook.specs.Answers.{moment_after, unknown_line};
+ghost use Rattle.rulebook.specs.Campaign.{has_topics, opens, publishes, rules_of, title, topics as topics_of, topics_in};
+ghost use Rattle.rulebook.specs.Legal.{founding};
+ghost use Rattle.rulebook.specs.Spelling.{are_rules};
+ghost use Rattle.campaign_core.specs.Changes.{phase_after};
+ghost use Rattle.campaign_core.specs.Costs.{commit_steps};
+ghost use Rattle.campaign_core.specs.Kept.{AwaitsChange, IsKnown, IsReady, IsUnchanged};
+
+use crate::submissions::{Submission, line_count, lists_of, note_run};
+use crate::topics::topic_number;
+use assessment::{Assessment, Change, Topic};
+use decimal_rank::{Memory, Steps, Text};
+use depth_pool::greatest_run_goes_last;
+use labels::{marks_follow_labels, marks_follow_rulings};
+use rulebook::{
+    Caller, Command, Entry, EntryCore, Phase, Reply, Role, Rules, labels_join,
+    quiet_entries_keep_grades, rulings_join,
+};
+use std::alloc::Global;
+use std::sync::ledger::Ledger;
+use trec_formats::{Topic as GivenTopic, TopicList};
+
+/// The accepted entries, and what is known of them.
+#[derive(Drop)]
+pub(crate) struct Campaign {
+    pub(crate) history: Vec<Entry>,
+    pub(crate) phase: Phase,
+    /// The topics, the runs' lists and the leases, and the change of the entry that is prepared.
+    pub(crate) assessment: Assessment,
+    /// The entries that submit runs, by submission.
+    pub(crate) submissions: Vec<Submission>,
+    /// How many lines the runs have that were ever submitted.
+    pub(crate) lines: u64,
+}
+
+impl Campaign {
+    /// A campaign of these rules, with its founding entry alone.
+    pub(crate) fn found(alloc: Global, rules: Rules) -> Result<Campaign, Memory>
+        requires { IsTrue (are_rules rules) }
+        ensures history { IfOk result (λ campaign. campaign.history.items ≡ founding rules ∷ []) }
+        ensures known { IfOk result IsKnown }
+    {
+        let name = Text::from_slice(alloc, b"campaign")?;
+        let assessment = Assessment::new(alloc, rules.level)?;
+        let core = EntryCore {
+            caller: Caller {
+                name,
+                role: Role::Organiser,
+            },
+            number: None,
+            moment: 0,
+            command: Command::Found { rules },
+        };
+        let mut history = Vec::new(alloc);
+        history.push(Entry {
+            core,
+            reply: Reply::Done,
+        })?;
+        Ok(Campaign {
+            history,
+            phase: Phase::Collecting,
+            assessment,
+            submissions: Vec::new(alloc),
+            lines: 0,
+        })
+    }
+
+    /// The rules, which the first entry has.
+    pub(crate) fn rules(&self) -> &Rules
+        requires { IsKnown self.now }
+        ensures { result.now ≡ rules_of self.now.history.items }
+    {
+        let Command::Found { rules } = &self.history[0].core.command else {
+            unreachable!()
+        };
+        rules
+    }
+
+    /// Whether the campaign has its topics.
+    pub(crate) fn has_topics(&self) -> bool
+        ensures { result ≡ has_topics self.now.history.items }
+    {
+        self.history
+            .iter()
+            .any(|entry| is_topics(&entry.core.command))
+    }
+
+    /// The title of a topic of the campaign: empty where it isn't one.
+    pub(crate) fn title(&self, id: &[u8]) -> &[u8]
+        ensures { result.now ≡ title self.now.history.items id.now }
+    {
+        for topic in given_topics(&self.history) {
+            if topic.id.bytes() == id {
+                return topic.title.bytes();
+            }
+        }
+        &[]
+    }
+
+    /// The least line of a list whose topic isn't a topic of the campaign.
+    pub(crate) fn unknown_line(&self, lists: &[TopicList]) -> Option<u32>
+        ensures { result ≡ unknown_line self.now.history.items lists.now }
+    {
+        let topics = given_topics(&self.history);
+        lists
+            .iter()
+            .filter(|list| !has_topic(topics, list.topic.bytes()))
+            .map(|list| list.line)
+            .min()
+    }
+
+    /// The greater of the moment that was handed in and that of the last entry.
+    pub(crate) fn moment_after(&self, moment: u64) -> u64
+        ensures { result ≡ moment_after self.now.history.items moment }
+    {
+        match self.history.last() {
+            Some(entry) => moment.max(entry.core.moment),
+            None => moment,
+        }
+    }
+
+    /// The topics by number, from 0.
+    pub(crate) fn topics(&self) -> &[Topic]
+        ensures { result.now ≡ self.now.assessment.topics.topics }
+    {
+        self.assessment.topics().items()
+    }
+
+    /// The number of the topic of this id, from 0.
+    pub(crate) fn topic_number(&self, id: &[u8]) -> Option<usize>
+        ensures { result ≡ position (λ topic. bytes_eq topic.id id.now) (map facts_of self.now.assessment.topics.topics) }
+    {
+        topic_number(self.topics(), id)
+    }
+    /// Makes room for a change, for the entry that it carries out, and for a run.
+    pub(crate) fn reserve(&mut self, change: Change) -> Result<(), Memory>
+        requires { Fits change (facts self.old.assessment) }
+        ensures unchanged { IsUnchanged self.old self.new }
+        ensures room { OnOk result (AwaitsChange self.new change) }
+    {
+        self.history.reserve(1)?;
+        self.submissions.reserve(1)?;
+        self.assessment.reserve(change)
+    }
+
+    /// Adds an entry for which there is room, and makes its change. A step is a node of a tree, an entry of a ranked
+    /// list that is read, or a look into a pool.
+    pub(crate) fn commit<L: Ledger>(&mut self, entry: Entry, steps: &mut Steps<L>)
+        requires known { IsKnown self.old }
+        requires ready { IsReady self.old entry }
+        ensures history { self.new.history.items ≡ self.old.history.items ++ entry ∷ [] }
+        ensures known { IsKnown self.new }
+        ensures cost { steps.new ≤ steps.old + commit_steps self.old.history.items entry.core.command }
+    {
+        self.phase = phase_after(&entry.core.command, self.phase);
+        self.lines += line_count(lists_of(&entry.core.command));
+        note_run(&self.history, &mut self.submissions, &entry);
+        self.history.push_reserved(entry);
+        // a run of the greatest number stands last in a pool, and an entry changes the grades of
+        // one document at most
+        greatest_run_goes_last();
+        quiet_entries_keep_grades();
+        labels_join();
+        marks_follow_labels();
+        rulings_join();
+        marks_follow_rulings();
+        self.assessment.commit(steps);
+    }
+}
+
+fn is_topics(command: &Command) -> bool
+    ensures { result ≡ is_some (topics_in command.now) }
+{
+    matches!(command, Command::Topics { .. })
+}
+
+/// The campaign's topics as they were given: none before it has them.
+fn given_topics(history: &[Entry]) -> &[GivenTopic]
+    ensures { result.now ≡ topics_of history.now }
+{
+    for entry in history {
+        if let Command::Topics { topics } = &entry.core.command {
+            return topics.items();
+        }
+    }
+    &[]
+}
+
+/// Whether a topic of this id is among the topics.
+fn has_topic(topics: &[GivenTopic], id: &[u8]) -> bool
+    ensures { result ≡ list_any (λ t. bytes_eq t.id id.now) topics.now }
+{
+    topics.iter().any(|topic| topic.id.bytes() == id)
+}
+
+/// The phase after a command.
+fn phase_after(command: &Command, phase: Phase) -> Phase
+    ensures { result ≡ phase_after command.now phase }
+{
+    if publishes(command) {
+        Phase::Published
+    } else if opens(command) {
+        Phase::Judging
+    } else {
+        phase
+    }
+}
+
+fn publishes(command: &Command) -> bool
+    ensures { result ≡ publishes command.now }
+{
+    matches!(command, Command::Publish)
+}
+
+fn opens(command: &Command) -> bool
+    ensures { result ≡ opens command.now }
+{
+    matches!(command, Command::Open)
+}

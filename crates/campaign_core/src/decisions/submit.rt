@@ -1,0 +1,77 @@
+//! Submit: a group hands in a run.
+ghost use Rattle.std.specs.Prelude.{◌≡◌, ◌≤◌, ◌<◌, ◌^◌, ◌+◌, IfOk, nat_lt};
+ghost use Rattle.rulebook.specs.declared.ask.Command.TheVariants as command;
+ghost use Rattle.campaign_core.specs.Decisions.{IsAskedFor, IsDecision, KeepsLimits};
+ghost use Rattle.campaign_core.specs.Growth.{BeginsWith};
+ghost use Rattle.campaign_core.specs.Numbers.{names_of};
+
+use super::{Decision, is_collecting, wrong_phase};
+use crate::campaign::Campaign;
+use crate::docnos::add_docnos;
+use crate::submissions::{is_taken, line_count};
+use crate::topics::rankings_of;
+use assessment::Change;
+use decimal_rank::{Memory, Names, Text};
+use depth_pool::RunId;
+use rulebook::{EntryCore, MAX_DOCNOS, MAX_LINES, MAX_RUNS, Quantity, Refusal, Reply};
+use std::alloc::Global;
+use trec_formats::TopicList;
+
+/// The docnos of the run are added to those of the history.
+pub(crate) fn submit_decision(
+    alloc: Global,
+    campaign: &Campaign,
+    docnos: &mut Names,
+    core: &EntryCore,
+    run: &Text,
+    lists: &[TopicList],
+) -> Result<Decision, Memory>
+    requires asked { IsAskedFor campaign.now core.now (command.Submit run.now lists.now) }
+    requires names { docnos.old ≡ names_of campaign.now.history.items }
+    ensures decision { IfOk result (IsDecision campaign.now docnos.new core.now) }
+    ensures limits { IfOk result (KeepsLimits campaign.now.history.items docnos.new core.now.command) }
+    ensures grown { BeginsWith docnos.old docnos.new }
+{
+    if !is_collecting(campaign.phase) {
+        return Ok(wrong_phase(campaign));
+    }
+    if is_taken(&campaign.history, &campaign.submissions, run.bytes()) {
+        return Ok(Decision::Refused(Refusal::TagTaken));
+    }
+    if let Some(line) = campaign.unknown_line(lists) {
+        return Ok(Decision::Refused(Refusal::LineTopic { line }));
+    }
+    if campaign.submissions.len() >= MAX_RUNS as usize {
+        return Ok(limit(Quantity::Runs));
+    }
+    let lines = line_count(lists);
+    if exceeds(MAX_LINES, campaign.lines, lines) {
+        return Ok(limit(Quantity::Lines));
+    }
+    add_docnos(docnos, lists)?;
+    if docnos.len() > MAX_DOCNOS {
+        return Ok(limit(Quantity::Docnos));
+    }
+    let reply = Reply::Submitted {
+        run: run.copy()?,
+        topics: lists.len() as u32,
+        lines: lines as u32,
+    };
+    let number = RunId(campaign.submissions.len() as u16);
+    let rankings = rankings_of(alloc, campaign.topics(), lists, docnos)?;
+    Ok(Decision::Accepted(reply, Change::Run(number, rankings)))
+}
+
+fn limit(which: Quantity) -> Decision
+    ensures { result ≡ Decision.Refused (Refusal.Limit which) }
+{
+    Decision::Refused(Refusal::Limit { which })
+}
+
+/// Whether so many more pass the limit.
+fn exceeds(limit: u32, before: u64, added: u64) -> bool
+    requires { before + added < 2 ^ 64 }
+    ensures { result ≡ nat_lt limit (before + added) }
+{
+    before + added > limit as u64
+}
