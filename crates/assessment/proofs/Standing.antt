@@ -16,7 +16,7 @@ use Rattle.score_index.specs.Scores.{Scores, TopicScores, docs_at, steps_of, top
 use Rattle.score_index.specs.Standing.{StandsFor, StandsWith, TopicStandsFor, grades_at, non_relevant_of, relevant_of}
 use Rattle.assessment.specs.Costs.{grade_steps, pool_size}
 use Rattle.assessment.specs.RunLists.{unless_empty}
-use Rattle.assessment.specs.TopicFacts.{AwaitsMark, MayMark, TopicFacts, TopicView, doc_of, facts_of, graded_of, new_topic, with_list, with_mark}
+use Rattle.assessment.specs.TopicFacts.{AwaitsMark, AwaitsRun, MayMark, TopicFacts, TopicView, doc_of, facts_of, graded_of, new_topic, with_list, with_mark}
 use Rattle.assessment.specs.TopicsFacts.{IsStanding, TopicsFacts, TopicsView, after_list, after_mark, at_place, told_by, topic_of}
 use Rattle.assessment.specs.declared.change.Mark.{Mark}
 use Rattle.assessment.specs.declared.change.Mark.TheVariants as mark
@@ -90,10 +90,10 @@ pub record IsMarked (board : Scores) (topics : List TopicView) (m : Mark) (i : �
   pub room : IsSomeAnd (slice_get topics (topic_of m)) (AwaitsMark (doc_of m))
   pub may : IsSomeAnd (slice_get (map facts_of topics) (topic_of m)) (MayMark m)
 
-pub is-marked : (v : TopicsView) (board : Scores) (topics : List TopicView) (m : Mark) (i : ℕ) (doc : DocId) (T U : TopicView) (seen : List Graded) (old : Option ℕ) → (let all : TopicsView = record { topics = topics; board = board } in all ≡ v)
+pub is-marked : {v : TopicsView} {board : Scores} {topics : List TopicView} {m : Mark} {i : ℕ} {doc : DocId} {T U : TopicView} {seen : List Graded} {old : Option ℕ} → (let all : TopicsView = record { topics = topics; board = board } in all ≡ v)
     → i ≡ topic_of m → doc ≡ doc_of m → T ≡ get_or topics i T → IsStanding topics board → U.facts ≡ with_mark m T.facts → seen ≡ T.facts.graded → old ≡ effective_in seen doc
     → IsSomeAnd (slice_get v.topics (topic_of m)) (AwaitsMark (doc_of m)) → IsSomeAnd (slice_get (map facts_of v.topics) (topic_of m)) (MayMark m) → IsMarked board topics m i doc T U old
-is-marked v board topics m i doc T U seen old view_is i_is doc_is there standing marked seen_is old_is room may = record {
+is-marked {m = m} {doc = doc} view_is i_is doc_is there standing marked seen_is old_is room may = record {
   i_is = i_is;
   doc_is = doc_is;
   there = there;
@@ -104,7 +104,7 @@ is-marked v board topics m i doc T U seen old view_is i_is doc_is there standing
   may = subst (λ (v : TopicsView). IsSomeAnd (slice_get (map facts_of v.topics) (topic_of m)) (MayMark m)) (sym view_is) may;
 }
 
-module _ (board : Scores) (topics : List TopicView) (m : Mark) (i : ℕ) (doc : DocId) (T U : TopicView) (old : Option ℕ) (at : IsMarked board topics m i doc T U old) where
+module _ {board : Scores} {topics : List TopicView} {m : Mark} {i : ℕ} {doc : DocId} {T U : TopicView} {old : Option ℕ} (at : IsMarked board topics m i doc T U old) where
   abbrev graded : List Graded
   graded = grades_at (map graded_of topics) i
 
@@ -174,19 +174,41 @@ unless-none : (docs : List DocId) → length docs ≡ 0 → unless_empty docs �
 unless-none [] none = refl
 unless-none (doc ∷ docs) none = absurd (omega (arith, none))
 
--- A topic T that a run with this list enters, which makes it U.
-module _ (board : Scores) (topics : List TopicView) (number : ℕ) (run : RunId) (docs : List DocId) (T U : TopicView)
-    (within : number < length topics) (there : T ≡ get_or topics number T) (standing : IsStanding topics board) (entered : U.facts ≡ with_list run docs T.facts) where
+-- A run with this list enters the topic T, which makes it U.
+pub record HasEntered (board : Scores) (topics : List TopicView) (number : ℕ) (run : RunId) (docs : List DocId) (T U : TopicView) : Type 0 where
+  pub within : number < length topics
+  pub there : T ≡ get_or topics number T
+  pub standing : IsStanding topics board
+  pub entered : U.facts ≡ with_list run docs T.facts
+
+pub has-entered : {v : TopicsView} {board : Scores} {topics : List TopicView} {number : ℕ} {run : RunId} {docs : List DocId} {T U : TopicView} → (let all : TopicsView = record { topics = topics; board = board } in all ≡ v)
+    → IsSomeAnd (slice_get v.topics number) (AwaitsRun docs) → T ≡ get_or topics number T → IsStanding topics board → U.facts ≡ with_list run docs T.facts → HasEntered board topics number run docs T U
+has-entered {v} {number = number} {docs = docs} {T = T} view_is room there standing entered = record {
+  within = omega (arith, (some-at (AwaitsRun docs) v.topics number T room).0, ap (λ (v : TopicsView). length v.topics) view_is);
+  there = there;
+  standing = standing;
+  entered = entered;
+}
+
+module _ {board : Scores} {topics : List TopicView} {number : ℕ} {run : RunId} {docs : List DocId} {T U : TopicView} (at : HasEntered board topics number run docs T U) where
+  pub entered-within : number < length board.topics
+  entered-within = omega (arith, at.within, as-long board topics at.standing.stands)
+
+  -- the board stands for the topic's grades, which stay
+  pub stands-entered : {seen : List Graded} → seen ≡ U.facts.graded → TopicStandsFor board.level (topic_at board number) (grades_at (map graded_of topics) number) → TopicStandsFor board.level (topic_at board number) seen
+  stands-entered seen_is stands =
+      subst (TopicStandsFor board.level (topic_at board number)) (graded-at topics number T at.within at.there ∙ sym (ap (λ (facts : TopicFacts). facts.graded) at.entered) ∙ sym seen_is) stands
+
   pub entered-facts : (later : Scores) → ((other : RunId) (on : ℕ) → docs_at later other on ≡ (if (run.0 == other.0) && (number == on) then unless_empty docs else docs_at board other on)) → later.level ≡ board.level
       → told_by (set topics number U) later ≡ after_list number run docs (told_by topics board)
   entered-facts later lists level =
-      told-is (set topics number U) later (after_list number run docs (told_by topics board)) (facts-then (with_list run docs) topics number T U within there entered) lists level
+      told-is (set topics number U) later (after_list number run docs (told_by topics board)) (facts-then (with_list run docs) topics number T U at.within at.there at.entered) lists level
 
   -- with its list on the board
-  pub entered-standing : (later : Scores) (graded : List Graded) → graded ≡ U.facts.graded → ((grades : List (List Graded)) → StandsFor board grades → StandsFor later (set grades number graded)) → IsStanding (set topics number U) later
-  entered-standing later graded graded_is step = record {
-    few = omega (arith, standing.few, length-set topics number U);
-    stands = subst (StandsFor later) (ap (set (map graded_of topics) number) graded_is ∙ sym (map-set graded_of topics number U)) (step (map graded_of topics) standing.stands);
+  pub entered-standing : (later : Scores) {seen : List Graded} → seen ≡ U.facts.graded → ((grades : List (List Graded)) → StandsFor board grades → StandsFor later (set grades number seen)) → IsStanding (set topics number U) later
+  entered-standing later seen_is step = record {
+    few = omega (arith, at.standing.few, length-set topics number U);
+    stands = subst (StandsFor later) (ap (set (map graded_of topics) number) seen_is ∙ sym (map-set graded_of topics number U)) (step (map graded_of topics) at.standing.stands);
   }
 
   pub list-there : (later : Scores) → 0 < length docs → ((other : RunId) (on : ℕ) → docs_at later other on ≡ (if (run.0 == other.0) && (number == on) then Some docs else docs_at board other on))
@@ -197,8 +219,8 @@ module _ (board : Scores) (topics : List TopicView) (number : ℕ) (run : RunId)
   -- without one, where it is empty
   pub left-standing : IsStanding (set topics number U) board
   left-standing = record {
-    few = omega (arith, standing.few, length-set topics number U);
-    stands = subst (StandsFor board) (sym (map-set_same graded_of topics number U T within (ap (λ (facts : TopicFacts). facts.graded) entered ∙ ap graded_of there))) standing.stands;
+    few = omega (arith, at.standing.few, length-set topics number U);
+    stands = subst (StandsFor board) (sym (map-set_same graded_of topics number U T at.within (ap (λ (facts : TopicFacts). facts.graded) at.entered ∙ ap graded_of at.there))) at.standing.stands;
   }
 
   pub list-none : length docs ≡ 0 → docs_at board run number ≡ None
