@@ -1,5 +1,5 @@
 -- A board that stands for the grades of the topics.
-use Rattle.std.proofs.Common.{◌≡◌, ◌+◌, ◌-◌, ◌<◌, ◌≤◌, ◌^◌, ℕ, zero, suc, Bool, true, false, List, [], ◌∷◌, Option, None, Some, length, map, get_or, set, refl, sym, ap, subst, ◌∙◌, arith, eqb-true}
+use Rattle.std.proofs.Common.{◌≡◌, ◌+◌, ◌<◌, ◌≤◌, ◌^◌, ℕ, zero, suc, Bool, true, false, List, [], ◌∷◌, Option, None, Some, length, map, get_or, set, refl, sym, ap, subst, ◌∙◌, arith, eqb-true}
 use Rattle.std.proofs.Math.ListN.{length-set}
 use Rattle.std.specs.Prelude.{◌==◌, ◌&&◌, if◌then◌else◌, replicate, slice_get}
 use Rattle.std.specs.List.{AllZip}
@@ -13,7 +13,7 @@ use Rattle.labels.specs.Marked.{effective_at}
 use Rattle.qrels_view.specs.Grades.{as_number, effective_in, is_non_relevant, is_relevant, with_grade}
 use Rattle.qrels_view.specs.declared.grades.Graded.{Graded}
 use Rattle.score_index.specs.Scores.{Scores, TopicScores, docs_at, steps_of, topic_at}
-use Rattle.score_index.specs.Standing.{StandsFor, StandsWith, TopicStandsFor, grades_at, non_relevant_of, relevant_of}
+use Rattle.score_index.specs.Standing.{StandsFor, StandsWith, StaysSmall, TopicStandsFor, grades_at, non_relevant_of, relevant_of}
 use Rattle.assessment.specs.Costs.{grade_steps, pool_size}
 use Rattle.assessment.specs.RunLists.{unless_empty}
 use Rattle.assessment.specs.TopicFacts.{AwaitsMark, AwaitsRun, MayMark, TopicFacts, TopicView, doc_of, facts_of, graded_of, new_topic, with_list, with_mark}
@@ -129,14 +129,11 @@ module _ {board : Scores} {topics : List TopicView} {m : Mark} {i : ℕ} {doc : 
     grade_is = sym at.old_is;
   }
 
-  -- the counts of the topic stay small
-  pub few-relevant : TopicStandsFor board.level (topic_at board i) graded → (new : Option ℕ) → (topic_at board i).relevant + as_number (is_relevant board.level new) - as_number (is_relevant board.level old) ≤ 268435456
-  few-relevant stands new =
-      omega (arith, stands.relevant_is, ap (relevant_of board.level) here, count_by-le-length (λ (one : Graded). is_relevant board.level one.grade) T.facts.graded, few-topic, at-most-one (is_relevant board.level new))
-
-  pub few-non-relevant : TopicStandsFor board.level (topic_at board i) graded → (new : Option ℕ) → (topic_at board i).non_relevant + as_number (is_non_relevant board.level new) - as_number (is_non_relevant board.level old) ≤ 268435456
-  few-non-relevant stands new =
-      omega (arith, stands.non_relevant_is, ap (non_relevant_of board.level) here, count_by-le-length (λ (one : Graded). is_non_relevant board.level one.grade) T.facts.graded, few-topic, at-most-one (is_non_relevant board.level new))
+  pub stays-small : TopicStandsFor board.level (topic_at board i) graded → (new : Option ℕ) → StaysSmall board.level (topic_at board i) old new
+  stays-small stands new = record {
+    relevant = omega (arith, stands.relevant_is, ap (relevant_of board.level) here, count_by-le-length (λ (one : Graded). is_relevant board.level one.grade) T.facts.graded, few-topic, at-most-one (is_relevant board.level new));
+    non_relevant = omega (arith, stands.non_relevant_is, ap (non_relevant_of board.level) here, count_by-le-length (λ (one : Graded). is_non_relevant board.level one.grade) T.facts.graded, few-topic, at-most-one (is_non_relevant board.level new));
+  }
 
   pub marked-facts : (later : Scores) → ((run : RunId) (on : ℕ) → docs_at later run on ≡ docs_at board run on) → later.level ≡ board.level
       → told_by (set topics i U) later ≡ after_mark m (told_by topics board)

@@ -38,11 +38,6 @@ has_length len (doc ∷ docs) = length (doc ∷ docs) == len
 abbrev pub IsReservedFor : List (List DocId) → Scores → Type 0
 IsReservedFor lists board = (len : ℕ) → rooms_for len board ≡ count_by (has_length len) lists
 
--- a board keeps its level, its topics and their lists: only its room changes
-pub record KeepsScores (old new : Scores) : Type 0 where
-  pub level : new.level ≡ old.level
-  pub topics : new.topics ≡ old.topics
-
 -- there is room for a run on each topic, and on the board for its lists
 pub record HasRooms (lists : List (List DocId)) (topics : List TopicView) (board : Scores) : Type 0 where
   pub as_many : length lists ≡ length topics

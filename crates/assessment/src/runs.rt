@@ -2,8 +2,8 @@
 ghost use Rattle.std.specs.Prelude.{◌≡◌, ◌+◌, ◌<◌, ℕ, [], List, All, IsTrue, OnErr, OnOk, if◌then◌else◌, length, map, slice_index_or};
 ghost use Rattle.decimal_rank.specs.declared.naming.DocId.{DocId};
 ghost use Rattle.depth_pool.specs.Holdings.{has_run};
-ghost use Rattle.score_index.specs.Scores.{rooms_for};
-ghost use Rattle.assessment.specs.RunLists.{HasRooms, IsReservedFor, KeepsScores, has_length};
+ghost use Rattle.score_index.specs.Scores.{KeepsScores, rooms_for};
+ghost use Rattle.assessment.specs.RunLists.{HasRooms, IsReservedFor, has_length};
 ghost use Rattle.assessment.specs.TopicFacts.{AwaitsRun, TopicView, facts_of, without_list};
 ghost use Rattle.assessment.specs.TopicsFacts.{IsAtRest, IsNewRun, after_run, told};
 

@@ -1,9 +1,9 @@
-use Rattle.std.proofs.Common.{◌≡◌, ◌<◌, ◌≤◌, ◌∙◌, ◌-◌, ℕ, List, ap, arith, length, sym, rules}
+use Rattle.std.proofs.Common.{◌≡◌, ◌<◌, ◌≤◌, ◌∙◌, ◌-◌, ℕ, List, ap, arith, length, refl, subst, sym, rules}
 use Rattle.std.specs.Prelude.{count_by, if◌then◌else◌}
 use Rattle.std.proofs.lemmas.List.{drop_all}
 use Rattle.decimal_rank.specs.declared.naming.DocId.{DocId}
-use Rattle.score_index.specs.Scores.{Scores, rooms_for}
-use Rattle.assessment.specs.RunLists.{KeepsScores, has_length}
+use Rattle.score_index.specs.Scores.{KeepsScores, Scores, rooms_for}
+use Rattle.assessment.specs.RunLists.{has_length}
 use Rattle.assessment.proofs.RoomCounts.{empty-length, filled-length, left-rooms, no-rooms, own-length, some-left}
 use Rattle.assessment.proofs.runs.drop_lists.Goals as goal
 use Rattle.assessment.proofs.runs.drop_lists.Goals.{then-len-gt0, else-len-gt0}
@@ -32,11 +32,8 @@ loop-list-preserved c =
     ] in
     let scores : KeepsScores was now =
     elim c.if-len-gt0.branch [
-      | then-len-gt0 w ↦ record {
-        level = ap (λ (board : Scores). board.level) w.board-is ∙ w.drop_room.ensures.level;
-        topics = ap (λ (board : Scores). board.topics) w.board-is ∙ w.drop_room.ensures.topics;
-      }
-      | else-len-gt0 w ↦ record { level = ap (λ (board : Scores). board.level) w.board-is; topics = ap (λ (board : Scores). board.topics) w.board-is }
+      | then-len-gt0 w ↦ subst (KeepsScores was) (sym w.board-is) w.drop_room.ensures.scores
+      | else-len-gt0 w ↦ subst (KeepsScores was) (sym w.board-is) (record { level = refl; topics = refl })
     ] in
     record {
       rooms = λ len. left-rooms (has_length len) c.args.lists.now c.loop-list.list-index docs _ _ c.loop-list-test.true (c.loop-list.invariant.rooms len)

@@ -1,8 +1,8 @@
 -- The board has room for the lists that are left, and its level and its topics stay.
 use Rattle.std.proofs.Common.{◌≡◌, ℕ, drop}
 use Rattle.std.specs.Prelude.{count_by}
-use Rattle.score_index.specs.Scores.{rooms_for}
-use Rattle.assessment.specs.RunLists.{KeepsScores, has_length}
+use Rattle.score_index.specs.Scores.{KeepsScores, rooms_for}
+use Rattle.assessment.specs.RunLists.{has_length}
 use Rattle.assessment.proofs.runs.drop_lists.Given as goal
 
 abbrev pub invariant-loop-list : goal.invariant-loop-list

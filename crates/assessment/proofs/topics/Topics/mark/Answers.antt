@@ -4,7 +4,7 @@ use Rattle.score_index.specs.Standing.{TopicStandsFor, grades_at}
 use Rattle.assessment.specs.Costs.{HaveLists, grade_steps}
 use Rattle.assessment.specs.TopicFacts.{graded_of}
 use Rattle.assessment.specs.TopicsFacts.{TopicsView, after_mark, told, topic_of}
-use Rattle.assessment.proofs.Standing.{IsMarked, board-within, few-non-relevant, few-relevant, is-marked, marked-facts, marked-standing, marked-steps, stands-with}
+use Rattle.assessment.proofs.Standing.{IsMarked, board-within, is-marked, marked-facts, marked-standing, marked-steps, stands-with, stays-small}
 use Rattle.assessment.proofs.topics.Topics.mark.Given.{Over}
 use Rattle.assessment.proofs.topics.Topics.mark.Goals.{After-effective-new}
 use Rattle.assessment.proofs.topics.Topics.mark.Goals as goal
@@ -31,12 +31,7 @@ regrade-requires-clause-grade_now g c =
 pub regrade-requires-clause-few : goal.regrade-requires-clause-few
 regrade-requires-clause-few g c =
     let before = (goal.at.regrade-requires-clause-few g c).After-effective-new in
-    few-relevant (marked g before) (stands g before) c.effective-new.result
-
-pub regrade-requires-clause-few_others : goal.regrade-requires-clause-few_others
-regrade-requires-clause-few_others g c =
-    let before = (goal.at.regrade-requires-clause-few_others g c).After-effective-new in
-    few-non-relevant (marked g before) (stands g before) c.effective-new.result
+    stays-small (marked g before) (stands g before) c.effective-new.result
 
 pub invariant_of-self : goal.invariant_of-self
 invariant_of-self g c =
@@ -44,7 +39,7 @@ invariant_of-self g c =
 
 pub returns-clause-facts : goal.returns-clause-facts
 returns-clause-facts g c = record {
-  facts = marked-facts (marked g (goal.at.returns-clause-facts g c).After-effective-new) c.regrade.new.self c.regrade.ensures.lists c.regrade.ensures.level ∙ ap (after_mark c.args.mark) (ap told c.self.view_is);
+  facts = marked-facts (marked g (goal.at.returns-clause-facts g c).After-effective-new) c.regrade.new.self c.regrade.ensures.lists c.regrade.ensures.shape.level ∙ ap (after_mark c.args.mark) (ap told c.self.view_is);
   rooms = c.regrade.ensures.rooms ∙ ap (λ (v : TopicsView). v.board.rooms) c.self.view_is;
 }
 

@@ -1,5 +1,6 @@
 -- The sums of a list, before and after one place.
-use Rattle.std.proofs.Common.{◌≡◌, ℕ, suc, ◌+◌, ◌-◌, ◌*◌, ◌^◌, ◌<◌, ◌≤◌, Bool, true, false, nat_le, List, [], ◌∷◌, length, drop, take, map, set, get_or, sym, ap, ◌∙◌, arith, zero-add}
+use Rattle.std.proofs.Common.{◌≡◌, ℕ, suc, ◌+◌, ◌-◌, ◌*◌, ◌^◌, ◌<◌, ◌≤◌, ◌&&◌, Bool, true, false, nat_le, not, List, [], ◌∷◌, length, drop, take, map, set, get_or, sym, ap, ◌∙◌, arith, zero-add}
+use Rattle.std.specs.Prelude.{if◌then◌else◌}
 use Rattle.std.proofs.Math.Nat.{mul-le-mul, div-le_self}
 use Rattle.std.proofs.lemmas.List.{drop-set-lt, get_or-map, get_or-set_same, length-drop, length-set, length-take, set-get_or, set-set, take-set, take_all}
 use Rattle.std.proofs.lemmas.List.Sums.{count_by-le-length, count_by_more_yes}
@@ -8,7 +9,7 @@ use Rattle.measures.specs.Cells.{cutoffs, weight}
 use Rattle.qrels_view.specs.Grades.{as_number}
 use Rattle.rank_trees.specs.Marks.{IsSelected, count_below, count_on, weights_above, weights_from}
 use Rattle.score_index.specs.Places.{first_from, precision_gain, precisions, preferences, reached}
-use Rattle.score_index.proofs.PlaceSums.{count-set, count-take-set, first-none, first-selected, reached-all, reached-to, precisions-set, precisions-small, preferences-other, preferences-set, preferences-small, reached-past}
+use Rattle.score_index.proofs.Cells.PlaceSums.{count-set, count-take-set, first-none, first-selected, reached-all, reached-to, precisions-set, precisions-small, preferences-other, preferences-set, preferences-small, reached-past}
 
 pub count-few : (n : ℕ) (on : List Bool) → count_on (take n on) ≤ length on
 count-few n on = omega (arith, count_by-le-length (λ b. b) (take n on), length-take n on)
@@ -60,6 +61,17 @@ module _ (relevant : List Bool) (place : ℕ) (some : 1 ≤ place) (within : pla
   pub at-more : map (λ k. count_on (take k relevant) + as_number (nat_le place k)) cutoffs ≡ map (λ k. count_on (take k (set relevant (place - 1) true))) cutoffs
   at-more = λ i. map (λ k. at_cutoff k i) cutoffs
 
+  pub stays-off : set relevant (place - 1) false ≡ relevant
+  stays-off = ap (set relevant (place - 1)) (sym off) ∙ set-get_or relevant (place - 1) false
+
+  -- the counts where the place is on, or off
+  pub at-with : (on : Bool) → map (λ k. count_on (take k relevant) + as_number (on && nat_le place k)) cutoffs ≡ map (λ k. count_on (take k (set relevant (place - 1) on))) cutoffs
+  at-with true = at-more
+  at-with false = λ i. map (λ k. same k i) cutoffs
+    where
+      same : (k : ℕ) → count_on (take k relevant) + 0 ≡ count_on (take k (set relevant (place - 1) false))
+      same k = let none : count_on (take k relevant) + 0 ≡ count_on (take k relevant) = omega arith in none ∙ ap (λ r. count_on (take k r)) (sym stays-off)
+
   pub gain-sum : precisions 1 0 (set relevant (place - 1) true) ≡ precisions 1 0 relevant + precision_gain 1 0 relevant (place - 1)
   gain-sum = precisions-set 1 0 relevant (place - 1) inside off
 
@@ -80,6 +92,11 @@ preferences-fit cap relevant lower few least =
     let small = preferences-small cap 0 relevant lower in
     let most = mul-le-mul {n₁ = count_on relevant} {m₁ = cap} {n₂ = 1000} {m₂ = 268435456} (omega (arith, few, count_by-le-length (λ b. b) relevant)) least in
     omega (arith, small, most)
+
+-- a count that moves with a place
+pub moved-one : (on here : Bool) (n count result : ℕ) → result ≡ (if on then count + as_number here else count - as_number here) → count ≡ n + as_number (not on && here) → result ≡ n + as_number (on && here)
+moved-one true here n count result is was = omega (arith, is, was)
+moved-one false here n count result is was = omega (arith, is, was)
 
 -- a place that is judged lower, and was not
 pub lower-sum : (cap : ℕ) (relevant lower : List Bool) (place : ℕ) → 1 ≤ place → place ≤ length relevant → length lower ≡ length relevant → get_or lower (place - 1) false ≡ true

@@ -14,8 +14,8 @@ use Rattle.score_index.specs.KeptSums.{AreSums}
 use Rattle.score_index.specs.Places.{Places, bpref_from, cell_by, precisions, preferences}
 use Rattle.score_index.specs.Scores.{ScoreList, TopicScores, is_of}
 use Rattle.score_index.specs.declared.sums.Sums.{Sums}
-use Rattle.score_index.proofs.ByPlaces.{by-places, count-on}
-use Rattle.score_index.proofs.PlaceSums.{count-take-le, precisions-small, preferences-small}
+use Rattle.score_index.proofs.Cells.ByPlaces.{by-places, count-on}
+use Rattle.score_index.proofs.Cells.PlaceSums.{count-take-le, precisions-small, preferences-small}
 
 -- ---- a cell is sound
 

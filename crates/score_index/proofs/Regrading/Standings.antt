@@ -21,10 +21,10 @@ use Rattle.score_index.specs.KeptSums.{CanRemark, IsAt}
 use Rattle.score_index.specs.Places.{cell_by}
 use Rattle.score_index.specs.Scores.{ScoreList, TopicScores, docs_in, is_of}
 use Rattle.score_index.specs.Standing.{ListStandsFor, TopicStandsFor, cell_from, cells_of, grades_by_rank, is_counted, listed_in, non_relevant_of, relevant_of}
-use Rattle.score_index.proofs.ByPlaces.{by-places, count-map}
-use Rattle.score_index.proofs.Grading.{count-with_grade, effective-with_grade, listed_within, put-map}
-use Rattle.score_index.proofs.Listing.{chosen_alike, map-map}
-use Rattle.score_index.proofs.Marking.{mark-at}
+use Rattle.score_index.proofs.Cells.ByPlaces.{by-places, count-map}
+use Rattle.score_index.proofs.Regrading.Grading.{count-with_grade, effective-with_grade, listed_within, put-map}
+use Rattle.score_index.proofs.Keeping.Listing.{chosen_alike, map-map}
+use Rattle.score_index.proofs.Regrading.Marking.{mark-at}
 
 -- ---- a list
 

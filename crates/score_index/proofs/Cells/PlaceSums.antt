@@ -7,7 +7,7 @@ use Rattle.measures.specs.Cells.{weight}
 use Rattle.qrels_view.specs.Grades.{as_number}
 use Rattle.rank_trees.specs.Marks.{count_on, weights_from}
 use Rattle.score_index.specs.Places.{first_from, precision_gain, precisions, preferences, reached}
-use Rattle.score_index.proofs.ByPlaces.{count-on}
+use Rattle.score_index.proofs.Cells.ByPlaces.{count-on}
 
 -- ---- counts
 

@@ -7,7 +7,7 @@ use Rattle.rank_trees.specs.Marks.{count_on}
 use Rattle.score_index.specs.KeptSums.{AreSums}
 use Rattle.score_index.specs.Places.{Places, bpref_from, cell_by, first_from, precisions, preferences, reached}
 use Rattle.score_index.specs.declared.sums.Sums.{Sums}
-use Rattle.score_index.proofs.PlaceSums.{preferences-cap}
+use Rattle.score_index.proofs.Cells.PlaceSums.{preferences-cap}
 
 abbrev pub places_of : List Bool → List Bool → Places
 places_of relevant lower = record { relevant = relevant; lower = lower }
@@ -34,6 +34,10 @@ set-same on i b is = ap (set on i) (sym is) ∙ set-get_or on i false
 -- a mark that is taken and put again
 pub set-back : (on now : List Bool) (i : ℕ) (a b : Bool) → now ≡ set on i a → get_or on i false ≡ b → set now i b ≡ on
 set-back on now i a b now_is is = ap (λ xs. set xs i b) now_is ∙ set-set on i a b ∙ set-same on i b is
+
+-- a mark that is put twice
+pub set-again : (on now : List Bool) (i : ℕ) (b : Bool) → now ≡ set on i b → set now i b ≡ now
+set-again on now i b now_is = ap (λ xs. set xs i b) now_is ∙ set-set on i b b ∙ sym now_is
 
 pub same_sums : (cap : ℕ) (relevant lower relevant' lower' : List Bool) (sums : Sums) → relevant ≡ relevant' → lower ≡ lower' → AreSums cap (places_of relevant lower) sums → AreSums cap (places_of relevant' lower') sums
 same_sums cap relevant lower relevant' lower' sums a b are = subst (λ (p : Places). AreSums cap p sums) (λ i. places_of (a i) (b i)) are

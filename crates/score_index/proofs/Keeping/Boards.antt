@@ -13,11 +13,11 @@ use Rattle.depth_pool.specs.declared.runs.RunId.{RunId}
 use Rattle.measures.specs.Cells.{cell_of}
 use Rattle.qrels_view.specs.Grades.{is_non_relevant, is_relevant}
 use Rattle.qrels_view.specs.declared.grades.Graded.{Graded}
-use Rattle.score_index.specs.Kept.{HasEmptyCell, IsKept, IsTopicKept, remarked, seen, spare, with_list, with_regrade, without, without_lists}
+use Rattle.score_index.specs.Kept.{HasEmptyCell, IsKept, IsTopicKept, KeepsPlaces, remarked, seen, spare, with_list, with_regrade, without, without_lists}
 use Rattle.score_index.specs.Scores.{ScoreList, Scores, TopicScores, docs_in, is_of, new_topic, topic_at}
 use Rattle.score_index.specs.Standing.{TopicStandsFor}
 use Rattle.score_index.specs.declared.topics.Topic.{Topic}
-use Rattle.score_index.proofs.Listing.{zip-replicate, zip-set}
+use Rattle.score_index.proofs.Keeping.Listing.{zip-replicate, zip-set}
 
 -- ---- what is kept
 
@@ -44,6 +44,16 @@ kept_set level topics rooms after i new kept fewer here empty place = record {
 pub empty_with_list : (level : ℕ) (was new : Topic) (list : ScoreList) → new.empty ≡ was.empty → seen new ≡ with_list list (seen was) → HasEmptyCell level was → HasEmptyCell level new
 empty_with_list level was new list same is had = same ∙ had ∙ ap (λ (topic : TopicScores). cell_of [] topic.relevant topic.non_relevant level) (sym is)
 
+-- one topic that keeps its cell of the empty list, and has no less room
+pub places_set : {old topics : List Topic} {i : ℕ} (d new : Topic) → KeepsPlaces old topics → i < length topics → ((level : ℕ) → HasEmptyCell level (get_or topics i d) → HasEmptyCell level new) → spare (get_or topics i d) ≤ spare new
+    → KeepsPlaces old (set topics i new)
+places_set {old} {topics} {i} d new kept within same more = record {
+  empties = λ level all. All-set (HasEmptyCell level) topics i new (same level (kept.empties level all i d within)) (kept.empties level all);
+  places = λ least all.
+      let most : least ≤ spare (get_or topics i d) = kept.places least all i d within in
+      All-set (λ (topic : Topic). least ≤ spare topic) topics i new (omega (arith, most, more)) (kept.places least all);
+}
+
 -- ---- what it stands for
 
 pub stands_set : (level : ℕ) (topics : List Topic) (grades : List (List Graded)) (i : ℕ) (new : Topic) (graded : List Graded) → AllZip (TopicStandsFor level) (map seen topics) grades
@@ -51,11 +61,39 @@ pub stands_set : (level : ℕ) (topics : List Topic) (grades : List (List Graded
 stands_set level topics grades i new graded stands here =
     subst (λ ts. AllZip (TopicStandsFor level) ts (set grades i graded)) (sym (map-set seen topics i new)) (zip-set (TopicStandsFor level) (map seen topics) grades i (seen new) graded stands here)
 
--- a topic's grades, as the fields have them
-pub stands_here : (scores was_scores : Scores) (i : ℕ) (was : Topic) (graded : List Graded) → was_scores ≡ scores → get_or was_scores.topics i new_topic ≡ seen was
-    → TopicStandsFor scores.level (topic_at scores i) graded → TopicStandsFor was_scores.level (seen was) graded
-stands_here scores was_scores i was graded is at stands =
-    subst (λ topic. TopicStandsFor was_scores.level topic graded) at (subst (λ s. TopicStandsFor s.level (topic_at s i) graded) (sym is) stands)
+-- a topic of a board, of which contracts see these scores
+pub record IsTopicOf (level : ℕ) (topics : List Topic) (rooms : ℕ) (scores : Scores) (i : ℕ) (was : Topic) : Type 0 where
+  pub level_is : level ≡ scores.level
+  pub within : i < length topics
+  pub at : get_or (map seen topics) i new_topic ≡ seen was
+  pub topic_is : topic_at scores i ≡ seen was
+  pub kept : IsTopicKept (seen was)
+  pub empty : HasEmptyCell level was
+  pub place : rooms ≤ spare was
+
+pub topic-of : {level : ℕ} {topics : List Topic} {rooms : ℕ} {scores inside : Scores} {i : ℕ} {was : Topic} → inside ≡ scores → inside.level ≡ level → inside.topics ≡ map seen topics → IsKept level topics rooms
+    → i < length scores.topics → was ≡ get_or topics i was → IsTopicOf level topics rooms scores i was
+topic-of {level} {topics} {rooms} {scores} {inside} {i} {was} view_is level_is topics_are kept there was_is = record {
+  level_is = sym level_is ∙ ap (λ (s : Scores). s.level) view_is;
+  within = within;
+  at = at;
+  topic_is = ap (λ (s : Scores). topic_at s i) (sym view_is) ∙ ap (λ (ts : List TopicScores). get_or ts i new_topic) topics_are ∙ at;
+  kept = subst (λ (t : Topic). IsTopicKept (seen t)) (sym was_is) (kept.topics_are i was within);
+  empty = subst (HasEmptyCell level) (sym was_is) (kept.empties i was within);
+  place = subst (λ (t : Topic). rooms ≤ spare t) (sym was_is) (kept.places i was within);
+}
+  where
+    within : i < length topics
+    within = omega (arith, there, ap (λ (s : Scores). length s.topics) view_is, ap length topics_are, length-map topics seen)
+
+    at : get_or (map seen topics) i new_topic ≡ seen was
+    at = get_or-map seen topics i was new_topic within ∙ ap seen (sym was_is)
+
+-- the grades that it stands for
+pub stands_here : {level : ℕ} {topics : List Topic} {rooms : ℕ} {scores : Scores} {i : ℕ} {was : Topic} (graded : List Graded) → IsTopicOf level topics rooms scores i was
+    → TopicStandsFor scores.level (topic_at scores i) graded → TopicStandsFor level (seen was) graded
+stands_here {level} {scores = scores} {i} graded of stands =
+    subst (λ topic. TopicStandsFor level topic graded) of.topic_is (subst (λ l. TopicStandsFor l (topic_at scores i) graded) (sym of.level_is) stands)
 
 -- ---- the lists
 

@@ -5,7 +5,7 @@ use Rattle.std.specs.List.{position_or_len}
 use Rattle.std.proofs.lemmas.Bool.{lt-ltb}
 use Rattle.std.proofs.lemmas.List.Sums.{sum_by-cons, sum_by-remove}
 use Rattle.qrels_view.specs.Grades.{as_number}
-use Rattle.score_index.proofs.Grading.{count-cons}
+use Rattle.score_index.proofs.Regrading.Grading.{count-cons}
 
 module _ {X : Type 0} (size : X → ℕ) where
   counted_map : (len : ℕ) (rooms : List X) → count_by (λ room. eqb room len) (map size rooms) ≡ sum_by (λ room. cond (eqb (size room) len) 1 0) rooms
