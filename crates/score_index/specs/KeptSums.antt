@@ -43,12 +43,12 @@ pub record HasMark (place : Option ℕ) (mark : Mark) (places : Places) : Type 0
   pub lower : IsAt place (is_lower_mark mark) places.lower
 
 -- the places where one is relevant, or isn't
-abbrev pub relevant_at : ℕ → Bool → Places → Places
-relevant_at place on places = record { relevant = slice_set places.relevant (place - 1) on; lower = places.lower }
+abbrev pub with_relevant : ℕ → Bool → Places → Places
+with_relevant place on places = record { relevant = slice_set places.relevant (place - 1) on; lower = places.lower }
 
 -- the places where one is judged lower, or isn't
-abbrev pub lower_at : ℕ → Bool → Places → Places
-lower_at place on places = record { relevant = places.relevant; lower = slice_set places.lower (place - 1) on }
+abbrev pub with_lower : ℕ → Bool → Places → Places
+with_lower place on places = record { relevant = places.relevant; lower = slice_set places.lower (place - 1) on }
 
 -- a cap that moves by one at most, and stays small
 pub record AreNear (from to : ℕ) : Type 0 where

@@ -4,7 +4,7 @@ ghost use Rattle.std.specs.Prelude.{◌≡◌, ℕ, ◌+◌, ◌-◌, ◌*◌, �
 ghost use Rattle.decimal_rank.specs.Places.{levels};
 ghost use Rattle.measures.specs.Cells.{bpref_den as bpref_den_of, cutoffs};
 ghost use Rattle.qrels_view.specs.Grades.{as_number};
-ghost use Rattle.score_index.specs.KeptSums.{AreNear, AreSums, HasMark, IsAt, is_lower_mark, is_relevant_mark, lower_at, relevant_at};
+ghost use Rattle.score_index.specs.KeptSums.{AreNear, AreSums, HasMark, IsAt, is_lower_mark, is_relevant_mark, with_lower, with_relevant};
 ghost use Rattle.score_index.specs.Kept.{IsRoom, put_at};
 ghost use Rattle.score_index.specs.Places.{Places, cell_by};
 ghost use Rattle.score_index.specs.declared.marks.Mark.TheVariants.{Unjudged};
@@ -48,8 +48,8 @@ fn moved_relevant<L: Ledger>(
 ) -> Sums
     requires off { IsAt (Some place) false trees.now.relevant }
     requires few { cap ≤ 268435456 }
-    requires sums { AreSums cap (relevant_at place (not on) trees.now) sums }
-    ensures sums { AreSums cap (relevant_at place on trees.now) result }
+    requires sums { AreSums cap (with_relevant place (not on) trees.now) sums }
+    ensures sums { AreSums cap (with_relevant place on trees.now) result }
     ensures cost { steps.new ≤ steps.old + 3 * (levels (length trees.now.relevant) + 1) }
 {
     let gain = trees.precision_gain(place, steps);
@@ -82,8 +82,8 @@ fn moved_lower<L: Ledger>(
 ) -> Sums
     requires on { IsAt (Some place) true trees.now.lower }
     requires few { cap ≤ 268435456 }
-    requires sums { AreSums cap (lower_at place (not on) trees.now) sums }
-    ensures sums { AreSums cap (lower_at place on trees.now) result }
+    requires sums { AreSums cap (with_lower place (not on) trees.now) sums }
+    ensures sums { AreSums cap (with_lower place on trees.now) result }
     ensures cost { steps.new ≤ steps.old + 3 * (levels (length trees.now.relevant) + 1) }
 {
     // trees tell with their length that they are as long as one another
@@ -139,6 +139,7 @@ fn moved_count(count: u32, place: u32, cutoff: u32, on: bool) -> u32
     count.saturating_sub(here)
 }
 
+// The counts within all cutoffs after that.
 fn moved_counts(at: [u32; 9], place: u32, on: bool) -> [u32; 9]
     requires { (i : ℕ) → i < 9 → slice_index at i ≤ 1000 }
     ensures { (counts : ℕ → ℕ) → at ≡ map (λ k. counts k + as_number (not on && nat_le place k)) cutoffs → result ≡ map (λ k. counts k + as_number (on && nat_le place k)) cutoffs }

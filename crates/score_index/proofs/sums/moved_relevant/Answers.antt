@@ -2,7 +2,7 @@ use Rattle.std.proofs.Common.{◌≡◌, ◌∙◌, ◌+◌, ◌-◌, ℕ, Bool,
 use Rattle.std.proofs.lemmas.List.{length-set}
 use Rattle.measures.specs.Cells.{cutoffs}
 use Rattle.rank_trees.specs.Marks.{count_on}
-use Rattle.score_index.specs.KeptSums.{AreSums, relevant_at}
+use Rattle.score_index.specs.KeptSums.{AreSums, with_relevant}
 use Rattle.score_index.specs.declared.sums.Sums.{Sums}
 use Rattle.score_index.proofs.Cells.Moving.{places_of, same_sums}
 use Rattle.score_index.proofs.Cells.SumSteps.{at-few, at-with, gain-small, gain-sum, left-sum, one-more, preferences-fit, stays-off}
@@ -22,11 +22,11 @@ of_trees g c on =
     let relevant = c.args.trees.now.relevant in
     let off = c.requires.off in
     same_sums c.args.cap (set relevant (c.args.place - 1) false) c.args.trees.now.lower relevant c.args.trees.now.lower c.args.sums (stays-off relevant c.args.place off.0 off.1 off.2) refl
-    (subst (λ b. AreSums c.args.cap (relevant_at c.args.place (not b) c.args.trees.now) c.args.sums) on c.requires.sums)
+    (subst (λ b. AreSums c.args.cap (with_relevant c.args.place (not b) c.args.trees.now) c.args.sums) on c.requires.sums)
 
 -- the sums with the place, where it no longer is
-with_place : (g : Over) (c : After-moved_counts-at g) → c.args.on ≡ false → AreSums c.args.cap (relevant_at c.args.place true c.args.trees.now) c.args.sums
-with_place g c on = subst (λ b. AreSums c.args.cap (relevant_at c.args.place (not b) c.args.trees.now) c.args.sums) on c.requires.sums
+with_place : (g : Over) (c : After-moved_counts-at g) → c.args.on ≡ false → AreSums c.args.cap (with_relevant c.args.place true c.args.trees.now) c.args.sums
+with_place g c on = subst (λ b. AreSums c.args.cap (with_relevant c.args.place (not b) c.args.trees.now) c.args.sums) on c.requires.sums
 
 pub moved_counts-at-requires : goal.moved_counts-at-requires
 moved_counts-at-requires g c = at-few (set c.args.trees.now.relevant (c.args.place - 1) (not c.args.on)) c.args.sums.at c.requires.sums.few c.requires.sums.at
@@ -54,7 +54,7 @@ returns-then-on-clause-sums g c =
       ap_sum = c.args.sums.ap_sum + c.precision_gain-gain.result;
       preferences = c.args.sums.preferences + c.left_above-left.result;
     } in
-    subst (λ b. AreSums c.args.cap (relevant_at c.args.place b c.args.trees.now) result) (sym c.if-on.true)
+    subst (λ b. AreSums c.args.cap (with_relevant c.args.place b c.args.trees.now) result) (sym c.if-on.true)
     (record {
       few = omega (arith, are.few, length-set on (c.args.place - 1) true);
       long = are.long ∙ sym (length-set on (c.args.place - 1) true);
@@ -91,7 +91,7 @@ returns-clause-sums g c =
       ap_sum = c.args.sums.ap_sum - c.precision_gain-gain.result;
       preferences = c.args.sums.preferences - c.left_above-left.result;
     } in
-    subst (λ b. AreSums c.args.cap (relevant_at c.args.place b c.args.trees.now) result) (sym c.if-on.false)
+    subst (λ b. AreSums c.args.cap (with_relevant c.args.place b c.args.trees.now) result) (sym c.if-on.false)
     (subst (λ (relevant : List Bool). AreSums c.args.cap (places_of relevant c.args.trees.now.lower) result) (sym same)
     (record {
       few = omega (arith, are.few, length-set on (c.args.place - 1) true);
