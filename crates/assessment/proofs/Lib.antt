@@ -1,4 +1,5 @@
 pub mod FrontSteps
+mod Entering
 mod ListFacts
 mod Marking
 mod Queueing

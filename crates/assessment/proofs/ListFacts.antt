@@ -68,6 +68,11 @@ at-some P [] i d within here = absurd (omega (arith, within))
 at-some P (x ∷ xs) zero d within here = here
 at-some P (x ∷ xs) (suc i) d within here = at-some P xs i d (omega (arith, within)) here
 
+pub at-each : {X : Type 0} (P : X → Type 0) (xs : List X) (i : ℕ) → i < length xs → ((d : X) → P (get_or xs i d)) → IsSomeAnd (slice_get xs i) P
+at-each P [] i within here = absurd (omega (arith, within))
+at-each P (x ∷ xs) zero within here = here x
+at-each P (x ∷ xs) (suc i) within here = at-each P xs i (omega (arith, within)) here
+
 -- an element changed in its place
 pub set-at_place : {X : Type 0} (f : X → X) (xs : List X) (i : ℕ) (d : X) → i < length xs → set xs i (f (get_or xs i d)) ≡ at_place i f xs
 set-at_place f [] i d within = absurd (omega (arith, within))

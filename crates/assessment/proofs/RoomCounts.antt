@@ -11,6 +11,15 @@ pub own-length : (docs : List DocId) → 0 < length docs → has_length (length 
 own-length [] filled = absurd (omega (arith, filled))
 own-length (d ∷ docs) filled = eq-eqb (length (d ∷ docs)) (length (d ∷ docs)) refl
 
+-- the length of a list that has documents, and of one that has none
+pub filled-length : (docs : List DocId) (len : ℕ) → 0 < length docs → has_length len docs ≡ (length docs == len)
+filled-length [] len filled = absurd (omega (arith, filled))
+filled-length (d ∷ docs) len filled = refl
+
+pub empty-length : (docs : List DocId) (len : ℕ) → length docs ≡ 0 → has_length len docs ≡ false
+empty-length [] len empty = refl
+empty-length (d ∷ docs) len empty = absurd (omega (arith, empty))
+
 -- a board with no room for a list of any length has no room
 pub no-rooms : (rooms : List ℕ) → ((len : ℕ) → count_by (λ room. room == len) rooms ≡ 0) → rooms ≡ []
 no-rooms [] none = refl

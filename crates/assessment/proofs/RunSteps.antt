@@ -1,17 +1,15 @@
 -- A run's lists, one topic after another.
-use Rattle.std.proofs.Common.{◌≡◌, ◌<◌, ℕ, zero, suc, Bool, true, false, List, [], ◌∷◌, ◌++◌, Option, None, length, map, set, get_or, refl, sym, ap, ◌∙◌, arith}
+use Rattle.std.proofs.Common.{◌≡◌, ◌<◌, ℕ, zero, suc, Bool, true, false, List, [], ◌∷◌, ◌++◌, Option, None, length, map, get_or, refl, sym, ap, ◌∙◌, arith}
 use Rattle.std.specs.Prelude.{◌==◌, ◌&&◌, if◌then◌else◌, slice_get, slice_index_or}
 use Rattle.std.specs.Option.{option_map_or}
 use Rattle.std.proofs.Math.Dec.{eqb-suc-suc, eqb-suc-zero, eqb-zero-suc}
-use Rattle.std.proofs.lemmas.List.{length-append}
 use Rattle.decimal_rank.specs.declared.naming.DocId.{DocId}
 use Rattle.depth_pool.specs.declared.runs.RunId.{RunId}
 use Rattle.qrels_view.specs.declared.grades.Graded.{Graded}
 use Rattle.score_index.specs.Scores.{Scores, TopicScores, docs_at, docs_in, new_topic as new_scores}
 use Rattle.assessment.specs.RunLists.{RankedLists, each_with_list, unless_empty, with_lists}
 use Rattle.assessment.specs.TopicFacts.{TopicFacts, TopicView, facts_of, graded_of, with_list, without_list}
-use Rattle.assessment.specs.TopicsFacts.{TopicsFacts, told_by}
-use Rattle.assessment.proofs.ListFacts.{get-behind}
+use Rattle.assessment.specs.TopicsFacts.{TopicsFacts, at_place, told_by}
 
 -- what topics and a board tell, from its parts
 pub told-is : (topics : List TopicView) (board : Scores) (all : TopicsFacts) → map facts_of topics ≡ all.topics → ((run : RunId) (on : ℕ) → docs_at board run on ≡ all.lists run on) → board.level ≡ all.level → told_by topics board ≡ all
@@ -22,20 +20,23 @@ pub told-same : (topics others : List TopicView) (board other : Scores) → map 
 told-same topics others board other same_facts same_topics same_level =
     told-is topics board (told_by others other) same_facts (λ run on. ap (λ (ts : List TopicScores). docs_in run (slice_index_or ts on new_scores)) same_topics) same_level
 
--- the list that comes next
-pub next-list : (done left lists rest : List (List DocId)) (docs : List DocId) (number : ℕ) → done ++ left ≡ lists → left ≡ docs ∷ rest → number ≡ length done → (number < length lists) × ((d : List DocId) → get_or lists number d ≡ docs)
-next-list done left lists rest docs number whole steps at =
-    let all : done ++ docs ∷ rest ≡ lists = ap (λ (ls : List (List DocId)). done ++ ls) (sym steps) ∙ whole in (
-      omega (arith, at, ap length all, length-append done (docs ∷ rest)),
-      λ d. ap (λ (ls : List (List DocId)). get_or ls number d) (sym all) ∙ ap (λ n. get_or (done ++ docs ∷ rest) n d) at ∙ get-behind done docs rest d,
-    )
-
 -- one more topic gets its list
-pub each-more : (run : RunId) (lists : List (List DocId)) (docs : List DocId) (topics : List TopicFacts) (d : TopicFacts) → length lists < length topics
-    → each_with_list run (lists ++ docs ∷ []) topics ≡ set (each_with_list run lists topics) (length lists) (with_list run docs (get_or topics (length lists) d))
-each-more run lists docs [] d within = absurd (omega (arith, within))
-each-more run [] docs (topic ∷ topics) d within = refl
-each-more run (first ∷ lists) docs (topic ∷ topics) d within = ap (λ ts. with_list run first topic ∷ ts) (each-more run lists docs topics d (omega (arith, within)))
+pub each-more : (run : RunId) (lists : List (List DocId)) (docs : List DocId) (topics : List TopicFacts) → length lists < length topics
+    → each_with_list run (lists ++ docs ∷ []) topics ≡ at_place (length lists) (with_list run docs) (each_with_list run lists topics)
+each-more run lists docs [] within = absurd (omega (arith, within))
+each-more run [] docs (topic ∷ topics) within = refl
+each-more run (first ∷ lists) docs (topic ∷ topics) within = ap (λ ts. with_list run first topic ∷ ts) (each-more run lists docs topics (omega (arith, within)))
+
+pub each-long : (run : RunId) (lists : List (List DocId)) (topics : List TopicFacts) → length (each_with_list run lists topics) ≡ length topics
+each-long run [] topics = refl
+each-long run (docs ∷ lists) [] = refl
+each-long run (docs ∷ lists) (topic ∷ topics) = ap suc (each-long run lists topics)
+
+-- the topics behind them are as they were
+pub each-behind : (run : RunId) (lists : List (List DocId)) (topics : List TopicFacts) (d : TopicFacts) → get_or (each_with_list run lists topics) (length lists) d ≡ get_or topics (length lists) d
+each-behind run [] topics d = refl
+each-behind run (docs ∷ lists) [] d = refl
+each-behind run (docs ∷ lists) (topic ∷ topics) d = each-behind run lists topics d
 
 -- one more list of the run on the board
 pub lists-more : (run : RunId) (lists : List (List DocId)) (docs : List DocId) (before : RankedLists) (other : RunId) (on : ℕ)
@@ -65,7 +66,6 @@ no-list-yet run lists before none = step (run.0 == run.0)
     step true = ap (λ (o : Option (List DocId)). option_map_or unless_empty o (before run (length lists))) (none-behind lists) ∙ none
     step false = none
 
--- topics keep their grades where a run enters
 abbrev pub grades : TopicFacts → List Graded
 grades topic = topic.graded
 
@@ -75,11 +75,6 @@ through (t ∷ topics) = ap (λ gs. graded_of t ∷ gs) (through topics)
 
 pub grades-by : (topics others : List TopicView) → map grades (map facts_of topics) ≡ map grades (map facts_of others) → map graded_of topics ≡ map graded_of others
 grades-by topics others same = through topics ∙ same ∙ sym (through others)
-
-pub each-keeps : (run : RunId) (lists : List (List DocId)) (topics : List TopicFacts) → map grades (each_with_list run lists topics) ≡ map grades topics
-each-keeps run [] topics = refl
-each-keeps run (docs ∷ lists) [] = refl
-each-keeps run (docs ∷ lists) (topic ∷ topics) = ap (λ gs. topic.graded ∷ gs) (each-keeps run lists topics)
 
 -- topics keep their grades where a run leaves
 pub without-keeps : (run : RunId) (topics : List TopicFacts) → map grades (map (without_list run) topics) ≡ map grades topics

@@ -6,7 +6,7 @@ use Rattle.lease_desk.specs.Leases.{granted, lease_numbered, with_end}
 use Rattle.lease_desk.specs.declared.leases.Lease.{Lease}
 use Rattle.lease_desk.specs.declared.leases.LeaseEnd.TheVariants.{Graded, Released}
 use Rattle.assessment.specs.RunLists.{HasRooms}
-use Rattle.assessment.specs.TopicFacts.{AwaitsGrade, AwaitsLabel, MayLabel, MayRule}
+use Rattle.assessment.specs.TopicFacts.{AwaitsMark, MayLabel, MayRule}
 use Rattle.assessment.specs.TopicsFacts.{IsEntered, IsNewRun, TopicsFacts, TopicsView, after_label, after_ruling, after_run, after_withdrawal, told}
 use Rattle.assessment.specs.declared.change.Change.{Change}
 use Rattle.assessment.specs.declared.change.Change.TheVariants as change
@@ -64,10 +64,10 @@ HasRoom (change.Topics given) all desk = all.board.rooms ≡ []
 HasRoom (change.Run run lists) all desk = HasRooms lists.items all.topics all.board
 HasRoom (change.Withdraw run) all desk = all.board.rooms ≡ []
 HasRoom (change.Lease grant) all desk = (1 ≤ desk.spare) × (all.board.rooms ≡ [])
-HasRoom (change.Grade number label) all desk = IsSomeAnd (slice_get all.topics label.topic) (AwaitsLabel label.doc) × (all.board.rooms ≡ [])
+HasRoom (change.Grade number label) all desk = IsSomeAnd (slice_get all.topics label.topic) (AwaitsMark label.doc) × (all.board.rooms ≡ [])
 HasRoom (change.Release number) all desk = all.board.rooms ≡ []
-HasRoom (change.Amend label) all desk = IsSomeAnd (slice_get all.topics label.topic) (AwaitsLabel label.doc) × (all.board.rooms ≡ [])
-HasRoom (change.Rule ruling) all desk = IsSomeAnd (slice_get all.topics ruling.topic) AwaitsGrade × (all.board.rooms ≡ [])
+HasRoom (change.Amend label) all desk = IsSomeAnd (slice_get all.topics label.topic) (AwaitsMark label.doc) × (all.board.rooms ≡ [])
+HasRoom (change.Rule ruling) all desk = IsSomeAnd (slice_get all.topics ruling.topic) (AwaitsMark ruling.doc) × (all.board.rooms ≡ [])
 
 -- a change that may be made, and for which there is room
 pub record IsReady (change : Change) (all : TopicsView) (desk : DeskView) : Type 0 where

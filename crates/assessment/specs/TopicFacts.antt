@@ -10,6 +10,8 @@ use Rattle.mtf_queue.specs.Rule.{IsInOrder}
 use Rattle.mtf_queue.specs.declared.rule.Judged.{Judged}
 use Rattle.qrels_view.specs.Grades.{with_grade}
 use Rattle.qrels_view.specs.declared.grades.Graded.{Graded}
+use Rattle.assessment.specs.declared.change.Mark.{Mark}
+use Rattle.assessment.specs.declared.change.Mark.TheVariants as mark
 use Rattle.assessment.specs.declared.topic.TopicRules.{TopicRules}
 
 -- a topic: its id, how many labels a document needs, the grade from which on a document is relevant, the depth of the pool, the runs with what they hold, the labels and rulings, and the effective grades by the first ones
@@ -70,8 +72,8 @@ pub record AwaitsGrade (topic : TopicView) : Type 0 where
   pub grade : 1 ≤ topic.grade_room
   pub place : 1 ≤ topic.queue_room
 
--- there is room for a label of this document
-pub record AwaitsLabel (doc : DocId) (topic : TopicView) : Type 0 where
+-- there is room for a label of this document, and for the grade that a label or a ruling gives it
+pub record AwaitsMark (doc : DocId) (topic : TopicView) : Type 0 where
   pub label : topic.label_room ≡ Some doc
   pub grade : AwaitsGrade topic
 
@@ -94,3 +96,18 @@ pub record MayLabel (doc : DocId) (topic : TopicFacts) : Type 0 where
 pub record MayRule (doc : DocId) (topic : TopicFacts) : Type 0 where
   pub labelled : IsTrue (is_marked topic.marked doc)
   pub few_grades : length topic.graded < 268435456
+
+-- the document of a mark
+abbrev pub doc_of : Mark → DocId
+doc_of (mark.Label label) = label.doc
+doc_of (mark.Ruling ruling) = ruling.doc
+
+-- a topic after a document of it gets a mark
+abbrev pub with_mark : Mark → TopicFacts → TopicFacts
+with_mark (mark.Label label) topic = with_label label.doc label.assessor label.grade topic
+with_mark (mark.Ruling ruling) topic = with_ruling ruling.doc ruling.grade topic
+
+-- a mark that its document may get
+abbrev pub MayMark : Mark → TopicFacts → Type 0
+MayMark (mark.Label label) topic = MayLabel label.doc topic
+MayMark (mark.Ruling ruling) topic = MayRule ruling.doc topic

@@ -1,16 +1,17 @@
 -- What is known of all topics and of the runs' lists on them, and how it changes.
-use Rattle.std.specs.Prelude.{◌≡◌, ◌<◌, ◌^◌, ℕ, zero, suc, false, List, [], ◌∷◌, All, IsTrue, None, Option, length, map}
+use Rattle.std.specs.Prelude.{◌≡◌, ◌<◌, ◌-◌, ◌^◌, ◌==◌, ◌&&◌, ℕ, zero, suc, false, List, [], ◌∷◌, All, IsTrue, None, if◌then◌else◌, length, map, slice_get, slice_index_or}
+use Rattle.std.specs.Option.{IsSomeAnd}
 use Rattle.decimal_rank.specs.declared.naming.DocId.{DocId}
 use Rattle.depth_pool.specs.declared.runs.RunId.{RunId}
 use Rattle.depth_pool.specs.Holdings.{has_run}
-use Rattle.qrels_view.specs.Grades.{effective_in, with_grade}
-use Rattle.qrels_view.specs.declared.grades.Graded.{Graded}
-use Rattle.score_index.specs.Scores.{Scores, docs_at, topic_at}
-use Rattle.score_index.specs.Standing.{StandsFor, TopicStandsFor}
-use Rattle.assessment.specs.RunLists.{RankedLists, each_with_list, with_lists, without_lists}
-use Rattle.assessment.specs.TopicFacts.{TopicFacts, TopicView, facts_of, graded_of, new_topic, with_label, with_ruling, without_list}
+use Rattle.score_index.specs.Scores.{Scores, docs_at, rooms_for}
+use Rattle.score_index.specs.Standing.{StandsFor}
+use Rattle.assessment.specs.RunLists.{RankedLists, each_with_list, has_length, unless_empty, with_lists, without_lists}
+use Rattle.assessment.specs.TopicFacts.{AwaitsRun, TopicFacts, TopicView, facts_of, graded_of, new_topic, with_label, with_list, with_ruling, without_list}
 use Rattle.assessment.specs.declared.topic.TopicRules.{TopicRules}
 use Rattle.assessment.specs.declared.change.Label.{Label}
+use Rattle.assessment.specs.declared.change.Mark.{Mark}
+use Rattle.assessment.specs.declared.change.Mark.TheVariants as mark
 use Rattle.assessment.specs.declared.change.Ruling.{Ruling}
 
 -- the topics and the board as contracts see them
@@ -53,10 +54,30 @@ after_label label all = record all { topics = at_place label.topic (with_label l
 abbrev pub after_ruling : Ruling → TopicsFacts → TopicsFacts
 after_ruling ruling all = record all { topics = at_place ruling.topic (with_ruling ruling.doc ruling.grade) all.topics }
 
+-- the topic of a mark
+abbrev pub topic_of : Mark → ℕ
+topic_of (mark.Label label) = label.topic
+topic_of (mark.Ruling ruling) = ruling.topic
+
+-- after a document of a topic gets a mark
+abbrev pub after_mark : Mark → TopicsFacts → TopicsFacts
+after_mark (mark.Label label) all = after_label label all
+after_mark (mark.Ruling ruling) all = after_ruling ruling all
+
+-- with a run's list on one topic
+abbrev pub after_list : ℕ → RunId → List DocId → TopicsFacts → TopicsFacts
+after_list number run docs all =
+    record all { topics = at_place number (with_list run docs) all.topics; lists = λ other on. if (run.0 == other.0) && (number == on) then unless_empty docs else all.lists other on }
+
 -- a run that is on no topic, and has no list
 pub record IsNewRun (run : RunId) (all : TopicsFacts) : Type 0 where
   pub on_topics : All (λ topic. has_run run topic.pool ≡ false) all.topics
   pub on_board : (on : ℕ) → all.lists run on ≡ None
+
+-- a run that isn't on this topic, and has no list there
+pub record IsNewOn (number : ℕ) (run : RunId) (all : TopicsFacts) : Type 0 where
+  pub on_topic : IsSomeAnd (slice_get all.topics number) (λ topic. has_run run topic.pool ≡ false)
+  pub on_board : all.lists run number ≡ None
 
 -- a run that is on each topic
 abbrev pub IsEntered : RunId → TopicsFacts → Type 0
@@ -71,11 +92,26 @@ pub record IsStanding (topics : List TopicView) (board : Scores) : Type 0 where
   pub few : length topics < 2 ^ 16
   pub stands : StandsFor board (map graded_of topics)
 
--- The grades of a topic after a document of it got another one: the board still stands for the grades before.
-pub record IsRegraded (board : Scores) (number : ℕ) (doc : DocId) (old : Option ℕ) (now : List Graded) : Type 0 where
-  pub before : List Graded
-  pub grade : Option ℕ
-  pub stands : TopicStandsFor board.level (topic_at board number) before
-  pub old_is : effective_in before doc ≡ old
-  pub now_is : now ≡ with_grade doc grade before
-  pub few : length before < 268435456
+-- the topics and the board tell this now, and the board has the room that it had
+pub record Becomes (all : TopicsFacts) (old new : TopicsView) : Type 0 where
+  pub facts : told new ≡ all
+  pub rooms : new.board.rooms ≡ old.board.rooms
+
+-- they tell what they told
+abbrev pub IsUnchanged : TopicsView → TopicsView → Type 0
+IsUnchanged old new = Becomes (told old) old new
+
+-- the topics and the board tell this, and the board has no room
+pub record IsAtRest (all : TopicsFacts) (new : TopicsView) : Type 0 where
+  pub facts : told new ≡ all
+  pub none : new.board.rooms ≡ []
+
+-- there is room for a run on a topic, and on the board for its list there
+pub record AwaitsList (number : ℕ) (docs : List DocId) (all : TopicsView) : Type 0 where
+  pub on_topic : IsSomeAnd (slice_get all.topics number) (AwaitsRun docs)
+  pub on_board : (len : ℕ) → IsTrue (has_length len docs) → 0 < rooms_for len all.board
+
+-- the room for a run's list on a topic is used up, and that on the other topics is as it was
+pub record UsesRoom (number : ℕ) (docs : List DocId) (old new : TopicsView) : Type 0 where
+  pub others : (on : ℕ) (topic : TopicView) → ¬ (on ≡ number) → slice_index_or new.topics on topic ≡ slice_index_or old.topics on topic
+  pub on_board : (len : ℕ) → rooms_for len new.board ≡ rooms_for len old.board - (if has_length len docs then 1 else 0)

@@ -1,4 +1,8 @@
 //! What a command changes of an assessment, by numbers.
+ghost use Rattle.std.specs.Prelude.{◌≡◌};
+ghost use Rattle.assessment.specs.TopicFacts.{doc_of};
+ghost use Rattle.assessment.specs.TopicsFacts.{topic_of};
+
 use crate::topics::Topics;
 use decimal_rank::{DocId, Ranking, Text};
 use depth_pool::RunId;
@@ -50,4 +54,24 @@ pub enum Change {
     Amend(Label),
     /// A document gets the grade of a ruling.
     Rule(Ruling),
+}
+
+/// What a document of a topic gets: a label, or a ruling.
+#[derive(Drop)]
+pub(crate) enum Mark {
+    Label(Label),
+    Ruling(Ruling),
+}
+
+impl Mark {
+    /// The topic and the document.
+    pub(crate) fn place(&self) -> (u16, DocId)
+        ensures topic { result.0 ≡ topic_of self.now }
+        ensures doc { result.1 ≡ doc_of self.now }
+    {
+        match self {
+            Mark::Label(label) => (label.topic, label.doc),
+            Mark::Ruling(ruling) => (ruling.topic, ruling.doc),
+        }
+    }
 }

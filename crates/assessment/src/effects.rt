@@ -1,12 +1,12 @@
 //! What each change takes: room first, then its effect, or its room given back.
-ghost use Rattle.std.specs.Prelude.{◌≡◌, ◌+◌, ◌-◌, ◌<◌, ◌≤◌, ◌^◌, [], List, OnErr, OnOk, length};
-ghost use Rattle.lease_desk.specs.Leases.{granted};
+ghost use Rattle.std.specs.Prelude.{◌≡◌, ◌+◌, ◌≤◌, [], List, OnErr, OnOk};
 ghost use Rattle.depth_pool.specs.declared.runs.RunId.{RunId};
 ghost use Rattle.assessment.specs.Costs.{HaveLists, change_steps};
-ghost use Rattle.assessment.specs.TopicsFacts.{told};
+ghost use Rattle.assessment.specs.TopicsFacts.{IsAtRest, told};
 ghost use Rattle.assessment.specs.Changes.{Fits, HasRoom, IsReady, after, facts_in};
 
-use crate::change::{Change, Grant};
+use crate::change::{Change, Grant, Mark};
+use crate::runs::enter_run;
 use crate::topics::Topics;
 use decimal_rank::{Memory, Steps};
 use lease_desk::{Desk, LeaseEnd};
@@ -26,18 +26,17 @@ pub(crate) fn make_room(topics: &mut Topics, desk: &mut Desk, change: &Change) -
         Change::Run(_, lists) => topics.reserve_run(lists.as_slice()),
         Change::Withdraw(_) => Ok(()),
         Change::Lease(_) => desk.reserve(),
-        Change::Grade(_, label) => topics.reserve_label(label.topic, label.doc),
+        Change::Grade(_, label) => topics.reserve_mark(label.topic, label.doc),
         Change::Release(_) => Ok(()),
-        Change::Amend(label) => topics.reserve_label(label.topic, label.doc),
-        Change::Rule(ruling) => topics.reserve_grade(ruling.topic),
+        Change::Amend(label) => topics.reserve_mark(label.topic, label.doc),
+        Change::Rule(ruling) => topics.reserve_mark(ruling.topic, ruling.doc),
     }
 }
 
 /// Gives the room of a change back.
 pub(crate) fn give_back(topics: &mut Topics, desk: &Desk, change: &Change)
     requires { HasRoom change.now topics.old desk.now }
-    ensures none { topics.new.board.rooms ≡ [] }
-    ensures facts { facts_in topics.new desk.now.leases ≡ facts_in topics.old desk.now.leases }
+    ensures { IsAtRest (told topics.old) topics.new }
 {
     match change {
         Change::Run(_, lists) => topics.cancel_run(lists.as_slice()),
@@ -67,30 +66,23 @@ pub(crate) fn make<L: Ledger>(
     match change {
         Change::Nothing => {}
         Change::Topics(given) => *topics = given,
-        Change::Run(run, lists) => topics.enter(run, lists),
+        Change::Run(run, lists) => enter_run(topics, run, lists),
         Change::Withdraw(run) => topics.leave(run),
-        Change::Lease(grant) => lease(desk, grant),
+        Change::Lease(grant) => {
+            let Grant {
+                topic,
+                doc,
+                assessor,
+                until,
+            } = grant;
+            desk.grant(assessor, topic, doc, until);
+        }
         Change::Grade(number, label) => {
-            topics.label(label, steps);
+            topics.mark(Mark::Label(label), steps);
             desk.end(number, LeaseEnd::Graded);
         }
         Change::Release(number) => desk.end(number, LeaseEnd::Released),
-        Change::Amend(label) => topics.label(label, steps),
-        Change::Rule(ruling) => topics.rule(ruling, steps),
+        Change::Amend(label) => topics.mark(Mark::Label(label), steps),
+        Change::Rule(ruling) => topics.mark(Mark::Ruling(ruling), steps),
     }
-}
-
-// Grants the next lease.
-fn lease(desk: &mut Desk, grant: Grant)
-    requires room { 1 ≤ desk.old.spare }
-    requires few { length desk.old.leases < 2 ^ 32 - 1 }
-    ensures { desk.new.leases ≡ granted desk.old.leases grant.assessor grant.topic grant.doc grant.until }
-{
-    let Grant {
-        topic,
-        doc,
-        assessor,
-        until,
-    } = grant;
-    desk.grant(assessor, topic, doc, until);
 }

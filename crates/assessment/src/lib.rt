@@ -7,7 +7,6 @@ mod assessment;
 mod change;
 mod effects;
 mod fronts;
-mod grades;
 mod runs;
 mod topic;
 mod topics;

@@ -3,8 +3,9 @@ ghost use Rattle.std.specs.Prelude.{◌≡◌, ◌+◌, ◌<◌, ◌≤◌, fals
 ghost use Rattle.std.specs.Option.{option_map};
 ghost use Rattle.depth_pool.specs.Holdings.{docs_of, has_run};
 ghost use Rattle.assessment.specs.Fronts.{IsBehindLabelled};
-ghost use Rattle.assessment.specs.TopicFacts.{AwaitsGrade, AwaitsLabel, AwaitsRun, IsQueued, MayLabel, MayRule, new_topic, with_effective, with_label, with_list, with_ruling, without_list};
+ghost use Rattle.assessment.specs.TopicFacts.{AwaitsGrade, AwaitsMark, AwaitsRun, IsQueued, MayMark, doc_of, new_topic, with_effective, with_list, with_mark, without_list};
 
+use crate::change::{Label, Mark, Ruling};
 use crate::fronts::{Fronts, advance};
 use decimal_rank::{DocId, Memory, Ranking, Steps, Text};
 use depth_pool::{Pool, RunId};
@@ -113,61 +114,53 @@ impl Topic {
         self.pool.drop_run(run);
     }
 
-    /// Makes room for one more grade.
-    pub(crate) fn reserve_grade(&mut self) -> Result<(), Memory>
-        ensures room { OnOk result (AwaitsGrade self.new) }
+    /// Makes room for a label of a document, and for the grade that a label or a ruling gives it.
+    pub(crate) fn reserve_mark(&mut self, doc: DocId) -> Result<(), Memory>
+        ensures room { OnOk result (AwaitsMark doc self.new) }
         ensures facts { self.new.facts ≡ self.old.facts }
-        ensures label { self.new.label_room ≡ self.old.label_room }
     {
+        self.marks.reserve(doc)?;
         self.grades.reserve()?;
         self.queue.reserve()?;
         Ok(())
     }
 
-    /// Makes room for a label of a document, and for the grade that it gives.
-    pub(crate) fn reserve_label(&mut self, doc: DocId) -> Result<(), Memory>
-        ensures room { OnOk result (AwaitsLabel doc self.new) }
-        ensures facts { self.new.facts ≡ self.old.facts }
-    {
-        self.marks.reserve(doc)?;
-        self.reserve_grade()
-    }
-
-    /// Gives a document the label of an assessor. At most one step for each run of the pool and one
-    /// more.
-    pub(crate) fn label<L: Ledger>(
-        &mut self,
-        doc: DocId,
-        assessor: Text,
-        grade: u8,
-        steps: &mut Steps<L>,
-    )
-        requires room { AwaitsLabel doc self.old }
-        requires may_label { MayLabel doc self.old.facts }
-        ensures facts { self.new.facts ≡ with_label doc assessor grade self.old.facts }
+    /// Gives a document a label, or the grade of a ruling. At most one step for each run of the pool
+    /// and one more.
+    pub(crate) fn mark<L: Ledger>(&mut self, mark: Mark, steps: &mut Steps<L>)
+        requires room { AwaitsMark (doc_of mark) self.old }
+        requires may_mark { MayMark mark self.old.facts }
+        ensures facts { self.new.facts ≡ with_mark mark self.old.facts }
         ensures cost { steps.new ≤ steps.old + length self.old.facts.pool + 1 }
     {
-        self.marks.set(doc, assessor, grade);
-        self.regrade(doc, steps);
-        advance(
-            &mut self.fronts,
-            self.queue.order(),
-            &self.pool,
-            &self.marks,
-            self.need,
-        );
-    }
-
-    /// Gives a document the grade of a ruling. At most one step for each run of the pool and one
-    /// more.
-    pub(crate) fn rule<L: Ledger>(&mut self, doc: DocId, grade: u8, steps: &mut Steps<L>)
-        requires room { AwaitsGrade self.old }
-        requires may_rule { MayRule doc self.old.facts }
-        ensures facts { self.new.facts ≡ with_ruling doc grade self.old.facts }
-        ensures cost { steps.new ≤ steps.old + length self.old.facts.pool + 1 }
-    {
-        self.marks.rule(doc, grade);
-        self.regrade(doc, steps);
+        match mark {
+            Mark::Label(label) => {
+                let Label {
+                    topic: _,
+                    doc,
+                    assessor,
+                    grade,
+                } = label;
+                self.marks.set(doc, assessor, grade);
+                self.regrade(doc, steps);
+                advance(
+                    &mut self.fronts,
+                    self.queue.order(),
+                    &self.pool,
+                    &self.marks,
+                    self.need,
+                );
+            }
+            Mark::Ruling(ruling) => {
+                let Ruling {
+                    topic: _,
+                    doc,
+                    grade,
+                } = ruling;
+                self.marks.rule(doc, grade);
+                self.regrade(doc, steps);
+            }
+        }
     }
 
     // Brings the grade that a document has by its labels and rulings to the grades and to the queue.

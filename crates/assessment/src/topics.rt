@@ -6,16 +6,15 @@ ghost use Rattle.score_index.specs.Standing.{StandsFor};
 ghost use Rattle.depth_pool.specs.declared.runs.RunId.{RunId};
 ghost use Rattle.assessment.specs.Costs.{HaveLists, grade_steps};
 ghost use Rattle.assessment.specs.RunLists.{HasRooms, IsReservedFor};
-ghost use Rattle.assessment.specs.TopicFacts.{AwaitsGrade, AwaitsLabel, MayLabel, MayRule, facts_of, graded_of, new_topic};
-ghost use Rattle.assessment.specs.TopicsFacts.{IsEntered, IsNewRun, after_label, after_ruling, after_run, after_withdrawal, new_topics, told};
+ghost use Rattle.assessment.specs.TopicFacts.{AwaitsMark, MayMark, doc_of, facts_of, graded_of, new_topic};
+ghost use Rattle.assessment.specs.TopicsFacts.{AwaitsList, Becomes, IsAtRest, IsEntered, IsNewOn, IsUnchanged, UsesRoom, after_list, after_mark, after_withdrawal, new_topics, told, topic_of};
 
-use crate::change::{Label, Ruling};
-use crate::grades::{label_document, rule_document};
-use crate::runs::{drop_lists, enter_run, leave_run, reserve_lists, reserve_places};
+use crate::change::Mark;
+use crate::runs::{drop_lists, leave_each, reserve_lists, reserve_places};
 use crate::topic::{Topic, TopicRules};
 use decimal_rank::{DocId, Memory, Ranking, Steps};
 use depth_pool::RunId;
-use score_index::Board;
+use score_index::{Board, each_topic_stands};
 use std::alloc::Global;
 use std::marker::Model;
 use std::sync::ledger::Ledger;
@@ -71,7 +70,7 @@ impl Topics {
         requires as_many { length lists.now ≡ length self.old.topics }
         requires none { self.old.board.rooms ≡ [] }
         ensures ok { OnOk result (HasRooms lists.now self.new.topics self.new.board) }
-        ensures err { OnErr result ((self.new.board.rooms ≡ [])) }
+        ensures err { OnErr result (self.new.board.rooms ≡ []) }
         ensures facts { told self.new ≡ told self.old }
     {
         reserve_places(&mut self.topics, lists)?;
@@ -81,71 +80,60 @@ impl Topics {
     /// Gives the room on the board for these lists back.
     pub(crate) fn cancel_run(&mut self, lists: &[Ranking])
         requires { IsReservedFor lists.now self.old.board }
-        ensures none { self.new.board.rooms ≡ [] }
-        ensures facts { told self.new ≡ told self.old }
+        ensures { IsAtRest (told self.old) self.new }
     {
         drop_lists(&mut self.board, lists);
     }
 
-    /// Adds a run with these lists, for which there is room.
-    pub(crate) fn enter(&mut self, run: RunId, lists: Vec<Ranking>)
-        requires room { HasRooms lists.items self.old.topics self.old.board }
-        requires is_new { IsNewRun run (told self.old) }
-        ensures facts { told self.new ≡ after_run run lists.items (told self.old) }
-        ensures unreserved { self.new.board.rooms ≡ [] }
+    /// Adds a run to a topic, and its list to the board where it has documents.
+    pub(crate) fn enter_list(&mut self, number: usize, run: RunId, list: Ranking)
+        requires room { AwaitsList number list self.old }
+        requires is_new { IsNewOn number run (told self.old) }
+        ensures facts { told self.new ≡ after_list number run list (told self.old) }
+        ensures room { UsesRoom number list self.old self.new }
     {
-        enter_run(&mut self.topics, &mut self.board, run, lists);
+        // a board that stands for grades does so on each topic
+        each_topic_stands();
+        let topic = &mut self.topics[number];
+        topic.enter(run, &list);
+        if list.len() > 0 {
+            self.board.add_run(run, number as u16, list, topic.grades());
+        }
     }
 
-    /// Takes a run out.
+    /// Takes a run out of each topic, and its lists off the board.
     pub(crate) fn leave(&mut self, run: RunId)
         requires { IsEntered run (told self.old) }
-        ensures facts { told self.new ≡ after_withdrawal run (told self.old) }
-        ensures rooms { self.new.board.rooms ≡ self.old.board.rooms }
+        ensures { Becomes (after_withdrawal run (told self.old)) self.old self.new }
     {
-        leave_run(&mut self.topics, &mut self.board, run);
+        leave_each(&mut self.topics, run);
+        self.board.drop_run(run);
     }
 
-    /// Makes room for a label of a document of a topic.
-    pub(crate) fn reserve_label(&mut self, number: u16, doc: DocId) -> Result<(), Memory>
+    /// Makes room for a mark on a document of a topic.
+    pub(crate) fn reserve_mark(&mut self, number: u16, doc: DocId) -> Result<(), Memory>
         requires { number < length self.old.topics }
-        ensures room { OnOk result (IsSomeAnd (slice_get self.new.topics number) (AwaitsLabel doc)) }
-        ensures facts { told self.new ≡ told self.old }
-        ensures rooms { self.new.board.rooms ≡ self.old.board.rooms }
+        ensures room { OnOk result (IsSomeAnd (slice_get self.new.topics number) (AwaitsMark doc)) }
+        ensures unchanged { IsUnchanged self.old self.new }
     {
-        self.topics[number as usize].reserve_label(doc)
+        self.topics[number as usize].reserve_mark(doc)
     }
 
-    /// Makes room for one more grade of a topic.
-    pub(crate) fn reserve_grade(&mut self, number: u16) -> Result<(), Memory>
-        requires { number < length self.old.topics }
-        ensures room { OnOk result (IsSomeAnd (slice_get self.new.topics number) AwaitsGrade) }
-        ensures facts { told self.new ≡ told self.old }
-        ensures rooms { self.new.board.rooms ≡ self.old.board.rooms }
+    /// Gives a document of a topic a mark, and the board the grade that it has then.
+    pub(crate) fn mark<L: Ledger>(&mut self, mark: Mark, steps: &mut Steps<L>)
+        requires room { IsSomeAnd (slice_get self.old.topics (topic_of mark)) (AwaitsMark (doc_of mark)) }
+        requires may_mark { IsSomeAnd (slice_get (told self.old).topics (topic_of mark)) (MayMark mark) }
+        ensures facts { Becomes (after_mark mark (told self.old)) self.old self.new }
+        ensures cost { (runs : List RunId) → HaveLists runs (told self.old) → steps.new ≤ steps.old + grade_steps runs (topic_of mark) (told self.old) }
     {
-        self.topics[number as usize].reserve_grade()
-    }
-
-    /// Gives a document of a topic the label of an assessor.
-    pub(crate) fn label<L: Ledger>(&mut self, label: Label, steps: &mut Steps<L>)
-        requires room { IsSomeAnd (slice_get self.old.topics label.topic) (AwaitsLabel label.doc) }
-        requires may_label { IsSomeAnd (slice_get (told self.old).topics label.topic) (MayLabel label.doc) }
-        ensures facts { told self.new ≡ after_label label (told self.old) }
-        ensures rooms { self.new.board.rooms ≡ self.old.board.rooms }
-        ensures cost { (runs : List RunId) → HaveLists runs (told self.old) → steps.new ≤ steps.old + grade_steps runs label.topic (told self.old) }
-    {
-        label_document(&mut self.topics, &mut self.board, label, steps);
-    }
-
-    /// Gives a document of a topic the grade of a ruling.
-    pub(crate) fn rule<L: Ledger>(&mut self, ruling: Ruling, steps: &mut Steps<L>)
-        requires room { IsSomeAnd (slice_get self.old.topics ruling.topic) AwaitsGrade }
-        requires may_rule { IsSomeAnd (slice_get (told self.old).topics ruling.topic) (MayRule ruling.doc) }
-        ensures facts { told self.new ≡ after_ruling ruling (told self.old) }
-        ensures rooms { self.new.board.rooms ≡ self.old.board.rooms }
-        ensures cost { (runs : List RunId) → HaveLists runs (told self.old) → steps.new ≤ steps.old + grade_steps runs ruling.topic (told self.old) }
-    {
-        rule_document(&mut self.topics, &mut self.board, ruling, steps);
+        // a board that stands for grades does so on each topic
+        each_topic_stands();
+        let (number, doc) = mark.place();
+        let topic = &mut self.topics[number as usize];
+        let old = topic.grades().effective(doc);
+        topic.mark(mark, steps);
+        let new = topic.grades().effective(doc);
+        self.board.regrade(number, doc, old, new, steps);
     }
 }
 

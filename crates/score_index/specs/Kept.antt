@@ -43,6 +43,16 @@ pub record IsTopicKept (topic : TopicScores) : Type 0 where
 abbrev pub HasEmptyCell : ℕ → Topic → Type 0
 HasEmptyCell level topic = topic.empty ≡ cell_of [] topic.relevant topic.non_relevant level
 
+-- the topics keep the cells of the empty list, and have no less room
+pub record KeepsPlaces (old new : List Topic) : Type 0 where
+  pub empties : (level : ℕ) → All (HasEmptyCell level) old → All (HasEmptyCell level) new
+  pub places : (least : ℕ) → All (λ topic. least ≤ spare topic) old → All (λ topic. least ≤ spare topic) new
+
+-- a document with this grade is counted on a topic
+pub record IsCounted (level : ℕ) (grade : Option ℕ) (topic : TopicScores) : Type 0 where
+  pub relevant : as_number (is_relevant level grade) ≤ topic.relevant
+  pub non_relevant : as_number (is_non_relevant level grade) ≤ topic.non_relevant
+
 -- each topic is kept so, and has a place for each list that has room
 pub record IsKept (level : ℕ) (topics : List Topic) (rooms : ℕ) : Type 0 where
   pub few : length topics < 2 ^ 16

@@ -1,5 +1,5 @@
 -- What is kept of a list beside its places, and what a document's mark says.
-use Rattle.std.specs.Prelude.{◌≡◌, ℕ, ◌+◌, ◌-◌, ◌≤◌, Bool, true, false, List, None, Option, Some, length, map, min, slice_index_or, take}
+use Rattle.std.specs.Prelude.{◌≡◌, ℕ, ◌+◌, ◌-◌, ◌≤◌, Bool, true, false, List, None, Option, Some, length, map, min, slice_index_or, slice_set, take}
 use Rattle.decimal_rank.specs.Places.{place_in}
 use Rattle.decimal_rank.specs.declared.naming.DocId.{DocId}
 use Rattle.measures.specs.Cells.{cutoffs}
@@ -36,6 +36,26 @@ is_lower_mark Unjudged = false
 abbrev pub IsAt : Option ℕ → Bool → List Bool → Type 0
 IsAt None b on = Unit {0}
 IsAt (Some place) b on = (1 ≤ place) × (place ≤ length on) × (slice_index_or on (place - 1) false ≡ b)
+
+-- a place of the list has this mark
+pub record HasMark (place : Option ℕ) (mark : Mark) (places : Places) : Type 0 where
+  pub relevant : IsAt place (is_relevant_mark mark) places.relevant
+  pub lower : IsAt place (is_lower_mark mark) places.lower
+
+-- the places where one is relevant, or isn't
+abbrev pub with_relevant : ℕ → Bool → Places → Places
+with_relevant place on places = record { relevant = slice_set places.relevant (place - 1) on; lower = places.lower }
+
+-- the places where one is judged lower, or isn't
+abbrev pub with_lower : ℕ → Bool → Places → Places
+with_lower place on places = record { relevant = places.relevant; lower = slice_set places.lower (place - 1) on }
+
+-- a cap that moves by one at most, and stays small
+pub record AreNear (from to : ℕ) : Type 0 where
+  pub up : to ≤ from + 1
+  pub down : from ≤ to + 1
+  pub few : from ≤ 268435456
+  pub still_few : to ≤ 268435456
 
 -- a document has these marks in a list, and its topic's cap moves by one at most
 pub record CanRemark (doc : DocId) (relevant lower : Bool) (rel low : ℕ) (list : ScoreList) : Type 0 where

@@ -26,6 +26,16 @@ pub record Scores : Type 0 where
   pub topics : List TopicScores
   pub rooms : List ℕ
 
+-- a board keeps its level, its topics and their lists: only its room changes
+pub record KeepsScores (old new : Scores) : Type 0 where
+  pub level : new.level ≡ old.level
+  pub topics : new.topics ≡ old.topics
+
+-- a board keeps its level, and how many topics it has
+pub record KeepsShape (old new : Scores) : Type 0 where
+  pub level : new.level ≡ old.level
+  pub topics : length new.topics ≡ length old.topics
+
 -- whether a list is a run's
 abbrev pub is_of : RunId → ScoreList → Bool
 is_of run list = list.run.0 == run.0

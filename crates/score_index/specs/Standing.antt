@@ -1,11 +1,11 @@
 -- The grades of its topics that a board stands for, and what it tells of them.
-use Rattle.std.specs.Prelude.{◌≡◌, ℕ, ◌+◌, Bool, List, [], Option, All, count_by, filter, map, nat_lt, slice_index_or, unwrap_or, zip}
+use Rattle.std.specs.Prelude.{◌≡◌, ℕ, ◌+◌, ◌-◌, ◌≤◌, Bool, List, [], Option, All, count_by, filter, map, nat_lt, slice_index_or, unwrap_or, zip}
 use Rattle.std.specs.List.{AllZip}
 use Rattle.decimal_rank.specs.declared.naming.DocId.{DocId}
 use Rattle.depth_pool.specs.declared.runs.RunId.{RunId}
 use Rattle.measures.specs.Cells.{cell_of}
 use Rattle.measures.specs.declared.cells.Cell.{Cell}
-use Rattle.qrels_view.specs.Grades.{effective_in, is_non_relevant, is_relevant}
+use Rattle.qrels_view.specs.Grades.{as_number, effective_in, is_non_relevant, is_relevant}
 use Rattle.qrels_view.specs.declared.grades.Graded.{Graded}
 use Rattle.score_index.specs.Scores.{ScoreList, Scores, TopicScores, docs_in}
 
@@ -45,6 +45,11 @@ pub record StandsWith (level : ℕ) (topic : TopicScores) (doc : DocId) (grade :
   pub graded : List Graded
   pub stands : TopicStandsFor level topic graded
   pub grade_is : effective_in graded doc ≡ grade
+
+-- a topic still has few documents that are relevant, and few that are judged lower, where a document's grade `old` becomes `new`
+pub record StaysSmall (level : ℕ) (topic : TopicScores) (old new : Option ℕ) : Type 0 where
+  pub relevant : topic.relevant + as_number (is_relevant level new) - as_number (is_relevant level old) ≤ 268435456
+  pub non_relevant : topic.non_relevant + as_number (is_non_relevant level new) - as_number (is_non_relevant level old) ≤ 268435456
 
 -- the cell of a list on a topic with these grades
 abbrev pub cell_from : ℕ → List Graded → List DocId → Cell

@@ -4,10 +4,10 @@ ghost use Rattle.std.specs.Option.{option_copied};
 ghost use Rattle.depth_pool.specs.declared.runs.RunId.{RunId};
 ghost use Rattle.measures.specs.Cells.{IsSound};
 ghost use Rattle.measures.specs.Means.{IsProper, summary_of};
-ghost use Rattle.qrels_view.specs.Grades.{as_number, effective_in, is_non_relevant, is_relevant, with_grade};
+ghost use Rattle.qrels_view.specs.Grades.{effective_in, with_grade};
 ghost use Rattle.qrels_view.specs.declared.grades.Graded.{Graded};
-ghost use Rattle.score_index.specs.Scores.{HasRuns, docs_at, rooms_for, steps_of, topic_at};
-ghost use Rattle.score_index.specs.Standing.{StandsFor, StandsWith, TopicStandsFor, cell_from, cells_of, grades_at, listed_in};
+ghost use Rattle.score_index.specs.Scores.{HasRuns, KeepsScores, KeepsShape, docs_at, rooms_for, steps_of, topic_at};
+ghost use Rattle.score_index.specs.Standing.{StandsFor, StandsWith, StaysSmall, TopicStandsFor, cell_from, cells_of, grades_at, listed_in};
 
 use crate::lists::{RunList, list_of, take_room};
 use crate::topics::{
@@ -69,8 +69,7 @@ impl Board {
     pub fn reserve(&mut self, ranking: &Ranking) -> Result<(), Memory>
         ensures room { OnOk result ((len : ℕ) → rooms_for len self.new ≡ rooms_for len self.old + (if length ranking.now == len then 1 else 0)) }
         ensures no_room { OnErr result (self.new.rooms ≡ self.old.rooms) }
-        ensures level { self.new.level ≡ self.old.level }
-        ensures topics { self.new.topics ≡ self.old.topics }
+        ensures scores { KeepsScores self.old self.new }
     {
         let alloc = *self.rooms.allocator();
         let room = Trees::new(alloc, ranking.len())?;
@@ -85,8 +84,7 @@ impl Board {
     pub fn drop_room(&mut self, ranking: &Ranking)
         requires { 0 < rooms_for (length ranking.now) self.old }
         ensures rooms { (len : ℕ) → rooms_for len self.new ≡ rooms_for len self.old - (if length ranking.now == len then 1 else 0) }
-        ensures level { self.new.level ≡ self.old.level }
-        ensures topics { self.new.topics ≡ self.old.topics }
+        ensures scores { KeepsScores self.old self.new }
     {
         take_room(&mut self.rooms, ranking.len() as usize);
     }
@@ -101,8 +99,7 @@ impl Board {
         ensures stands { (grades : List (List Graded)) → StandsFor self.old grades → StandsFor self.new (slice_set grades topic view.now.graded) }
         ensures lists { (other : RunId) (on : ℕ) → docs_at self.new other on ≡ (if (run.0 == other.0) && (topic == on) then Some ranking else docs_at self.old other on) }
         ensures rooms { (len : ℕ) → rooms_for len self.new ≡ rooms_for len self.old - (if length ranking == len then 1 else 0) }
-        ensures level { self.new.level ≡ self.old.level }
-        ensures topics { length self.new.topics ≡ length self.old.topics }
+        ensures shape { KeepsShape self.old self.new }
     {
         let room = take_room(&mut self.rooms, ranking.len() as usize);
         let topic = &mut self.topics[topic as usize];
@@ -117,8 +114,7 @@ impl Board {
         ensures stands { (grades : List (List Graded)) → StandsFor self.old grades → StandsFor self.new grades }
         ensures lists { (other : RunId) (on : ℕ) → docs_at self.new other on ≡ (if run.0 == other.0 then None else docs_at self.old other on) }
         ensures rooms { self.new.rooms ≡ self.old.rooms }
-        ensures level { self.new.level ≡ self.old.level }
-        ensures topics { length self.new.topics ≡ length self.old.topics }
+        ensures shape { KeepsShape self.old self.new }
     {
         drop_run(&mut self.topics, run);
     }
@@ -135,14 +131,12 @@ impl Board {
     )
         requires topic { topic < length self.old.topics }
         requires grade_now { StandsWith self.old.level (topic_at self.old topic) doc old }
-        requires few { (topic_at self.old topic).relevant + as_number (is_relevant self.old.level new) - as_number (is_relevant self.old.level old) ≤ 268435456 }
-        requires few_others { (topic_at self.old topic).non_relevant + as_number (is_non_relevant self.old.level new) - as_number (is_non_relevant self.old.level old) ≤ 268435456 }
+        requires few { StaysSmall self.old.level (topic_at self.old topic) old new }
         ensures stands { (grades : List (List Graded)) → StandsFor self.old grades → effective_in (grades_at grades topic) doc ≡ old
             → StandsFor self.new (slice_set grades topic (with_grade doc new (grades_at grades topic))) }
         ensures lists { (run : RunId) (on : ℕ) → docs_at self.new run on ≡ docs_at self.old run on }
         ensures rooms { self.new.rooms ≡ self.old.rooms }
-        ensures level { self.new.level ≡ self.old.level }
-        ensures topics { length self.new.topics ≡ length self.old.topics }
+        ensures shape { KeepsShape self.old self.new }
         ensures cost { (runs : List RunId) → HasRuns runs (topic_at self.old topic) → steps.new ≤ steps.old + steps_of runs (topic_at self.old topic) }
     {
         let level = self.level;

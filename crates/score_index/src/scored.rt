@@ -1,10 +1,10 @@
 //! A board of two topics for the tests, together with the grades that it stands for.
 ghost use Rattle.std.specs.Prelude.{◌≡◌, ◌≢◌, ◌+◌, ◌-◌, ◌<◌, ◌≤◌, List, All, length, slice_set};
 ghost use Rattle.std.specs.Bool.{OnFalse};
-ghost use Rattle.qrels_view.specs.Grades.{as_number, effective_in, is_non_relevant, is_relevant, with_grade};
+ghost use Rattle.qrels_view.specs.Grades.{effective_in, with_grade};
 ghost use Rattle.qrels_view.specs.declared.grades.Graded.{Graded};
-ghost use Rattle.score_index.specs.Scores.{topic_at};
-ghost use Rattle.score_index.specs.Standing.{StandsFor, StandsWith, TopicStandsFor, grades_at};
+ghost use Rattle.score_index.specs.Scores.{KeepsScores, KeepsShape, topic_at};
+ghost use Rattle.score_index.specs.Standing.{StandsFor, StandsWith, StaysSmall, TopicStandsFor, grades_at};
 
 use crate::Board;
 use decimal_rank::{DocId, Ranking, Steps};
@@ -101,8 +101,7 @@ impl Scored {
 }
 
 fn reserve_and_drop(board: &mut Board, ranking: &Ranking) -> Result<(), Fail>
-    ensures level { board.new.level ≡ board.old.level }
-    ensures topics { board.new.topics ≡ board.old.topics }
+    ensures { KeepsScores board.old board.new }
 {
     board.reserve(ranking)?;
     board.drop_room(ranking);
@@ -120,8 +119,7 @@ fn add(
     requires topic { topic < length board.old.topics }
     requires grades { TopicStandsFor board.old.level (topic_at board.old topic) view.now.graded }
     ensures stands { (grades : List (List Graded)) → StandsFor board.old grades → grades_at grades topic ≡ view.now.graded → StandsFor board.new grades }
-    ensures level { board.new.level ≡ board.old.level }
-    ensures topics { length board.new.topics ≡ length board.old.topics }
+    ensures shape { KeepsShape board.old board.new }
 {
     if board.ranking(run, topic).is_some() {
         return Ok(false);
@@ -142,8 +140,7 @@ fn regrade(
     requires topic { topic < length board.old.topics }
     requires grades { TopicStandsFor board.old.level (topic_at board.old topic) view.old.graded }
     ensures stands { (grades : List (List Graded)) → StandsFor board.old grades → grades_at grades topic ≡ view.old.graded → StandsFor board.new (slice_set grades topic view.new.graded) }
-    ensures level { board.new.level ≡ board.old.level }
-    ensures topics { length board.new.topics ≡ length board.old.topics }
+    ensures shape { KeepsShape board.old board.new }
 {
     if view.trail().len() >= 1000 {
         return Ok(false);
@@ -168,12 +165,10 @@ fn regrade_counted<L: Ledger>(
     requires some { 0 < L.parts }
     requires topic { topic < length board.old.topics }
     requires grade_now { StandsWith board.old.level (topic_at board.old topic) doc old }
-    requires few { (topic_at board.old topic).relevant + as_number (is_relevant board.old.level new) - as_number (is_relevant board.old.level old) ≤ 268435456 }
-    requires few_others { (topic_at board.old topic).non_relevant + as_number (is_non_relevant board.old.level new) - as_number (is_non_relevant board.old.level old) ≤ 268435456 }
+    requires few { StaysSmall board.old.level (topic_at board.old topic) old new }
     ensures stands { (grades : List (List Graded)) → StandsFor board.old grades → effective_in (grades_at grades topic) doc ≡ old
         → StandsFor board.new (slice_set grades topic (with_grade doc new (grades_at grades topic))) }
-    ensures level { board.new.level ≡ board.old.level }
-    ensures topics { length board.new.topics ≡ length board.old.topics }
+    ensures shape { KeepsShape board.old board.new }
 {
     let mut steps = Steps::<L>::new(blank);
     board.regrade(topic, doc, old, new, &mut steps);

@@ -1,12 +1,13 @@
 //! The sums of a list, from which its cell is taken. They follow each place that becomes relevant or
 //! judged lower, or no longer is, and the cap of the topic, which moves by one at a time.
-ghost use Rattle.std.specs.Prelude.{◌≡◌, ℕ, ◌+◌, ◌-◌, ◌*◌, ◌<◌, ◌≤◌, false, true, if◌then◌else◌, length, map, min, nat_le, nat_eq, slice_index, slice_index_or, slice_set};
+ghost use Rattle.std.specs.Prelude.{◌≡◌, ℕ, ◌+◌, ◌-◌, ◌*◌, ◌<◌, ◌≤◌, ◌&&◌, Some, false, true, if◌then◌else◌, length, map, min, nat_le, nat_eq, not, slice_index, slice_set};
 ghost use Rattle.decimal_rank.specs.Places.{levels};
 ghost use Rattle.measures.specs.Cells.{bpref_den as bpref_den_of, cutoffs};
 ghost use Rattle.qrels_view.specs.Grades.{as_number};
-ghost use Rattle.score_index.specs.KeptSums.{AreSums, IsAt, is_lower_mark, is_relevant_mark};
+ghost use Rattle.score_index.specs.KeptSums.{AreNear, AreSums, HasMark, IsAt, is_lower_mark, is_relevant_mark, with_lower, with_relevant};
 ghost use Rattle.score_index.specs.Kept.{IsRoom, put_at};
-ghost use Rattle.score_index.specs.Places.{Places, bpref_from, cell_by};
+ghost use Rattle.score_index.specs.Places.{Places, cell_by};
+ghost use Rattle.score_index.specs.declared.marks.Mark.TheVariants.{Unjudged};
 
 use crate::marks::Mark;
 use crate::trees::Trees;
@@ -36,90 +37,62 @@ pub(crate) fn no_sums() -> Sums
     }
 }
 
-// The sums after a place, which was not judged, becomes relevant.
-fn with_relevant<L: Ledger>(
+// The sums after a place becomes relevant, or no longer is; in the trees it isn't.
+fn moved_relevant<L: Ledger>(
     trees: &Trees,
     sums: Sums,
     place: u32,
+    on: bool,
     cap: u32,
     steps: &mut Steps<L>,
 ) -> Sums
-    requires from_one { 1 ≤ place }
-    requires within { place ≤ length trees.now.relevant }
-    requires off { slice_index_or trees.now.relevant (place - 1) false ≡ false }
+    requires off { IsAt (Some place) false trees.now.relevant }
     requires few { cap ≤ 268435456 }
-    requires sums { AreSums cap trees.now sums }
-    ensures sums { AreSums cap (record { relevant = slice_set trees.now.relevant (place - 1) true; lower = trees.now.lower }) result }
+    requires sums { AreSums cap (with_relevant place (not on) trees.now) sums }
+    ensures sums { AreSums cap (with_relevant place on trees.now) result }
     ensures cost { steps.new ≤ steps.old + 3 * (levels (length trees.now.relevant) + 1) }
 {
-    Sums {
-        rel_ret: sums.rel_ret + 1,
-        at: counted_from(sums.at, place),
-        ap_sum: sums.ap_sum + trees.precision_gain(place, steps),
-        preferences: sums.preferences + trees.left_above(place, cap, steps),
+    let gain = trees.precision_gain(place, steps);
+    let left = trees.left_above(place, cap, steps);
+    let at = moved_counts(sums.at, place, on);
+    if on {
+        return Sums {
+            rel_ret: sums.rel_ret + 1,
+            at,
+            ap_sum: sums.ap_sum + gain,
+            preferences: sums.preferences + left,
+        };
     }
-}
-
-// The sums after a place, which is no longer relevant, was so.
-fn without_relevant<L: Ledger>(
-    trees: &Trees,
-    sums: Sums,
-    place: u32,
-    cap: u32,
-    steps: &mut Steps<L>,
-) -> Sums
-    requires from_one { 1 ≤ place }
-    requires within { place ≤ length trees.now.relevant }
-    requires off { slice_index_or trees.now.relevant (place - 1) false ≡ false }
-    requires sums { AreSums cap (record { relevant = slice_set trees.now.relevant (place - 1) true; lower = trees.now.lower }) sums }
-    ensures sums { AreSums cap trees.now result }
-    ensures cost { steps.new ≤ steps.old + 3 * (levels (length trees.now.relevant) + 1) }
-{
     Sums {
         rel_ret: sums.rel_ret - 1,
-        at: uncounted_from(sums.at, place),
-        ap_sum: sums.ap_sum - trees.precision_gain(place, steps),
-        preferences: sums.preferences - trees.left_above(place, cap, steps),
+        at,
+        ap_sum: sums.ap_sum - gain,
+        preferences: sums.preferences - left,
     }
 }
 
-// The sum of what is left of the cap before a place became judged lower, as it is now.
-fn without_lower<L: Ledger>(
+// The sums after a place becomes judged lower, or no longer is; in the trees it is.
+fn moved_lower<L: Ledger>(
     trees: &Trees,
     sums: Sums,
     place: u32,
+    on: bool,
     cap: u32,
     steps: &mut Steps<L>,
 ) -> Sums
-    requires from_one { 1 ≤ place }
-    requires within { place ≤ length trees.now.relevant }
-    requires on { slice_index_or trees.now.lower (place - 1) false ≡ true }
+    requires on { IsAt (Some place) true trees.now.lower }
     requires few { cap ≤ 268435456 }
-    requires sums { AreSums cap trees.now sums }
-    ensures sums { AreSums cap (record { relevant = trees.now.relevant; lower = slice_set trees.now.lower (place - 1) false }) result }
+    requires sums { AreSums cap (with_lower place (not on) trees.now) sums }
+    ensures sums { AreSums cap (with_lower place on trees.now) result }
     ensures cost { steps.new ≤ steps.old + 3 * (levels (length trees.now.relevant) + 1) }
 {
-    let preferences = sums.preferences + trees.reached_past(place, cap, steps);
-    with_preferences(sums, preferences)
-}
-
-// The sums after a place became judged lower, as it is now.
-fn with_lower<L: Ledger>(
-    trees: &Trees,
-    sums: Sums,
-    place: u32,
-    cap: u32,
-    steps: &mut Steps<L>,
-) -> Sums
-    requires from_one { 1 ≤ place }
-    requires within { place ≤ length trees.now.relevant }
-    requires on { slice_index_or trees.now.lower (place - 1) false ≡ true }
-    requires sums { AreSums cap (record { relevant = trees.now.relevant; lower = slice_set trees.now.lower (place - 1) false }) sums }
-    ensures sums { AreSums cap trees.now result }
-    ensures cost { steps.new ≤ steps.old + 3 * (levels (length trees.now.relevant) + 1) }
-{
-    let preferences = sums.preferences - trees.reached_past(place, cap, steps);
-    with_preferences(sums, preferences)
+    // trees tell with their length that they are as long as one another
+    let _ = trees.len();
+    let past = trees.reached_past(place, cap, steps);
+    if on {
+        return with_preferences(sums, sums.preferences - past);
+    }
+    with_preferences(sums, sums.preferences + past)
 }
 
 // The sums after the cap moved, by one at most.
@@ -130,9 +103,7 @@ pub(crate) fn with_cap<L: Ledger>(
     to: u32,
     steps: &mut Steps<L>,
 ) -> Sums
-    requires up { to ≤ from + 1 }
-    requires down { from ≤ to + 1 }
-    requires few { to ≤ 268435456 }
+    requires caps { AreNear from to }
     requires sums { AreSums from trees.now sums }
     ensures sums { AreSums to trees.now result }
     ensures cost { steps.new ≤ steps.old + 2 * (levels (length trees.now.relevant) + 1) }
@@ -156,51 +127,33 @@ fn with_preferences(sums: Sums, preferences: u64) -> Sums
     moved
 }
 
-// A count within a cutoff, with one more where a place is within it.
-fn counted(count: u32, place: u32, cutoff: u32) -> u32
+// A count within a cutoff after a place is counted, or no longer is, where it is within it.
+fn moved_count(count: u32, place: u32, cutoff: u32, on: bool) -> u32
     requires { count ≤ 1000 }
-    ensures { result ≡ count + as_number (nat_le place cutoff) }
+    ensures { result ≡ (if on then count + as_number (nat_le place cutoff) else count - as_number (nat_le place cutoff)) }
 {
-    count + u32::from(place <= cutoff)
+    let here = u32::from(place <= cutoff);
+    if on {
+        return count + here;
+    }
+    count.saturating_sub(here)
 }
 
-fn counted_from(at: [u32; 9], place: u32) -> [u32; 9]
+// The counts within all cutoffs after that.
+fn moved_counts(at: [u32; 9], place: u32, on: bool) -> [u32; 9]
     requires { (i : ℕ) → i < 9 → slice_index at i ≤ 1000 }
-    ensures { (counts : ℕ → ℕ) → at ≡ map counts cutoffs → result ≡ map (λ k. counts k + as_number (nat_le place k)) cutoffs }
+    ensures { (counts : ℕ → ℕ) → at ≡ map (λ k. counts k + as_number (not on && nat_le place k)) cutoffs → result ≡ map (λ k. counts k + as_number (on && nat_le place k)) cutoffs }
 {
     [
-        counted(at[0], place, CUTOFFS[0]),
-        counted(at[1], place, CUTOFFS[1]),
-        counted(at[2], place, CUTOFFS[2]),
-        counted(at[3], place, CUTOFFS[3]),
-        counted(at[4], place, CUTOFFS[4]),
-        counted(at[5], place, CUTOFFS[5]),
-        counted(at[6], place, CUTOFFS[6]),
-        counted(at[7], place, CUTOFFS[7]),
-        counted(at[8], place, CUTOFFS[8]),
-    ]
-}
-
-// A count within a cutoff, with one less where a place is within it.
-fn uncounted(count: u32, place: u32, cutoff: u32) -> u32
-    ensures { result ≡ count - as_number (nat_le place cutoff) }
-{
-    count.saturating_sub(u32::from(place <= cutoff))
-}
-
-fn uncounted_from(at: [u32; 9], place: u32) -> [u32; 9]
-    ensures { (counts : ℕ → ℕ) → at ≡ map (λ k. counts k + as_number (nat_le place k)) cutoffs → result ≡ map counts cutoffs }
-{
-    [
-        uncounted(at[0], place, CUTOFFS[0]),
-        uncounted(at[1], place, CUTOFFS[1]),
-        uncounted(at[2], place, CUTOFFS[2]),
-        uncounted(at[3], place, CUTOFFS[3]),
-        uncounted(at[4], place, CUTOFFS[4]),
-        uncounted(at[5], place, CUTOFFS[5]),
-        uncounted(at[6], place, CUTOFFS[6]),
-        uncounted(at[7], place, CUTOFFS[7]),
-        uncounted(at[8], place, CUTOFFS[8]),
+        moved_count(at[0], place, CUTOFFS[0], on),
+        moved_count(at[1], place, CUTOFFS[1], on),
+        moved_count(at[2], place, CUTOFFS[2], on),
+        moved_count(at[3], place, CUTOFFS[3], on),
+        moved_count(at[4], place, CUTOFFS[4], on),
+        moved_count(at[5], place, CUTOFFS[5], on),
+        moved_count(at[6], place, CUTOFFS[6], on),
+        moved_count(at[7], place, CUTOFFS[7], on),
+        moved_count(at[8], place, CUTOFFS[8], on),
     ]
 }
 
@@ -213,10 +166,7 @@ pub(crate) fn take_mark<L: Ledger>(
     cap: u32,
     steps: &mut Steps<L>,
 ) -> Sums
-    requires from_one { 1 ≤ place }
-    requires within { place ≤ length trees.old.relevant }
-    requires relevant { slice_index_or trees.old.relevant (place - 1) false ≡ is_relevant_mark mark }
-    requires lower { slice_index_or trees.old.lower (place - 1) false ≡ is_lower_mark mark }
+    requires mark { HasMark (Some place) mark trees.old }
     requires few { cap ≤ 268435456 }
     requires sums { AreSums cap trees.old sums }
     ensures relevant { trees.new.relevant ≡ slice_set trees.old.relevant (place - 1) false }
@@ -227,10 +177,10 @@ pub(crate) fn take_mark<L: Ledger>(
     match mark {
         Mark::Relevant => {
             trees.set_relevant(place, false, steps);
-            without_relevant(trees, sums, place, cap, steps)
+            moved_relevant(trees, sums, place, false, cap, steps)
         }
         Mark::Lower => {
-            let taken = without_lower(trees, sums, place, cap, steps);
+            let taken = moved_lower(trees, sums, place, false, cap, steps);
             trees.set_lower(place, false, steps);
             taken
         }
@@ -247,10 +197,7 @@ pub(crate) fn put_mark<L: Ledger>(
     cap: u32,
     steps: &mut Steps<L>,
 ) -> Sums
-    requires from_one { 1 ≤ place }
-    requires within { place ≤ length trees.old.relevant }
-    requires not_relevant { slice_index_or trees.old.relevant (place - 1) false ≡ false }
-    requires not_lower { slice_index_or trees.old.lower (place - 1) false ≡ false }
+    requires unjudged { HasMark (Some place) Unjudged trees.old }
     requires few { cap ≤ 268435456 }
     requires sums { AreSums cap trees.old sums }
     ensures relevant { trees.new.relevant ≡ slice_set trees.old.relevant (place - 1) (is_relevant_mark mark) }
@@ -260,13 +207,13 @@ pub(crate) fn put_mark<L: Ledger>(
 {
     match mark {
         Mark::Relevant => {
-            let put = with_relevant(trees, sums, place, cap, steps);
+            let put = moved_relevant(trees, sums, place, true, cap, steps);
             trees.set_relevant(place, true, steps);
             put
         }
         Mark::Lower => {
             trees.set_lower(place, true, steps);
-            with_lower(trees, sums, place, cap, steps)
+            moved_lower(trees, sums, place, true, cap, steps)
         }
         Mark::Unjudged => sums,
     }
@@ -282,8 +229,7 @@ fn change_mark<L: Ledger>(
     cap: u32,
     steps: &mut Steps<L>,
 ) -> Sums
-    requires relevant { IsAt place (is_relevant_mark old) trees.old.relevant }
-    requires lower { IsAt place (is_lower_mark old) trees.old.lower }
+    requires mark { HasMark place old trees.old }
     requires few { cap ≤ 268435456 }
     requires sums { AreSums cap trees.old sums }
     ensures relevant { trees.new.relevant ≡ put_at place (is_relevant_mark new) trees.old.relevant }
@@ -311,12 +257,8 @@ pub(crate) fn remark<L: Ledger>(
     caps: (u32, u32),
     steps: &mut Steps<L>,
 ) -> Sums
-    requires relevant { IsAt place (is_relevant_mark old) trees.old.relevant }
-    requires lower { IsAt place (is_lower_mark old) trees.old.lower }
-    requires up { caps.1 ≤ caps.0 + 1 }
-    requires down { caps.0 ≤ caps.1 + 1 }
-    requires few { caps.0 ≤ 268435456 }
-    requires still_few { caps.1 ≤ 268435456 }
+    requires mark { HasMark place old trees.old }
+    requires caps { AreNear caps.0 caps.1 }
     requires sums { AreSums caps.0 trees.old sums }
     ensures relevant { trees.new.relevant ≡ put_at place (is_relevant_mark new) trees.old.relevant }
     ensures lower { trees.new.lower ≡ put_at place (is_lower_mark new) trees.old.lower }

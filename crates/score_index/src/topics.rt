@@ -4,9 +4,10 @@ ghost use Rattle.measures.specs.Cells.{IsSound};
 ghost use Rattle.measures.specs.Totals.{sums_of};
 ghost use Rattle.measures.specs.declared.cells.Cell.{Cell as OneCell};
 ghost use Rattle.qrels_view.specs.Grades.{as_number, is_non_relevant, is_relevant};
-ghost use Rattle.score_index.specs.Kept.{HasEmptyCell, IsTopicKept, has_grades, kept_cell, seen, spare, with_list, with_regrade, without_lists};
+ghost use Rattle.score_index.specs.Kept.{HasEmptyCell, IsCounted, IsTopicKept, KeepsPlaces, has_grades, kept_cell, seen, spare, with_list, with_regrade, without_lists};
 ghost use Rattle.score_index.specs.KeptSums.{CanRemark};
 ghost use Rattle.score_index.specs.Scores.{list_steps, new_topic};
+ghost use Rattle.score_index.specs.Standing.{StaysSmall};
 
 use crate::lists::{RunList, drop_lists, list_of, regrade_lists};
 use crate::marks::mark_of;
@@ -48,9 +49,8 @@ pub(crate) fn new_topics(alloc: Global, count: u16, level: u8) -> Result<Vec<Top
 // Makes room for so many more lists on each topic.
 pub(crate) fn reserve_lists(topics: &mut [Topic], count: usize) -> Result<(), Memory>
     ensures seen { map seen topics.new ≡ map seen topics.old }
-    ensures empties { (level : ℕ) → All (HasEmptyCell level) topics.old → All (HasEmptyCell level) topics.new }
     ensures room { OnOk result (All (λ topic. count ≤ spare topic) topics.new) }
-    ensures places { (least : ℕ) → All (λ topic. least ≤ spare topic) topics.old → All (λ topic. least ≤ spare topic) topics.new }
+    ensures kept { KeepsPlaces topics.old topics.new }
 {
     for topic in topics.iter_mut() {
         topic.lists.reserve(count)?;
@@ -71,8 +71,7 @@ pub(crate) fn add_list(topic: &mut Topic, list: RunList)
 // Takes the lists of a run out.
 pub(crate) fn drop_run(topics: &mut [Topic], run: RunId)
     ensures seen { map seen topics.new ≡ map (without_lists run) (map seen topics.old) }
-    ensures empties { (level : ℕ) → All (HasEmptyCell level) topics.old → All (HasEmptyCell level) topics.new }
-    ensures places { (least : ℕ) → All (λ topic. least ≤ spare topic) topics.old → All (λ topic. least ≤ spare topic) topics.new }
+    ensures kept { KeepsPlaces topics.old topics.new }
 {
     for topic in topics.iter_mut() {
         drop_lists(&mut topic.lists, run);
@@ -97,10 +96,8 @@ pub(crate) fn regrade<L: Ledger>(
     new: Option<u8>,
     steps: &mut Steps<L>,
 )
-    requires relevant { as_number (is_relevant level old) ≤ topic.old.relevant }
-    requires non_relevant { as_number (is_non_relevant level old) ≤ topic.old.non_relevant }
-    requires few { (with_regrade level doc old new (seen topic.old)).relevant ≤ 268435456 }
-    requires few_others { (with_regrade level doc old new (seen topic.old)).non_relevant ≤ 268435456 }
+    requires counted { IsCounted level old (seen topic.old) }
+    requires few { StaysSmall level (seen topic.old) old new }
     requires lists { All (CanRemark doc (is_relevant level old) (is_non_relevant level old)
         (with_regrade level doc old new (seen topic.old)).relevant (with_regrade level doc old new (seen topic.old)).non_relevant) topic.old.lists.items }
     ensures seen { seen topic.new ≡ with_regrade level doc old new (seen topic.old) }

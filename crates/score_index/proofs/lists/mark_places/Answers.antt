@@ -2,7 +2,7 @@ use Rattle.std.proofs.Common.{◌≡◌, ◌∙◌, ◌+◌, ◌-◌, ◌<◌, a
 use Rattle.std.proofs.lemmas.Option.{get_or_from_slice_get}
 use Rattle.decimal_rank.specs.declared.naming.DocId.{DocId}
 use Rattle.qrels_view.specs.Grades.{effective_in, is_non_relevant, is_relevant}
-use Rattle.score_index.proofs.Marking.{all_marked, none_marked, one_marked}
+use Rattle.score_index.proofs.Regrading.Marking.{all_marked, none_marked, one_marked}
 use Rattle.score_index.proofs.lists.mark_places.Goals as goal
 
 pub loop-place-init : goal.loop-place-init

@@ -5,7 +5,7 @@ use Rattle.std.proofs.lemmas.List.Sums.{sum_by_more}
 use Rattle.score_index.specs.Kept.{remarked}
 use Rattle.score_index.specs.KeptSums.{CanRemark, is_lower_mark, is_relevant_mark}
 use Rattle.score_index.specs.Scores.{ScoreList, list_steps}
-use Rattle.score_index.proofs.Listing.{all_mapped, none_mapped, one_more_mapped}
+use Rattle.score_index.proofs.Keeping.Listing.{all_mapped, none_mapped, one_more_mapped}
 use Rattle.score_index.proofs.lists.regrade_lists.Goals as goal
 
 pub regrade-requires-clause-can : goal.regrade-requires-clause-can

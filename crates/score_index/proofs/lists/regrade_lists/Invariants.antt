@@ -4,7 +4,7 @@ use Rattle.std.specs.Prelude.{sum_by}
 use Rattle.score_index.specs.Kept.{remarked}
 use Rattle.score_index.specs.KeptSums.{is_lower_mark, is_relevant_mark}
 use Rattle.score_index.specs.Scores.{ScoreList, list_steps}
-use Rattle.score_index.proofs.Listing.{IsMapped}
+use Rattle.score_index.proofs.Keeping.Listing.{IsMapped}
 use Rattle.score_index.proofs.lists.regrade_lists.Given as goal
 
 abbrev pub invariant-loop-list : goal.invariant-loop-list

@@ -7,7 +7,7 @@ use Rattle.std.specs.Prelude.{All, IsSome, position}
 use Rattle.std.proofs.lemmas.List.Elements.{All-append, All-drop, All-take}
 use Rattle.score_index.specs.Kept.{IsRoom}
 use Rattle.score_index.specs.Places.{Places}
-use Rattle.score_index.proofs.Rooms.{room_found, room_taken, room_there}
+use Rattle.score_index.proofs.Keeping.Rooms.{room_found, room_taken, room_there}
 use Rattle.score_index.proofs.lists.take_room.Goals as goal
 
 abbrev size : Places → ℕ

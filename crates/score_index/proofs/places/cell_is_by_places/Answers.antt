@@ -1,4 +1,4 @@
-use Rattle.score_index.proofs.ByPlaces.{by-places}
+use Rattle.score_index.proofs.Cells.ByPlaces.{by-places}
 use Rattle.score_index.proofs.places.cell_is_by_places.Goals as goal
 
 pub returns : goal.returns

@@ -1,7 +1,7 @@
 use Rattle.std.proofs.Common.{◌∙◌, ℕ, ap, min, nat_eq}
 use Rattle.std.specs.Prelude.{if◌then◌else◌}
 use Rattle.rank_trees.specs.Marks.{count_on}
-use Rattle.score_index.proofs.Moving.{same_cell}
+use Rattle.score_index.proofs.Cells.Moving.{same_cell}
 use Rattle.score_index.proofs.sums.cell_from.Goals as goal
 
 pub returns-clause-cell : goal.returns-clause-cell

@@ -1,5 +1,5 @@
 use Rattle.std.proofs.Common.{refl}
-use Rattle.score_index.proofs.KeptCells.{no-sums}
+use Rattle.score_index.proofs.Cells.KeptCells.{no-sums}
 use Rattle.score_index.proofs.sums.no_sums.Goals as goal
 
 pub returns : goal.returns

@@ -4,9 +4,9 @@ use Rattle.measures.specs.Cells.{IsSound}
 use Rattle.rank_trees.specs.Marks.{count_on}
 use Rattle.score_index.specs.Kept.{IsListKept, seen}
 use Rattle.score_index.specs.Scores.{ScoreList, is_of}
-use Rattle.score_index.proofs.ByPlaces.{by-places}
-use Rattle.score_index.proofs.KeptCells.{cell-sound, empty-cell, found-cell}
-use Rattle.score_index.proofs.Standings.{found_all}
+use Rattle.score_index.proofs.Cells.ByPlaces.{by-places}
+use Rattle.score_index.proofs.Cells.KeptCells.{cell-sound, empty-cell, found-cell}
+use Rattle.score_index.proofs.Regrading.Standings.{found_all}
 use Rattle.score_index.proofs.topics.cell_in.Goals as goal
 
 pub returns-in-Some-clause-cell : goal.returns-in-Some-clause-cell

@@ -1,63 +1,51 @@
-use Rattle.std.proofs.Common.{◌≡◌, ◌≢◌, ◌<◌, ◌≤◌, ◌∙◌, ℕ, List, ap, arith, below_more, get_or, get_or-set_other, get_or-set_same, length, set}
-use Rattle.std.proofs.lemmas.List.Elements.{All-set}
-use Rattle.score_index.specs.Kept.{HasEmptyCell, seen, spare}
+use Rattle.std.proofs.Common.{◌≡◌, ◌≢◌, ◌<◌, ◌≤◌, ◌∙◌, ℕ, List, ap, arith, below_more, get_or, get_or-set_other, get_or-set_same, length, map, set}
+use Rattle.score_index.specs.Kept.{KeepsPlaces, seen, spare}
 use Rattle.score_index.specs.Scores.{ScoreList, TopicScores}
 use Rattle.score_index.specs.declared.topics.Topic.{Topic}
-use Rattle.score_index.proofs.Listing.{map-set_same}
+use Rattle.score_index.proofs.Keeping.Boards.{places_set}
+use Rattle.score_index.proofs.Keeping.Listing.{map-set_same}
+use Rattle.score_index.proofs.topics.reserve_lists.Goals.{After-reserve}
 use Rattle.score_index.proofs.topics.reserve_lists.Goals as goal
+
+abbrev item : After-reserve → Topic
+item c = get_or c.loop-topic.topics c.loop-topic.topic-index c.topic-item.result
+
+-- the topic with its room
+abbrev roomy : After-reserve → Topic
+roomy c = record (item c) { lists = c.reserve.new.self }
+
+within : (c : After-reserve) → c.loop-topic.topic-index < length c.loop-topic.topics
+within c = omega (arith, c.loop-topic-test.true, c.loop-topic.auto.topics)
+
+seen_are : (c : After-reserve) → map seen (set c.loop-topic.topics c.loop-topic.topic-index (roomy c)) ≡ map seen c.args.topics.now
+seen_are c =
+    let with_lists : List ScoreList → TopicScores = λ lists. record (seen (item c)) { lists = lists } in
+    let are : seen (roomy c) ≡ seen (item c) = ap with_lists c.reserve.ensures.items in
+    map-set_same seen c.loop-topic.topics c.loop-topic.topic-index (roomy c) c.topic-item.result (within c) are ∙ c.loop-topic.invariant.seen_are
+
+kept : (c : After-reserve) → KeepsPlaces c.args.topics.now (set c.loop-topic.topics c.loop-topic.topic-index (roomy c))
+kept c = places_set c.topic-item.result (roomy c) c.loop-topic.invariant.kept (within c) (λ level held. held) (omega (arith, c.reserve.ensures.len, c.reserve.ensures.capacity))
 
 pub loop-topic-preserved : goal.loop-topic-preserved
 loop-topic-preserved c =
+    let all = (goal.at.loop-topic-preserved c).After-reserve in
     let topics = c.loop-topic.topics in
     let i = c.loop-topic.topic-index in
-    let item : Topic = get_or topics i c.topic-item.result in
-    let new : Topic = record { relevant = item.relevant; non_relevant = item.non_relevant; empty = item.empty; lists = c.reserve.new.self } in
-    let within : i < length topics = omega (arith, c.loop-topic-test.true, c.loop-topic.auto.topics) in
-    let with_lists : List ScoreList → TopicScores = λ lists. record { relevant = item.relevant; non_relevant = item.non_relevant; lists = lists } in
-    let are : seen new ≡ seen item = ap with_lists c.in_ok-reserve.ensures.items in
-    let Room : ℕ → Type 0 = λ k. (d : Topic) → c.args.count ≤ spare (get_or (set topics i new) k d) in
-    let here : c.args.count ≤ spare new = omega (arith, c.in_ok-reserve.ensures.ok) in
+    let Room : ℕ → Type 0 = λ k. (d : Topic) → c.args.count ≤ spare (get_or (set topics i (roomy all)) k d) in
+    let inside : i < length topics = within all in
+    let here : c.args.count ≤ spare (roomy all) = omega (arith, c.in_ok-reserve.ensures.ok) in
     record {
-      seen_are = map-set_same seen topics i new c.topic-item.result within are ∙ c.loop-topic.invariant.seen_are;
+      seen_are = seen_are all;
       room = λ k d below.
           below_more Room i
           (λ k h d. let other : k ≢ i = omega (arith, h) in rw get_or-set_other (c.loop-topic.invariant.room k d h))
           (λ d. rw get_or-set_same here)
           k below d;
-      empties = λ level all. All-set (HasEmptyCell level) topics i new (c.loop-topic.invariant.empties level all i c.topic-item.result within) (c.loop-topic.invariant.empties level all);
-      places = λ least all.
-          let most : least ≤ spare item = c.loop-topic.invariant.places least all i c.topic-item.result within in
-          let room : least ≤ spare new = omega (arith, most, c.in_ok-reserve.ensures.len, c.in_ok-reserve.ensures.capacity) in
-          All-set (λ (topic : Topic). least ≤ spare topic) topics i new room (c.loop-topic.invariant.places least all);
+      kept = kept all;
     }
 
 pub returns-in_err-reserve-clause-seen : goal.returns-in_err-reserve-clause-seen
-returns-in_err-reserve-clause-seen c =
-    let topics = c.loop-topic.topics in
-    let i = c.loop-topic.topic-index in
-    let item : Topic = get_or topics i c.topic-item.result in
-    let new : Topic = record { relevant = item.relevant; non_relevant = item.non_relevant; empty = item.empty; lists = c.reserve.new.self } in
-    let within : i < length topics = omega (arith, c.loop-topic-test.true, c.loop-topic.auto.topics) in
-    let with_lists : List ScoreList → TopicScores = λ lists. record { relevant = item.relevant; non_relevant = item.non_relevant; lists = lists } in
-    let are : seen new ≡ seen item = ap with_lists c.reserve.ensures.items in
-    map-set_same seen topics i new c.topic-item.result within are ∙ c.loop-topic.invariant.seen_are
+returns-in_err-reserve-clause-seen c = seen_are (goal.at.returns-in_err-reserve-clause-seen c).After-reserve
 
-pub returns-in_err-reserve-clause-places : goal.returns-in_err-reserve-clause-places
-returns-in_err-reserve-clause-places c = λ least all.
-    let topics = c.loop-topic.topics in
-    let i = c.loop-topic.topic-index in
-    let item : Topic = get_or topics i c.topic-item.result in
-    let new : Topic = record { relevant = item.relevant; non_relevant = item.non_relevant; empty = item.empty; lists = c.reserve.new.self } in
-    let within : i < length topics = omega (arith, c.loop-topic-test.true, c.loop-topic.auto.topics) in
-    let most : least ≤ spare item = c.loop-topic.invariant.places least all i c.topic-item.result within in
-    let room : least ≤ spare new = omega (arith, most, c.reserve.ensures.len, c.reserve.ensures.capacity) in
-    All-set (λ (topic : Topic). least ≤ spare topic) topics i new room (c.loop-topic.invariant.places least all)
-
-pub returns-in_err-reserve-clause-empties : goal.returns-in_err-reserve-clause-empties
-returns-in_err-reserve-clause-empties c = λ level all.
-    let topics = c.loop-topic.topics in
-    let i = c.loop-topic.topic-index in
-    let item : Topic = get_or topics i c.topic-item.result in
-    let new : Topic = record { relevant = item.relevant; non_relevant = item.non_relevant; empty = item.empty; lists = c.reserve.new.self } in
-    let within : i < length topics = omega (arith, c.loop-topic-test.true, c.loop-topic.auto.topics) in
-    All-set (HasEmptyCell level) topics i new (c.loop-topic.invariant.empties level all i c.topic-item.result within) (c.loop-topic.invariant.empties level all)
+pub returns-in_err-reserve-clause-kept : goal.returns-in_err-reserve-clause-kept
+returns-in_err-reserve-clause-kept c = kept (goal.at.returns-in_err-reserve-clause-kept c).After-reserve

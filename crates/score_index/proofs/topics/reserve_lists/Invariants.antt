@@ -1,7 +1,6 @@
 -- The topics so far have room for the lists, and all are seen as before.
 use Rattle.std.proofs.Common.{◌≡◌, ◌<◌, ◌≤◌, ℕ, get_or, map}
-use Rattle.std.specs.Prelude.{All}
-use Rattle.score_index.specs.Kept.{HasEmptyCell, seen, spare}
+use Rattle.score_index.specs.Kept.{KeepsPlaces, seen, spare}
 use Rattle.score_index.specs.declared.topics.Topic.{Topic}
 use Rattle.score_index.proofs.topics.reserve_lists.Given as goal
 
@@ -9,6 +8,5 @@ abbrev pub invariant-loop-topic : goal.invariant-loop-topic
 invariant-loop-topic l = record {
   seen_are : map seen l.topics ≡ map seen l.fn.topics;
   room : (k : ℕ) (d : Topic) → k < l.topic-index → l.count ≤ spare (get_or l.topics k d);
-  empties : (level : ℕ) → All (HasEmptyCell level) l.fn.topics → All (HasEmptyCell level) l.topics;
-  places : (least : ℕ) → All (λ topic. least ≤ spare topic) l.fn.topics → All (λ topic. least ≤ spare topic) l.topics;
+  kept : KeepsPlaces l.fn.topics l.topics;
 }

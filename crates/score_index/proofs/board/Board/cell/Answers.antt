@@ -3,8 +3,8 @@ use Rattle.std.proofs.lemmas.List.{get_or-map, length-map}
 use Rattle.score_index.specs.Kept.{kept_cell, seen}
 use Rattle.score_index.specs.Scores.{Scores, new_topic, topic_at}
 use Rattle.score_index.specs.Standing.{StandsFor, TopicStandsFor, cell_from, grades_at, listed_in}
-use Rattle.score_index.proofs.Listing.{zip_at}
-use Rattle.score_index.proofs.Standings.{cell_is}
+use Rattle.score_index.proofs.Keeping.Listing.{zip_at}
+use Rattle.score_index.proofs.Regrading.Standings.{cell_is}
 use Rattle.score_index.proofs.board.Board.cell.Goals as goal
 
 pub returns-clause-cell : goal.returns-clause-cell

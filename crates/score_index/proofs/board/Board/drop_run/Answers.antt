@@ -7,50 +7,48 @@ use Rattle.score_index.specs.Kept.{HasEmptyCell, IsKept, IsTopicKept, seen, spar
 use Rattle.score_index.specs.Scores.{Scores, TopicScores, docs_at, docs_in, new_topic}
 use Rattle.score_index.specs.Standing.{StandsFor, TopicStandsFor}
 use Rattle.score_index.specs.declared.topics.Topic.{Topic}
-use Rattle.score_index.proofs.Boards.{all_seen, docs_dropped}
-use Rattle.score_index.proofs.Listing.{zip-map}
-use Rattle.score_index.proofs.Standings.{kept-without, stands-without}
+use Rattle.score_index.proofs.Keeping.Boards.{all_seen, docs_dropped}
+use Rattle.score_index.proofs.Keeping.Listing.{zip-map}
+use Rattle.score_index.proofs.Regrading.Standings.{kept-without, stands-without}
+use Rattle.score_index.proofs.board.Board.drop_run.Goals.{After-drop_run}
 use Rattle.score_index.proofs.board.Board.drop_run.Goals as goal
+
+items_are : (c : After-drop_run) → (with_items c.self.inside.topics c.drop_run.new.topics).items ≡ c.drop_run.new.topics
+items_are c = with_items_is c.self.inside.topics c.drop_run.new.topics (omega (arith, c.drop_run.auto.topics, c.deref_mut.ensures.len))
+
+-- what contracts see of the topics
+are : (c : After-drop_run) → map seen c.drop_run.new.topics ≡ map (without_lists c.args.run) (map seen c.self.inside.topics.items)
+are c = c.drop_run.ensures.seen ∙ ap (λ (ts : List Topic). map (without_lists c.args.run) (map seen ts)) c.deref_mut.ensures.value
 
 pub invariant_of-self : goal.invariant_of-self
 invariant_of-self c =
+    let all = (goal.at.invariant_of-self c).After-drop_run in
     let topics = c.self.inside.topics.items in
     let new = c.drop_run.new.topics in
-    let long : length new ≡ c.self.inside.topics.len = omega (arith, c.drop_run.auto.topics, c.deref_mut.ensures.len) in
-    let items_are : (with_items c.self.inside.topics new).items ≡ new = with_items_is c.self.inside.topics new long in
-    let are : map seen new ≡ map (without_lists c.args.run) (map seen topics) = c.drop_run.ensures.seen ∙ ap (λ (ts : List Topic). map (without_lists c.args.run) (map seen ts)) c.deref_mut.ensures.value in
     let level = c.self.inside.level in
-    let rooms = length c.self.inside.rooms.items in
-    let places : All (λ (topic : Topic). rooms ≤ spare topic) c.deref_mut.result.now = subst (All (λ (topic : Topic). rooms ≤ spare topic)) (sym c.deref_mut.ensures.value) c.self.invariant.0.places in (
-      subst (λ (ts : List Topic). IsKept level ts rooms) (sym items_are) (record {
-        few = omega (arith, c.self.invariant.0.few, long, ap length c.deref_mut.ensures.value, c.drop_run.auto.topics);
-        topics_are = all_seen (IsTopicKept) (without_lists c.args.run) topics new (kept-without c.args.run) are c.self.invariant.0.topics_are;
-        empties = c.drop_run.ensures.empties level (subst (All (HasEmptyCell level)) (sym c.deref_mut.ensures.value) c.self.invariant.0.empties);
-        places = c.drop_run.ensures.places rooms places;
+    let rooms = length c.self.inside.rooms.items in (
+      subst (λ (ts : List Topic). IsKept level ts rooms) (sym (items_are all)) (record {
+        few = omega (arith, c.self.invariant.0.few, ap length c.deref_mut.ensures.value, c.drop_run.auto.topics);
+        topics_are = all_seen (IsTopicKept) (without_lists c.args.run) topics new (kept-without c.args.run) (are all) c.self.invariant.0.topics_are;
+        empties = c.drop_run.ensures.kept.empties level (subst (All (HasEmptyCell level)) (sym c.deref_mut.ensures.value) c.self.invariant.0.empties);
+        places = c.drop_run.ensures.kept.places rooms (subst (All (λ (topic : Topic). rooms ≤ spare topic)) (sym c.deref_mut.ensures.value) c.self.invariant.0.places);
       }),
       c.self.invariant.1,
     )
 
 pub returns-clause-stands : goal.returns-clause-stands
 returns-clause-stands c = λ grades stood.
+    let all = (goal.at.returns-clause-stands c).After-drop_run in
     let topics = c.self.inside.topics.items in
-    let new = c.drop_run.new.topics in
-    let long : length new ≡ c.self.inside.topics.len = omega (arith, c.drop_run.auto.topics, c.deref_mut.ensures.len) in
-    let items_are : (with_items c.self.inside.topics new).items ≡ new = with_items_is c.self.inside.topics new long in
-    let are : map seen new ≡ map (without_lists c.args.run) (map seen topics) = c.drop_run.ensures.seen ∙ ap (λ (ts : List Topic). map (without_lists c.args.run) (map seen ts)) c.deref_mut.ensures.value in
     let level = c.self.inside.level in
     let held = subst (λ (s : Scores). StandsFor s grades) (sym c.self.view_is) stood in
     let kept : AllZip (TopicStandsFor level) (map (without_lists c.args.run) (map seen topics)) grades =
     zip-map (TopicStandsFor level) (without_lists c.args.run) (λ topic graded. stands-without level c.args.run topic graded) (map seen topics) grades held in
-    subst (λ (ts : List TopicScores). AllZip (TopicStandsFor level) ts grades) (sym (ap (map seen) items_are ∙ are)) kept
+    subst (λ (ts : List TopicScores). AllZip (TopicStandsFor level) ts grades) (sym (ap (map seen) (items_are all) ∙ are all)) kept
 
 pub returns-clause-lists : goal.returns-clause-lists
 returns-clause-lists c = λ other on.
-    let topics = c.self.inside.topics.items in
-    let new = c.drop_run.new.topics in
-    let long : length new ≡ c.self.inside.topics.len = omega (arith, c.drop_run.auto.topics, c.deref_mut.ensures.len) in
-    let items_are : (with_items c.self.inside.topics new).items ≡ new = with_items_is c.self.inside.topics new long in
-    let are : map seen new ≡ map (without_lists c.args.run) (map seen topics) = c.drop_run.ensures.seen ∙ ap (λ (ts : List Topic). map (without_lists c.args.run) (map seen ts)) c.deref_mut.ensures.value in
-    ap (λ (ts : List TopicScores). docs_in other (get_or ts on new_topic)) (ap (map seen) items_are ∙ are)
-    ∙ docs_dropped c.args.run other (map seen topics) on
+    let all = (goal.at.returns-clause-lists c).After-drop_run in
+    ap (λ (ts : List TopicScores). docs_in other (get_or ts on new_topic)) (ap (map seen) (items_are all) ∙ are all)
+    ∙ docs_dropped c.args.run other (map seen c.self.inside.topics.items) on
     ∙ ap (λ (s : Scores). cond (eqb c.args.run.0 other.0) None (docs_at s other on)) c.self.view_is

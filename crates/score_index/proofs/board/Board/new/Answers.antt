@@ -1,6 +1,6 @@
 use Rattle.std.proofs.Common.{ap}
 use Rattle.score_index.specs.Scores.{docs_in}
-use Rattle.score_index.proofs.Boards.{all_new, new_stands}
+use Rattle.score_index.proofs.Keeping.Boards.{all_new, new_stands}
 use Rattle.score_index.proofs.board.Board.new.Goals as goal
 
 pub returns-clause-lists : goal.returns-clause-lists

@@ -6,7 +6,8 @@ use Rattle.std.proofs.lemmas.List.Elements.{All-push}
 use Rattle.score_index.specs.Kept.{HasEmptyCell, IsKept, IsRoom, IsTopicKept, seen, spare}
 use Rattle.score_index.specs.Places.{Places}
 use Rattle.score_index.specs.declared.topics.Topic.{Topic}
-use Rattle.score_index.proofs.Boards.{all_seen}
+use Rattle.score_index.proofs.Keeping.Boards.{all_seen}
+use Rattle.score_index.proofs.board.Board.reserve.Goals.{After-reserve_lists}
 use Rattle.score_index.proofs.board.Board.reserve.Goals as goal
 
 -- a room that was just made
@@ -27,39 +28,37 @@ kept_with_room level old new before rooms kept long are empties places = record 
   places = places;
 }
 
+items_are : (c : After-reserve_lists) → (with_items c.self.inside.topics c.reserve_lists.new.topics).items ≡ c.reserve_lists.new.topics
+items_are c = with_items_is c.self.inside.topics c.reserve_lists.new.topics (omega (arith, c.reserve_lists.auto.topics, c.deref_mut.ensures.len))
+
+-- the topics, which have places for so many lists
+kept : (c : After-reserve_lists) (rooms : ℕ) → All (λ topic. rooms ≤ spare topic) c.reserve_lists.new.topics → IsKept c.self.inside.level c.reserve_lists.new.topics rooms
+kept c rooms places =
+    kept_with_room c.self.inside.level c.self.inside.topics.items c.reserve_lists.new.topics (length c.self.inside.rooms.items) rooms c.self.invariant.0 (omega (arith, c.reserve_lists.auto.topics, ap length c.deref_mut.ensures.value))
+    (c.reserve_lists.ensures.seen ∙ ap (map seen) c.deref_mut.ensures.value)
+    (c.reserve_lists.ensures.kept.empties c.self.inside.level (subst (All (HasEmptyCell c.self.inside.level)) (sym c.deref_mut.ensures.value) c.self.invariant.0.empties)) places
+
 pub invariant_of-self-in_err-reserve_lists : goal.invariant_of-self-in_err-reserve_lists
 invariant_of-self-in_err-reserve_lists c =
-    let topics = c.self.inside.topics.items in
+    let all = (goal.at.invariant_of-self-in_err-reserve_lists c).After-reserve_lists in
     let new = c.reserve_lists.new.topics in
     let rooms = length c.self.inside.rooms.items in
-    let long : length new ≡ c.self.inside.topics.len = omega (arith, c.reserve_lists.auto.topics, c.deref_mut.ensures.len) in
-    let items_are : (with_items c.self.inside.topics new).items ≡ new = with_items_is c.self.inside.topics new long in
     let before : All (λ (topic : Topic). rooms ≤ spare topic) c.deref_mut.result.now = subst (All (λ (topic : Topic). rooms ≤ spare topic)) (sym c.deref_mut.ensures.value) c.self.invariant.0.places in
-    let many : rooms ≡ length c.reserve.new.self.items = ap length (sym c.reserve.ensures.items) in
-    let empties = c.reserve_lists.ensures.empties c.self.inside.level (subst (All (HasEmptyCell c.self.inside.level)) (sym c.deref_mut.ensures.value) c.self.invariant.0.empties) in (
-      subst (λ (ts : List Topic). IsKept c.self.inside.level ts (length c.reserve.new.self.items)) (sym items_are)
-          (subst (IsKept c.self.inside.level new) many
-          (kept_with_room c.self.inside.level topics new rooms rooms c.self.invariant.0 (omega (arith, c.reserve_lists.auto.topics, ap length c.deref_mut.ensures.value))
-          (c.reserve_lists.ensures.seen ∙ ap (map seen) c.deref_mut.ensures.value) empties (c.reserve_lists.ensures.places rooms before))),
+    let many : rooms ≡ length c.reserve.new.self.items = ap length (sym c.reserve.ensures.items) in (
+      subst (λ (ts : List Topic). IsKept c.self.inside.level ts (length c.reserve.new.self.items)) (sym (items_are all))
+          (subst (IsKept c.self.inside.level new) many (kept all rooms (c.reserve_lists.ensures.kept.places rooms before))),
       subst (λ (rs : List Places). All IsRoom rs) (sym c.reserve.ensures.items) c.self.invariant.1,
     )
 
 pub invariant_of-self-2 : goal.invariant_of-self-2
 invariant_of-self-2 c =
-    let topics = c.self.inside.topics.items in
+    let all = (goal.at.invariant_of-self-2 c).After-reserve_lists in
     let new = c.reserve_lists.new.topics in
     let rooms = length c.push.new.self.items in
-    let long : length new ≡ c.self.inside.topics.len = omega (arith, c.reserve_lists.auto.topics, c.deref_mut.ensures.len) in
-    let items_are : (with_items c.self.inside.topics new).items ≡ new = with_items_is c.self.inside.topics new long in
-    let many : rooms ≡ length c.reserve.new.self.items + 1 =
-    ap length (c.push.ensures.items ∙ ap (λ b. cond b (c.reserve.new.self.items ++ c.in_ok-room.room ∷ []) c.reserve.new.self.items) (ap is_ok c.unwrap.ensures))
-    ∙ length_push c.reserve.new.self.items c.in_ok-room.room in
-    let room : All (λ (topic : Topic). rooms ≤ spare topic) new = λ k d within. (let least = c.in_ok-reserve_lists.ensures.room k d within in omega (arith, least, many, c.len-count.ensures, c.reserve.new.self.ok.0)) in
-    let empties = c.reserve_lists.ensures.empties c.self.inside.level (subst (All (HasEmptyCell c.self.inside.level)) (sym c.deref_mut.ensures.value) c.self.invariant.0.empties) in
     let pushed = c.push.ensures.items ∙ ap (λ b. cond b (c.reserve.new.self.items ++ c.in_ok-room.room ∷ []) c.reserve.new.self.items) (ap is_ok c.unwrap.ensures) in
+    let many : rooms ≡ length c.reserve.new.self.items + 1 = ap length pushed ∙ length_push c.reserve.new.self.items c.in_ok-room.room in
+    let room : All (λ (topic : Topic). rooms ≤ spare topic) new = λ k d within. (let least = c.in_ok-reserve_lists.ensures.room k d within in omega (arith, least, many, c.len-count.ensures, c.reserve.new.self.ok.0)) in
     let fresh : IsRoom c.in_ok-room.room = new_room c.in_ok-room.room _ c.in_ok-room.ensures.relevant c.in_ok-room.ensures.lower in (
-      subst (λ (ts : List Topic). IsKept c.self.inside.level ts rooms) (sym items_are)
-          (kept_with_room c.self.inside.level topics new (length c.self.inside.rooms.items) rooms c.self.invariant.0 (omega (arith, c.reserve_lists.auto.topics, ap length c.deref_mut.ensures.value))
-          (c.reserve_lists.ensures.seen ∙ ap (map seen) c.deref_mut.ensures.value) empties room),
+      subst (λ (ts : List Topic). IsKept c.self.inside.level ts rooms) (sym (items_are all)) (kept all rooms room),
       subst (λ (rs : List Places). All IsRoom rs) (sym pushed) (All-push IsRoom c.reserve.new.self.items c.in_ok-room.room (subst (λ (rs : List Places). All IsRoom rs) (sym c.reserve.ensures.items) c.self.invariant.1) fresh),
     )

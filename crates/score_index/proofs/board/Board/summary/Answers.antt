@@ -5,7 +5,7 @@ use Rattle.score_index.specs.Kept.{kept_cells, seen}
 use Rattle.score_index.specs.Scores.{Scores}
 use Rattle.score_index.specs.Standing.{StandsFor, cells_of}
 use Rattle.score_index.specs.declared.topics.Topic.{Topic}
-use Rattle.score_index.proofs.Standings.{cells_are}
+use Rattle.score_index.proofs.Regrading.Standings.{cells_are}
 use Rattle.score_index.proofs.board.Board.summary.Goals as goal
 
 pub returns-clause-summary : goal.returns-clause-summary

@@ -1,6 +1,6 @@
 use Rattle.std.proofs.Common.{◌∙◌, Bool, List, ap, length, rules}
 use Rattle.score_index.specs.KeptSums.{is_relevant_mark}
-use Rattle.score_index.proofs.Marking.{length-put}
+use Rattle.score_index.proofs.Regrading.Marking.{length-put}
 use Rattle.score_index.proofs.lists.RunList.regrade.Goals as goal
 
 pub invariant_of-self : goal.invariant_of-self

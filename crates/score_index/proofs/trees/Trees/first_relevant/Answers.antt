@@ -1,6 +1,6 @@
 use Rattle.std.proofs.Common.{◌∙◌, ap}
 use Rattle.score_index.specs.Places.{Places, first_from}
-use Rattle.score_index.proofs.SumSteps.{first-of, first-of-none}
+use Rattle.score_index.proofs.Cells.SumSteps.{first-of, first-of-none}
 use Rattle.score_index.proofs.trees.Trees.first_relevant.Goals as goal
 
 pub returns-in-Some-clause-first : goal.returns-in-Some-clause-first

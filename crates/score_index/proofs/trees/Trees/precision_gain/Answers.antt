@@ -1,7 +1,7 @@
 use Rattle.std.proofs.Common.{◌≡◌, ◌∙◌, ◌+◌, ◌*◌, ◌-◌, ◌/◌, ◌^◌, ℕ, List, Bool, ap, arith}
 use Rattle.rank_trees.specs.Marks.{count_below, weight, weights_above}
 use Rattle.score_index.specs.Places.{Places, precision_gain}
-use Rattle.score_index.proofs.SumSteps.{gain-fits, gain-is}
+use Rattle.score_index.proofs.Cells.SumSteps.{gain-fits, gain-is}
 use Rattle.score_index.proofs.trees.Trees.precision_gain.Goals as goal
 
 read : (on weights : List Bool) (place found from above : ℕ) → weights ≡ on → found ≡ count_below on place → from ≡ place → above ≡ weights_above weights place

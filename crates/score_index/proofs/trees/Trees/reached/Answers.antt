@@ -1,6 +1,6 @@
 use Rattle.std.proofs.Common.{◌∙◌, ap, sym}
 use Rattle.score_index.specs.Places.{Places, reached}
-use Rattle.score_index.proofs.SumSteps.{reached-of, reached-of-all}
+use Rattle.score_index.proofs.Cells.SumSteps.{reached-of, reached-of-all}
 use Rattle.score_index.proofs.trees.Trees.reached.Goals as goal
 
 pub returns-in-Some-clause-reached : goal.returns-in-Some-clause-reached

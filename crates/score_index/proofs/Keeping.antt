@@ -1,0 +1,4 @@
+-- What a board keeps: its topics, their lists, and rooms for more.
+pub mod Boards
+pub mod Listing
+pub mod Rooms

@@ -1,0 +1,239 @@
+-- What a board keeps and tells, through each change.
+use Rattle.std.proofs.Common.{◌≡◌, ℕ, zero, suc, ◌<◌, ◌≤◌, Bool, true, false, cond, not, ◌&&◌, eqb, List, [], ◌∷◌, Option, Some, None, get_or, length, map, replicate, set, refl, sym, ap, ◌∙◌, arith, subst}
+use Rattle.std.specs.Prelude.{All, find}
+use Rattle.std.specs.List.{AllZip}
+use Rattle.std.specs.Option.{option_map, option_or}
+use Rattle.std.proofs.lemmas.Bool.{eq-eqb, eqb-true, false≢true}
+use Rattle.std.proofs.lemmas.Bool.Decides.{nat_tests}
+use Rattle.std.proofs.lemmas.List.{get_or-map, length-map, length-set, map-set}
+use Rattle.std.proofs.lemmas.List.Elements.{All-head, All-map, All-set, All-tail}
+use Rattle.std.proofs.lemmas.List.Folds.{find-append}
+use Rattle.decimal_rank.specs.declared.naming.DocId.{DocId}
+use Rattle.depth_pool.specs.declared.runs.RunId.{RunId}
+use Rattle.measures.specs.Cells.{cell_of}
+use Rattle.qrels_view.specs.Grades.{is_non_relevant, is_relevant}
+use Rattle.qrels_view.specs.declared.grades.Graded.{Graded}
+use Rattle.score_index.specs.Kept.{HasEmptyCell, IsKept, IsTopicKept, KeepsPlaces, remarked, seen, spare, with_list, with_regrade, without, without_lists}
+use Rattle.score_index.specs.Scores.{ScoreList, Scores, TopicScores, docs_in, is_of, new_topic, topic_at}
+use Rattle.score_index.specs.Standing.{TopicStandsFor}
+use Rattle.score_index.specs.declared.topics.Topic.{Topic}
+use Rattle.score_index.proofs.Keeping.Listing.{zip-replicate, zip-set}
+
+-- ---- what is kept
+
+pub all_seen : (P : TopicScores → Type 0) (f : TopicScores → TopicScores) (old new : List Topic) → ((topic : TopicScores) → P topic → P (f topic)) → map seen new ≡ map f (map seen old)
+    → All (λ topic. P (seen topic)) old → All (λ topic. P (seen topic)) new
+all_seen P f old new keeps are all k d within =
+    let long : length new ≡ length old = sym (length-map new seen) ∙ ap length are ∙ length-map (map seen old) f ∙ length-map old seen in
+    let inside : k < length old = omega (arith, within, long) in
+    let inside_map : k < length (map seen old) = omega (arith, inside, length-map old seen) in
+    let same : f (seen (get_or old k d)) ≡ seen (get_or new k d) =
+    ap f (sym (get_or-map seen old k d new_topic inside)) ∙ sym (get_or-map f (map seen old) k new_topic new_topic inside_map)
+    ∙ ap (λ xs. get_or xs k new_topic) (sym are) ∙ get_or-map seen new k d new_topic within in
+    subst P same (keeps (seen (get_or old k d)) (all k d inside))
+
+pub kept_set : (level : ℕ) (topics : List Topic) (rooms after : ℕ) (i : ℕ) (new : Topic) → IsKept level topics rooms → after ≤ rooms → IsTopicKept (seen new) → HasEmptyCell level new → after ≤ spare new
+    → IsKept level (set topics i new) after
+kept_set level topics rooms after i new kept fewer here empty place = record {
+  few = omega (arith, kept.few, length-set topics i new);
+  topics_are = All-set (λ topic. IsTopicKept (seen topic)) topics i new here kept.topics_are;
+  empties = All-set (HasEmptyCell level) topics i new empty kept.empties;
+  places = All-set (λ topic. after ≤ spare topic) topics i new place (λ k d within. let most = kept.places k d within in omega (arith, most, fewer));
+}
+
+pub empty_with_list : (level : ℕ) (was new : Topic) (list : ScoreList) → new.empty ≡ was.empty → seen new ≡ with_list list (seen was) → HasEmptyCell level was → HasEmptyCell level new
+empty_with_list level was new list same is had = same ∙ had ∙ ap (λ (topic : TopicScores). cell_of [] topic.relevant topic.non_relevant level) (sym is)
+
+-- one topic that keeps its cell of the empty list, and has no less room
+pub places_set : {old topics : List Topic} {i : ℕ} (d new : Topic) → KeepsPlaces old topics → i < length topics → ((level : ℕ) → HasEmptyCell level (get_or topics i d) → HasEmptyCell level new) → spare (get_or topics i d) ≤ spare new
+    → KeepsPlaces old (set topics i new)
+places_set {old} {topics} {i} d new kept within same more = record {
+  empties = λ level all. All-set (HasEmptyCell level) topics i new (same level (kept.empties level all i d within)) (kept.empties level all);
+  places = λ least all.
+      let most : least ≤ spare (get_or topics i d) = kept.places least all i d within in
+      All-set (λ (topic : Topic). least ≤ spare topic) topics i new (omega (arith, most, more)) (kept.places least all);
+}
+
+-- ---- what it stands for
+
+pub stands_set : (level : ℕ) (topics : List Topic) (grades : List (List Graded)) (i : ℕ) (new : Topic) (graded : List Graded) → AllZip (TopicStandsFor level) (map seen topics) grades
+    → TopicStandsFor level (seen new) graded → AllZip (TopicStandsFor level) (map seen (set topics i new)) (set grades i graded)
+stands_set level topics grades i new graded stands here =
+    subst (λ ts. AllZip (TopicStandsFor level) ts (set grades i graded)) (sym (map-set seen topics i new)) (zip-set (TopicStandsFor level) (map seen topics) grades i (seen new) graded stands here)
+
+-- a topic of a board, of which contracts see these scores
+pub record IsTopicOf (level : ℕ) (topics : List Topic) (rooms : ℕ) (scores : Scores) (i : ℕ) (was : Topic) : Type 0 where
+  pub level_is : level ≡ scores.level
+  pub within : i < length topics
+  pub at : get_or (map seen topics) i new_topic ≡ seen was
+  pub topic_is : topic_at scores i ≡ seen was
+  pub kept : IsTopicKept (seen was)
+  pub empty : HasEmptyCell level was
+  pub place : rooms ≤ spare was
+
+pub topic-of : {level : ℕ} {topics : List Topic} {rooms : ℕ} {scores inside : Scores} {i : ℕ} {was : Topic} → inside ≡ scores → inside.level ≡ level → inside.topics ≡ map seen topics → IsKept level topics rooms
+    → i < length scores.topics → was ≡ get_or topics i was → IsTopicOf level topics rooms scores i was
+topic-of {level} {topics} {rooms} {scores} {inside} {i} {was} view_is level_is topics_are kept there was_is = record {
+  level_is = sym level_is ∙ ap (λ (s : Scores). s.level) view_is;
+  within = within;
+  at = at;
+  topic_is = ap (λ (s : Scores). topic_at s i) (sym view_is) ∙ ap (λ (ts : List TopicScores). get_or ts i new_topic) topics_are ∙ at;
+  kept = subst (λ (t : Topic). IsTopicKept (seen t)) (sym was_is) (kept.topics_are i was within);
+  empty = subst (HasEmptyCell level) (sym was_is) (kept.empties i was within);
+  place = subst (λ (t : Topic). rooms ≤ spare t) (sym was_is) (kept.places i was within);
+}
+  where
+    within : i < length topics
+    within = omega (arith, there, ap (λ (s : Scores). length s.topics) view_is, ap length topics_are, length-map topics seen)
+
+    at : get_or (map seen topics) i new_topic ≡ seen was
+    at = get_or-map seen topics i was new_topic within ∙ ap seen (sym was_is)
+
+-- the grades that it stands for
+pub stands_here : {level : ℕ} {topics : List Topic} {rooms : ℕ} {scores : Scores} {i : ℕ} {was : Topic} (graded : List Graded) → IsTopicOf level topics rooms scores i was
+    → TopicStandsFor scores.level (topic_at scores i) graded → TopicStandsFor level (seen was) graded
+stands_here {level} {scores = scores} {i} graded of stands =
+    subst (λ topic. TopicStandsFor level topic graded) of.topic_is (subst (λ l. TopicStandsFor l (topic_at scores i) graded) (sym of.level_is) stands)
+
+-- ---- the lists
+
+-- the documents of a run, where one topic changed
+pub docs_set : (run : RunId) (topics : List Topic) (i on : ℕ) (new : Topic) → i < length topics
+    → docs_in run (get_or (map seen (set topics i new)) on new_topic) ≡ cond (eqb i on) (docs_in run (seen new)) (docs_in run (get_or (map seen topics) on new_topic))
+docs_set run [] i on new within = absurd (omega (arith, within))
+docs_set run (topic ∷ topics) zero zero new within = refl
+docs_set run (topic ∷ topics) zero (suc on) new within =
+    let apart : eqb 0 (suc on) ≡ false = grind (arith, nat_tests) in
+    sym (ap (λ t. cond t (docs_in run (seen new)) (docs_in run (get_or (map seen topics) on new_topic))) apart)
+docs_set run (topic ∷ topics) (suc i) zero new within =
+    let apart : eqb (suc i) 0 ≡ false = grind (arith, nat_tests) in
+    sym (ap (λ t. cond t (docs_in run (seen new)) (docs_in run (seen topic))) apart)
+docs_set run (topic ∷ topics) (suc i) (suc on) new within =
+    docs_set run topics i on new (omega (arith, within)) ∙ ap (λ t. cond t (docs_in run (seen new)) (docs_in run (get_or (map seen topics) on new_topic))) (sucs i on)
+  where
+    sucs : (m n : ℕ) → eqb m n ≡ eqb (suc m) (suc n)
+    sucs m n = grind (arith, nat_tests)
+
+none_found : (found : Option ScoreList) → option_map (λ list. list.docs) found ≡ None → found ≡ None
+none_found None is = refl
+none_found (Some list) is = cc
+
+pub docs-with_list : (other : RunId) (list : ScoreList) (topic : TopicScores) → docs_in list.run topic ≡ None
+    → docs_in other (with_list list topic) ≡ cond (eqb list.run.0 other.0) (Some list.docs) (docs_in other topic)
+docs-with_list other list topic new = ap (option_map (λ one. one.docs)) (find-append (is_of other) topic.lists (list ∷ [])) ∙ step (eqb list.run.0 other.0) refl
+  where
+    same_run : list.run.0 ≡ other.0 → list.run ≡ other
+    same_run e = let make : ℕ → RunId = λ n. record { 0 = n } in ap make e
+
+    step : (t : Bool) → eqb list.run.0 other.0 ≡ t
+        → option_map (λ one. one.docs) (option_or (find (is_of other) topic.lists) (cond (eqb list.run.0 other.0) (Some list) None)) ≡ cond t (Some list.docs) (docs_in other topic)
+    step true is =
+        let none : find (is_of other) topic.lists ≡ None = none_found _ (ap (λ run. docs_in run topic) (sym (same_run (eqb-true list.run.0 other.0 is))) ∙ new) in
+        ap (λ found. option_map (λ one. one.docs) (option_or found (cond (eqb list.run.0 other.0) (Some list) None))) none
+        ∙ ap (λ t. option_map (λ one. one.docs) (cond t (Some list) None)) is
+    step false is =
+        ap (λ t. option_map (λ one. one.docs) (option_or (find (is_of other) topic.lists) (cond t (Some list) None))) is ∙ whole (find (is_of other) topic.lists)
+      where
+        whole : (found : Option ScoreList) → option_map (λ one. one.docs) (option_or found None) ≡ option_map (λ one. one.docs) found
+        whole None = refl
+        whole (Some one) = refl
+
+docs-remarked : (run : RunId) (doc : DocId) (relevant lower : Bool) (rel low : ℕ) (lists : List ScoreList)
+    → option_map (λ one. one.docs) (find (is_of run) (map (remarked doc relevant lower rel low) lists)) ≡ option_map (λ one. one.docs) (find (is_of run) lists)
+docs-remarked run doc relevant lower rel low [] = refl
+docs-remarked run doc relevant lower rel low (list ∷ lists) = step (is_of run list) (docs-remarked run doc relevant lower rel low lists)
+  where
+    step : (t : Bool) → option_map (λ one. one.docs) (find (is_of run) (map (remarked doc relevant lower rel low) lists)) ≡ option_map (λ one. one.docs) (find (is_of run) lists)
+        → option_map (λ one. one.docs) (cond t (Some (remarked doc relevant lower rel low list)) (find (is_of run) (map (remarked doc relevant lower rel low) lists))) ≡ option_map (λ one. one.docs) (cond t (Some list) (find (is_of run) lists))
+    step true rest = refl
+    step false rest = rest
+
+pub docs-with_regrade : (run : RunId) (level : ℕ) (doc : DocId) (old new : Option ℕ) (topic : TopicScores) → docs_in run (with_regrade level doc old new topic) ≡ docs_in run topic
+docs-with_regrade run level doc old new topic =
+    docs-remarked run doc (is_relevant level new) (is_non_relevant level new) (with_regrade level doc old new topic).relevant (with_regrade level doc old new topic).non_relevant topic.lists
+
+none_either : (t : Bool) → let none : Option (List DocId) = None in none ≡ cond t none none
+none_either true = refl
+none_either false = refl
+
+docs-without : (run other : RunId) (lists : List ScoreList) → option_map (λ one. one.docs) (find (is_of other) (without run lists))
+    ≡ cond (eqb run.0 other.0) None (option_map (λ one. one.docs) (find (is_of other) lists))
+docs-without run other [] = none_either (eqb run.0 other.0)
+docs-without run other (list ∷ lists) = step (is_of run list) refl (is_of other list) refl (docs-without run other lists)
+  where
+    docs_found : Option ScoreList → Option (List DocId)
+    docs_found = option_map (λ one. one.docs)
+
+    later : Option ScoreList
+    later = find (is_of other) lists
+
+    step : (t : Bool) → is_of run list ≡ t → (s : Bool) → is_of other list ≡ s
+        → option_map (λ one. one.docs) (find (is_of other) (without run lists)) ≡ cond (eqb run.0 other.0) None (option_map (λ one. one.docs) (find (is_of other) lists))
+        → option_map (λ one. one.docs) (find (is_of other) (cond (not t) (list ∷ without run lists) (without run lists)))
+        ≡ cond (eqb run.0 other.0) None (option_map (λ one. one.docs) (cond s (Some list) (find (is_of other) lists)))
+    step true here true there rest =
+        let same : eqb run.0 other.0 ≡ true = eq-eqb run.0 other.0 (sym (eqb-true list.run.0 run.0 here) ∙ eqb-true list.run.0 other.0 there) in
+        rest ∙ ap (λ t. cond t None (option_map (λ one. one.docs) (find (is_of other) lists))) same
+        ∙ ap (λ t. cond t None (option_map (λ one. one.docs) (Some list))) (sym same)
+    step true here false there rest = rest
+    step false here true there rest =
+        let apart : eqb run.0 other.0 ≡ false = differs (eqb run.0 other.0) refl in
+        ap (λ t. option_map (λ one. one.docs) (cond t (Some list) (find (is_of other) (without run lists)))) there
+        ∙ ap (λ t. cond t None (option_map (λ one. one.docs) (Some list))) (sym apart)
+      where
+        differs : (t : Bool) → eqb run.0 other.0 ≡ t → eqb run.0 other.0 ≡ false
+        differs true is =
+            let same : list.run.0 ≡ run.0 = eqb-true list.run.0 other.0 there ∙ sym (eqb-true run.0 other.0 is) in
+            absurd (false≢true (sym here ∙ eq-eqb list.run.0 run.0 same))
+        differs false is = is
+    step false here false there rest =
+        ap (λ t. option_map (λ one. one.docs) (cond t (Some list) (find (is_of other) (without run lists)))) there ∙ rest
+
+pub docs_dropped : (run other : RunId) (topics : List TopicScores) (on : ℕ)
+    → docs_in other (get_or (map (without_lists run) topics) on new_topic) ≡ cond (eqb run.0 other.0) None (docs_in other (get_or topics on new_topic))
+docs_dropped run other [] on = none_either (eqb run.0 other.0)
+docs_dropped run other (topic ∷ topics) zero = docs-without run other topic.lists
+docs_dropped run other (topic ∷ topics) (suc on) = docs_dropped run other topics on
+
+-- a list that was added
+pub docs_added : (other : RunId) (topics : List Topic) (i on : ℕ) (was new : Topic) (list : ScoreList) → i < length topics → get_or (map seen topics) i new_topic ≡ seen was
+    → seen new ≡ with_list list (seen was) → docs_in list.run (seen was) ≡ None
+    → docs_in other (get_or (map seen (set topics i new)) on new_topic) ≡ cond (eqb list.run.0 other.0 && eqb i on) (Some list.docs) (docs_in other (get_or (map seen topics) on new_topic))
+docs_added other topics i on was new list within was_is is none =
+    docs_set other topics i on new within
+    ∙ ap (λ docs. cond (eqb i on) docs (docs_in other (get_or (map seen topics) on new_topic))) (ap (docs_in other) is ∙ docs-with_list other list (seen was) none)
+    ∙ step (eqb list.run.0 other.0) (eqb i on) refl
+  where
+    step : (s t : Bool) → eqb i on ≡ t → cond t (cond s (Some list.docs) (docs_in other (seen was))) (docs_in other (get_or (map seen topics) on new_topic))
+        ≡ cond (s && t) (Some list.docs) (docs_in other (get_or (map seen topics) on new_topic))
+    step true true at = refl
+    step true false at = refl
+    step false true at = ap (docs_in other) (sym was_is) ∙ ap (λ k. docs_in other (get_or (map seen topics) k new_topic)) (eqb-true i on at)
+    step false false at = refl
+
+-- a topic whose lists keep their documents
+pub docs_kept : (run : RunId) (topics : List Topic) (i on : ℕ) (was new : Topic) → i < length topics → get_or (map seen topics) i new_topic ≡ seen was
+    → docs_in run (seen new) ≡ docs_in run (seen was)
+    → docs_in run (get_or (map seen (set topics i new)) on new_topic) ≡ docs_in run (get_or (map seen topics) on new_topic)
+docs_kept run topics i on was new within was_is same = docs_set run topics i on new within ∙ step (eqb i on) refl
+  where
+    step : (t : Bool) → eqb i on ≡ t → cond t (docs_in run (seen new)) (docs_in run (get_or (map seen topics) on new_topic)) ≡ docs_in run (get_or (map seen topics) on new_topic)
+    step true at = same ∙ ap (docs_in run) (sym was_is) ∙ ap (λ k. docs_in run (get_or (map seen topics) k new_topic)) (eqb-true i on at)
+    step false at = refl
+
+-- ---- no list and no grade yet
+
+pub all_new : (topics : List Topic) (on : ℕ) → All (λ topic. seen topic ≡ new_topic) topics → get_or (map seen topics) on new_topic ≡ new_topic
+all_new [] on all = refl
+all_new (topic ∷ topics) zero all = All-head (λ t. seen t ≡ new_topic) topic topics all
+all_new (topic ∷ topics) (suc on) all = all_new topics on (All-tail (λ t. seen t ≡ new_topic) topic topics all)
+
+pub new_stands : (level : ℕ) (topics : List Topic) (count : ℕ) → All (λ topic. seen topic ≡ new_topic) topics → length topics ≡ count
+    → AllZip (TopicStandsFor level) (map seen topics) (replicate count [])
+new_stands level topics count all long =
+    subst (λ n. AllZip (TopicStandsFor level) (map seen topics) (replicate n [])) (length-map topics seen ∙ long)
+    (zip-replicate (TopicStandsFor level) (map seen topics) []
+    (All-map (λ topic. TopicStandsFor level topic []) seen topics (λ k d within. subst (λ topic. TopicStandsFor level topic []) (sym (all k d within)) empty)))
+  where
+    empty : TopicStandsFor level new_topic []
+    empty = record { relevant_is = refl; non_relevant_is = refl; lists_are = λ k d within. absurd (omega (arith, within)) }
