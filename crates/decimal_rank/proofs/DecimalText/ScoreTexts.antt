@@ -8,7 +8,7 @@ use Rattle.std.proofs.lemmas.List.Folds.{list_all-append}
 use borrow.Author.Tests.{lt-ltb, le-ltb}
 use Rattle.decimal_rank.specs.DecimalText.{is_digit, is_point, is_exponent_mark, mantissa, written_exponent, has_exponent, whole_part, fraction_part, mantissa_digits, are_digits, is_decimal, significant, decimal_value, decimal_of}
 use Rattle.decimal_rank.specs.declared.decimals.DecimalFault.TheVariants.{Shape, Digits, Exponent}
-use Rattle.decimal_rank.proofs.Cuts.{none_behind}
+use Rattle.decimal_rank.proofs.DecimalText.Cuts.{none_behind}
 
 -- ---- the answer
 

@@ -24,8 +24,8 @@ use Rattle.decimal_rank.specs.Decimal.{decimal_cmp}
 use Rattle.decimal_rank.specs.Names.{docno_of}
 use Rattle.decimal_rank.specs.Places.{AreDistinct, place_in}
 use Rattle.decimal_rank.specs.Ranks.{Standing, standing_cmp, stands_before, rank_in, standing_of, IsRanking}
-use Rattle.decimal_rank.proofs.Listing.{same_number, place_at}
-use Rattle.decimal_rank.proofs.Values.{decimal_cmp_total}
+use Rattle.decimal_rank.proofs.Standings.Listing.{same_number, place_at}
+use Rattle.decimal_rank.proofs.Standings.Values.{decimal_cmp_total}
 
 pub standing_cmp_total : IsTotalOrder standing_cmp
 unfolding standing_cmp
@@ -60,7 +60,7 @@ count-before R (x ∷ xs) (suc k) d irr pairs lt =
 
 -- ---- lines in the order of standings
 
-count_by-map : {X Y : Type 0} (f : X → Y) (p : Y → Bool) (xs : List X) → count_by p (map f xs) ≡ count_by (λ x. p (f x)) xs
+pub count_by-map : {X Y : Type 0} (f : X → Y) (p : Y → Bool) (xs : List X) → count_by p (map f xs) ≡ count_by (λ x. p (f x)) xs
 count_by-map f p [] = refl
 count_by-map f p (x ∷ xs) =
     sum_by-cons (λ y. cond (p y) 1 0) (f x) (map f xs) ∙ ap (λ n. cond (p (f x)) 1 0 + n) (count_by-map f p xs) ∙ sym (sum_by-cons (λ y. cond (p (f y)) 1 0) x xs)
@@ -71,7 +71,7 @@ second_equal Equal s e = e
 second_equal Greater s e = cc
 
 -- what stands equal has one docno
-one_docno : (s t : Standing) → standing_cmp s t ≡ Equal → s.docno ≡ t.docno
+pub one_docno : (s t : Standing) → standing_cmp s t ≡ Equal → s.docno ≡ t.docno
 unfolding standing_cmp
 one_docno s t e = exact_bytes s.docno t.docno (second_equal (decimal_cmp s.score t.score) (slice_cmp nat_cmp s.docno t.docno) e)
 

@@ -5,7 +5,7 @@ use Rattle.std.proofs.lemmas.Option.{same_Some, slice_get-get_or}
 use Rattle.decimal_rank.specs.Buckets.{IsNewest}
 use Rattle.decimal_rank.specs.Linked.{AreLinked, buckets}
 use Rattle.decimal_rank.specs.declared.chains.Link.{Link}
-use Rattle.decimal_rank.proofs.Bucketed.{get-cases, newest-stays, newest-new, newest-other}
+use Rattle.decimal_rank.proofs.BucketTables.Bucketed.{get-cases, newest-stays, newest-new, newest-other}
 
 pub any-default : {X : Type 0} (xs : List X) (i : ℕ) (d e : X) → i < length xs → get_or xs i d ≡ get_or xs i e
 any-default xs i d e h = same_Some (get_or xs i d) (get_or xs i e) (sym (slice_get-get_or xs i d h) ∙ slice_get-get_or xs i e h)

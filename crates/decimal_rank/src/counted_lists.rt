@@ -1,17 +1,17 @@
 //! Lists that are read beside a tick alone, so that the steps of a call bound what it reads.
 ghost use Rattle.std.specs.Prelude.{◌≡◌, ◌+◌, ◌<◌, Some, length, slice_get};
 
-use crate::counting::Steps;
+use crate::steps::Steps;
 use std::marker::Model;
 use std::sync::ledger::Ledger;
 
 /// Items that nothing reads but `at`. Contracts see the list of the items.
 #[derive(Drop)]
-pub(crate) struct Ticked<T> {
+pub(crate) struct CountedList<T> {
     items: Vec<T>,
 }
 
-impl<T> Model for Ticked<T> {
+impl<T> Model for CountedList<T> {
     ghost use Rattle.std.specs.Prelude.{List};
 
     ghost Value = { List T };
@@ -19,11 +19,11 @@ impl<T> Model for Ticked<T> {
     ghost view = { λ list. list.items.items };
 }
 
-impl<T: Copy> Ticked<T> {
-    pub(crate) fn new(items: Vec<T>) -> Ticked<T>
+impl<T: Copy> CountedList<T> {
+    pub(crate) fn new(items: Vec<T>) -> CountedList<T>
         ensures { result ≡ items.items }
     {
-        Ticked { items }
+        CountedList { items }
     }
 
     pub(crate) fn len(&self) -> usize

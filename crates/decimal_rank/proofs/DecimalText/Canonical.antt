@@ -18,10 +18,10 @@ use borrow.Author.Tests.{lt-ltb}
 use Rattle.decimal_rank.specs.Aligned.{aligned_value, IsAligned}
 use Rattle.decimal_rank.specs.Decimal.{DecimalValue}
 use Rattle.decimal_rank.specs.DecimalText.{is_digit, is_zero, is_point, is_exponent_mark, mantissa, written_exponent, has_exponent, whole_part, fraction_part, mantissa_digits, are_digits, is_decimal, zeros_after, without_leading_zeros, significant, scaled, decimal_of, canonical}
-use Rattle.decimal_rank.proofs.Digits.{digit_range, digit_at}
-use Rattle.decimal_rank.proofs.Reading.{leading-other, zeros_push}
-use Rattle.decimal_rank.proofs.Scores.{scaled_as, scaled_some}
-use Rattle.decimal_rank.proofs.ScoreTexts.{has_value}
+use Rattle.decimal_rank.proofs.DecimalText.Digits.{digit_range, digit_at}
+use Rattle.decimal_rank.proofs.DecimalText.Reading.{leading-other, zeros_push}
+use Rattle.decimal_rank.proofs.DecimalText.Scores.{scaled_as, scaled_some}
+use Rattle.decimal_rank.proofs.DecimalText.ScoreTexts.{has_value}
 
 -- ---- the digits of a number
 

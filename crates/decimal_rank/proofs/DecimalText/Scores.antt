@@ -10,10 +10,10 @@ use Rattle.std.proofs.lemmas.List.{nil_from_length}
 use Rattle.decimal_rank.specs.Decimal.{DecimalValue}
 use Rattle.decimal_rank.specs.DecimalText.{is_digit, whole_part, fraction_part, written_exponent, mantissa_digits, significant, scaled, decimal_value, zeros_after}
 use Rattle.decimal_rank.specs.Significands.{IsSignificand, ArePartsOf}
-use Rattle.decimal_rank.specs.declared.parts.Parts.{Parts}
+use Rattle.decimal_rank.specs.declared.score_parts.Parts.{Parts}
 use Rattle.decimal_rank.specs.declared.significands.Significand.{Significand}
-use Rattle.decimal_rank.proofs.Reading.{sized, is_kept, is_trimmed, some_counted, same_zeros, zeros_within, count_within}
-use Rattle.decimal_rank.proofs.ScoreTexts.{IsShaped}
+use Rattle.decimal_rank.proofs.DecimalText.Reading.{sized, is_kept, is_trimmed, some_counted, same_zeros, zeros_within, count_within}
+use Rattle.decimal_rank.proofs.DecimalText.ScoreTexts.{IsShaped}
 
 pub of_parts : (text : List ℕ) (parts : Parts) (s : Significand) → ArePartsOf text parts → IsSignificand (parts.whole.now ++ parts.fraction.now) s → IsSignificand (mantissa_digits text) s
 of_parts text parts s p was =

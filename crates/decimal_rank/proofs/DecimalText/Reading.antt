@@ -15,7 +15,7 @@ use Rattle.std.proofs.lemmas.Str.{digit_value_digit}
 use Rattle.decimal_rank.specs.DecimalText.{is_digit, is_zero, zeros_after, without_leading_zeros, significant}
 use Rattle.decimal_rank.specs.Significands.{IsSignificand}
 use Rattle.decimal_rank.specs.declared.significands.Significand.{Significand}
-use Rattle.decimal_rank.proofs.Digits.{digit_range, value-kept, trimmed}
+use Rattle.decimal_rank.proofs.DecimalText.Digits.{digit_range, value-kept, trimmed}
 
 -- ---- one more digit
 

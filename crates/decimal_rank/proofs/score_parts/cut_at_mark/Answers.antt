@@ -1,7 +1,7 @@
 use Rattle.std.proofs.Common.{sym}
 use Rattle.decimal_rank.specs.DecimalText.{is_exponent_mark}
-use Rattle.decimal_rank.proofs.Cuts.{any_at_place, behind_place, none_without_place}
-use Rattle.decimal_rank.proofs.parts.cut_at_mark.Goals as goal
+use Rattle.decimal_rank.proofs.DecimalText.Cuts.{any_at_place, behind_place, none_without_place}
+use Rattle.decimal_rank.proofs.score_parts.cut_at_mark.Goals as goal
 
 pub returns-in-Some-clause-behind : goal.returns-in-Some-clause-behind
 returns-in-Some-clause-behind c =
