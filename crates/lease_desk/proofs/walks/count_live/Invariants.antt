@@ -4,7 +4,7 @@ use Rattle.std.specs.Option.{option_map}
 use Rattle.lease_desk.specs.Series.{IsSeriesOf, up_to}
 use Rattle.lease_desk.specs.declared.leases.Lease.{Lease}
 use Rattle.lease_desk.proofs.Counting.{IsCounted}
-use Rattle.lease_desk.proofs.walking.count_live.Given as goal
+use Rattle.lease_desk.proofs.walks.count_live.Given as goal
 
 abbrev pub invariant-loop-next : goal.invariant-loop-next
 invariant-loop-next l = record {

@@ -1,8 +1,8 @@
 use Rattle.std.proofs.Common.{◌≡◌, ◌+◌, ◌<◌, ◌≤◌, ◌∙◌, true, length, get_or, refl, sym, ap, subst, arith}
 use Rattle.lease_desk.specs.Series.{up_to}
 use Rattle.lease_desk.proofs.Counting.{IsCounted, as_number, as_number-le, goes_on, is_counted, starts, some_lease, some_link, counts_then, stops}
-use Rattle.lease_desk.proofs.walking.count_live.Goals as goal
-use Rattle.lease_desk.proofs.walking.count_live.Goals.{then-counts, else-counts}
+use Rattle.lease_desk.proofs.walks.count_live.Goals as goal
+use Rattle.lease_desk.proofs.walks.count_live.Goals.{then-counts, else-counts}
 
 pub loop-next-init : goal.loop-next-init
 loop-next-init c = record {
