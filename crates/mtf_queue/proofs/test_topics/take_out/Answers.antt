@@ -1,4 +1,4 @@
-use Rattle.mtf_queue.proofs.played.take_out.Goals as goal
+use Rattle.mtf_queue.proofs.test_topics.take_out.Goals as goal
 
 pub returns-clause-in_order : goal.returns-clause-in_order
 returns-clause-in_order c =

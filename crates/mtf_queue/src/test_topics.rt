@@ -33,7 +33,7 @@ pub(crate) struct Topic {
 impl Model for Topic {
     ghost use Rattle.std.specs.Prelude.{List};
     ghost use Rattle.depth_pool.specs.declared.runs.RunId.{RunId};
-    ghost use Rattle.mtf_queue.specs.Played.{IsPlayed};
+    ghost use Rattle.mtf_queue.specs.TestTopics.{IsPlayed};
 
     ghost Value = { List RunId };
 

@@ -1,5 +1,5 @@
-use Rattle.mtf_queue.proofs.Playing.{absent}
-use Rattle.mtf_queue.proofs.played.add.Goals as goal
+use Rattle.mtf_queue.proofs.TestTopicSteps.{absent}
+use Rattle.mtf_queue.proofs.test_topics.add.Goals as goal
 
 pub enter-requires-clause-is_new : goal.enter-requires-clause-is_new
 enter-requires-clause-is_new c = absent c.args.pool.now.runs c.args.queue.now.order c.args.run c.requires.in_order.in_pool c.requires.is_new

@@ -1,8 +1,8 @@
 use Rattle.std.proofs.Common.{◌<◌, sym, subst, ◌∙◌}
 use Rattle.std.specs.List.{All}
 use Rattle.depth_pool.specs.Holdings.{Held}
-use Rattle.mtf_queue.proofs.Playing.{numbered_without_run}
-use Rattle.mtf_queue.proofs.played.Topic.withdraw.Goals as goal
+use Rattle.mtf_queue.proofs.TestTopicSteps.{numbered_without_run}
+use Rattle.mtf_queue.proofs.test_topics.Topic.withdraw.Goals as goal
 
 pub invariant_of-self : goal.invariant_of-self
 invariant_of-self c =

@@ -1,7 +1,7 @@
 use Rattle.std.proofs.Common.{◌+◌, sym, ap, subst, ◌∙◌}
-use Rattle.mtf_queue.proofs.Playing.{IsListed, listed_less, listed_more}
-use Rattle.mtf_queue.proofs.played.ranking_of.Goals as goal
-use Rattle.mtf_queue.proofs.played.ranking_of.Goals.{then-contains+in_ok-push, else-contains}
+use Rattle.mtf_queue.proofs.TestTopicSteps.{IsListed, listed_less, listed_more}
+use Rattle.mtf_queue.proofs.test_topics.ranking_of.Goals as goal
+use Rattle.mtf_queue.proofs.test_topics.ranking_of.Goals.{then-contains+in_ok-push, else-contains}
 
 pub loop-doc-preserved : goal.loop-doc-preserved
 loop-doc-preserved c =

@@ -1,4 +1,4 @@
-use Rattle.mtf_queue.proofs.played.Topic.judge.Given as goal
+use Rattle.mtf_queue.proofs.test_topics.Topic.judge.Given as goal
 
 -- the ledger is the blank's
 abbrev pub ghosts-judge_counted : goal.ghosts-judge_counted

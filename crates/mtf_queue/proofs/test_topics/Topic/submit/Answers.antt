@@ -1,8 +1,8 @@
 use Rattle.std.proofs.Common.{◌<◌, ◌+◌, sym, ap, subst, ◌∙◌, take, refl}
 use Rattle.std.specs.List.{All}
 use Rattle.depth_pool.specs.Holdings.{Held, has_run, with_run}
-use Rattle.mtf_queue.proofs.Playing.{number_is_new, numbered_with_run}
-use Rattle.mtf_queue.proofs.played.Topic.submit.Goals as goal
+use Rattle.mtf_queue.proofs.TestTopicSteps.{number_is_new, numbered_with_run}
+use Rattle.mtf_queue.proofs.test_topics.Topic.submit.Goals as goal
 
 pub add-requires-clause-is_new : goal.add-requires-clause-is_new
 add-requires-clause-is_new c = ap (has_run (record { 0 = c.self.inside.next })) c.reserve.ensures.runs ∙ number_is_new c.self.inside.pool.runs c.self.inside.next c.self.invariant.numbered
