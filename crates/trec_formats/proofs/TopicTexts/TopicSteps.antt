@@ -10,9 +10,9 @@ use Rattle.trec_formats.specs.Lines.{is_filled}
 use Rattle.trec_formats.specs.Marks.{Mark, Opens, Closes, Numbers, Begins, Skips, Says, Marked}
 use Rattle.trec_formats.specs.TopicBlocks.{Progress, behind_end, block_behind, ended, new_block, progress_behind, still_open}
 use Rattle.trec_formats.specs.Topics.{AreSound, Numbered, fault_behind, inner_fault, is_close, next_mark, topic_of, unless_fault}
-use Rattle.trec_formats.proofs.BlockSteps.{Ends, IsBlockOf, Told, ends, opened_block, told}
-use Rattle.trec_formats.proofs.Pieces.{after_last-no, after_last-yes, split-grows, split-yes}
-use Rattle.trec_formats.proofs.TopicReadings.{sound_format}
+use Rattle.trec_formats.proofs.TopicTexts.BlockSteps.{Ends, IsBlockOf, Told, ends, opened_block, told}
+use Rattle.trec_formats.proofs.LineTexts.Pieces.{after_last-no, after_last-yes, split-grows, split-yes}
+use Rattle.trec_formats.proofs.TopicTexts.TopicReadings.{sound_format}
 
 -- the block that the reader has open stands for these lines
 abbrev pub IsOpen : Option Block → List Marked → Type 0

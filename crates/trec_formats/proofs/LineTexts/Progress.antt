@@ -5,7 +5,7 @@ use Rattle.trec_formats.specs.declared.faults.Kind.{Kind}
 use Rattle.trec_formats.specs.declared.faults.Kind.TheVariants.{Empty}
 use Rattle.trec_formats.specs.Faults.{IsReadAs}
 use Rattle.trec_formats.specs.Lines.{Row, lines_of, rows_from, rows_of}
-use Rattle.trec_formats.proofs.Readings.{IsFormat}
+use Rattle.trec_formats.proofs.LineTexts.Readings.{IsFormat}
 
 -- the rows in front are read as these lines, and the rest of the text is left, behind so many lines
 pub record IsReadTo {L : Type 0} (Good : List Row → List L → Type 0) (text : List ℕ) (number : ℕ) (rest : List ℕ) (lines : List L) : Type 0 where

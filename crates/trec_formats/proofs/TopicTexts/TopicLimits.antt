@@ -20,8 +20,8 @@ use Rattle.trec_formats.specs.Names.{is_between, is_name}
 use Rattle.trec_formats.specs.SoundTopics.{AreSoundTopics, is_kept, is_sound}
 use Rattle.trec_formats.specs.TopicBlocks.{Progress, begun_in, behind_end, block_behind, ended, ended_at, is_long_in, new_block, part_in, progress_behind, said_in, still_open, within_limits}
 use Rattle.trec_formats.specs.Topics.{Numbered, same_id, same_part}
-use Rattle.trec_formats.proofs.BlockSteps.{begun_number, begun_part, is_at, said_number, said_part}
-use Rattle.trec_formats.proofs.Repeats.{find_some}
+use Rattle.trec_formats.proofs.TopicTexts.BlockSteps.{begun_number, begun_part, is_at, said_number, said_part}
+use Rattle.trec_formats.proofs.RepeatedDocuments.Repeats.{find_some}
 
 abbrev pub is_shown : List ℕ → Bool
 is_shown text = list_all (is_between 32 126) text

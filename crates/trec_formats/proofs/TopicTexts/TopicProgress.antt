@@ -15,10 +15,10 @@ use Rattle.trec_formats.specs.Lines.{is_filled, lines_of}
 use Rattle.trec_formats.specs.Marks.{Marked, mark_of, marks_from, marks_of, stripped}
 use Rattle.trec_formats.specs.TopicBlocks.{Progress, finished_as, progress_behind}
 use Rattle.trec_formats.specs.Topics.{AreSound, IsEachBlockRead, Numbered, is_close, next_mark, topic_of}
-use Rattle.trec_formats.proofs.Cuts.{lines_of-nil}
-use Rattle.trec_formats.proofs.Pieces.{one_part}
-use Rattle.trec_formats.proofs.TopicLimits.{AreWithin, WithinNext, are_sound, none_within, within_next}
-use Rattle.trec_formats.proofs.TopicSteps.{AreReadAs, ToldNext, none_read, told_next}
+use Rattle.trec_formats.proofs.LineTexts.Cuts.{lines_of-nil}
+use Rattle.trec_formats.proofs.LineTexts.Pieces.{one_part}
+use Rattle.trec_formats.proofs.TopicTexts.TopicLimits.{AreWithin, WithinNext, are_sound, none_within, within_next}
+use Rattle.trec_formats.proofs.TopicTexts.TopicSteps.{AreReadAs, ToldNext, none_read, told_next}
 
 -- the lines in front are read as these topics and this block, and the rest of the text is left, behind so many lines
 pub record IsTopicsTo (text : List ℕ) (number : ℕ) (rest : List ℕ) (topics : List Numbered) (present : Option Block) : Type 0 where

@@ -10,7 +10,7 @@ use Rattle.trec_formats.specs.declared.faults.Kind.{Kind}
 use Rattle.trec_formats.specs.declared.faults.Kind.TheVariants.{TooLong}
 use Rattle.trec_formats.specs.Lines.{Row}
 use Rattle.trec_formats.specs.Runs.{AreRunLines, count_on, run_of, within}
-use Rattle.trec_formats.proofs.Readings.{IsFormat, Stand-push, Stand-same, Stand-none, CutLines, cut_lines}
+use Rattle.trec_formats.proofs.LineTexts.Readings.{IsFormat, Stand-push, Stand-same, Stand-none, CutLines, cut_lines}
 
 abbrev pub next_line : List RunLine → Row → Result RunLine Kind
 next_line before row = within before (run_of row)

@@ -16,8 +16,8 @@ use Rattle.trec_formats.specs.declared.runs.RunLine.{RunLine}
 use denote.Ref.{Bor}
 use Rattle.trec_formats.specs.Groups.{shown, topic_lt, AreByTopic, IsAscending, IsFirstGroup, IsGroupList, DocsDiffer}
 use Rattle.trec_formats.specs.Lists.{lines_on, AreLists, AreRanked, IsListOf, same_document}
-use Rattle.trec_formats.proofs.TopicOrder.{never_below_itself, is_above}
-use Rattle.trec_formats.proofs.Differing.{pairs_cons, pairs_head, pairs_tail, distinct_by_topic, distinct_from_differ, differ_from_distinct, unkept}
+use Rattle.trec_formats.proofs.RankedLists.TopicOrder.{never_below_itself, is_above}
+use Rattle.trec_formats.proofs.RepeatedDocuments.Differing.{pairs_cons, pairs_head, pairs_tail, distinct_by_topic, distinct_from_differ, differ_from_distinct, unkept}
 
 abbrev pub below : List ℕ → List ℕ → Type 0
 below s t = is_lt (slice_cmp nat_cmp s t) ≡ true

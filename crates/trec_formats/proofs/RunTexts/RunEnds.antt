@@ -11,9 +11,9 @@ use Rattle.trec_formats.specs.Lines.{fields_of, rows_of}
 use Rattle.trec_formats.specs.RunFields.{kept, empty_line, with_part, kept_fields}
 use Rattle.trec_formats.specs.RunStates.{IsFaulty, IsGoing}
 use Rattle.trec_formats.specs.Runs.{AreRunLines, IsRun, IsRunFault}
-use Rattle.trec_formats.proofs.KeptFields.{kept_more}
-use Rattle.trec_formats.proofs.RunFormat.{next_line, run_format}
-use Rattle.trec_formats.proofs.RunPieces.{EndsFaulty, EndsLine, in_hand_fields, in_hand_none, rows_at_end}
+use Rattle.trec_formats.proofs.RunTexts.KeptFields.{kept_more}
+use Rattle.trec_formats.proofs.RunTexts.RunFormat.{next_line, run_format}
+use Rattle.trec_formats.proofs.RunTexts.RunPieces.{EndsFaulty, EndsLine, in_hand_fields, in_hand_none, rows_at_end}
 
 -- no byte was read
 pub going_none : (ended : Ended) (line : KeptLine) (held : List ℕ) → ended.number ≡ 0 → ended.lines.items ≡ [] → ((topic : List ℕ) → count_at ended.counts topic ≡ 0) → line ≡ empty_line → held ≡ [] → IsGoing [] ended line held

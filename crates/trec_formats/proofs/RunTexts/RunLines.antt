@@ -16,8 +16,8 @@ use Rattle.trec_formats.specs.Lines.{Row}
 use Rattle.trec_formats.specs.RunFields.{kept_fields, line_of}
 use Rattle.trec_formats.specs.RunStates.{row_if, AreEnded, IsFaultBehind}
 use Rattle.trec_formats.specs.Runs.{count_on, run_of}
-use Rattle.trec_formats.proofs.KeptFields.{line_of-kept, no_fields}
-use Rattle.trec_formats.proofs.RunPieces.{EndsLine, EndsFaulty}
+use Rattle.trec_formats.proofs.RunTexts.KeptFields.{line_of-kept, no_fields}
+use Rattle.trec_formats.proofs.RunTexts.RunPieces.{EndsLine, EndsFaulty}
 
 pub if_fault_weaker : {X : Type 0} {P Q : FormatFault → Type 0} (r : Result X FormatEnd) → ((fault : FormatFault) → P fault → Q fault) → IfFault r P → IfFault r Q
 if_fault_weaker (Ok x) f p = tt

@@ -12,9 +12,9 @@ use Rattle.trec_formats.specs.Lines.{Row, is_filled, is_white_space, fields_of, 
 use Rattle.trec_formats.specs.RunFields.{kept, kept_fields, empty_line, with_part}
 use Rattle.trec_formats.specs.RunStates.{is_break, is_line_feed, row_if, AreEnded, IsFaultBehind, IsFaulty, IsGoing, IsInHand}
 use Rattle.trec_formats.specs.Runs.{AreRunLines, IsRunFault}
-use Rattle.trec_formats.proofs.KeptFields.{kept_more, kept_fields-part}
-use Rattle.trec_formats.proofs.Pieces.{split-yes, split-grows}
-use Rattle.trec_formats.proofs.RunFormat.{next_line}
+use Rattle.trec_formats.proofs.RunTexts.KeptFields.{kept_more, kept_fields-part}
+use Rattle.trec_formats.proofs.LineTexts.Pieces.{split-yes, split-grows}
+use Rattle.trec_formats.proofs.RunTexts.RunFormat.{next_line}
 
 -- no byte of a stretch ends a field
 abbrev pub is_solid_part : List ℕ → Bool

@@ -11,7 +11,7 @@ use Rattle.trec_formats.specs.declared.faults.Kind.TheVariants.{Twice}
 use Rattle.trec_formats.specs.Documents.{names, same_by, document_key, AreByDocument}
 use Rattle.decimal_rank.specs.Searches.{AreUnder}
 use Rattle.trec_formats.specs.Faults.{IsDistinct, IsTwice}
-use Rattle.trec_formats.proofs.Readings.{distinct_push, distinct_nil}
+use Rattle.trec_formats.proofs.LineTexts.Readings.{distinct_push, distinct_nil}
 
 find_some_step : {X : Type 0} (p : X → Bool) (x : X) (xs : List X) (t : Bool) → p x ≡ t → list_any p (x ∷ xs) ≡ true → (list_any p xs ≡ true → (y : X) × (find p xs ≡ Some y)) → (y : X) × (find p (x ∷ xs) ≡ Some y)
 find_some_step p x xs true is some rest = (x, rw is refl)

@@ -14,7 +14,7 @@ use Rattle.trec_formats.specs.declared.runs.RunLine.{RunLine}
 use Rattle.trec_formats.specs.Faults.{IsDistinct}
 use Rattle.trec_formats.specs.Groups.{DocsDiffer}
 use Rattle.trec_formats.specs.Lists.{same_document, lines_on}
-use Rattle.trec_formats.proofs.Repeats.{find_some}
+use Rattle.trec_formats.proofs.RepeatedDocuments.Repeats.{find_some}
 
 pub pairs_cons : {X : Type 0} (R : X → X → Type 0) (x : X) (xs : List X) → All (R x) xs → AllPairs R xs → AllPairs R (x ∷ xs)
 pairs_cons R x xs first rest zero zero d below within = absurd (omega arith)

@@ -8,7 +8,7 @@ use Rattle.trec_formats.specs.declared.faults.Kind.TheVariants as kinds
 use Rattle.trec_formats.specs.Lines.{is_filled}
 use Rattle.trec_formats.specs.Marks.{Marked}
 use Rattle.trec_formats.specs.Topics.{AreSound, IsBlocksReading, Numbered, fault_behind, is_close, next_mark, topics_in, unless_fault}
-use Rattle.trec_formats.proofs.Readings.{IsFormat, LiesIn, cut_nil, one_reading, push_cut}
+use Rattle.trec_formats.proofs.LineTexts.Readings.{IsFormat, LiesIn, cut_nil, one_reading, push_cut}
 
 unless_ok : (line other : Marked) (o : Option Kind) → unless_fault line o ≡ Ok other → other ≡ line
 unless_ok line other None is = let e : ◌≡◌ {A = Result Marked Kind} (Ok line) (Ok other) = is in let same : line ≡ other = cc e in sym same

@@ -20,29 +20,14 @@ use Rattle.std.specs.Str.{bytes_eq}
 use denote.Ref.{Bor}
 use Rattle.decimal_rank.specs.Decimal.{decimal_cmp}
 use Rattle.decimal_rank.specs.Ranks.{Standing, standing_cmp, stands_before, rank_in}
-use Rattle.decimal_rank.proofs.Standing.{Strictly, count-before}
+use Rattle.decimal_rank.proofs.Standings.Standing.{Strictly, count-before, count_by-map, one_docno}
 use Rattle.trec_formats.specs.declared.runs.RunLine.{RunLine}
 use Rattle.trec_formats.specs.Groups.{shown, AreByRank, DocsDiffer}
 use Rattle.trec_formats.specs.Lists.{AreRanked, standing}
 
-count_by-map : {X Y : Type 0} (f : X → Y) (p : Y → Bool) (xs : List X) → count_by p (map f xs) ≡ count_by (λ x. p (f x)) xs
-count_by-map f p [] = refl
-count_by-map f p (x ∷ xs) =
-    sum_by-cons (λ y. cond (p y) 1 0) (f x) (map f xs) ∙ ap (λ n. cond (p (f x)) 1 0 + n) (count_by-map f p xs) ∙ sym (sum_by-cons (λ y. cond (p (f y)) 1 0) x xs)
-
 standing_total : IsTotalOrder decimal_cmp → IsTotalOrder standing_cmp
 unfolding standing_cmp
 standing_total total = then_total (on_total (λ d. d.score) total) (on_total (λ d. d.docno) nat_list_cmp_total)
-
-second_equal : (r s : Ordering) → ordering_then r s ≡ Equal → s ≡ Equal
-second_equal Less s e = cc
-second_equal Equal s e = e
-second_equal Greater s e = cc
-
--- what stands equal has one docno
-one_docno : (s t : Standing) → standing_cmp s t ≡ Equal → s.docno ≡ t.docno
-unfolding standing_cmp
-one_docno s t e = exact_bytes s.docno t.docno (second_equal (decimal_cmp s.score t.score) (slice_cmp nat_cmp s.docno t.docno) e)
 
 abbrev doc_of : RunLine → List ℕ
 doc_of line = line.doc

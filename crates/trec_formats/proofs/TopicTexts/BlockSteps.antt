@@ -12,7 +12,7 @@ use Rattle.trec_formats.specs.Marks.{Opens, Closes, Numbers, Begins, Skips, Says
 use Rattle.trec_formats.specs.Names.{is_name}
 use Rattle.trec_formats.specs.TopicBlocks.{begun_in, block_behind, ended, ended_at, is_long_in, part_in, said_at, said_in, within_limits}
 use Rattle.trec_formats.specs.Topics.{Numbered, has_part, inner_fault, is_long, length_fault, number_of, same_part, text_of, texts_of, topic_of}
-use Rattle.trec_formats.proofs.BlockTexts.{is_says, starts, goes_on, goes_on_begun, goes_on_ends, goes_on_has, goes_on_more, joined, joined_push, number_kept, number_new, same_part-true, texts_begun, texts_kept, texts_more}
+use Rattle.trec_formats.proofs.TopicTexts.BlockTexts.{is_says, starts, goes_on, goes_on_begun, goes_on_ends, goes_on_has, goes_on_more, joined, joined_push, number_kept, number_new, same_part-true, texts_begun, texts_kept, texts_more}
 
 -- the kept text of a part with these texts, where it was begun
 abbrev pub kept_text : List (List ℕ) → Option (List ℕ)

@@ -12,8 +12,8 @@ use Rattle.trec_formats.specs.declared.run_reader.Ended.{Ended}
 use Rattle.trec_formats.specs.Lines.{is_white_space}
 use Rattle.trec_formats.specs.RunFields.{kept, empty_line, with_part}
 use Rattle.trec_formats.specs.RunStates.{is_break, is_line_feed, IsFaulty, IsGoing}
-use Rattle.trec_formats.proofs.Cuts.{none_past}
-use Rattle.trec_formats.proofs.RunPieces.{EndsFaulty, EndsLine, faulty_line, faulty_more, going_line, going_part, going_white, is_solid_part}
+use Rattle.trec_formats.proofs.LineTexts.Cuts.{none_past}
+use Rattle.trec_formats.proofs.RunTexts.RunPieces.{EndsFaulty, EndsLine, faulty_line, faulty_more, going_line, going_part, going_white, is_solid_part}
 
 solid_step : (b : ℕ) (bytes : List ℕ) (t : Bool) → is_break b ≡ t → is_solid_part (take (position_or_len is_break bytes) bytes) ≡ true → is_solid_part (take (position_or_len is_break (b ∷ bytes)) (b ∷ bytes)) ≡ true
 solid_step b bytes true is rest = rw is refl
