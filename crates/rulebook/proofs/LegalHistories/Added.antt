@@ -21,8 +21,8 @@ use Rattle.rulebook.specs.Legal.{IsAccepted, IsFounding, IsLegal, core_of, is_we
 use Rattle.rulebook.specs.Refusals.{Ruling}
 use Rattle.rulebook.specs.Roles.{may_give}
 use Rattle.rulebook.specs.Spelling.{command_bytes, entry_bytes, has_spelling, is_number, is_plain, number_bytes}
-use Rattle.rulebook.proofs.AllPass.{both, first_of_both, second_of_both}
-use Rattle.rulebook.proofs.LegalWalk.{IsUnused, legal_induction, legal_more, unused_of}
+use Rattle.rulebook.proofs.Elements.AllPass.{both, first_of_both, second_of_both}
+use Rattle.rulebook.proofs.LegalHistories.LegalWalk.{IsUnused, legal_induction, legal_more, unused_of}
 
 -- Moments
 

@@ -30,10 +30,10 @@ use Rattle.rulebook.specs.Legal.{IsAccepted, IsLegal, founding}
 use Rattle.rulebook.specs.Refusals.{Ruling, ◌when◌, unless, wrong_phase_unless}
 use Rattle.rulebook.specs.Spelling.{are_rules, command_bytes, entry_bytes, is_ascending, is_number, is_plain, number_bytes, rules_bytes, short}
 use Rattle.rulebook.specs.Words.{Text}
-use Rattle.rulebook.proofs.Added.{accepted_room, entry_size, given_of}
-use Rattle.rulebook.proofs.AllPass.{all_head, all_tail, first_of_both, second_of_both}
-use Rattle.rulebook.proofs.GrantedLeases.{passed}
-use Rattle.rulebook.proofs.LegalWalk.{accepted_of, legal_induction}
+use Rattle.rulebook.proofs.LegalHistories.Added.{accepted_room, entry_size, given_of}
+use Rattle.rulebook.proofs.Elements.AllPass.{all_head, all_tail, first_of_both, second_of_both}
+use Rattle.rulebook.proofs.LegalHistories.GrantedLeases.{passed}
+use Rattle.rulebook.proofs.LegalHistories.LegalWalk.{accepted_of, legal_induction}
 
 pub entries_few : (H : History) → IsLegal H → length H ≤ MAX_ENTRIES
 entries_few =

@@ -13,8 +13,8 @@ use Rattle.rulebook.specs.Facts.{grade_by}
 use Rattle.rulebook.specs.Grades.{Label, is_on, label_of, labels_on}
 use Rattle.rulebook.specs.Legal.{IsAccepted, IsFounding, IsLegal}
 use Rattle.rulebook.specs.Words.{Text, last_given}
-use Rattle.rulebook.proofs.Entering.{label-joins, labels-stay, last-given-pushed}
-use Rattle.rulebook.proofs.LegalWalk.{legal_induction}
+use Rattle.rulebook.proofs.Judgements.Entering.{label-joins, labels-stay, last-given-pushed}
+use Rattle.rulebook.proofs.LegalHistories.LegalWalk.{legal_induction}
 
 -- the grade of an assessor's label, after some assessor gives a grade
 abbrev Follows : Text → Text → ℕ → List Given → Type 0

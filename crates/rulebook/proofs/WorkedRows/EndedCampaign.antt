@@ -12,8 +12,8 @@ use Rattle.rulebook.specs.Words.{Text}
 use Rattle.rulebook.specs.Answers.{Answer, answer}
 use Rattle.rulebook.specs.Campaign.{History, live, phase, pool}
 use Rattle.rulebook.specs.Grades.{relevant_count, non_relevant_count}
-use Rattle.rulebook.proofs.SmallCampaign.{X, group, organiser, with_topic}
-use Rattle.rulebook.proofs.JudgedCampaign.{after, all_graded, c_leased, lease, leased, p, q, refused, replied, told_at}
+use Rattle.rulebook.proofs.WorkedRows.SmallCampaign.{X, group, organiser, with_topic}
+use Rattle.rulebook.proofs.WorkedRows.JudgedCampaign.{after, all_graded, c_leased, lease, leased, p, q, refused, replied, told_at}
 
 -- Numbered requests: the sixth entry is a grade under the number 7.
 

@@ -24,7 +24,7 @@ use Rattle.rulebook.specs.Answers.{answer, moment_after}
 use Rattle.rulebook.specs.Grades.{effective, trail}
 use Rattle.rulebook.specs.JudgingOrder.{first_of}
 use Rattle.rulebook.specs.Scores.{run_named, summary_on}
-use Rattle.rulebook.proofs.SmallCampaign.{after as after_at_1000, campaign, group, opened, organiser, pooling, rules, submitted}
+use Rattle.rulebook.proofs.WorkedRows.SmallCampaign.{after as after_at_1000, campaign, group, opened, organiser, pooling, rules, submitted}
 
 abbrev assessor : Text → Caller
 assessor name = record { name = name; role = Assessor }

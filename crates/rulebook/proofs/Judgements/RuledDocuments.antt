@@ -21,9 +21,9 @@ use Rattle.rulebook.specs.Grades.{effective, is_labelled, labelled, labels_on, r
 use Rattle.rulebook.specs.Legal.{IsAccepted, IsFounding, IsLegal}
 use Rattle.rulebook.specs.Refusals.{Ruling, ◌when◌, unless, wrong_phase_unless}
 use Rattle.rulebook.specs.Words.{Text, contains_text}
-use Rattle.rulebook.proofs.LegalWalk.{accepted_of, legal_induction}
-use Rattle.rulebook.proofs.Entering.{graded-on-trail, passes-among, rulings-follow}
-use Rattle.rulebook.proofs.Listing.{labelled-grow, listed-labelled}
+use Rattle.rulebook.proofs.LegalHistories.LegalWalk.{accepted_of, legal_induction}
+use Rattle.rulebook.proofs.Judgements.Entering.{graded-on-trail, passes-among, rulings-follow}
+use Rattle.rulebook.proofs.Judgements.Listing.{labelled-grow, listed-labelled}
 
 -- what is accepted passed its third test
 pub third-passes : (a b : Option Refusal) (r : Refusal) (t : Bool) (rest : List (Option Refusal)) (ruling : Ruling) (told : Reply) → unless (a ∷ b ∷ (r when not t) ∷ rest) ruling ≡ Ok told → t ≡ true

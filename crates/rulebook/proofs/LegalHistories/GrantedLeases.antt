@@ -25,8 +25,8 @@ use Rattle.rulebook.specs.Legal.{IsAccepted, IsFounding, IsLegal}
 use Rattle.rulebook.specs.Refusals.{Ruling, given, unless, ◌when◌}
 use Rattle.rulebook.specs.Scores.{run_named}
 use Rattle.rulebook.specs.Words.{Text}
-use Rattle.rulebook.proofs.LegalWalk.{accepted_of, legal_induction}
-use Rattle.rulebook.proofs.Passing.{count, count_none, count_pushed, count_single}
+use Rattle.rulebook.proofs.LegalHistories.LegalWalk.{accepted_of, legal_induction}
+use Rattle.rulebook.proofs.Elements.Passing.{count, count_none, count_pushed, count_single}
 
 -- What is accepted follows its refusals, none of which held.
 

@@ -16,10 +16,10 @@ use Rattle.rulebook.specs.Campaign.{History}
 use Rattle.rulebook.specs.Legal.{IsAccepted, IsFounding, IsLegal, founding}
 use Rattle.rulebook.specs.Numbers.{is_numbered, used}
 use Rattle.rulebook.specs.Words.{Text}
-use Rattle.rulebook.proofs.Added.{accepted_reply}
-use Rattle.rulebook.proofs.AllPass.{first_of_both, second_of_both}
-use Rattle.rulebook.proofs.LegalWalk.{accepted_of, legal_induction}
-use Rattle.rulebook.proofs.Passing.{count, count_none, count_pushed, count_single}
+use Rattle.rulebook.proofs.LegalHistories.Added.{accepted_reply}
+use Rattle.rulebook.proofs.Elements.AllPass.{first_of_both, second_of_both}
+use Rattle.rulebook.proofs.LegalHistories.LegalWalk.{accepted_of, legal_induction}
+use Rattle.rulebook.proofs.Elements.Passing.{count, count_none, count_pushed, count_single}
 
 abbrev placed_from : Text → ℕ → ℕ → History → Option (ℕ × Entry)
 placed_from name number n H = find (λ (p : ℕ × Entry). is_numbered name number p.1) (enumerate_from n H)

@@ -4,7 +4,7 @@ use Rattle.std.specs.Prelude.{All, IsTrue}
 use Rattle.std.specs.List.{enumerate_from}
 use Rattle.std.proofs.lemmas.List.Sums.{AllPass-from_list_all}
 use Rattle.rulebook.specs.Campaign.{History, Run, is_withdrawn, live, numbered, runs}
-use Rattle.rulebook.proofs.AllPass.{all_images, all_passed}
+use Rattle.rulebook.proofs.Elements.AllPass.{all_images, all_passed}
 
 pub live_unwithdrawn : (H : History) → All (λ run. IsTrue (not (is_withdrawn H run.name))) (live H)
 live_unwithdrawn H =

@@ -26,13 +26,13 @@ use Rattle.rulebook.specs.Leases.{Lease, ends, has_lease, is_ended, is_live, lea
 use Rattle.rulebook.specs.Legal.{IsAccepted, IsFounding, IsLegal}
 use Rattle.rulebook.specs.Refusals.{wrong_phase_unless, ◌when◌}
 use Rattle.rulebook.specs.Words.{Text}
-use Rattle.rulebook.proofs.Added.{moment_pushed}
-use Rattle.rulebook.proofs.AllPass.{both, first_of_both, second_of_both}
-use Rattle.rulebook.proofs.Entering.{label-joins, labels-stay}
-use Rattle.rulebook.proofs.GrantedLeases.{IsGranted, grade_told, leases_pushed, named_lease, other_told}
-use Rattle.rulebook.proofs.LegalWalk.{accepted_of, legal_induction}
-use Rattle.rulebook.proofs.Passing.{count, count_fewer, count_one_fewer, count_pushed}
-use Rattle.rulebook.proofs.RuledDocuments.{third-passes}
+use Rattle.rulebook.proofs.LegalHistories.Added.{moment_pushed}
+use Rattle.rulebook.proofs.Elements.AllPass.{both, first_of_both, second_of_both}
+use Rattle.rulebook.proofs.Judgements.Entering.{label-joins, labels-stay}
+use Rattle.rulebook.proofs.LegalHistories.GrantedLeases.{IsGranted, grade_told, leases_pushed, named_lease, other_told}
+use Rattle.rulebook.proofs.LegalHistories.LegalWalk.{accepted_of, legal_induction}
+use Rattle.rulebook.proofs.Elements.Passing.{count, count_fewer, count_one_fewer, count_pushed}
+use Rattle.rulebook.proofs.Judgements.RuledDocuments.{third-passes}
 
 -- Live leases on a document, as one count.
 

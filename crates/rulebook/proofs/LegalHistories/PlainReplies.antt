@@ -37,8 +37,8 @@ use Rattle.rulebook.specs.SameCommands.{same_command}
 use Rattle.rulebook.specs.Scores.{run_named, scores_page, table_page}
 use Rattle.rulebook.specs.Spelling.{are_rules, differ, entry_bytes, has_spelling, is_ascending, is_number, is_plain, is_plain_list, is_plain_topic, is_printable}
 use Rattle.rulebook.specs.Words.{Text}
-use Rattle.rulebook.proofs.AllPass.{all_filtered, all_found, all_images, all_given, all_got, all_in_order, all_mapped_flat, all_numbered, all_pushed, all_taken, both, first_of_both, second_of_both}
-use Rattle.rulebook.proofs.LegalWalk.{accepted_of, legal_induction}
+use Rattle.rulebook.proofs.Elements.AllPass.{all_filtered, all_found, all_images, all_given, all_got, all_in_order, all_mapped_flat, all_numbered, all_pushed, all_taken, both, first_of_both, second_of_both}
+use Rattle.rulebook.proofs.LegalHistories.LegalWalk.{accepted_of, legal_induction}
 
 abbrev pub ArePlain : History → Type 0
 ArePlain H = list_all is_plain_entry H ≡ true

@@ -14,7 +14,7 @@ use Rattle.labels.specs.Labelled.{with_label}
 use Rattle.rulebook.specs.Words.{Text, contains_text, each_once, prefixes}
 use Rattle.rulebook.specs.Campaign.{History}
 use Rattle.rulebook.specs.Grades.{Label, effective, given_labels, graded, is_labelled, is_on, label_of, labelled, trail}
-use Rattle.rulebook.proofs.Entering.{all-among, all-stay-among, graded-on-trail, passes-among}
+use Rattle.rulebook.proofs.Judgements.Entering.{all-among, all-stay-among, graded-on-trail, passes-among}
 
 decided : (s t : Bool) → (s ≡ true → t ≡ true) → (t ≡ true → s ≡ true) → s ≡ t
 decided true t there back = sym (there refl)
