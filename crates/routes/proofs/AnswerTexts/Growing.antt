@@ -5,20 +5,8 @@ use Rattle.std.specs.List.{flat_map, join_with_byte, list_all}
 use Rattle.std.proofs.Math.Seq.{take-append_seam}
 use Rattle.std.proofs.lemmas.List.{drop-append-le, drop_at, take-append-le, take_all, take_at}
 use Rattle.routes.specs.Answers.{escaped, escaped_byte, quoted}
-use Rattle.routes.specs.Parts.{is_unmarked_byte}
+use Rattle.routes.specs.AnswerParts.{is_unmarked_byte}
 use Rattle.std.proofs.lemmas.Bool.{and_parts}
-
-pub part_added : (first all before part rest after : List ℕ) → first ++ all ≡ before ++ (part ++ rest) → after ≡ before ++ part → first ++ all ≡ after ++ rest
-part_added first all before part rest after bytes is = bytes ∙ sym (append_assoc before part rest) ∙ ap (λ text. text ++ rest) (sym is)
-
-pub part_fits : (first all before part rest : List ℕ) (room : ℕ) → first ++ all ≡ before ++ (part ++ rest) → length first + length all ≤ room → length before + length part ≤ room
-part_fits first all before part rest room bytes fits =
-    omega (arith, ap length bytes, length-append first all, length-append before (part ++ rest), length-append part rest)
-
--- what was there at first stands in front
-pub first_kept : (first all before rest : List ℕ) → first ++ all ≡ before ++ rest → length first ≤ length before → take (length first) before ≡ first
-first_kept first all before rest bytes grown =
-    sym (take-append-le (length first) before rest grown) ∙ ap (take (length first)) (sym bytes) ∙ take-append_seam first all
 
 -- what the first of some items comes to
 pub first_of : {X : Type 0} (f : X → List ℕ) (items : List X) (first : X) → slice_get items 0 ≡ Some first → flat_map f items ≡ f first ++ flat_map f (drop 1 items)

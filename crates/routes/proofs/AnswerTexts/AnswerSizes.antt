@@ -13,7 +13,7 @@ use Rattle.rulebook.specs.declared.reply.Refusal.TheVariants as refusal
 use Rattle.rulebook.specs.Spelling.{is_printable}
 use Rattle.routes.specs.declared.answers.Answered.{Answered}
 use Rattle.routes.specs.Answers.{body_of, detail, escaped, field_before, field_behind, format_body, graded_body, is_json, leased_body, refusal_body, status_of, submitted_body, text_of, topics_body}
-use Rattle.routes.proofs.Addressed.{name_short, docno_short}
+use Rattle.routes.proofs.Requests.Addressed.{name_short, docno_short}
 
 pub decimal_short : (n : ℕ) → n < 2 ^ 64 → length (decimal n) ≤ 20
 decimal_short n small = length-decimal-le 20 n (lit< tt) (omega (arith, small)) small

@@ -1,4 +1,4 @@
--- The parts of a body, as they are found.
+-- The parts of an answer that the code puts together, and their bytes.
 use Rattle.std.specs.Prelude.{ℕ, Bool, not, ◌==◌, ◌&&◌, List, decimal, map}
 use Rattle.std.specs.List.{join_with_byte}
 use Rattle.routes.specs.declared.growth.Part.{Part}

@@ -18,8 +18,8 @@ use Rattle.trec_formats.specs.declared.runs.RunLine.{RunLine}
 use Rattle.trec_formats.specs.Faults.{ExactlyOne}
 use Rattle.trec_formats.specs.Lists.{AreLists, AreRanked, IsListOf, IsRankableReading, lines_on, standing}
 use Rattle.trec_formats.specs.Topics.{IsTopicsReading, Numbered}
-use Rattle.trec_formats.proofs.Differing.{differ_from_distinct}
-use Rattle.trec_formats.proofs.TopicOrder.{never_below_itself}
+use Rattle.trec_formats.proofs.RepeatedDocuments.Differing.{differ_from_distinct}
+use Rattle.trec_formats.proofs.RankedLists.TopicOrder.{never_below_itself}
 use Rattle.rulebook.specs.declared.ask.Ask.{Ask}
 use Rattle.rulebook.specs.declared.ask.Ask.TheVariants.{Act}
 use Rattle.rulebook.specs.declared.ask.Command.TheVariants as command
@@ -31,8 +31,8 @@ use Rattle.routes.specs.declared.places.Question.TheVariants as question
 use Rattle.routes.specs.Asks.{Asked, Asks, AsksSubmit, AsksTopics, Reads, ReadsBehind, asking}
 use Rattle.routes.specs.Openings.{Opening, opening_of}
 use Rattle.routes.specs.Places.{parameter}
-use Rattle.routes.proofs.Permuted.{pairs_head, pairs_tail, all_tail}
-use Rattle.routes.proofs.RunRequests.{all_map, docs_permuted, pairs_map}
+use Rattle.routes.proofs.PathTable.SameElements.{pairs_head, pairs_tail, all_tail}
+use Rattle.routes.proofs.Requests.RunRequests.{all_map, docs_permuted, pairs_map}
 
 -- The documents of a ranked list
 

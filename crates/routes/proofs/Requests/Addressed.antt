@@ -36,9 +36,9 @@ use Rattle.routes.specs.Bodies.{json_of, Judgement, a_docno, doc_at, grade_at, g
 use Rattle.routes.specs.Faults.{or_fault}
 use Rattle.routes.specs.Keys.{caller}
 use Rattle.routes.specs.Places.{is_path_number}
-use Rattle.routes.proofs.RunRequests.{lists_are_plain, few_items, pairs_map, differ_once}
-use Rattle.routes.proofs.TableRows.{lets, suits}
-use Rattle.routes.proofs.TopicSizes.{topics_short}
+use Rattle.routes.proofs.Requests.RunRequests.{lists_are_plain, few_items, pairs_map, differ_once}
+use Rattle.routes.proofs.PathTable.TableRows.{lets, suits}
+use Rattle.routes.proofs.Requests.TopicSizes.{topics_short}
 
 -- Sizes
 

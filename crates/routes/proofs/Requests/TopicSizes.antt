@@ -9,12 +9,12 @@ use Rattle.std.proofs.lemmas.List.Concat.{length-flat_map}
 use Rattle.std.proofs.lemmas.List.Sums.{sum_by-cons}
 use Rattle.std.proofs.lemmas.Slice.Eq.{bytes_eq-Decides}
 use Rattle.trec_formats.specs.declared.topics.Topic.{Topic}
-use Rattle.trec_formats.proofs.BlockTexts.{same_part-true, same_part-refl}
+use Rattle.trec_formats.proofs.TopicTexts.BlockTexts.{same_part-true, same_part-refl}
 use Rattle.trec_formats.specs.Lines.{is_white_space, is_filled, lines_of}
 use Rattle.trec_formats.specs.Marks.{Mark, Opens, Closes, Numbers, Begins, Skips, Says, Marked, front_stripped, stripped, behind, unlabelled, begins_with, is_tag, other_mark, field_mark, mark_of, marks_from, marks_of, shown_byte}
 use Rattle.trec_formats.specs.Topics.{Numbered, number_of, said, texts_of, text_of, topic_of, topics_in, is_close, IsTopics, same_part}
 use Rattle.rulebook.specs.Spelling.{listed, topic_bytes}
-use Rattle.routes.proofs.RunLines.{size_of, sizes, lines_sizes, sum_by-filter-le}
+use Rattle.routes.proofs.Requests.RunLines.{size_of, sizes, lines_sizes, sum_by-filter-le}
 
 -- Lines and their marks
 

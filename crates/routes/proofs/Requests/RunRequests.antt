@@ -20,12 +20,12 @@ use Rattle.trec_formats.specs.Names.{is_name, is_docno, is_between}
 use Rattle.trec_formats.specs.Runs.{count_on}
 use Rattle.trec_formats.specs.declared.lists.TopicList.{TopicList}
 use Rattle.trec_formats.specs.declared.runs.RunLine.{RunLine}
-use Rattle.trec_formats.proofs.Differing.{differ_from_distinct, pairs_cons}
-use Rattle.trec_formats.proofs.TopicOrder.{never_below_itself}
+use Rattle.trec_formats.proofs.RepeatedDocuments.Differing.{differ_from_distinct, pairs_cons}
+use Rattle.trec_formats.proofs.RankedLists.TopicOrder.{never_below_itself}
 use Rattle.rulebook.specs.Spelling.{is_plain_list, is_ascending, differ, short, listed, list_bytes}
 use Rattle.rulebook.specs.Words.{contains_text}
-use Rattle.routes.proofs.Permuted.{permuted, pairs_head, pairs_tail, all_tail}
-use Rattle.routes.proofs.RunLines.{good_lines, is_good, is_up_to, line_size, all_kept, all_pass}
+use Rattle.routes.proofs.PathTable.SameElements.{permuted, pairs_head, pairs_tail, all_tail}
+use Rattle.routes.proofs.Requests.RunLines.{good_lines, is_good, is_up_to, line_size, all_kept, all_pass}
 
 -- what is so of the lists of a run's text
 pub record ArePlain (text : List ℕ) (lists : List TopicList) : Type 0 where

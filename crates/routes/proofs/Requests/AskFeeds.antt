@@ -26,8 +26,8 @@ use Rattle.routes.specs.Asks.{Asked, Asks, HasSoundTopics, Reads, ReadsBehind, f
 use Rattle.routes.specs.Faults.{IsRead, OfFault}
 use Rattle.routes.specs.Openings.{Opening, opening_of}
 use Rattle.routes.specs.Places.{parameter}
-use Rattle.routes.proofs.Addressed.{addressed_at}
-use Rattle.routes.proofs.TableRows.{parameter_is, role_is}
+use Rattle.routes.proofs.Requests.Addressed.{addressed_at}
+use Rattle.routes.proofs.PathTable.TableRows.{parameter_is, role_is}
 
 pub or_failed : (progress : Progress) (P : Type 0) → progress ≢ Failed → OrFailed progress P → P
 or_failed (Going opened) P other w = w

@@ -17,7 +17,7 @@ use Rattle.routes.specs.Asks.{Asks}
 use Rattle.routes.specs.Bodies.{json_of, Judgement, grade_in, judgement_in}
 use Rattle.routes.specs.Faults.{or_fault}
 use Rattle.routes.specs.RoleRules.{rules_let, RolesAreTheRules}
-use Rattle.routes.proofs.TableRows.{lets, role_is}
+use Rattle.routes.proofs.PathTable.TableRows.{lets, role_is}
 
 -- where an ask is this one, its roles are those
 same_roles : (role : Role) (b : Bool) (wanted ask : Ask) → b ≡ rules_let role wanted → wanted ≡ ask → b ≡ rules_let role ask
