@@ -12,7 +12,7 @@ use Rattle.rulebook.specs.Spelling.{are_rules, differ, is_ascending, is_plain_li
 use Rattle.rulebook.specs.Words.{Text}
 use Rattle.record_codec.specs.Readings.{any_count, are_in_range, docs_at, doubles_at, few_doubles, ids_differ, is_length, is_some_count, list_at, list_of, lists_at, rules_at, rules_of, settings_at, topic_at, topic_of, topics_ascend, topics_at}
 use Rattle.record_codec.proofs.Codes.{Codes, both, byte_codes, changed, four_texts, like, listed_codes, number_codes, tested, wide16, wide32, wide64}
-use Rattle.record_codec.proofs.KnownTexts.{docno_codes, name_codes, printable_codes}
+use Rattle.record_codec.proofs.TextCodes.{docno_codes, name_codes, printable_codes}
 use Rattle.record_codec.proofs.ShortTexts.{between_most}
 
 -- Tests of each element

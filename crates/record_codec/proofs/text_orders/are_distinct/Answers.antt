@@ -1,8 +1,8 @@
 use Rattle.std.proofs.Common.{sym, ap, ◌∙◌}
 use Rattle.std.specs.Prelude.{is_some}
 use Rattle.std.proofs.lemmas.Map.Text.{hash_map_updates_str}
-use Rattle.record_codec.proofs.DifferingTexts.{seen_next, seen_twice, text_at}
-use Rattle.record_codec.proofs.differing.are_distinct.Goals as goal
+use Rattle.record_codec.proofs.DistinctTexts.{seen_next, seen_twice, text_at}
+use Rattle.record_codec.proofs.text_orders.are_distinct.Goals as goal
 
 pub returns-in-Some : goal.returns-in-Some
 returns-in-Some c =

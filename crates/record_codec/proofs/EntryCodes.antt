@@ -20,8 +20,8 @@ use Rattle.record_codec.specs.Laws.{OneSpelling}
 use Rattle.record_codec.specs.Outcomes.{Finds, OnNoEntry}
 use Rattle.record_codec.specs.Readings.{Read, amend_of, byte_at, command_at, command_of, core_of, entry_at, entry_of, grade_of, graded_doc_at, graded_lease_at, made, rule_of, run_at, submit_of, topics_ascend}
 use Rattle.record_codec.proofs.Codes.{Codes, IsBytes, IsBytes-behind, bind_some, both, byte_codes, changed, four_texts, like, map_some, number_codes, test_some, wide32}
-use Rattle.record_codec.proofs.KnownTexts.{caller_bytes, caller_codes, docno_codes, moment_codes, name_codes, pick, request_codes}
-use Rattle.record_codec.proofs.KnownLists.{are_lists, lists_codes, rules_codes, topics_codes}
+use Rattle.record_codec.proofs.TextCodes.{caller_bytes, caller_codes, docno_codes, moment_codes, name_codes, pick, request_codes}
+use Rattle.record_codec.proofs.ListCodes.{are_lists, lists_codes, rules_codes, topics_codes}
 
 -- The fields of commands
 

@@ -9,15 +9,15 @@ use crate::faults::CodecFault;
 /// The bytes that are not read yet. Each call takes what it reads from their front; what stands there
 /// after a fault is not said.
 #[derive(Clone, Copy)]
-pub(crate) struct Unread<'a> {
+pub(crate) struct Cursor<'a> {
     bytes: &'a [u8],
 }
 
-impl<'a> Unread<'a> {
-    pub(crate) fn new(bytes: &'a [u8]) -> Unread<'a>
+impl<'a> Cursor<'a> {
+    pub(crate) fn new(bytes: &'a [u8]) -> Cursor<'a>
         ensures { result.bytes.now ≡ bytes.entry.now }
     {
-        Unread { bytes }
+        Cursor { bytes }
     }
 
     pub(crate) fn is_at_end(&self) -> bool

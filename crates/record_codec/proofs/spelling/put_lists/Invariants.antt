@@ -3,7 +3,7 @@ use Rattle.std.proofs.Common.{◌≡◌, ◌++◌, length, take}
 use Rattle.std.specs.Int.{w32, to_le_bytes}
 use Rattle.std.specs.List.{flat_map}
 use Rattle.rulebook.specs.Spelling.{list_bytes}
-use Rattle.record_codec.proofs.writing.put_lists.Given as goal
+use Rattle.record_codec.proofs.spelling.put_lists.Given as goal
 
 abbrev pub invariant-loop-list : goal.invariant-loop-list
 invariant-loop-list l =

@@ -3,7 +3,7 @@ use Rattle.std.proofs.Common.{◌≡◌, ◌++◌, length, take}
 use Rattle.std.specs.Int.{w32, to_le_bytes}
 use Rattle.std.specs.List.{flat_map}
 use Rattle.rulebook.specs.Spelling.{topic_bytes}
-use Rattle.record_codec.proofs.writing.put_topics.Given as goal
+use Rattle.record_codec.proofs.spelling.put_topics.Given as goal
 
 abbrev pub invariant-loop-topic : goal.invariant-loop-topic
 invariant-loop-topic l =
