@@ -3,7 +3,7 @@
 ghost use Rattle.std.specs.Prelude.{◌≡◌, ℕ, ◌+◌, ◌≤◌, ◌^◌, List, length, take, OnOk};
 ghost use Rattle.decimal_rank.specs.Causes.{HasCause};
 ghost use Rattle.disk_model.specs.Disks.{CutShort, EachMoment, Follows, Torn, written};
-ghost use Rattle.journal.specs.Synced.{ReachesTo, WithStep};
+ghost use Rattle.journal.specs.DiskSteps.{ReachesTo, WithStep};
 
 use disk_model::{Disk, Failed};
 

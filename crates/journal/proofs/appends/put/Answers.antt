@@ -6,7 +6,7 @@ use Rattle.journal.specs.Moments.{joined}
 use Rattle.journal.specs.declared.dues.Due.TheVariants.{Gate}
 use Rattle.journal.proofs.Keeping.{on_err}
 use Rattle.journal.proofs.Steps.{staged_reaches}
-use Rattle.journal.proofs.appending.put.Goals as goal
+use Rattle.journal.proofs.appends.put.Goals as goal
 
 pub open_gate-requires-clause-within : goal.open_gate-requires-clause-within
 open_gate-requires-clause-within g c =

@@ -1,7 +1,7 @@
 -- Where nothing is due, the gate is closed too.
 use Rattle.std.proofs.Common.{inl}
 use Rattle.journal.proofs.Keeping.{cut_where_cut, cut_where_nothing}
-use Rattle.journal.proofs.mending.mend_due.Goals as goal
+use Rattle.journal.proofs.mends.mend_due.Goals as goal
 
 pub returns-in_err-mend_cut-in-Nothing-clause-kept : goal.returns-in_err-mend_cut-in-Nothing-clause-kept
 returns-in_err-mend_cut-in-Nothing-clause-kept g c all pending keeps =

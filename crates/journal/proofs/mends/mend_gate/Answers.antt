@@ -2,7 +2,7 @@
 use Rattle.std.proofs.Common.{inl}
 use Rattle.journal.specs.Kept.{StandsFor}
 use Rattle.journal.specs.Moments.{joined}
-use Rattle.journal.proofs.mending.mend_gate.Goals as goal
+use Rattle.journal.proofs.mends.mend_gate.Goals as goal
 
 pub mend_cut-requires-clause-cut : goal.mend_cut-requires-clause-cut
 mend_cut-requires-clause-cut g c = let kept = c.requires.gate in (kept.0, c.in_ok-close_gate.ensures.done kept.0 kept.1 kept.2)
