@@ -10,8 +10,8 @@ use Rattle.trec_formats.specs.declared.lists.TopicList.{TopicList}
 use Rattle.trec_formats.specs.Qrels.{grade_on}
 use Rattle.eval.specs.Evaluations.{docs_on}
 use Rattle.eval.specs.Tables.{AreRankedLists}
-use Rattle.eval.proofs.Listed.{docs_on-all}
-use Rattle.eval.proofs.OnTopic.{count-filter, grade_in, grades_in, lines_on}
+use Rattle.eval.proofs.ListsByTopic.{docs_on-all}
+use Rattle.eval.proofs.TopicLines.{count-filter, grade_in, grades_in, lines_on}
 
 count-cons : {X : Type 0} (p : X → Bool) (x : X) (xs : List X) → count_by p (x ∷ xs) ≡ cond (p x) 1 0 + count_by p xs
 count-cons p x xs = sum_by-cons (λ y. cond (p y) 1 0) x xs
