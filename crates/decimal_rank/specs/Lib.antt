@@ -18,4 +18,5 @@ pub mod Searches
 pub mod Significands
 pub mod TextHashes
 pub mod TextKeys
+pub mod Weights
 pub mod Writings

@@ -3,7 +3,7 @@ use Rattle.std.specs.Prelude.{◌≡◌, ℕ, ◌<◌, ◌≤◌, ◌-◌, ◌^�
 use Rattle.std.specs.Str.Parse.{digits_value, starts_with_minus}
 use Rattle.decimal_rank.specs.DecimalText.{without_leading_zeros, zeros_after, whole_part, fraction_part, written_exponent}
 use Rattle.decimal_rank.specs.declared.significands.Significand.{Significand}
-use Rattle.decimal_rank.specs.declared.parts.Parts.{Parts}
+use Rattle.decimal_rank.specs.declared.score_parts.Parts.{Parts}
 
 -- the first 38 digits from the first that isn't 0, how many there are, and the zeros at their end
 pub record IsSignificand (digits : List ℕ) (s : Significand) : Type 0 where

@@ -15,7 +15,7 @@ pub fn append(out: &mut Vec<u8>, text: &[u8]) -> Result<(), Memory>
 
 /// Appends texts, one after another, or leaves the bytes as they were. It takes no memory where there
 /// is room for all of them.
-#[tactic(auto, using(crate::proofs::Growing::part_fits, crate::proofs::Growing::part_added))]
+#[tactic(auto, using(crate::proofs::GrowingBytes::Growing::part_fits, crate::proofs::GrowingBytes::Growing::part_added))]
 pub fn append_all(out: &mut Vec<u8>, texts: &[&[u8]]) -> Result<(), Memory>
     ensures { Adds out.old out.new (concat (map (λ text. text.now) texts.now)) result }
 {

@@ -3,7 +3,7 @@ ghost use Rattle.std.specs.Prelude.{IfOk, ◌≡◌, ◌≢◌, ◌-◌, ◌*◌
 ghost use Rattle.decimal_rank.specs.DecimalText.{canonical, decimal_of, scaled};
 ghost use Rattle.decimal_rank.specs.Decimal.{DecimalValue, decimal_cmp, size_of};
 
-use crate::parts::{exponent_of, parts_of};
+use crate::score_parts::{exponent_of, parts_of};
 use crate::significands::{MOST_DIGITS, significand_of};
 use crate::storage::Memory;
 use crate::texts::Text;

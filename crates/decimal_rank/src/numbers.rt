@@ -21,7 +21,7 @@ pub fn is_number(text: &[u8]) -> bool
 }
 
 /// The number that decimal digits write, or `cap` where it is greater. Nothing written is 0.
-#[tactic(auto, using(crate::proofs::Digits::capped_more))]
+#[tactic(auto, using(crate::proofs::DecimalText::Digits::capped_more))]
 pub fn capped_number(digits: &[u8], cap: u64) -> u64
     requires { IsTrue (list_all is_digit digits.now) }
     ensures { result ≡ min (digits_value 10 digits.now) cap }

@@ -31,7 +31,7 @@ pub trait Output {
 }
 
 /// Writes the whole text, in as many writes as it takes. A write that fails ends it.
-#[tactic(auto, using(crate::proofs::Growth::appends_next))]
+#[tactic(auto, using(crate::proofs::GrowingBytes::Growth::appends_next))]
 pub fn write_all<O: Output>(out: &mut O, text: &[u8]) -> Result<(), Failed>
     ensures all { OnOk result (Appends (O.writing out.old).written (O.writing out.new).written text.now) }
     ensures part { OnErr result (AppendsPart (O.writing out.old).written (O.writing out.new).written text.now) }

@@ -7,12 +7,12 @@ ghost use Rattle.decimal_rank.specs.Entries.{AreEntries, entries_in};
 ghost use Rattle.decimal_rank.specs.Ranks.{IsRanking, standing_cmp, standing_of};
 ghost use Rattle.decimal_rank.specs.Names.{docno_of};
 
-use crate::counting::Steps;
+use crate::counted_lists::CountedList;
 use crate::decimals::Decimal;
 use crate::naming::{DocId, Names};
 use crate::secrets::Secret;
+use crate::steps::Steps;
 use crate::storage::Memory;
-use crate::ticked::Ticked;
 use std::alloc::{AllocError, AllocFailed, Global};
 use std::cmp::Ordering;
 use std::collections::HashMap;
@@ -47,9 +47,9 @@ impl From<Memory> for RankFault {
 /// The documents of a run on one topic, by rank. Contracts see the list of the documents.
 #[derive(Drop)]
 pub struct Ranking {
-    docs: Ticked<DocId>,
+    docs: CountedList<DocId>,
     // by document
-    entries: Ticked<Entry>,
+    entries: CountedList<Entry>,
 }
 
 // A document and its place, from 1.
@@ -150,8 +150,8 @@ impl Ranking {
     {
         let entries = entries_of(*docs.allocator(), &docs)?;
         Ok(Ranking {
-            docs: Ticked::new(docs),
-            entries: Ticked::new(entries),
+            docs: CountedList::new(docs),
+            entries: CountedList::new(entries),
         })
     }
 
@@ -209,7 +209,11 @@ fn placed(alloc: Global, docs: &[DocId]) -> Result<Vec<Entry>, Memory>
 }
 
 // The place that stands beside a document in entries by document.
-fn place_among<L: Ledger>(entries: &Ticked<Entry>, doc: u32, steps: &mut Steps<L>) -> Option<u32>
+fn place_among<L: Ledger>(
+    entries: &CountedList<Entry>,
+    doc: u32,
+    steps: &mut Steps<L>,
+) -> Option<u32>
     requires { IsNonDecreasingBy (λ entry. entry.doc) entries.now }
     ensures found { IfSome result (λ place. Any (λ entry. (entry.doc ≡ doc) × (entry.place ≡ place)) entries.now) }
     ensures none { IfNone result (All (λ entry. entry.doc ≢ doc) entries.now) }

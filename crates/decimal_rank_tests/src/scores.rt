@@ -1,5 +1,5 @@
 //! Scores that are read, written and compared.
-use decimal_rank::{Decimal, DecimalFault, Memory, Text};
+use decimal_rank::{Decimal, DecimalFault, Memory, ONE, Text, weight};
 use std::alloc::Global;
 use std::cmp::Ordering;
 use std::test::Fail;
@@ -143,4 +143,12 @@ fn scores_compare_by_value(rt: HostRuntime) -> Result<(), Fail> {
         assert_eq!(rt; order(a, b)?, expected, "{row}");
     }
     Ok(())
+}
+
+#[test]
+fn a_rank_weighs_one_over_it_rounded_down(rt: HostRuntime) {
+    assert_eq!(rt;
+        (weight(1), weight(3), weight(1000)),
+        (ONE, 333_333_333_333_333, 1_000_000_000_000)
+    );
 }

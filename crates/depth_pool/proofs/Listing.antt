@@ -20,6 +20,7 @@ use borrow.Author.Tests.{eqb-true}
 use Rattle.smallvec.specs.SmallVec.{SmallVec}
 use Rattle.decimal_rank.specs.Names.{docno_of}
 use Rattle.decimal_rank.specs.declared.naming.DocId.{DocId}
+use Rattle.decimal_rank.proofs.Standings.Docnos.{names_differ, strictly}
 use Rattle.depth_pool.specs.declared.runs.RunId.{RunId}
 use Rattle.depth_pool.specs.Holdings.{Held, has_doc, some_run_holds}
 use Rattle.depth_pool.specs.Index.{doc_cmp, held_docs, is_held}
@@ -101,20 +102,6 @@ listed_once (entry ∷ entries) sorted =
 
 abbrev pub docno_cmp : List (List ℕ) → DocId → DocId → Ordering
 docno_cmp names a b = slice_cmp nat_cmp (docno_of names a.0) (docno_of names b.0)
-
-lower_or_higher : (m n : ℕ) → m ≢ n → (m < n) ⊎ (n < m)
-lower_or_higher m n h = grind arith
-
--- two numbers have two names
-names_differ : (names : List (List ℕ)) (m n : ℕ) → IsDistinct bytes_eq names → m ≢ n → m < length names → n < length names → bytes_eq (docno_of names m) (docno_of names n) ≡ false
-names_differ names m n distinct apart low high =
-    ⊎_elim (λ less. apart_from_distinct bytes_eq names m n [] distinct less high)
-    (λ more. nat_list_eq_equiv.symm (docno_of names m) (docno_of names n) ∙ apart_from_distinct bytes_eq names n m [] distinct more low) (lower_or_higher m n apart)
-
-strictly : (order : Ordering) → is_eq order ≡ false → is_lt (ordering_reverse order) ≡ false → is_lt order ≡ true
-strictly Less differ far = refl
-strictly Equal differ far = absurd (false≢true (sym differ))
-strictly Greater differ far = absurd (false≢true (sym far))
 
 pub ascend : (names : List (List ℕ)) (docs : List DocId) → IsDistinct bytes_eq names → IsDistinct same_doc docs → All (λ doc. doc.0 < length names) docs
     → IsSortedBy (λ a b. is_lt (docno_cmp names a b)) docs → AllPairs (λ a b. is_lt (docno_cmp names a b) ≡ true) docs

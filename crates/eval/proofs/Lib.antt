@@ -1,7 +1,7 @@
-pub mod Exclusive
-pub mod Judged
-pub mod Listed
-pub mod OnTopic
-pub mod Ranked
+pub mod JudgedDocuments
+pub mod LinesOrFaults
+pub mod ListsByTopic
+pub mod RankedRuns
 pub mod Tallies
+pub mod TopicLines
 pub mod Topics

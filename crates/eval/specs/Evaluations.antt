@@ -53,9 +53,15 @@ IsReport name run qrels text =
 
 -- what follows a kind's name: the cause of a score's fault, the line that is repeated
 abbrev pub detail : Kind → List ℕ
+detail kind.Fields = []
+detail kind.Topic = []
+detail kind.Docno = []
 detail (kind.Score cause) = codes " " ++ cause_name cause
+detail kind.Grade = []
+detail kind.Empty = []
+detail kind.TooLong = []
+detail kind.Tag = []
 detail (kind.Twice first) = codes " first " ++ decimal first
-detail _ = []
 
 -- the line that names a refused file, and its first fault
 abbrev pub input_line : List ℕ → FormatFault → List ℕ

@@ -9,7 +9,7 @@ use Rattle.disk_model.specs.Disks.{CutShort, Follows, Torn, written}
 use Rattle.journal.specs.Format.{decode, payload_behind, records}
 use Rattle.journal.specs.Frames.{IsFrame}
 use Rattle.journal.specs.Kept.{CutDue, GateDue, IsFront, Settled, Staged, StandsFor}
-use Rattle.journal.specs.Synced.{ReachesTo, WithStep}
+use Rattle.journal.specs.DiskSteps.{ReachesTo, WithStep}
 use Rattle.journal.proofs.RecordBytes.{body, frame_gives, front_grows, shut_ends}
 
 -- Bytes with a gate at this place.

@@ -1,6 +1,6 @@
+pub mod DiskSteps
 pub mod Format
 pub mod Frames
-pub mod Moments
-pub mod Kept
 pub mod Journals
-pub mod Synced
+pub mod Kept
+pub mod Moments

@@ -10,10 +10,10 @@ ghost use Rattle.journal.specs.Journals.{KeepsRecords};
 ghost use Rattle.journal.specs.Kept.{KeepsSome, Settled, StandsFor, StandsForOneOf, StillKeeps, payloads};
 ghost use Rattle.journal.specs.Moments.{DecodesAs, Turned, Turns};
 
-use crate::appending::append_frame;
+use crate::appends::append_frame;
 use crate::dues::Due;
 use crate::frames::Frame;
-use crate::mending::mend_due;
+use crate::mends::mend_due;
 use crate::opening::{OpenFault, take_up};
 use crate::reading::Records;
 use disk_model::{Disk, Failed, MOST_BYTES};

@@ -5,16 +5,16 @@
 //! byte of its own.
 #![tactic(auto)]
 
-mod appending;
+mod appends;
 mod dues;
 mod frames;
 mod journals;
 mod layout;
-mod mending;
+mod mends;
 mod opening;
 mod reading;
 mod stages;
-mod synced;
+mod synced_calls;
 
 pub use disk_model::{Disk, Failed};
 pub use dues::Due;

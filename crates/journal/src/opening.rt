@@ -11,7 +11,7 @@ ghost use Rattle.journal.specs.Kept.{Settled, payloads};
 ghost use Rattle.journal.specs.Moments.{DecodesAs, Turned, Turns};
 
 use crate::layout::{EMPTY_JOURNAL, HEADER_LENGTH, MOST_OPENED};
-use crate::mending::mend_due;
+use crate::mends::mend_due;
 use crate::reading::{Records, due_at, has_header, read_records};
 use decimal_rank::Memory;
 use disk_model::{Disk, Failed};

@@ -6,10 +6,10 @@ ghost use Rattle.disk_model.specs.Disks.{EachMoment};
 ghost use Rattle.journal.specs.Format.{payload_behind};
 ghost use Rattle.journal.specs.Frames.{IsFrame};
 ghost use Rattle.journal.specs.Kept.{CutDue, GateDue, Settled, Staged, StandsFor};
-ghost use Rattle.journal.specs.Synced.{ReachesTo};
+ghost use Rattle.journal.specs.DiskSteps.{ReachesTo};
 
 use crate::layout::{CLOSED, OPEN};
-use crate::synced::{cut_through, write_through};
+use crate::synced_calls::{cut_through, write_through};
 use disk_model::{Disk, Failed};
 
 /// Writes a frame behind the closed gate at this place.

@@ -17,6 +17,10 @@ use Rattle.lease_desk.proofs.Counting.{as_number, count-cons}
 flip : (m n : ℕ) → eqb m n ≡ eqb n m
 flip m n = grind (arith, nat_tests)
 
+and_true : (t : Bool) → (t && true) ≡ t
+and_true true = refl
+and_true false = refl
+
 pub count_alike : {X : Type 0} (p q : X → Bool) → ((x : X) → p x ≡ q x) → (xs : List X) → count_by p xs ≡ count_by q xs
 count_alike p q alike [] = refl
 count_alike p q alike (x ∷ xs) =
@@ -34,22 +38,14 @@ some_counted p (x ∷ xs) = ap (nat_lt 0) (count-cons p x xs) ∙ step (p x) (so
 -- ---- what is asked for
 
 pub on_topic : (leases : List Lease) (topic now : ℕ) → count_by (λ lease. eqb topic lease.topic && is_asked None lease && is_live lease now) leases ≡ live_on_topic leases topic now
-on_topic leases topic now = count_alike _ _ (λ lease. ap (λ t. t && is_live lease now) (whole (eqb topic lease.topic) ∙ flip topic lease.topic)) leases
-  where
-    whole : (t : Bool) → (t && true) ≡ t
-    whole true = refl
-    whole false = refl
+on_topic leases topic now = count_alike _ _ (λ lease. ap (λ t. t && is_live lease now) (and_true (eqb topic lease.topic) ∙ flip topic lease.topic)) leases
 
 document_alike : (topic : ℕ) (doc : DocId) (lease : Lease) → same_document (topic, doc.0) (document_of lease) ≡ is_on topic doc lease
 document_alike topic doc lease = ap (λ t. t && eqb doc.0 lease.doc.0) (flip topic lease.topic) ∙ ap (λ t. eqb lease.topic topic && t) (flip doc.0 lease.doc.0)
 
 pub on_document : (leases : List Lease) (topic : ℕ) (doc : DocId) (now : ℕ)
     → count_by (λ lease. same_document (topic, doc.0) (document_of lease) && is_asked None lease && is_live lease now) leases ≡ live_on leases topic doc now
-on_document leases topic doc now = count_alike _ _ (λ lease. ap (λ t. t && is_live lease now) (whole (same_document (topic, doc.0) (document_of lease)) ∙ document_alike topic doc lease)) leases
-  where
-    whole : (t : Bool) → (t && true) ≡ t
-    whole true = refl
-    whole false = refl
+on_document leases topic doc now = count_alike _ _ (λ lease. ap (λ t. t && is_live lease now) (and_true (same_document (topic, doc.0) (document_of lease)) ∙ document_alike topic doc lease)) leases
 
 pub of_assessor : (secret : Secret) (leases : List Lease) (assessor : List ℕ) (now : ℕ)
     → count_by (λ lease. eqb (text_key secret assessor) (text_key secret lease.assessor) && is_asked (Some assessor) lease && is_live lease now) leases ≡ live_of leases assessor now

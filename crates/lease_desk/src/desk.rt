@@ -1,11 +1,12 @@
 //! The leases of a campaign by number, and the counts of those that are live.
-ghost use Rattle.std.specs.Prelude.{◌≡◌, ◌+◌, ◌-◌, ◌<◌, ◌≤◌, ◌^◌, [], None, OnOk, length};
-ghost use Rattle.std.specs.Option.{IsSomeAnd, option_copied};
-ghost use Rattle.lease_desk.specs.Leases.{AreNumbered, granted, has_live, lease_numbered, live_of, live_on, live_on_topic, with_end};
+ghost use Rattle.std.specs.Prelude.{◌≡◌, ◌+◌, ◌-◌, ◌<◌, ◌≤◌, ◌^◌, ◌&&◌, [], None, OnOk, count_by, length};
+ghost use Rattle.std.specs.Option.{IsSomeAnd, option_copied, option_map};
+ghost use Rattle.lease_desk.specs.Series.{document_of, is_asked, same_document};
+ghost use Rattle.lease_desk.specs.Leases.{AreNumbered, granted, has_live, is_live, lease_numbered, live_of, live_on, live_on_topic, with_end};
 
 use crate::leases::{Lease, LeaseEnd};
 use crate::series::Series;
-use crate::walking::count_live;
+use crate::walks::count_live;
 use decimal_rank::{DocId, Memory, Secret, Text};
 use std::alloc::Global;
 use std::marker::Model;
@@ -130,9 +131,7 @@ impl Desk {
     pub fn live_on(&self, topic: u16, doc: DocId, now: u64) -> u32
         ensures { result ≡ live_on self.now.leases topic doc now }
     {
-        let newest = self.documents.newest.get(&(topic, doc.0)).copied();
-        let links = self.documents.links.as_slice();
-        count_live(self.leases.as_slice(), links, newest, None, now)
+        self.count_on(topic, doc, None, now)
     }
 
     /// How many leases on a topic are live.
@@ -161,8 +160,16 @@ impl Desk {
     pub fn has(&self, assessor: &[u8], topic: u16, doc: DocId, now: u64) -> bool
         ensures { result ≡ has_live self.now.leases assessor.now topic doc now }
     {
+        self.count_on(topic, doc, Some(assessor), now) > 0
+    }
+
+    // How many leases on a document are live: of one assessor, or of all.
+    fn count_on(&self, topic: u16, doc: DocId, assessor: Option<&[u8]>, now: u64) -> u32
+        ensures { result ≡ count_by (λ lease. same_document (topic, doc.0) (document_of lease)
+            && is_asked (option_map (λ name. name.now) assessor.entry) lease && is_live lease now) self.now.leases }
+    {
         let newest = self.documents.newest.get(&(topic, doc.0)).copied();
         let links = self.documents.links.as_slice();
-        count_live(self.leases.as_slice(), links, newest, Some(assessor), now) > 0
+        count_live(self.leases.as_slice(), links, newest, assessor, now)
     }
 }

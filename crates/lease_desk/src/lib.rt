@@ -5,7 +5,7 @@
 mod desk;
 mod leases;
 mod series;
-mod walking;
+mod walks;
 
 pub use desk::Desk;
 pub use leases::{Lease, LeaseEnd};

@@ -1,16 +1,13 @@
 -- The counts and sums of one ranked list on one topic, from which its measures are taken.
 use Rattle.std.specs.Prelude.{ℕ, ◌+◌, ◌-◌, ◌*◌, ◌/◌, ◌^◌, ◌<◌, ◌≤◌, ◌==◌, if◌then◌else◌, min, List, [], ◌∷◌, Option, map, length, position, count_by, slice_index}
 use Rattle.std.specs.Option.{option_map_or}
+pub use Rattle.decimal_rank.specs.Weights.{weight}
 use Rattle.measures.specs.declared.cells.Cell.{Cell}
 use Rattle.measures.specs.Grades.{is_relevant, relevant_to, non_relevant_to, sum_over_relevant}
 
 -- the cutoffs k of the measures P_k
 abbrev pub cutoffs : List ℕ
 cutoffs = 5 ∷ 10 ∷ 15 ∷ 20 ∷ 30 ∷ 100 ∷ 200 ∷ 500 ∷ 1000 ∷ []
-
--- 1 over k, in units of 10^-15 and rounded down
-abbrev pub weight : ℕ → ℕ
-weight k = 10 ^ 15 / k
 
 -- the sum, over the relevant documents, of the relevant ones down to it over its rank
 abbrev pub ap_sum_of : ℕ → List (Option ℕ) → ℕ

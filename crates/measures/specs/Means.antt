@@ -9,8 +9,11 @@ use Rattle.measures.specs.Cells.{cutoffs}
 
 -- a measure P_k is named by its place among the cutoffs, from 0
 abbrev pub IsMeasure : Measure → Type 0
+IsMeasure Map = ⊤
+IsMeasure RPrec = ⊤
+IsMeasure Bpref = ⊤
+IsMeasure RecipRank = ⊤
 IsMeasure (Precision place) = place < 9
-IsMeasure _ = ⊤
 
 -- a over b, rounded down
 abbrev pub fixed_of : ℕ → ℕ → ℕ

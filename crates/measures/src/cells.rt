@@ -3,13 +3,10 @@ ghost use Rattle.std.specs.Prelude.{◌≡◌, ◌*◌, ◌^◌, ◌<◌, ◌≤
 ghost use Rattle.measures.specs.Grades.{is_relevant as relevant_is, is_non_relevant as non_relevant_is, relevant_to as relevant_to_rank, sum_over_relevant};
 ghost use Rattle.measures.specs.Cells.{cutoffs, first_relevant as first_relevant_rank, ap_sum_of, left_of_cap, bpref_num as bpref_num_of, bpref_den as bpref_den_of, cell_of, IsSound};
 
-use decimal_rank::{is_non_relevant, is_relevant};
+use decimal_rank::{is_non_relevant, is_relevant, weight};
 
 /// The cutoffs k of the measures P_k.
 pub const CUTOFFS: [u32; 9] = [5, 10, 15, 20, 30, 100, 200, 500, 1000];
-
-/// 1 in the unit of values.
-const ONE: u64 = 1_000_000_000_000_000;
 
 /// The counts and sums of one ranked list on one topic: the documents retrieved, the topic's
 /// relevant documents, the relevant ones retrieved, those within each of `CUTOFFS` and within the
@@ -91,7 +88,7 @@ fn precision_sum(level: u8, grades: &[Option<u8>]) -> u64
     for (place, grade) in grades.iter().enumerate() {
         if is_relevant(level, *grade) {
             relevant += 1;
-            sum += relevant * (ONE / (place as u64 + 1));
+            sum += relevant * weight(place as u32 + 1);
         }
     }
     sum
@@ -148,7 +145,8 @@ fn bpref_num(level: u8, grades: &[Option<u8>], r: u32, n: u32) -> u64
     preference_sum(level, grades, cap)
 }
 
-fn bpref_den(r: u32, n: u32) -> u64
+/// The denominator of bpref, with `r` relevant documents and `n` that are judged and not relevant.
+pub fn bpref_den(r: u32, n: u32) -> u64
     requires { r ≤ 268435456 }
     ensures den { result ≡ bpref_den_of r n }
     ensures positive { 0 < result }

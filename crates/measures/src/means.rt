@@ -4,6 +4,7 @@ ghost use Rattle.measures.specs.Cells.{IsSound};
 ghost use Rattle.measures.specs.Means.{fixed_of, value_of as measured, IsMeasure};
 
 use crate::cells::{CUTOFFS, Cell};
+use decimal_rank::ONE;
 
 /// A measure of a ranked list on a topic. `Precision` is P_k, by the place of k in `CUTOFFS` from 0.
 #[derive(Clone, Copy, Debug, PartialEq, Eq)]
@@ -37,7 +38,7 @@ pub fn fixed(num: u64, den: u64) -> u64
     ensures value { result ≡ fixed_of num den }
     ensures within { result ≤ 10 ^ 15 }
 {
-    (num as u128 * 1_000_000_000_000_000 / den as u128) as u64
+    (num as u128 * ONE as u128 / den as u128) as u64
 }
 
 #[tactic(auto, using(crate::proofs::Cutoffs::cutoff_positive))]

@@ -1,7 +1,9 @@
 //! Tried are cells, their means and totals, the rounding to four decimals, and the printed lines.
 ghost use Rattle.measures.specs.Cells.{IsSound};
 
-use crate::{Cell, Summary, Totals, mean, scratch, write_cell, write_four, write_summary};
+use crate::{
+    Cell, Summary, Totals, bpref_den, mean, scratch, write_cell, write_four, write_summary,
+};
 use std::alloc::Global;
 use std::process::Abort;
 use std::test::Fail;
@@ -62,6 +64,11 @@ fn unjudged_and_lower_grades_are_not_relevant(rt: HostRuntime) {
 fn expect_cell(rt: &impl Abort, cell: &Cell, expected: (u32, u32, u64, u64)) {
     let found = (cell.r_prec, cell.first, cell.bpref_num, cell.bpref_den);
     assert_eq!(rt; found, expected);
+}
+
+#[test]
+fn bpref_is_over_the_relevant_times_its_cap(rt: HostRuntime) {
+    assert_eq!(rt; (bpref_den(0, 5), bpref_den(3, 0), bpref_den(3, 2)), (1, 3, 6));
 }
 
 #[test]

@@ -1,5 +1,5 @@
 pub mod Comparing
 pub mod Grouping
 pub mod Keeping
-pub mod Playing
+pub mod TestTopicSteps
 pub mod First

@@ -1,3 +1,3 @@
-pub mod Played
+pub mod TestTopics
 pub mod QueueView
 pub mod Rule

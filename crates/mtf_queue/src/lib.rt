@@ -14,6 +14,6 @@ pub use queues::Queue;
 pub use rule::Judged;
 
 #[cfg(test)]
-mod played;
+mod test_topics;
 #[cfg(test)]
 mod tests;

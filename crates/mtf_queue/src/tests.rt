@@ -1,8 +1,8 @@
 //! Tried is the order of a queue after each call, and after random courses against the rule itself.
 ghost use Rattle.std.specs.Prelude.{◌<◌};
 
-use crate::played::{DOCS, Topic};
 use crate::rule::Judged;
+use crate::test_topics::{DOCS, Topic};
 use decimal_rank::DocId;
 use depth_pool::RunId;
 use std::alloc::Global;

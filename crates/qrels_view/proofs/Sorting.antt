@@ -18,6 +18,7 @@ use Rattle.std.proofs.lemmas.Map.Text.{is_eq-slice_cmp}
 use Rattle.decimal_rank.specs.Names.{docno_of}
 use Rattle.decimal_rank.specs.Places.{AreDistinct}
 use Rattle.decimal_rank.specs.declared.naming.DocId.{DocId}
+use Rattle.decimal_rank.proofs.Standings.Docnos.{names_differ, strictly}
 use Rattle.qrels_view.specs.declared.grades.Graded.{Graded}
 use Rattle.qrels_view.specs.Grades.{docs_of, graded_of}
 use Rattle.qrels_view.specs.Lines.{by_docno, docno_cmp, put_by_docno}
@@ -166,20 +167,6 @@ docs_once graded distinct i j d h lt e =
     false≢true (sym (apart_from_distinct same_doc graded i j none distinct h within) ∙ equal_passes _ _ (ap (λ (doc : DocId). doc.0) same))
 
 -- ---- by docno
-
-lower_or_higher : (m n : ℕ) → m ≢ n → (m < n) ⊎ (n < m)
-lower_or_higher m n h = grind arith
-
--- two numbers have two names
-names_differ : (names : List (List ℕ)) (m n : ℕ) → IsDistinct bytes_eq names → m ≢ n → m < length names → n < length names → bytes_eq (docno_of names m) (docno_of names n) ≡ false
-names_differ names m n distinct apart low high =
-    ⊎_elim (λ less. apart_from_distinct bytes_eq names m n [] distinct less high)
-    (λ more. nat_list_eq_equiv.symm (docno_of names m) (docno_of names n) ∙ apart_from_distinct bytes_eq names n m [] distinct more low) (lower_or_higher m n apart)
-
-strictly : (order : Ordering) → is_eq order ≡ false → is_lt (ordering_reverse order) ≡ false → is_lt order ≡ true
-strictly Less differ far = refl
-strictly Equal differ far = absurd (false≢true (sym differ))
-strictly Greater differ far = absurd (false≢true (sym far))
 
 abbrev IsBefore : List (List ℕ) → Graded → Graded → Type 0
 IsBefore names a b = is_before names a b ≡ true

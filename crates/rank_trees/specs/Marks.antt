@@ -1,5 +1,6 @@
 -- Places that are on or off: how many are on, which is the one with so many before it, and what they weigh. Places are counted from 1.
 use Rattle.std.specs.Prelude.{◌≡◌, ℕ, ◌+◌, ◌-◌, ◌/◌, ◌^◌, ◌≤◌, Bool, true, false, List, [], ◌∷◌, Some, cond, count_by, drop, map, nat_lt, slice_get, take}
+pub use Rattle.decimal_rank.specs.Weights.{weight}
 
 -- how many are on
 abbrev pub count_on : List Bool → ℕ
@@ -14,10 +15,6 @@ pub record IsSelected (on : List Bool) (j place : ℕ) : Type 0 where
   pub from_one : 1 ≤ place
   pub is_on : slice_get on (place - 1) ≡ Some true
   pub before : count_below on place ≡ j
-
--- one over a place, in units of 10^-15 and rounded down
-abbrev pub weight : ℕ → ℕ
-weight place = 10 ^ 15 / place
 
 -- what the places on weigh together, where the list begins at a place
 abbrev pub weights_from : ℕ → List Bool → ℕ

@@ -1,16 +1,14 @@
 //! A tree over places that are on or off, which sums the weights of those that are on past a place.
 ghost use Rattle.std.specs.Prelude.{◌≡◌, ◌+◌, ◌-◌, ◌≤◌, ◌<◌, ◌^◌, false, IfOk, if◌then◌else◌, length, replicate, slice_set};
 ghost use Rattle.decimal_rank.specs.Places.{levels};
-ghost use Rattle.rank_trees.specs.Marks.{weight, weights_above};
+ghost use Rattle.decimal_rank.specs.Weights.{weight};
+ghost use Rattle.rank_trees.specs.Marks.{weights_above};
 
 use crate::sum_trees::SumTree;
-use decimal_rank::{Memory, Steps};
+use decimal_rank::{Memory, Steps, weight};
 use std::alloc::Global;
 use std::marker::Model;
 use std::sync::ledger::Ledger;
-
-/// 1 in the unit of weights, 10^-15.
-const ONE: u64 = 1_000_000_000_000_000;
 
 /// Places, counted from 1, each on or off, and the sums of the weights of those that are on: a place
 /// weighs one over itself, in units of 10^-15 and rounded down. Contracts see the list of the
@@ -69,5 +67,5 @@ fn weight_if(on: bool, place: u32) -> u64
     ensures weight { result ≡ (if on then weight place else 0) }
     ensures small { result ≤ 10 ^ 15 }
 {
-    if on { ONE / u64::from(place) } else { 0 }
+    if on { weight(place) } else { 0 }
 }

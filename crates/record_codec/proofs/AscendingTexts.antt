@@ -6,7 +6,7 @@ use Rattle.std.proofs.lemmas.List.{drop_more, length-drop, length-map}
 use denote.Ref.{Bor}
 use Rattle.rulebook.specs.Spelling.{is_ascending}
 use Rattle.rulebook.specs.Words.{Text}
-use Rattle.record_codec.proofs.DifferingTexts.{shown, text_at}
+use Rattle.record_codec.proofs.DistinctTexts.{shown, text_at}
 
 short_ascends : (texts : List Text) → length texts ≤ 1 → is_ascending texts ≡ true
 short_ascends [] few = refl

@@ -1,9 +1,9 @@
 pub mod AscendingTexts
 pub mod Codes
-pub mod DifferingTexts
-pub mod KnownEntries
-pub mod KnownLists
-pub mod KnownTexts
+pub mod DistinctTexts
+pub mod EntryCodes
+pub mod EntryParts
+pub mod ListCodes
 pub mod Loops
 pub mod ShortTexts
-pub mod Written
+pub mod TextCodes

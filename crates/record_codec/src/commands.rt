@@ -4,6 +4,7 @@ ghost use Rattle.std.specs.Int.{w32};
 ghost use Rattle.record_codec.specs.Outcomes.{Gives, GivesBy};
 ghost use Rattle.record_codec.specs.Readings.{amend_of, are_in_range, command_at, grade_of, graded_doc_at, graded_lease_at, made, name_at, number_at, rule_of, rules_at, run_at, settings_at, submit_of, topics_at};
 
+use crate::cursor::Cursor;
 use crate::faults::CodecFault;
 use crate::fields::{docno, name};
 use crate::layout::{
@@ -11,14 +12,13 @@ use crate::layout::{
     SUBMIT, TOPICS, WITHDRAW,
 };
 use crate::lists::{campaign_topics, doubles, run_lists};
-use crate::unread::Unread;
 use decimal_rank::Text;
 use rulebook::{Command, Rules};
 use std::alloc::Global;
 
 /// The rules as they stand, whatever their numbers.
 #[tactic(auto, unfolding(crate::specs::Readings::settings_at))]
-fn settings(alloc: Global, left: &mut Unread) -> Result<Rules, CodecFault>
+fn settings(alloc: Global, left: &mut Cursor) -> Result<Rules, CodecFault>
     ensures { Gives result left.new.bytes.now (settings_at left.old.bytes.now) }
 {
     let depth = left.number16()?;
@@ -53,7 +53,7 @@ fn are_in_range(rules: &Rules) -> bool
 }
 
 #[tactic(auto, unfolding(crate::specs::Readings::rules_at))]
-fn found(alloc: Global, left: &mut Unread) -> Result<Rules, CodecFault>
+fn found(alloc: Global, left: &mut Cursor) -> Result<Rules, CodecFault>
     ensures { Gives result left.new.bytes.now (rules_at left.old.bytes.now) }
 {
     let rules = settings(alloc, left)?;
@@ -64,7 +64,7 @@ fn found(alloc: Global, left: &mut Unread) -> Result<Rules, CodecFault>
 }
 
 #[tactic(auto, unfolding(crate::specs::Readings::run_at))]
-fn submit(alloc: Global, left: &mut Unread) -> Result<Command, CodecFault>
+fn submit(alloc: Global, left: &mut Cursor) -> Result<Command, CodecFault>
     ensures { Gives result left.new.bytes.now (made submit_of (run_at left.old.bytes.now)) }
 {
     let run = name(alloc, left)?;
@@ -73,7 +73,7 @@ fn submit(alloc: Global, left: &mut Unread) -> Result<Command, CodecFault>
 }
 
 #[tactic(auto, unfolding(crate::specs::Readings::graded_lease_at))]
-fn grade(left: &mut Unread) -> Result<Command, CodecFault>
+fn grade(left: &mut Cursor) -> Result<Command, CodecFault>
     ensures { Gives result left.new.bytes.now (made grade_of (graded_lease_at left.old.bytes.now)) }
 {
     let lease = left.number32()?;
@@ -83,7 +83,7 @@ fn grade(left: &mut Unread) -> Result<Command, CodecFault>
 
 /// A topic, a document and its grade.
 #[tactic(auto, unfolding(crate::specs::Readings::graded_doc_at))]
-fn graded_doc(alloc: Global, left: &mut Unread) -> Result<(Text, Text, u8), CodecFault>
+fn graded_doc(alloc: Global, left: &mut Cursor) -> Result<(Text, Text, u8), CodecFault>
     ensures { GivesBy (λ graded. (graded.0, (graded.1, graded.2))) result left.new.bytes.now (graded_doc_at left.old.bytes.now) }
 {
     let topic = name(alloc, left)?;
@@ -92,14 +92,14 @@ fn graded_doc(alloc: Global, left: &mut Unread) -> Result<(Text, Text, u8), Code
     Ok((topic, doc, grade))
 }
 
-fn amend(alloc: Global, left: &mut Unread) -> Result<Command, CodecFault>
+fn amend(alloc: Global, left: &mut Cursor) -> Result<Command, CodecFault>
     ensures { Gives result left.new.bytes.now (made amend_of (graded_doc_at left.old.bytes.now)) }
 {
     let (topic, doc, grade) = graded_doc(alloc, left)?;
     Ok(Command::Amend { topic, doc, grade })
 }
 
-fn rule(alloc: Global, left: &mut Unread) -> Result<Command, CodecFault>
+fn rule(alloc: Global, left: &mut Cursor) -> Result<Command, CodecFault>
     ensures { Gives result left.new.bytes.now (made rule_of (graded_doc_at left.old.bytes.now)) }
 {
     let (topic, doc, grade) = graded_doc(alloc, left)?;
@@ -108,7 +108,7 @@ fn rule(alloc: Global, left: &mut Unread) -> Result<Command, CodecFault>
 
 /// The kind of a command, and its fields.
 #[tactic(auto, unfolding(crate::specs::Readings::command_at, crate::specs::Readings::command_of))]
-pub(crate) fn command(alloc: Global, left: &mut Unread) -> Result<Command, CodecFault>
+pub(crate) fn command(alloc: Global, left: &mut Cursor) -> Result<Command, CodecFault>
     ensures { Gives result left.new.bytes.now (command_at left.old.bytes.now) }
 {
     match left.byte()? {

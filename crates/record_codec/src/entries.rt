@@ -6,15 +6,15 @@ ghost use Rattle.record_codec.specs.Outcomes.{Finds, Gives, OnNoEntry};
 ghost use Rattle.record_codec.specs.Readings.{entry_at, entry_of};
 
 use crate::commands::command;
+use crate::cursor::Cursor;
 use crate::faults::CodecFault;
 use crate::fields::{caller, moment, request};
-use crate::unread::Unread;
 use rulebook::EntryCore;
 use std::alloc::Global;
 
 /// An entry, behind which bytes may stand.
 #[tactic(auto, unfolding(crate::specs::Readings::entry_at))]
-fn entry(alloc: Global, left: &mut Unread) -> Result<EntryCore, CodecFault>
+fn entry(alloc: Global, left: &mut Cursor) -> Result<EntryCore, CodecFault>
     ensures { Gives result left.new.bytes.now (entry_at left.old.bytes.now) }
 {
     let caller = caller(alloc, left)?;
@@ -34,7 +34,7 @@ fn entry(alloc: Global, left: &mut Unread) -> Result<EntryCore, CodecFault>
 fn whole_entry(alloc: Global, bytes: &[u8]) -> Result<EntryCore, CodecFault>
     ensures { Finds result (entry_of bytes.now) }
 {
-    let mut left = Unread::new(bytes);
+    let mut left = Cursor::new(bytes);
     let core = entry(alloc, &mut left)?;
     if !left.is_at_end() {
         return Err(CodecFault::NoEntry);

@@ -6,11 +6,11 @@ ghost use Rattle.trec_formats.specs.Names.{is_between};
 ghost use Rattle.record_codec.specs.Outcomes.{Gives, GivesBy};
 ghost use Rattle.record_codec.specs.Readings.{caller_at, docno_at, long_at, moment_at, name_at, printable_at, request_at, role_at, short_at};
 
+use crate::cursor::Cursor;
 use crate::faults::CodecFault;
 use crate::layout::{
     ASSESSOR, FIRST_PRINTABLE, GROUP, LAST_PRINTABLE, NUMBER_BOUND, NUMBERED, ORGANISER, UNNUMBERED,
 };
-use crate::unread::Unread;
 use decimal_rank::Text;
 use rulebook::{Caller, MAX_MOMENT, Role};
 use std::alloc::Global;
@@ -18,7 +18,7 @@ use trec_formats::{is_docno, is_name};
 
 /// A byte for the length of a text, and the text.
 #[tactic(auto, unfolding(crate::specs::Readings::short_at))]
-fn short<'a>(left: &mut Unread<'a>) -> Result<&'a [u8], CodecFault>
+fn short<'a>(left: &mut Cursor<'a>) -> Result<&'a [u8], CodecFault>
     ensures { GivesBy (λ text. text.now) result left.new.bytes.now (short_at left.old.bytes.now) }
 {
     let len = left.byte()?;
@@ -27,7 +27,7 @@ fn short<'a>(left: &mut Unread<'a>) -> Result<&'a [u8], CodecFault>
 
 /// Two bytes for the length of a text, and the text.
 #[tactic(auto, unfolding(crate::specs::Readings::long_at))]
-fn long<'a>(left: &mut Unread<'a>) -> Result<&'a [u8], CodecFault>
+fn long<'a>(left: &mut Cursor<'a>) -> Result<&'a [u8], CodecFault>
     ensures { GivesBy (λ text. text.now) result left.new.bytes.now (long_at left.old.bytes.now) }
 {
     let len = left.number16()?;
@@ -35,7 +35,7 @@ fn long<'a>(left: &mut Unread<'a>) -> Result<&'a [u8], CodecFault>
 }
 
 #[tactic(auto, unfolding(crate::specs::Readings::name_at))]
-pub(crate) fn name(alloc: Global, left: &mut Unread) -> Result<Text, CodecFault>
+pub(crate) fn name(alloc: Global, left: &mut Cursor) -> Result<Text, CodecFault>
     ensures { Gives result left.new.bytes.now (name_at left.old.bytes.now) }
 {
     let text = short(left)?;
@@ -46,7 +46,7 @@ pub(crate) fn name(alloc: Global, left: &mut Unread) -> Result<Text, CodecFault>
 }
 
 #[tactic(auto, unfolding(crate::specs::Readings::docno_at))]
-pub(crate) fn docno(alloc: Global, left: &mut Unread) -> Result<Text, CodecFault>
+pub(crate) fn docno(alloc: Global, left: &mut Cursor) -> Result<Text, CodecFault>
     ensures { Gives result left.new.bytes.now (docno_at left.old.bytes.now) }
 {
     let text = short(left)?;
@@ -72,7 +72,7 @@ fn is_printable(most: usize, text: &[u8]) -> bool
 
 /// A long text of so many bytes of printable ASCII at most.
 #[tactic(auto, unfolding(crate::specs::Readings::printable_at))]
-pub(crate) fn printable(alloc: Global, left: &mut Unread, most: usize) -> Result<Text, CodecFault>
+pub(crate) fn printable(alloc: Global, left: &mut Cursor, most: usize) -> Result<Text, CodecFault>
     ensures { Gives result left.new.bytes.now (printable_at most left.old.bytes.now) }
 {
     let text = long(left)?;
@@ -83,7 +83,7 @@ pub(crate) fn printable(alloc: Global, left: &mut Unread, most: usize) -> Result
 }
 
 #[tactic(auto, unfolding(crate::specs::Readings::role_at, crate::specs::Readings::role_of))]
-fn role(left: &mut Unread) -> Result<Role, CodecFault>
+fn role(left: &mut Cursor) -> Result<Role, CodecFault>
     ensures { Gives result left.new.bytes.now (role_at left.old.bytes.now) }
 {
     match left.byte()? {
@@ -95,7 +95,7 @@ fn role(left: &mut Unread) -> Result<Role, CodecFault>
 }
 
 #[tactic(auto, unfolding(crate::specs::Readings::caller_at))]
-pub(crate) fn caller(alloc: Global, left: &mut Unread) -> Result<Caller, CodecFault>
+pub(crate) fn caller(alloc: Global, left: &mut Cursor) -> Result<Caller, CodecFault>
     ensures { Gives result left.new.bytes.now (caller_at left.old.bytes.now) }
 {
     let name = name(alloc, left)?;
@@ -105,7 +105,7 @@ pub(crate) fn caller(alloc: Global, left: &mut Unread) -> Result<Caller, CodecFa
 
 /// The number that a request may have.
 #[tactic(auto, unfolding(crate::specs::Readings::request_at))]
-pub(crate) fn request(left: &mut Unread) -> Result<Option<u64>, CodecFault>
+pub(crate) fn request(left: &mut Cursor) -> Result<Option<u64>, CodecFault>
     ensures { Gives result left.new.bytes.now (request_at left.old.bytes.now) }
 {
     match left.byte()? {
@@ -122,7 +122,7 @@ pub(crate) fn request(left: &mut Unread) -> Result<Option<u64>, CodecFault>
 }
 
 #[tactic(auto, unfolding(crate::specs::Readings::moment_at))]
-pub(crate) fn moment(left: &mut Unread) -> Result<u64, CodecFault>
+pub(crate) fn moment(left: &mut Cursor) -> Result<u64, CodecFault>
     ensures { Gives result left.new.bytes.now (moment_at left.old.bytes.now) }
 {
     let moment = left.number64()?;

@@ -3,17 +3,17 @@ ghost use Rattle.std.specs.Prelude.{◌≡◌};
 ghost use Rattle.record_codec.specs.Outcomes.{Gives, GivesBy};
 ghost use Rattle.record_codec.specs.Readings.{docno_at, docs_at, doubles_at, items_at, list_at, lists_at, name_at, topic_at, topics_at};
 
-use crate::differing::{are_ascending, are_distinct, ids, lent, topics};
+use crate::cursor::Cursor;
 use crate::faults::CodecFault;
 use crate::fields::{docno, name, printable};
 use crate::layout::{MOST_DESC, MOST_DOCS, MOST_DOUBLES, MOST_NARR, MOST_TITLE};
-use crate::unread::Unread;
+use crate::text_orders::{are_ascending, are_distinct, ids, lent, topics};
 use decimal_rank::{Rows, Text};
 use std::alloc::Global;
 use trec_formats::{Topic, TopicList};
 
 /// So many names.
-fn names_of(alloc: Global, left: &mut Unread, count: u32) -> Result<Vec<Text>, CodecFault>
+fn names_of(alloc: Global, left: &mut Cursor, count: u32) -> Result<Vec<Text>, CodecFault>
     ensures { GivesBy (λ names. names.items) result left.new.bytes.now (items_at name_at count left.old.bytes.now) }
 {
     let mut names = Vec::with_capacity(alloc, count as usize)?;
@@ -25,7 +25,7 @@ fn names_of(alloc: Global, left: &mut Unread, count: u32) -> Result<Vec<Text>, C
 }
 
 /// So many docnos.
-fn docnos_of(alloc: Global, left: &mut Unread, count: u32) -> Result<Vec<Text>, CodecFault>
+fn docnos_of(alloc: Global, left: &mut Cursor, count: u32) -> Result<Vec<Text>, CodecFault>
     ensures { GivesBy (λ docs. docs.items) result left.new.bytes.now (items_at docno_at count left.old.bytes.now) }
 {
     let mut docs = Vec::with_capacity(alloc, count as usize)?;
@@ -38,7 +38,7 @@ fn docnos_of(alloc: Global, left: &mut Unread, count: u32) -> Result<Vec<Text>, 
 
 /// The topics that need two labels, in ascending order.
 #[tactic(auto, unfolding(crate::specs::Readings::doubles_at, crate::specs::Readings::counted_at))]
-pub(crate) fn doubles(alloc: Global, left: &mut Unread) -> Result<Rows<Text>, CodecFault>
+pub(crate) fn doubles(alloc: Global, left: &mut Cursor) -> Result<Rows<Text>, CodecFault>
     ensures { Gives result left.new.bytes.now (doubles_at left.old.bytes.now) }
 {
     let count = left.number32()?;
@@ -54,7 +54,7 @@ pub(crate) fn doubles(alloc: Global, left: &mut Unread) -> Result<Rows<Text>, Co
 
 /// The documents of a list, which differ.
 #[tactic(auto, unfolding(crate::specs::Readings::docs_at, crate::specs::Readings::counted_at))]
-fn docs(alloc: Global, left: &mut Unread) -> Result<Rows<Text>, CodecFault>
+fn docs(alloc: Global, left: &mut Cursor) -> Result<Rows<Text>, CodecFault>
     ensures { Gives result left.new.bytes.now (docs_at left.old.bytes.now) }
 {
     let count = left.number32()?;
@@ -69,7 +69,7 @@ fn docs(alloc: Global, left: &mut Unread) -> Result<Rows<Text>, CodecFault>
 }
 
 #[tactic(auto, unfolding(crate::specs::Readings::topic_at))]
-fn topic(alloc: Global, left: &mut Unread) -> Result<Topic, CodecFault>
+fn topic(alloc: Global, left: &mut Cursor) -> Result<Topic, CodecFault>
     ensures { Gives result left.new.bytes.now (topic_at left.old.bytes.now) }
 {
     let id = name(alloc, left)?;
@@ -85,7 +85,7 @@ fn topic(alloc: Global, left: &mut Unread) -> Result<Topic, CodecFault>
 }
 
 /// So many topics.
-fn topics_of(alloc: Global, left: &mut Unread, count: u32) -> Result<Vec<Topic>, CodecFault>
+fn topics_of(alloc: Global, left: &mut Cursor, count: u32) -> Result<Vec<Topic>, CodecFault>
     ensures { GivesBy (λ topics. topics.items) result left.new.bytes.now (items_at topic_at count left.old.bytes.now) }
 {
     let mut topics = Vec::new(alloc);
@@ -98,7 +98,7 @@ fn topics_of(alloc: Global, left: &mut Unread, count: u32) -> Result<Vec<Topic>,
 
 /// The topics of a campaign, whose ids differ.
 #[tactic(auto, unfolding(crate::specs::Readings::topics_at, crate::specs::Readings::counted_at))]
-pub(crate) fn campaign_topics(alloc: Global, left: &mut Unread) -> Result<Rows<Topic>, CodecFault>
+pub(crate) fn campaign_topics(alloc: Global, left: &mut Cursor) -> Result<Rows<Topic>, CodecFault>
     ensures { Gives result left.new.bytes.now (topics_at left.old.bytes.now) }
 {
     let count = left.number32()?;
@@ -110,7 +110,7 @@ pub(crate) fn campaign_topics(alloc: Global, left: &mut Unread) -> Result<Rows<T
 }
 
 #[tactic(auto, unfolding(crate::specs::Readings::list_at))]
-fn list(alloc: Global, left: &mut Unread) -> Result<TopicList, CodecFault>
+fn list(alloc: Global, left: &mut Cursor) -> Result<TopicList, CodecFault>
     ensures { Gives result left.new.bytes.now (list_at left.old.bytes.now) }
 {
     let topic = name(alloc, left)?;
@@ -120,7 +120,7 @@ fn list(alloc: Global, left: &mut Unread) -> Result<TopicList, CodecFault>
 }
 
 /// So many lists.
-fn lists_of(alloc: Global, left: &mut Unread, count: u32) -> Result<Vec<TopicList>, CodecFault>
+fn lists_of(alloc: Global, left: &mut Cursor, count: u32) -> Result<Vec<TopicList>, CodecFault>
     ensures { GivesBy (λ lists. lists.items) result left.new.bytes.now (items_at list_at count left.old.bytes.now) }
 {
     let mut lists = Vec::new(alloc);
@@ -133,7 +133,7 @@ fn lists_of(alloc: Global, left: &mut Unread, count: u32) -> Result<Vec<TopicLis
 
 /// The lists of a run, by ascending topic.
 #[tactic(auto, unfolding(crate::specs::Readings::lists_at, crate::specs::Readings::counted_at))]
-pub(crate) fn run_lists(alloc: Global, left: &mut Unread) -> Result<Rows<TopicList>, CodecFault>
+pub(crate) fn run_lists(alloc: Global, left: &mut Cursor) -> Result<Rows<TopicList>, CodecFault>
     ensures { Gives result left.new.bytes.now (lists_at left.old.bytes.now) }
 {
     let count = left.number32()?;

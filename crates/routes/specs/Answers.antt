@@ -1,5 +1,5 @@
 -- The text of an answer.
-use Rattle.std.specs.Prelude.{ℕ, Bool, true, false, ◌||◌, ◌==◌, List, [], ◌∷◌, ◌++◌, map, codes, decimal, if◌then◌else◌}
+use Rattle.std.specs.Prelude.{ℕ, Bool, true, false, not, ◌||◌, ◌==◌, List, [], ◌∷◌, ◌++◌, map, codes, decimal, if◌then◌else◌}
 use Rattle.std.specs.List.{concat, flat_map, join_with_byte}
 use Rattle.http_wire.specs.Answers.{answer_text}
 use Rattle.http_wire.specs.declared.messages.WireFault.{WireFault}
@@ -44,10 +44,19 @@ refusal_status (refusal.Limit which) = 409
 refusal_status refusal.UnknownRelease = 404
 refusal_status (refusal.LineTopic line) = 400
 
--- the status of a reply to a query, or to a command
+-- the status of a reply to a query, or to a command, that is no refusal
+abbrev pub success_status : Bool → ℕ
+success_status query = if query then 200 else 201
+
 abbrev pub reply_status : Reply → Bool → ℕ
+reply_status reply.Done query = success_status query
+reply_status (reply.Topics topics) query = success_status query
+reply_status (reply.Submitted run topics lines) query = success_status query
+reply_status (reply.Leased lease topic doc until title) query = success_status query
+reply_status (reply.Graded topic doc grade) query = success_status query
+reply_status (reply.Pool topic docs) query = success_status query
+reply_status (reply.Page text) query = success_status query
 reply_status (reply.Refused r) query = refusal_status r
-reply_status _ query = if query then 200 else 201
 
 abbrev pub route_status : RouteFault → ℕ
 route_status route.Route = 404
@@ -119,17 +128,45 @@ no_field = record { key = []; value = []; end = [] }
 
 -- the field of a refusal whose key is before "refusal"
 abbrev pub field_before : Refusal → Field
-field_before (refusal.Reused entry) = record { key = codes "\"entry\":"; value = decimal entry; end = codes "," }
-field_before (refusal.TooMany live) = record { key = codes "\"live\":"; value = decimal live; end = codes "," }
+field_before refusal.UnknownTopic = no_field
+field_before refusal.UnknownRun = no_field
+field_before refusal.UnknownLease = no_field
+field_before refusal.NotYours = no_field
 field_before (refusal.WrongPhase p) = record { key = codes "\"phase\":\""; value = phase_name p; end = codes "\"," }
+field_before refusal.TagTaken = no_field
+field_before refusal.TopicsFixed = no_field
+field_before refusal.NothingLeft = no_field
+field_before (refusal.TooMany live) = record { key = codes "\"live\":"; value = decimal live; end = codes "," }
+field_before (refusal.Expired until) = no_field
+field_before refusal.Ended = no_field
+field_before refusal.GradeRange = no_field
+field_before refusal.NotLabelled = no_field
+field_before refusal.Withdrawn = no_field
+field_before (refusal.Reused entry) = record { key = codes "\"entry\":"; value = decimal entry; end = codes "," }
+field_before (refusal.Limit which) = no_field
+field_before refusal.UnknownRelease = no_field
 field_before (refusal.LineTopic line) = record { key = codes "\"line\":"; value = decimal line; end = codes "," }
-field_before _ = no_field
 
 -- and one whose key is behind it
 abbrev pub field_behind : Refusal → Field
+field_behind refusal.UnknownTopic = no_field
+field_behind refusal.UnknownRun = no_field
+field_behind refusal.UnknownLease = no_field
+field_behind refusal.NotYours = no_field
+field_behind (refusal.WrongPhase p) = no_field
+field_behind refusal.TagTaken = no_field
+field_behind refusal.TopicsFixed = no_field
+field_behind refusal.NothingLeft = no_field
+field_behind (refusal.TooMany live) = no_field
 field_behind (refusal.Expired until) = record { key = codes ",\"until\":"; value = decimal until; end = [] }
+field_behind refusal.Ended = no_field
+field_behind refusal.GradeRange = no_field
+field_behind refusal.NotLabelled = no_field
+field_behind refusal.Withdrawn = no_field
+field_behind (refusal.Reused entry) = no_field
 field_behind (refusal.Limit which) = record { key = codes ",\"which\":\""; value = quantity_name which; end = codes "\"" }
-field_behind _ = no_field
+field_behind refusal.UnknownRelease = no_field
+field_behind (refusal.LineTopic line) = no_field
 
 abbrev pub refusal_body : Refusal → List ℕ
 refusal_body r =
@@ -179,9 +216,15 @@ reply_body (reply.Refused r) = refusal_body r
 
 -- the field of a format fault whose key is before "kind"
 abbrev pub detail : Kind → Field
+detail kind.Fields = no_field
+detail kind.Topic = no_field
+detail kind.Docno = no_field
 detail (kind.Score cause) = record { key = codes "\"cause\":\""; value = cause_name cause; end = codes "\"," }
+detail kind.Grade = no_field
+detail kind.Empty = no_field
+detail kind.TooLong = no_field
+detail kind.Tag = no_field
 detail (kind.Twice first) = record { key = codes "\"first\":"; value = decimal first; end = codes "," }
-detail _ = no_field
 
 abbrev pub format_body : FormatFault → List ℕ
 format_body at =
@@ -212,10 +255,23 @@ body_of (answered.Wire cause) = wire_body cause
 body_of answered.DiskFault = codes "{\"fault\":\"disk\"}\n"
 body_of answered.Memory = codes "{\"fault\":\"memory\"}\n"
 
+abbrev pub is_page : Reply → Bool
+is_page reply.Done = false
+is_page (reply.Topics topics) = false
+is_page (reply.Submitted run topics lines) = false
+is_page (reply.Leased lease topic doc until title) = false
+is_page (reply.Graded topic doc grade) = false
+is_page (reply.Pool topic docs) = false
+is_page (reply.Page text) = true
+is_page (reply.Refused r) = false
+
 -- a page is plain text, and each other body is JSON
 abbrev pub is_json : Answered → Bool
-is_json (answered.Reply (reply.Page text) query) = false
-is_json _ = true
+is_json (answered.Reply r query) = not (is_page r)
+is_json (answered.Route cause) = true
+is_json (answered.Wire cause) = true
+is_json answered.DiskFault = true
+is_json answered.Memory = true
 
 -- the whole answer; `close` says that the connection ends behind it
 unfoldable pub text_of : Answered → Bool → List ℕ

@@ -5,6 +5,12 @@ use Rattle.trec_formats.specs.Names.{is_name}
 use Rattle.rulebook.specs.declared.rules.Caller.{Caller}
 use Rattle.rulebook.specs.Spelling.{differ}
 use Rattle.routes.specs.declared.keys.KeyRow.{KeyRow}
+use Rattle.routes.specs.declared.keys.RowText.{RowText}
+use Rattle.routes.specs.declared.keys.RowText.TheVariants.{Name, Key}
+
+abbrev pub row_text : RowText → KeyRow → List ℕ
+row_text Name row = row.name
+row_text Key row = row.key
 
 -- each name is a name, and no two rows have one name or one key
 abbrev pub are_rows : List KeyRow → Bool

@@ -1,12 +1,12 @@
+pub mod AnswerParts
 pub mod Answers
 pub mod AskStates
 pub mod Asks
 pub mod Bodies
-pub mod BodyParts
 pub mod Faults
+pub mod FoundJudgements
+pub mod FoundOpenings
 pub mod Keys
-pub mod OpeningParts
 pub mod Openings
-pub mod Parts
 pub mod Places
 pub mod RoleRules

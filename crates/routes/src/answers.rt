@@ -2,12 +2,12 @@
 //! object else.
 ghost use Rattle.std.specs.Prelude.{◌≡◌, ◌+◌, ◌-◌, ◌^◌, ◌<◌, ◌≤◌, ◌++◌, IsTrue, IsOk, OnOk, OnErr, drop, length, take, vec_len, vec_capacity};
 ghost use Rattle.http_wire.specs.Answers.{answer_text, head_text, is_status};
-ghost use Rattle.routes.specs.Answers.{body_of, detail, field_before, field_behind, format_body, graded_body, is_json, is_plain, is_short, leased_body, phase_name, pool_body, quantity_name, refusal_body, refusal_name, refusal_status, reply_body, reply_status, route_body, route_status, status_of, submitted_body, text_of, topics_body, wire_body, wire_status};
+ghost use Rattle.routes.specs.Answers.{body_of, detail, field_before, field_behind, format_body, graded_body, is_json, is_page, is_plain, is_short, leased_body, no_field, phase_name, pool_body, quantity_name, refusal_body, refusal_name, refusal_status, reply_body, reply_status, route_body, route_status, status_of, submitted_body, success_status, text_of, topics_body, wire_body, wire_status};
 ghost use Rattle.rulebook.specs.Plain.{is_plain_reply, is_short_reply};
 ghost use Rattle.rulebook.specs.Spelling.{is_printable};
 ghost use Rattle.trec_formats.specs.Names.{is_docno, is_name};
 ghost use Rattle.decimal_rank.specs.Additions.{Adds};
-ghost use Rattle.routes.specs.Parts.{field_shown};
+ghost use Rattle.routes.specs.AnswerParts.{field_shown};
 
 use crate::faults::RouteFault;
 use crate::growth::{Part, append_parts};
@@ -43,7 +43,16 @@ fn refusal_status(refusal: Refusal) -> u16
         Refusal::NotYours => 403,
         Refusal::TooMany { .. } => 429,
         Refusal::GradeRange | Refusal::LineTopic { .. } => 400,
-        _ => 409,
+        Refusal::WrongPhase { .. }
+        | Refusal::TagTaken
+        | Refusal::TopicsFixed
+        | Refusal::NothingLeft
+        | Refusal::Expired { .. }
+        | Refusal::Ended
+        | Refusal::NotLabelled
+        | Refusal::Withdrawn
+        | Refusal::Reused { .. }
+        | Refusal::Limit { .. } => 409,
     }
 }
 
@@ -53,8 +62,22 @@ fn reply_status(reply: &Reply, asked: bool) -> u16
 {
     match reply {
         Reply::Refused(refusal) => refusal_status(*refusal),
-        _ => { if asked { 200 } else { 201 } }
+        Reply::Done
+        | Reply::Topics { .. }
+        | Reply::Submitted { .. }
+        | Reply::Leased { .. }
+        | Reply::Graded { .. }
+        | Reply::Pool { .. }
+        | Reply::Page { .. } => success_status(asked),
     }
+}
+
+// The status of a reply that is no refusal.
+fn success_status(asked: bool) -> u16
+    ensures status { result ≡ success_status asked }
+    ensures known { IsTrue (is_status result) }
+{
+    if asked { 200 } else { 201 }
 }
 
 fn route_status(fault: RouteFault) -> u16
@@ -153,8 +176,18 @@ struct Field {
     end: &'static [u8],
 }
 
+fn no_field() -> Field
+    ensures { field_shown result ≡ no_field }
+{
+    Field {
+        key: b"",
+        value: Part::Plain(b""),
+        end: b"",
+    }
+}
+
 // The field of a refusal whose key is before `"refusal"`.
-#[tactic(auto, using(crate::proofs::AnswerSizes::decimal_short))]
+#[tactic(auto, using(crate::proofs::AnswerTexts::AnswerSizes::decimal_short))]
 fn field_before(refusal: Refusal) -> Field
     ensures field { field_shown result ≡ field_before refusal }
     ensures short { length (field_before refusal).value ≤ 20 }
@@ -180,16 +213,25 @@ fn field_before(refusal: Refusal) -> Field
             value: Part::Number(u64::from(line)),
             end: b",",
         },
-        _ => Field {
-            key: b"",
-            value: Part::Plain(b""),
-            end: b"",
-        },
+        Refusal::UnknownTopic
+        | Refusal::UnknownRun
+        | Refusal::UnknownLease
+        | Refusal::NotYours
+        | Refusal::TagTaken
+        | Refusal::TopicsFixed
+        | Refusal::NothingLeft
+        | Refusal::Expired { .. }
+        | Refusal::Ended
+        | Refusal::GradeRange
+        | Refusal::NotLabelled
+        | Refusal::Withdrawn
+        | Refusal::Limit { .. }
+        | Refusal::UnknownRelease => no_field(),
     }
 }
 
 // And one whose key is behind it.
-#[tactic(auto, using(crate::proofs::AnswerSizes::decimal_short))]
+#[tactic(auto, using(crate::proofs::AnswerTexts::AnswerSizes::decimal_short))]
 fn field_behind(refusal: Refusal) -> Field
     ensures field { field_shown result ≡ field_behind refusal }
     ensures short { length (field_behind refusal).value ≤ 20 }
@@ -205,15 +247,26 @@ fn field_behind(refusal: Refusal) -> Field
             value: Part::Plain(quantity_name(which)),
             end: b"\"",
         },
-        _ => Field {
-            key: b"",
-            value: Part::Plain(b""),
-            end: b"",
-        },
+        Refusal::UnknownTopic
+        | Refusal::UnknownRun
+        | Refusal::UnknownLease
+        | Refusal::NotYours
+        | Refusal::WrongPhase { .. }
+        | Refusal::TagTaken
+        | Refusal::TopicsFixed
+        | Refusal::NothingLeft
+        | Refusal::TooMany { .. }
+        | Refusal::Ended
+        | Refusal::GradeRange
+        | Refusal::NotLabelled
+        | Refusal::Withdrawn
+        | Refusal::Reused { .. }
+        | Refusal::UnknownRelease
+        | Refusal::LineTopic { .. } => no_field(),
     }
 }
 
-#[tactic(auto, using(crate::proofs::AnswerSizes::refusal_few))]
+#[tactic(auto, using(crate::proofs::AnswerTexts::AnswerSizes::refusal_few))]
 fn write_refusal(out: &mut Vec<u8>, refusal: Refusal) -> Result<(), Memory>
     ensures adds { Adds out.old out.new (refusal_body refusal) result }
     ensures few { length (refusal_body refusal) ≤ 3000 }
@@ -238,7 +291,7 @@ fn write_refusal(out: &mut Vec<u8>, refusal: Refusal) -> Result<(), Memory>
     )
 }
 
-#[tactic(auto, using(crate::proofs::AnswerSizes::topics_few))]
+#[tactic(auto, using(crate::proofs::AnswerTexts::AnswerSizes::topics_few))]
 fn write_topics(out: &mut Vec<u8>, topics: u32) -> Result<(), Memory>
     ensures adds { Adds out.old out.new (topics_body topics) result }
     ensures few { length (topics_body topics) ≤ 3000 }
@@ -302,7 +355,7 @@ fn write_leased<'x>(
     )
 }
 
-#[tactic(auto, using(crate::proofs::AnswerSizes::graded_few))]
+#[tactic(auto, using(crate::proofs::AnswerTexts::AnswerSizes::graded_few))]
 fn write_graded<'x>(
     out: &mut Vec<u8>,
     topic: &'x [u8],
@@ -381,7 +434,7 @@ fn write_reply(out: &mut Vec<u8>, reply: &Reply) -> Result<(), Memory>
 }
 
 // The field of a format fault whose key is before `"kind"`.
-#[tactic(auto, using(crate::proofs::AnswerSizes::decimal_short))]
+#[tactic(auto, using(crate::proofs::AnswerTexts::AnswerSizes::decimal_short))]
 fn detail(kind: Kind) -> Field
     ensures field { field_shown result ≡ detail kind }
     ensures short { length (detail kind).value ≤ 20 }
@@ -397,15 +450,17 @@ fn detail(kind: Kind) -> Field
             value: Part::Number(u64::from(first)),
             end: b",",
         },
-        _ => Field {
-            key: b"",
-            value: Part::Plain(b""),
-            end: b"",
-        },
+        Kind::Fields
+        | Kind::Topic
+        | Kind::Docno
+        | Kind::Grade
+        | Kind::Empty
+        | Kind::TooLong
+        | Kind::Tag => no_field(),
     }
 }
 
-#[tactic(auto, using(crate::proofs::AnswerSizes::format_few))]
+#[tactic(auto, using(crate::proofs::AnswerTexts::AnswerSizes::format_few))]
 fn write_format(out: &mut Vec<u8>, fault: FormatFault) -> Result<(), Memory>
     ensures adds { Adds out.old out.new (format_body fault) result }
     ensures few { length (format_body fault) ≤ 3000 }
@@ -472,13 +527,25 @@ fn write_body(out: &mut Vec<u8>, answer: &Answered) -> Result<(), Memory>
 fn is_json(answer: &Answered) -> bool
     ensures { result ≡ is_json answer.now }
 {
-    !matches!(
-        answer,
-        Answered::Reply {
-            reply: Reply::Page { .. },
-            ..
-        }
-    )
+    match answer {
+        Answered::Reply { reply, .. } => !is_page(reply),
+        Answered::Route(_) | Answered::Wire(_) | Answered::DiskFault | Answered::Memory => true,
+    }
+}
+
+fn is_page(reply: &Reply) -> bool
+    ensures { result ≡ is_page reply.now }
+{
+    match reply {
+        Reply::Page { .. } => true,
+        Reply::Done
+        | Reply::Topics { .. }
+        | Reply::Submitted { .. }
+        | Reply::Leased { .. }
+        | Reply::Graded { .. }
+        | Reply::Pool { .. }
+        | Reply::Refused(_) => false,
+    }
 }
 
 // Brings what is behind the first `size` of the bytes from this place on to their front.

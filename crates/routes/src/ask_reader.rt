@@ -7,7 +7,7 @@ ghost use Rattle.routes.specs.declared.places.Question.TheVariants as question;
 ghost use Rattle.routes.specs.AskStates.{BeginsBody, HasFailed, HasRoom, IsAddressable, IsAsking, IsAt, IsFew, IsHeld, IsOpened, KeepsBody, MayGo, OrFailed, SuitsBody};
 ghost use Rattle.routes.specs.Asks.{Asks, HasSoundTopics, Reads, ReadsBehind};
 ghost use Rattle.routes.specs.Faults.{IsRead};
-ghost use Rattle.routes.specs.OpeningParts.{opening_shown};
+ghost use Rattle.routes.specs.FoundOpenings.{opening_shown};
 ghost use Rattle.routes.specs.Openings.{Opening as SeenOpening, opening_of};
 ghost use Rattle.routes.specs.Places.{IsRow, fits, may_ask, parameter};
 ghost use Rattle.rulebook.specs.declared.limits.TheConstants.{MAX_MOMENT};

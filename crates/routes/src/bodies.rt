@@ -8,7 +8,7 @@ ghost use Rattle.trec_formats.specs.Lists.{IsRankedRun, IsRankedRunFault};
 ghost use Rattle.trec_formats.specs.RunStates.{IsAfter};
 ghost use Rattle.trec_formats.specs.Names.{is_between, is_docno};
 ghost use Rattle.routes.specs.Bodies.{doc_at, grade_at, grade_in, has_members, json_of, judgement_in};
-ghost use Rattle.routes.specs.BodyParts.{judgement_shown};
+ghost use Rattle.routes.specs.FoundJudgements.{judgement_shown};
 
 use decimal_rank::{Memory, Text};
 use serde_json::Value;
@@ -23,7 +23,7 @@ pub(crate) struct Judgement {
 }
 
 // The value of a JSON text.
-#[tactic(auto, using(crate::proofs::Matching::value_read, crate::proofs::Matching::no_value))]
+#[tactic(auto, using(crate::proofs::JsonBodies::Matching::value_read, crate::proofs::JsonBodies::Matching::no_value))]
 fn read_json(alloc: Global, body: &[u8]) -> Result<Option<Value>, Memory>
     ensures { IfOk result (λ found. option_map view found ≡ json_of body.now) }
 {
@@ -34,7 +34,7 @@ fn read_json(alloc: Global, body: &[u8]) -> Result<Option<Value>, Memory>
     }
 }
 
-#[tactic(auto, using(crate::proofs::Members::counted, crate::proofs::Members::uncounted))]
+#[tactic(auto, using(crate::proofs::JsonBodies::Members::counted, crate::proofs::JsonBodies::Members::uncounted))]
 fn has_members(value: &Value, count: usize) -> bool
     ensures { result ≡ has_members count (view value.now) }
 {

@@ -4,7 +4,7 @@ ghost use Rattle.std.specs.Prelude.{◌≡◌, ◌∷◌, ◌++◌, [], decimal,
 ghost use Rattle.std.specs.List.{flat_map, join_with_byte, list_all};
 ghost use Rattle.routes.specs.Answers.{escaped, escaped_byte, quoted};
 ghost use Rattle.decimal_rank.specs.Additions.{Adds};
-ghost use Rattle.routes.specs.Parts.{is_unmarked_byte, part_bytes};
+ghost use Rattle.routes.specs.AnswerParts.{is_unmarked_byte, part_bytes};
 
 use decimal_rank::{Memory, Text, append};
 use itoa::Buffer;
@@ -32,7 +32,7 @@ fn append_byte(out: &mut Vec<u8>, byte: u8) -> Result<(), Memory>
 }
 
 // Appends the text, or leaves the bytes as they were.
-#[tactic(auto, using(crate::proofs::Growing::part_fits, crate::proofs::Growing::part_added))]
+#[tactic(auto, using(decimal_rank::proofs::GrowingBytes::Growing::part_fits, decimal_rank::proofs::GrowingBytes::Growing::part_added))]
 fn append_escaped(out: &mut Vec<u8>, text: &[u8]) -> Result<(), Memory>
     ensures { Adds out.old out.new (escaped text.now) result }
 {
@@ -58,7 +58,7 @@ fn is_unmarked(text: &[u8]) -> bool
 }
 
 // Appends the text with its escapes. One without any is copied whole.
-#[tactic(auto, using(crate::proofs::Growing::escaped_same))]
+#[tactic(auto, using(crate::proofs::AnswerTexts::Growing::escaped_same))]
 fn append_text(out: &mut Vec<u8>, text: &[u8]) -> Result<(), Memory>
     ensures { Adds out.old out.new (escaped text.now) result }
 {
@@ -99,7 +99,7 @@ fn append_quoted(out: &mut Vec<u8>, front: &[u8], text: &[u8]) -> Result<(), Mem
 }
 
 // Appends docnos between quotes, each behind a comma, or leaves the bytes as they were.
-#[tactic(auto, using(crate::proofs::Growing::part_fits, crate::proofs::Growing::part_added))]
+#[tactic(auto, using(decimal_rank::proofs::GrowingBytes::Growing::part_fits, decimal_rank::proofs::GrowingBytes::Growing::part_added))]
 fn append_others(out: &mut Vec<u8>, docs: &[Text]) -> Result<(), Memory>
     ensures { Adds out.old out.new (flat_map (λ doc. 44 ∷ quoted doc) docs.now) result }
 {
@@ -160,7 +160,7 @@ fn append_part(out: &mut Vec<u8>, part: &Part<'_>) -> Result<(), Memory>
 }
 
 /// Appends the parts, one after another, or leaves the bytes as they were.
-#[tactic(auto, using(crate::proofs::Growing::part_fits, crate::proofs::Growing::part_added))]
+#[tactic(auto, using(decimal_rank::proofs::GrowingBytes::Growing::part_fits, decimal_rank::proofs::GrowingBytes::Growing::part_added))]
 pub(crate) fn append_parts(out: &mut Vec<u8>, parts: &[Part<'_>]) -> Result<(), Memory>
     ensures { Adds out.old out.new (flat_map part_bytes parts.now) result }
 {

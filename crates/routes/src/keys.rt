@@ -4,7 +4,7 @@ ghost use Rattle.std.specs.Prelude.{◌≡◌, IsTrue, IfOk, bytes_eq, map, opti
 ghost use Rattle.std.specs.List.{list_all, list_any};
 ghost use Rattle.rulebook.specs.Spelling.{differ};
 ghost use Rattle.trec_formats.specs.Names.{is_name};
-ghost use Rattle.routes.specs.Keys.{are_rows, caller, row_of};
+ghost use Rattle.routes.specs.Keys.{are_rows, caller, row_of, row_text};
 
 use decimal_rank::{Memory, Text};
 use rulebook::{Caller, Role};
@@ -30,37 +30,34 @@ impl KeyRow {
     }
 }
 
-fn has_name(rows: &[KeyRow], name: &[u8]) -> bool
-    ensures { result ≡ list_any (λ row. bytes_eq name.now row.name) rows.now }
-{
-    rows.iter().any(|row| name == row.name.bytes())
+/// A text that no two rows share.
+#[derive(Clone, Copy)]
+pub(crate) enum RowText {
+    Name,
+    Key,
 }
 
-fn has_key(rows: &[KeyRow], key: &[u8]) -> bool
-    ensures { result ≡ list_any (λ row. bytes_eq key.now row.key) rows.now }
+fn text_of(row: &KeyRow, which: RowText) -> &[u8]
+    ensures { result.now ≡ row_text which row.now }
 {
-    rows.iter().any(|row| key == row.key.bytes())
-}
-
-fn names_differ(rows: &[KeyRow]) -> bool
-    ensures { result ≡ differ (map (λ row. row.name) rows.now) }
-{
-    let mut left = rows;
-    while let [first, rest @ ..] = left {
-        if has_name(rest, first.name.bytes()) {
-            return false;
-        }
-        left = rest;
+    match which {
+        RowText::Name => row.name.bytes(),
+        RowText::Key => row.key.bytes(),
     }
-    true
 }
 
-fn keys_differ(rows: &[KeyRow]) -> bool
-    ensures { result ≡ differ (map (λ row. row.key) rows.now) }
+fn has_text(rows: &[KeyRow], which: RowText, text: &[u8]) -> bool
+    ensures { result ≡ list_any (λ row. bytes_eq text.now (row_text which row)) rows.now }
+{
+    rows.iter().any(|row| text == text_of(row, which))
+}
+
+fn texts_differ(rows: &[KeyRow], which: RowText) -> bool
+    ensures { result ≡ differ (map (row_text which) rows.now) }
 {
     let mut left = rows;
     while let [first, rest @ ..] = left {
-        if has_key(rest, first.key.bytes()) {
+        if has_text(rest, which, text_of(first, which)) {
             return false;
         }
         left = rest;
@@ -79,7 +76,7 @@ fn are_named(rows: &[KeyRow]) -> bool
 pub fn are_rows(rows: &[KeyRow]) -> bool
     ensures { result ≡ are_rows rows.now }
 {
-    are_named(rows) && names_differ(rows) && keys_differ(rows)
+    are_named(rows) && texts_differ(rows, RowText::Name) && texts_differ(rows, RowText::Key)
 }
 
 /// The callers of a campaign. Contracts see the list of the rows.

@@ -4,7 +4,7 @@ ghost use Rattle.std.specs.Prelude.{◌≡◌, ◌∷◌, [], IsTrue, IfOk, code
 ghost use Rattle.http_wire.specs.Heads.{values_named};
 ghost use Rattle.routes.specs.Faults.{Gives};
 ghost use Rattle.routes.specs.Openings.{is_request_number, number_at, number_in, opening_of, place_of, row_at, with_method, with_number, with_parameter, with_role};
-ghost use Rattle.routes.specs.OpeningParts.{opening_shown};
+ghost use Rattle.routes.specs.FoundOpenings.{opening_shown};
 ghost use Rattle.routes.specs.Places.{IsRow, fits, may_ask, parameter};
 ghost use Rattle.rulebook.specs.Spelling.{is_number};
 ghost use Rattle.trec_formats.specs.Names.{is_name};
@@ -28,7 +28,7 @@ pub(crate) struct Opening<'a> {
 }
 
 // The row of a path whose parameter fits.
-#[tactic(auto, using(crate::proofs::Matching::is_text, crate::proofs::Matching::is_no_text))]
+#[tactic(auto, using(crate::proofs::JsonBodies::Matching::is_text, crate::proofs::JsonBodies::Matching::is_no_text))]
 fn find_place(paths: &Paths, path: &[u8]) -> Result<Place, RouteFault>
     ensures place { Gives (λ place. place) result (place_of path.now) }
     ensures fitting { IfOk result (λ place. IsTrue (fits place.parameter (parameter path.now))) }

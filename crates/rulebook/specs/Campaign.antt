@@ -21,7 +21,16 @@ History = List Entry
 
 abbrev pub rules_in : Command → Option Rules
 rules_in (command.Found rules) = Some rules
-rules_in _ = None
+rules_in (command.Topics topics) = None
+rules_in (command.Submit name lists) = None
+rules_in command.Open = None
+rules_in (command.Lease topic) = None
+rules_in (command.Grade lease grade) = None
+rules_in (command.Release lease) = None
+rules_in (command.Amend topic doc grade) = None
+rules_in (command.Rule topic doc grade) = None
+rules_in (command.Withdraw run) = None
+rules_in command.Publish = None
 
 abbrev pub no_rules : Rules
 no_rules = record { depth = 0; term = 0; hold = 0; level = 0; top_grade = 0; doubles = [] }
@@ -34,12 +43,30 @@ rules_of (e ∷ _) = unwrap_or (rules_in e.core.command) no_rules
 -- Phase
 
 abbrev pub opens : Command → Bool
+opens (command.Found rules) = false
+opens (command.Topics topics) = false
+opens (command.Submit name lists) = false
 opens command.Open = true
-opens _ = false
+opens (command.Lease topic) = false
+opens (command.Grade lease grade) = false
+opens (command.Release lease) = false
+opens (command.Amend topic doc grade) = false
+opens (command.Rule topic doc grade) = false
+opens (command.Withdraw run) = false
+opens command.Publish = false
 
 abbrev pub publishes : Command → Bool
+publishes (command.Found rules) = false
+publishes (command.Topics topics) = false
+publishes (command.Submit name lists) = false
+publishes command.Open = false
+publishes (command.Lease topic) = false
+publishes (command.Grade lease grade) = false
+publishes (command.Release lease) = false
+publishes (command.Amend topic doc grade) = false
+publishes (command.Rule topic doc grade) = false
+publishes (command.Withdraw run) = false
 publishes command.Publish = true
-publishes _ = false
 
 -- Collecting from the founding on, Judging from an Open entry on, Published from a Publish entry on
 abbrev pub phase : History → Phase
@@ -50,8 +77,17 @@ phase H =
 -- Topics
 
 abbrev pub topics_in : Command → Option (List Topic)
+topics_in (command.Found rules) = None
 topics_in (command.Topics topics) = Some topics
-topics_in _ = None
+topics_in (command.Submit name lists) = None
+topics_in command.Open = None
+topics_in (command.Lease topic) = None
+topics_in (command.Grade lease grade) = None
+topics_in (command.Release lease) = None
+topics_in (command.Amend topic doc grade) = None
+topics_in (command.Rule topic doc grade) = None
+topics_in (command.Withdraw run) = None
+topics_in command.Publish = None
 
 abbrev pub has_topics : History → Bool
 has_topics H = list_any (λ e. is_some (topics_in e.core.command)) H
@@ -81,8 +117,17 @@ pub record Run : Type 0 where
   pub lists : List TopicList
 
 abbrev pub run_in : Command → Option Run
+run_in (command.Found rules) = None
+run_in (command.Topics topics) = None
 run_in (command.Submit name lists) = Some (record { name = name; lists = lists })
-run_in _ = None
+run_in command.Open = None
+run_in (command.Lease topic) = None
+run_in (command.Grade lease grade) = None
+run_in (command.Release lease) = None
+run_in (command.Amend topic doc grade) = None
+run_in (command.Rule topic doc grade) = None
+run_in (command.Withdraw run) = None
+run_in command.Publish = None
 
 -- the submitted runs, in order
 abbrev pub runs : History → List Run
@@ -93,8 +138,17 @@ abbrev pub is_taken : History → Text → Bool
 is_taken H name = list_any (λ run. bytes_eq run.name name) (runs H)
 
 abbrev pub withdraws : Text → Command → Bool
+withdraws name (command.Found rules) = false
+withdraws name (command.Topics topics) = false
+withdraws name (command.Submit run lists) = false
+withdraws name command.Open = false
+withdraws name (command.Lease topic) = false
+withdraws name (command.Grade lease grade) = false
+withdraws name (command.Release lease) = false
+withdraws name (command.Amend topic doc grade) = false
+withdraws name (command.Rule topic doc grade) = false
 withdraws name (command.Withdraw run) = bytes_eq run name
-withdraws name _ = false
+withdraws name command.Publish = false
 
 -- whether the run of this name was withdrawn
 abbrev pub is_withdrawn : History → Text → Bool

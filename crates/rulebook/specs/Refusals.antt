@@ -29,9 +29,11 @@ given (Some value) r ruling = ruling value
 
 abbrev pub is_phase : Phase → Phase → Bool
 is_phase Collecting Collecting = true
+is_phase Collecting _ = false
 is_phase Judging Judging = true
+is_phase Judging _ = false
 is_phase Published Published = true
-is_phase _ _ = false
+is_phase Published _ = false
 
 abbrev pub wrong_phase_unless : Phase → History → Option Refusal
 wrong_phase_unless p H = refusal.WrongPhase (phase H) when not (is_phase p (phase H))

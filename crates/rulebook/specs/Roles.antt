@@ -9,15 +9,18 @@ use Rattle.rulebook.specs.declared.ask.Query.TheVariants.{Pool, Qrels, Scores, T
 
 abbrev pub is_organiser : Role → Bool
 is_organiser Organiser = true
-is_organiser _ = false
+is_organiser Group = false
+is_organiser Assessor = false
 
 abbrev pub is_group : Role → Bool
+is_group Organiser = false
 is_group Group = true
-is_group _ = false
+is_group Assessor = false
 
 abbrev pub is_assessor : Role → Bool
+is_assessor Organiser = false
+is_assessor Group = false
 is_assessor Assessor = true
-is_assessor _ = false
 
 -- Nobody gives Found: the founding entry is there from the start.
 abbrev pub may_give : Role → Command → Bool

@@ -15,26 +15,41 @@ use Rattle.trec_formats.specs.Names.{is_name}
 
 abbrev pub same_part : Part → Part → Bool
 same_part Title Title = true
+same_part Title _ = false
 same_part Desc Desc = true
+same_part Desc _ = false
 same_part Narr Narr = true
-same_part _ _ = false
+same_part Narr _ = false
 
 -- the line of a block's number, and its text
 abbrev pub number_of : List Marked → Option (ℕ × List ℕ)
 number_of [] = None
 number_of ((n, Numbers text) ∷ _) = Some (n, text)
-number_of (_ ∷ block) = number_of block
+number_of ((_, Opens) ∷ block) = number_of block
+number_of ((_, Closes) ∷ block) = number_of block
+number_of ((_, Begins part text) ∷ block) = number_of block
+number_of ((_, Skips) ∷ block) = number_of block
+number_of ((_, Says text) ∷ block) = number_of block
 
 -- the texts of the lines in front that go on with a part
 abbrev pub said : List Marked → List (List ℕ)
+said [] = []
 said ((_, Says text) ∷ block) = text ∷ said block
-said _ = []
+said ((_, Opens) ∷ block) = []
+said ((_, Closes) ∷ block) = []
+said ((_, Numbers text) ∷ block) = []
+said ((_, Begins part text) ∷ block) = []
+said ((_, Skips) ∷ block) = []
 
 -- the text on the line that begins a part, and those of the lines that go on with it
 abbrev pub texts_of : Part → List Marked → List (List ℕ)
 texts_of part [] = []
 texts_of part ((_, Begins other text) ∷ block) = if same_part part other then text ∷ said block else texts_of part block
-texts_of part (_ ∷ block) = texts_of part block
+texts_of part ((_, Opens) ∷ block) = texts_of part block
+texts_of part ((_, Closes) ∷ block) = texts_of part block
+texts_of part ((_, Numbers text) ∷ block) = texts_of part block
+texts_of part ((_, Skips) ∷ block) = texts_of part block
+texts_of part ((_, Says text) ∷ block) = texts_of part block
 
 -- whether a part was begun
 abbrev pub has_part : Part → List Marked → Bool

@@ -1,6 +1,6 @@
 use Rattle.std.proofs.Common.{◌++◌, map, drop, take, [], ap, ◌∙◌, arith}
 use Rattle.std.specs.List.{concat}
-use Rattle.decimal_rank.proofs.Growing.{part_fits, first_of_parts, first_kept}
+use Rattle.decimal_rank.proofs.GrowingBytes.Growing.{part_fits, first_of_parts, first_kept}
 use Rattle.decimal_rank.proofs.appends.append_all.Goals as goal
 
 pub returns-in-Err : goal.returns-in-Err

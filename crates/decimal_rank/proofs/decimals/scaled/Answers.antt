@@ -1,7 +1,7 @@
 use Rattle.std.proofs.Common.{◌+◌, ◌-◌, ◌*◌, ◌/◌, ◌^◌, arith, ap, sym, ◌∙◌, zero-mul}
 use Rattle.std.proofs.lemmas.Int.{ints}
-use Rattle.decimal_rank.proofs.Shifts.{shifted, some_count, fits_38, fills_38, few_zeros, div-shifted, aligned, value_is}
-use Rattle.decimal_rank.proofs.Scores.{scaled_some}
+use Rattle.decimal_rank.proofs.DecimalText.Shifts.{shifted, some_count, fits_38, fills_38, few_zeros, div-shifted, aligned, value_is}
+use Rattle.decimal_rank.proofs.DecimalText.Scores.{scaled_some}
 use Rattle.decimal_rank.proofs.decimals.scaled.Goals as goal
 
 pub overflow_add-padding : goal.overflow_add-padding

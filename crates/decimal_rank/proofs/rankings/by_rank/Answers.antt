@@ -7,7 +7,7 @@ use Rattle.std.proofs.lemmas.Result.{IfOk-weaker}
 use denote.Ref.{Bor}
 use Rattle.decimal_rank.specs.declared.rankings.Scored.{Scored}
 use Rattle.decimal_rank.specs.Ranks.{standing_cmp, standing_of, IsRanking}
-use Rattle.decimal_rank.proofs.Standing.{ranked_by_sort, order_now, IsStrictWeakOrder-standing, docs_now}
+use Rattle.decimal_rank.proofs.Standings.Standing.{ranked_by_sort, order_now, IsStrictWeakOrder-standing, docs_now}
 use Rattle.decimal_rank.proofs.rankings.by_rank.Goals as goal
 
 pub returns : goal.returns

@@ -3,7 +3,7 @@ use Rattle.std.proofs.lemmas.List.{take_all}
 use Rattle.std.specs.HashMap.{get}
 use Rattle.std.specs.Prelude.{nat_eq}
 use Rattle.decimal_rank.specs.Places.{AreDistinct, place_in}
-use Rattle.decimal_rank.proofs.Listing.{docs_to, docs_to-more, length-docs_to, noted, distinct-push, repeats, numbered}
+use Rattle.decimal_rank.proofs.Standings.Listing.{docs_to, docs_to-more, length-docs_to, noted, distinct-push, repeats, numbered}
 use Rattle.decimal_rank.proofs.rankings.first_repeat.Goals as goal
 
 pub returns-in-Some : goal.returns-in-Some

@@ -2,7 +2,7 @@ use Rattle.std.proofs.Common.{◌<◌, refl, sym, subst}
 use Rattle.std.proofs.lemmas.Cmp.{ranked}
 use Rattle.std.proofs.lemmas.Option.{get_or_from_slice_get}
 use Rattle.decimal_rank.specs.declared.rankings.Entry.{Entry}
-use Rattle.decimal_rank.proofs.Search.{goes_up, goes_down}
+use Rattle.decimal_rank.proofs.Standings.Search.{goes_up, goes_down}
 use Rattle.decimal_rank.proofs.rankings.place_among.Goals as goal
 
 pub loop-low-preserved-in-Less : goal.loop-low-preserved-in-Less

@@ -1,6 +1,6 @@
 -- The document stands between the two bounds if anywhere, and the steps left do for what is between them.
 use Rattle.std.proofs.Common.{◌-◌}
-use Rattle.decimal_rank.proofs.Search.{IsNarrowed}
+use Rattle.decimal_rank.proofs.Standings.Search.{IsNarrowed}
 use Rattle.decimal_rank.proofs.rankings.place_among.Given as goal
 
 abbrev pub invariant-loop-low : goal.invariant-loop-low

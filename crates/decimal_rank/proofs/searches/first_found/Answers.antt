@@ -1,6 +1,6 @@
 use Rattle.std.proofs.Common.{◌%◌, subst}
 use Rattle.std.specs.Option.{option_map}
-use Rattle.decimal_rank.proofs.Walks.{IsWalked, walk_goes_on, walk_ends, walk_shrinks}
+use Rattle.decimal_rank.proofs.BucketTables.Walks.{IsWalked, walk_goes_on, walk_ends, walk_shrinks}
 use Rattle.decimal_rank.proofs.searches.first_found.Goals as goal
 
 pub loop-next-smaller : goal.loop-next-smaller

@@ -1,7 +1,7 @@
 -- What is found is the first that passes the test, of the items from where the walk is on.
 use Rattle.std.proofs.Common.{suc}
 use Rattle.std.specs.Option.{option_map, option_map_or}
-use Rattle.decimal_rank.proofs.Walks.{IsWalked}
+use Rattle.decimal_rank.proofs.BucketTables.Walks.{IsWalked}
 use Rattle.decimal_rank.proofs.searches.first_found.Given as goal
 
 abbrev pub invariant-loop-next : goal.invariant-loop-next

@@ -5,7 +5,7 @@ use Rattle.std.proofs.lemmas.Option.{get_or_from_slice_get}
 use Rattle.measures.specs.Cells.{IsSound}
 use Rattle.eval.specs.Evaluations.{cell_on}
 use Rattle.eval.specs.Tables.{cell_in, tally_on}
-use Rattle.eval.proofs.Judged.{docs_differ, docs_short}
+use Rattle.eval.proofs.JudgedDocuments.{docs_differ, docs_short}
 use Rattle.eval.proofs.cells.cells_on.Goals as goal
 
 pub loop-number-init : goal.loop-number-init

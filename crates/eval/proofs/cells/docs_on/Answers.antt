@@ -3,7 +3,7 @@ use Rattle.std.specs.Cmp.Lexicographic.{slice_cmp}
 use Rattle.std.specs.Ordering.{nat_cmp}
 use Rattle.std.proofs.lemmas.Fn.{always_returns_same}
 use Rattle.std.proofs.lemmas.Map.Lookups.{exact_bytes}
-use Rattle.eval.proofs.Listed.{listed_at, unlisted, lists_rise, between_lists}
+use Rattle.eval.proofs.ListsByTopic.{listed_at, unlisted, lists_rise, between_lists}
 use Rattle.eval.proofs.cells.docs_on.Goals as goal
 
 pub returns-in-Ok : goal.returns-in-Ok

@@ -6,7 +6,7 @@ use Rattle.measures.specs.Grades.{is_relevant, is_non_relevant}
 use Rattle.trec_formats.specs.Qrels.{grade_on}
 use Rattle.eval.specs.declared.judgements.Tally.{Tally}
 use Rattle.eval.specs.Evaluations.{level}
-use Rattle.eval.proofs.Judged.{judged_on_le}
+use Rattle.eval.proofs.JudgedDocuments.{judged_on_le}
 use Rattle.eval.proofs.Tallies.{most_others, most_relevant}
 use Rattle.eval.proofs.cells.topic_cell.Goals as goal
 

@@ -1,6 +1,6 @@
 use Rattle.std.proofs.lemmas.Result.{IfOk-weaker}
 use Rattle.eval.specs.Findings.{Finds, IsRefusal}
-use Rattle.eval.proofs.Exclusive.{run_refused, qrels_refused}
+use Rattle.eval.proofs.LinesOrFaults.{run_refused, qrels_refused}
 use Rattle.eval.proofs.evaluation.evaluate.Goals as goal
 
 pub returns-in-Err-Fault : goal.returns-in-Err-Fault

@@ -1,4 +1,4 @@
-use Rattle.eval.proofs.Ranked.{ranked_lists}
+use Rattle.eval.proofs.RankedRuns.{ranked_lists}
 use Rattle.eval.proofs.evaluation.lists_of.Goals as goal
 
 pub rank_run-requires-clause-short : goal.rank_run-requires-clause-short

@@ -1,4 +1,4 @@
-use Rattle.eval.proofs.Exclusive.{exclusive}
+use Rattle.eval.proofs.LinesOrFaults.{exclusive}
 use Rattle.eval.proofs.evaluation.never_both.Goals as goal
 
 pub returns : goal.returns

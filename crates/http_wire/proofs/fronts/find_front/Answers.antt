@@ -4,7 +4,7 @@ use Rattle.std.proofs.lemmas.List.{length-take}
 use Rattle.http_wire.specs.Heads.{head_length}
 use Rattle.http_wire.specs.declared.fronts.Found.TheVariants as found
 use Rattle.http_wire.specs.Fronts.{IsFound}
-use Rattle.http_wire.proofs.Looks.{unfinished_head, long_head}
+use Rattle.http_wire.proofs.MessageFronts.{unfinished_head, long_head}
 use Rattle.http_wire.proofs.Searching.{ends_now}
 use Rattle.http_wire.proofs.fronts.find_front.Goals as goal
 

@@ -3,7 +3,7 @@ use Rattle.http_wire.specs.declared.messages.Step.TheVariants as steps
 use Rattle.http_wire.specs.Fronts.{IsSearched}
 use Rattle.http_wire.specs.Heads.{passed}
 use Rattle.http_wire.specs.Pieces.{HeadSteps}
-use Rattle.http_wire.proofs.Looks.{look_clean, look_head, look_more, none_left, some_left}
+use Rattle.http_wire.proofs.MessageFronts.{look_clean, look_head, look_more, none_left, some_left}
 use Rattle.http_wire.proofs.Searching.{searched_none, searched_behind}
 use Rattle.http_wire.proofs.fronts.look_for_head.Goals as goal
 

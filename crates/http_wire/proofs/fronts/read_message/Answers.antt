@@ -1,6 +1,6 @@
 use Rattle.std.proofs.Common.{sym, subst}
 use Rattle.http_wire.specs.Fronts.{IsFound}
-use Rattle.http_wire.proofs.Looks.{found_at}
+use Rattle.http_wire.proofs.MessageFronts.{found_at}
 use Rattle.http_wire.proofs.fronts.read_message.Goals as goal
 
 pub returns-in_ok-head-in-Some : goal.returns-in_ok-head-in-Some

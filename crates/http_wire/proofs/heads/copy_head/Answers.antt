@@ -1,6 +1,6 @@
 use Rattle.std.proofs.Common.{ap, ◌∙◌}
 use Rattle.http_wire.specs.Heads.{is_last}
-use Rattle.http_wire.proofs.Looks.{says_of}
+use Rattle.http_wire.proofs.MessageFronts.{says_of}
 use Rattle.http_wire.proofs.heads.copy_head.Goals as goal
 
 pub returns : goal.returns

@@ -1,6 +1,6 @@
 use Rattle.http_wire.specs.Answers.{head_text}
 use Rattle.std.proofs.Common.{arith}
-use Rattle.routes.proofs.Growing.{put_in_front}
+use Rattle.routes.proofs.AnswerTexts.Growing.{put_in_front}
 use Rattle.routes.proofs.answers.put_head.Goals as goal
 
 pub returns-clause-ok : goal.returns-clause-ok

@@ -1,8 +1,8 @@
 use Rattle.std.proofs.Common.{arith, vec_len}
 use Rattle.routes.specs.Answers.{body_of, is_json, status_of, text_of}
 use Rattle.http_wire.specs.Answers.{answer_text}
-use Rattle.routes.proofs.AnswerSizes.{text_few}
-use Rattle.routes.proofs.Growing.{behind_first}
+use Rattle.routes.proofs.AnswerTexts.AnswerSizes.{text_few}
+use Rattle.routes.proofs.AnswerTexts.Growing.{behind_first}
 use Rattle.routes.proofs.answers.render.Goals as goal
 
 pub returns-in_err-write_body-clause-few : goal.returns-in_err-write_body-clause-few

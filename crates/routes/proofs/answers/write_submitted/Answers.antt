@@ -1,5 +1,5 @@
 use Rattle.std.proofs.Common.{rules}
-use Rattle.routes.proofs.AnswerSizes.{submitted_few}
+use Rattle.routes.proofs.AnswerTexts.AnswerSizes.{submitted_few}
 use Rattle.routes.proofs.answers.write_submitted.Goals as goal
 
 pub returns-clause-few : goal.returns-clause-few

@@ -1,7 +1,7 @@
 use Rattle.std.proofs.Common.{[], subst, sym}
 use Rattle.routes.specs.Asks.{Asks}
 use Rattle.routes.specs.Faults.{IsRead}
-use Rattle.routes.proofs.AskFeeds.{query_asked}
+use Rattle.routes.proofs.Requests.AskFeeds.{query_asked}
 use Rattle.routes.proofs.ask_reader.ask_of.Goals as goal
 
 pub returns-in-Passed-clause-ask : goal.returns-in-Passed-clause-ask

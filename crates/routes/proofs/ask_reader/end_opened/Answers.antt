@@ -1,5 +1,5 @@
 use Rattle.std.proofs.Common.{refl, Ok, Err}
-use Rattle.routes.proofs.AskFeeds.{addressed_there, asked_there}
+use Rattle.routes.proofs.Requests.AskFeeds.{addressed_there, asked_there}
 use Rattle.routes.proofs.ask_reader.end_opened.Goals as goal
 
 pub returns-in-Ok-clause-reading : goal.returns-in-Ok-clause-reading

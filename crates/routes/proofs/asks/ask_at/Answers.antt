@@ -1,5 +1,5 @@
 use Rattle.std.proofs.Common.{◌∙◌, sym}
-use Rattle.routes.proofs.TableRows.{parameter_is}
+use Rattle.routes.proofs.PathTable.TableRows.{parameter_is}
 use Rattle.routes.proofs.asks.ask_at.Goals as goal
 
 pub returns-in-Topics-clause-ask : goal.returns-in-Topics-clause-ask

@@ -1,5 +1,5 @@
 use Rattle.std.proofs.Common.{refl}
-use Rattle.routes.proofs.AskFeeds.{run_fault}
+use Rattle.routes.proofs.Requests.AskFeeds.{run_fault}
 use Rattle.routes.proofs.asks.ask_run.Goals as goal
 
 pub returns-in_ok-from_slice-in-Ok : goal.returns-in_ok-from_slice-in-Ok

@@ -1,8 +1,8 @@
 use Rattle.std.proofs.Common.{◌∙◌, rules, sym, Ok}
 use Rattle.routes.specs.Asks.{Asks}
 use Rattle.routes.specs.Places.{parameter}
-use Rattle.routes.proofs.Addressed.{addressed_at}
-use Rattle.routes.proofs.TableRows.{parameter_is, role_is}
+use Rattle.routes.proofs.Requests.Addressed.{addressed_at}
+use Rattle.routes.proofs.PathTable.TableRows.{parameter_is, role_is}
 use Rattle.routes.proofs.asks.read_ask.Goals as goal
 
 pub returns-clause-addressed : goal.returns-clause-addressed

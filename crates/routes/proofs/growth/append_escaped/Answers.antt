@@ -2,7 +2,8 @@ use Rattle.std.proofs.Common.{◌≡◌, get_or, ◌++◌, Some, drop, take, ap,
 use Rattle.std.specs.Prelude.{slice_get}
 use Rattle.std.specs.List.{flat_map}
 use Rattle.routes.specs.Answers.{escaped_byte}
-use Rattle.routes.proofs.Growing.{part_fits, first_of, first_kept, first_byte}
+use Rattle.decimal_rank.proofs.GrowingBytes.Growing.{part_fits, first_kept}
+use Rattle.routes.proofs.AnswerTexts.Growing.{first_of, first_byte}
 use Rattle.routes.proofs.growth.append_escaped.Goals as goal
 
 pub returns-in-Err : goal.returns-in-Err

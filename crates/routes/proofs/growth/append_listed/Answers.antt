@@ -1,7 +1,7 @@
 use Rattle.std.proofs.Common.{rules, ◌≡◌, Some, subst}
 use Rattle.std.specs.Prelude.{slice_get}
 use Rattle.decimal_rank.specs.Additions.{Adds}
-use Rattle.routes.proofs.Growing.{joined_split}
+use Rattle.routes.proofs.AnswerTexts.Growing.{joined_split}
 use Rattle.routes.proofs.growth.append_listed.Goals as goal
 
 pub returns-in-len1-up : goal.returns-in-len1-up

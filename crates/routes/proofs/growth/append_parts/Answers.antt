@@ -1,8 +1,9 @@
 use Rattle.std.proofs.Common.{rules, ◌≡◌, ◌++◌, Some, drop, take, ap, ◌∙◌, arith}
 use Rattle.std.specs.Prelude.{slice_get}
 use Rattle.std.specs.List.{flat_map}
-use Rattle.routes.specs.Parts.{part_bytes}
-use Rattle.routes.proofs.Growing.{part_fits, first_of, first_kept}
+use Rattle.routes.specs.AnswerParts.{part_bytes}
+use Rattle.decimal_rank.proofs.GrowingBytes.Growing.{part_fits, first_kept}
+use Rattle.routes.proofs.AnswerTexts.Growing.{first_of}
 use Rattle.routes.proofs.growth.append_parts.Goals as goal
 
 pub returns-in-Err : goal.returns-in-Err

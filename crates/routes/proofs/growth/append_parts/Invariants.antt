@@ -2,7 +2,7 @@
 use Rattle.std.proofs.Common.{◌≡◌, ◌≤◌, ◌++◌, length}
 use Rattle.std.specs.Prelude.{vec_capacity}
 use Rattle.std.specs.List.{flat_map}
-use Rattle.routes.specs.Parts.{part_bytes}
+use Rattle.routes.specs.AnswerParts.{part_bytes}
 use Rattle.routes.proofs.growth.append_parts.Given as goal
 
 abbrev pub invariant-loop-rest : goal.invariant-loop-rest

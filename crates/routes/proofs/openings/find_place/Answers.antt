@@ -1,7 +1,7 @@
 use Rattle.std.proofs.Common.{◌≡◌, sym, subst}
 use Rattle.std.proofs.lemmas.Result.{IfOk-weaker}
 use Rattle.routes.specs.Places.{IsRow}
-use Rattle.routes.proofs.TableRows.{known_row}
+use Rattle.routes.proofs.PathTable.TableRows.{known_row}
 use Rattle.routes.proofs.openings.find_place.Goals as goal
 
 pub returns-in-Some-clause-known : goal.returns-in-Some-clause-known

@@ -1,5 +1,5 @@
 use Rattle.std.proofs.Common.{sym}
-use Rattle.routes.proofs.KnownRows.{found_named}
+use Rattle.routes.proofs.PathTable.CallerRows.{found_named}
 use Rattle.routes.proofs.openings.row_of_key.Goals as goal
 
 pub returns-in-Some-clause-named : goal.returns-in-Some-clause-named

@@ -1,4 +1,4 @@
-use Rattle.rulebook.proofs.PlainReplies.{commands_short}
+use Rattle.rulebook.proofs.LegalHistories.PlainReplies.{commands_short}
 use Rattle.rulebook.proofs.laws.commands_are_answered_short.Goals as goal
 
 pub returns : goal.returns

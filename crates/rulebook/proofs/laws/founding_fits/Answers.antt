@@ -1,4 +1,4 @@
-use Rattle.rulebook.proofs.JournalSizes.{founding_fits}
+use Rattle.rulebook.proofs.LegalHistories.JournalSizes.{founding_fits}
 use Rattle.rulebook.proofs.laws.founding_fits.Goals as goal
 
 pub returns : goal.returns

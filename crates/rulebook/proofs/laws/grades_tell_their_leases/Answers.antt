@@ -1,4 +1,4 @@
-use Rattle.rulebook.proofs.GrantedLeases.{grades_told}
+use Rattle.rulebook.proofs.LegalHistories.GrantedLeases.{grades_told}
 use Rattle.rulebook.proofs.laws.grades_tell_their_leases.Goals as goal
 
 pub returns : goal.returns

@@ -1,4 +1,4 @@
-use Rattle.rulebook.proofs.UsedNumbers.{kept_first}
+use Rattle.rulebook.proofs.LegalHistories.UsedNumbers.{kept_first}
 use Rattle.rulebook.proofs.laws.kept_replies_are_first.Goals as goal
 
 pub returns : goal.returns

@@ -1,4 +1,4 @@
-use Rattle.rulebook.proofs.LastGrades.{labels_last}
+use Rattle.rulebook.proofs.Judgements.LastGrades.{labels_last}
 use Rattle.rulebook.proofs.laws.labels_are_the_last_grades.Goals as goal
 
 pub returns : goal.returns

@@ -1,4 +1,4 @@
-use Rattle.rulebook.proofs.GrantedLeases.{ended_once}
+use Rattle.rulebook.proofs.LegalHistories.GrantedLeases.{ended_once}
 use Rattle.rulebook.proofs.laws.leases_end_once.Goals as goal
 
 pub returns : goal.returns

@@ -1,4 +1,4 @@
-use Rattle.rulebook.proofs.JournalSizes.{legal_fit}
+use Rattle.rulebook.proofs.LegalHistories.JournalSizes.{legal_fit}
 use Rattle.rulebook.proofs.laws.legal_fit.Goals as goal
 
 pub returns : goal.returns

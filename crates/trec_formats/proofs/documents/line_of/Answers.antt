@@ -1,6 +1,6 @@
 use Rattle.std.proofs.Common.{◌≡◌, ◌+◌, ◌%◌, ◌^◌, refl}
 use Rattle.trec_formats.specs.Documents.{document_key}
-use Rattle.trec_formats.proofs.Repeats.{seen_under}
+use Rattle.trec_formats.proofs.RepeatedDocuments.Repeats.{seen_under}
 use Rattle.trec_formats.proofs.documents.line_of.Goals as goal
 
 pub first_found-requires : goal.first_found-requires

@@ -1,7 +1,7 @@
 use Rattle.std.proofs.Common.{◌≡◌, ◌+◌, ◌%◌, ◌^◌, ◌∙◌, refl, sym, ap}
 use Rattle.std.specs.Option.{option_map}
 use Rattle.trec_formats.specs.Documents.{document_key}
-use Rattle.trec_formats.proofs.Repeats.{Names, seen_under, seen_twice, seen_next, seen_all}
+use Rattle.trec_formats.proofs.RepeatedDocuments.Repeats.{Names, seen_under, seen_twice, seen_next, seen_all}
 use Rattle.trec_formats.proofs.documents.table_of.Goals as goal
 
 pub first_found-requires : goal.first_found-requires

@@ -1,7 +1,7 @@
 use Rattle.trec_formats.specs.Lines.{rows_of}
 use Rattle.trec_formats.specs.Qrels.{qrel_of, same_document, IsEachRead}
 use Rattle.trec_formats.specs.Faults.{Stand}
-use Rattle.trec_formats.proofs.Readings.{one_reading, read_once, Stand-IsFormat}
+use Rattle.trec_formats.proofs.LineTexts.Readings.{one_reading, read_once, Stand-IsFormat}
 use Rattle.trec_formats.proofs.laws.one_qrels_reading.Goals as goal
 
 pub returns : goal.returns

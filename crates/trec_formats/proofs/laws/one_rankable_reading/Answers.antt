@@ -1,8 +1,8 @@
 use Rattle.trec_formats.specs.Lines.{rows_of}
 use Rattle.trec_formats.specs.Lists.{same_document}
 use Rattle.trec_formats.specs.Runs.{AreRunLines, IsRunReading}
-use Rattle.trec_formats.proofs.Readings.{one_reading, read_once}
-use Rattle.trec_formats.proofs.RunFormat.{next_line, run_format}
+use Rattle.trec_formats.proofs.LineTexts.Readings.{one_reading, read_once}
+use Rattle.trec_formats.proofs.RunTexts.RunFormat.{next_line, run_format}
 use Rattle.trec_formats.proofs.laws.one_rankable_reading.Goals as goal
 
 pub returns : goal.returns

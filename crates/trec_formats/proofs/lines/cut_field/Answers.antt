@@ -1,5 +1,5 @@
 use Rattle.std.proofs.lemmas.List.{take_rest}
-use Rattle.trec_formats.proofs.Cuts.{fields_of-none, fields_of-cut, fields_of-last}
+use Rattle.trec_formats.proofs.LineTexts.Cuts.{fields_of-none, fields_of-cut, fields_of-last}
 use Rattle.trec_formats.proofs.lines.cut_field.Goals as goal
 
 pub returns-in_err-line : goal.returns-in_err-line

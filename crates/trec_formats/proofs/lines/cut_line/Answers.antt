@@ -1,5 +1,5 @@
 use Rattle.std.proofs.lemmas.List.{take_rest}
-use Rattle.trec_formats.proofs.Cuts.{lines_of-cut, lines_of-none, lines_of-nil}
+use Rattle.trec_formats.proofs.LineTexts.Cuts.{lines_of-cut, lines_of-none, lines_of-nil}
 use Rattle.trec_formats.proofs.lines.cut_line.Goals as goal
 
 pub returns-in-Some-clause-cut : goal.returns-in-Some-clause-cut

@@ -1,5 +1,5 @@
 use Rattle.std.specs.Prelude.{◌==◌}
-use Rattle.trec_formats.proofs.FirstBytes.{first_is_position}
+use Rattle.trec_formats.proofs.LineTexts.FirstBytes.{first_is_position}
 use Rattle.trec_formats.proofs.lines.line_feed.Goals as goal
 
 pub returns : goal.returns

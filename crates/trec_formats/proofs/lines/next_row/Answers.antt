@@ -1,5 +1,5 @@
 use Rattle.std.proofs.Common.{arith, sym}
-use Rattle.trec_formats.proofs.Cuts.{skips, row_there, no_row}
+use Rattle.trec_formats.proofs.LineTexts.Cuts.{skips, row_there, no_row}
 use Rattle.trec_formats.proofs.lines.next_row.Goals as goal
 
 pub returns-then-has_field-clause-row : goal.returns-then-has_field-clause-row

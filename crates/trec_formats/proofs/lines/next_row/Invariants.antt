@@ -1,6 +1,6 @@
 -- The lines that were skipped make no row.
 use Rattle.std.proofs.Common.{length}
-use Rattle.trec_formats.proofs.Cuts.{Skips}
+use Rattle.trec_formats.proofs.LineTexts.Cuts.{Skips}
 use Rattle.trec_formats.proofs.lines.next_row.Given as goal
 
 abbrev pub invariant-loop-rest : goal.invariant-loop-rest

@@ -6,7 +6,7 @@ use denote.Ref.{Bor}
 use Rattle.decimal_rank.specs.Ranks.{standing_cmp}
 use Rattle.trec_formats.specs.declared.runs.RunLine.{RunLine}
 use Rattle.trec_formats.specs.Lists.{standing}
-use Rattle.trec_formats.proofs.Ranked.{order_shown, rank_order}
+use Rattle.trec_formats.proofs.RankedLists.Ranked.{order_shown, rank_order}
 use Rattle.trec_formats.proofs.lists.by_rank.Goals as goal
 
 pub returns : goal.returns

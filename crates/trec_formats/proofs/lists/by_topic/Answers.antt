@@ -2,7 +2,7 @@ use Rattle.std.proofs.Common.{◌≡◌, ap, rules}
 use Rattle.std.specs.Cmp.Lexicographic.{slice_cmp}
 use Rattle.std.specs.Ordering.{is_lt, nat_cmp}
 use Rattle.std.proofs.lemmas.Fn.{always_returns_same}
-use Rattle.trec_formats.proofs.TopicOrder.{lent_lt, lent_lt_order, sorted_by_topic}
+use Rattle.trec_formats.proofs.RankedLists.TopicOrder.{lent_lt, lent_lt_order, sorted_by_topic}
 use Rattle.trec_formats.proofs.lists.by_topic.Goals as goal
 
 pub returns : goal.returns

@@ -1,5 +1,5 @@
 use Rattle.std.proofs.Common.{sym, ◌∙◌, rules}
-use Rattle.trec_formats.proofs.Ranked.{equal_scores, unequal_scores}
+use Rattle.trec_formats.proofs.RankedLists.Ranked.{equal_scores, unequal_scores}
 use Rattle.trec_formats.proofs.lists.compare.Goals as goal
 
 pub returns-in-Equal : goal.returns-in-Equal

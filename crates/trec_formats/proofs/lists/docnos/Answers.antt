@@ -1,6 +1,6 @@
 use Rattle.std.proofs.Common.{◌∙◌, sym, ap, map}
 use Rattle.std.proofs.lemmas.List.{take_all}
-use Rattle.trec_formats.proofs.Ranked.{docs_shown}
+use Rattle.trec_formats.proofs.RankedLists.Ranked.{docs_shown}
 use Rattle.trec_formats.proofs.lists.docnos.Goals as goal
 
 pub returns : goal.returns

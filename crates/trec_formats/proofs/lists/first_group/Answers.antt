@@ -1,5 +1,5 @@
 use Rattle.std.proofs.Common.{◌∙◌, ap, length, unwrap_or}
-use Rattle.trec_formats.proofs.Grouping.{first_group_is}
+use Rattle.trec_formats.proofs.RankedLists.Grouping.{first_group_is}
 use Rattle.trec_formats.proofs.lists.first_group.Goals as goal
 
 pub returns : goal.returns

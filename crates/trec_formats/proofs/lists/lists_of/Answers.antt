@@ -1,6 +1,6 @@
 use Rattle.std.proofs.Common.{◌≡◌, [], drop}
 use Rattle.std.proofs.lemmas.List.{drop_all, take_rest}
-use Rattle.trec_formats.proofs.Listing.{cuts, listed_next, listed_all, group_differs, group_within, rest_after, after_is}
+use Rattle.trec_formats.proofs.RankedLists.Listing.{cuts, listed_next, listed_all, group_differs, group_within, rest_after, after_is}
 use Rattle.trec_formats.proofs.lists.lists_of.Goals as goal
 
 pub group_list-requires-clause-differ : goal.group_list-requires-clause-differ

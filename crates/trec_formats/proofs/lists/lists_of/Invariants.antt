@@ -1,7 +1,7 @@
 -- The lists are those of the lines so far, and their topics are below those of the lines to come.
 use Rattle.std.proofs.Common.{◌-◌, ◌≤◌, drop, length}
 use Rattle.trec_formats.specs.Groups.{shown}
-use Rattle.trec_formats.proofs.Listing.{IsListedTo}
+use Rattle.trec_formats.proofs.RankedLists.Listing.{IsListedTo}
 use Rattle.trec_formats.proofs.lists.lists_of.Given as goal
 
 abbrev pub invariant-loop-start : goal.invariant-loop-start

@@ -1,4 +1,4 @@
-use Rattle.trec_formats.proofs.Listing.{distinct_carry, lists_carry}
+use Rattle.trec_formats.proofs.RankedLists.Listing.{distinct_carry, lists_carry}
 use Rattle.trec_formats.proofs.lists.rank_run.Goals as goal
 
 pub lists_of-requires-clause-distinct : goal.lists_of-requires-clause-distinct

@@ -1,6 +1,6 @@
 use Rattle.std.proofs.lemmas.Result.{IfOk-weaker}
 use Rattle.trec_formats.specs.Groups.{shown}
-use Rattle.trec_formats.proofs.Ranked.{ranked_docs}
+use Rattle.trec_formats.proofs.RankedLists.Ranked.{ranked_docs}
 use Rattle.trec_formats.proofs.lists.ranked.Goals as goal
 
 pub returns : goal.returns

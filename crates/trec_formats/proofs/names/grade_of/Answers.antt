@@ -1,5 +1,5 @@
 use Rattle.std.proofs.Common.{arith, sym, ◌∙◌, ap, ◌+◌, ◌*◌}
-use Rattle.trec_formats.proofs.Grades.{grade_at_other, grade_too_high, grade_read, read_next, value_next}
+use Rattle.trec_formats.proofs.LineTexts.Grades.{grade_at_other, grade_too_high, grade_read, read_next, value_next}
 use Rattle.trec_formats.proofs.names.grade_of.Goals as goal
 
 pub returns-then-not-is_ascii_digit : goal.returns-then-not-is_ascii_digit

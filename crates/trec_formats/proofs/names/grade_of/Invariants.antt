@@ -1,5 +1,5 @@
 -- The bytes so far are digits, and their value is at most 255.
-use Rattle.trec_formats.proofs.Grades.{AreRead}
+use Rattle.trec_formats.proofs.LineTexts.Grades.{AreRead}
 use Rattle.trec_formats.proofs.names.grade_of.Given as goal
 
 abbrev pub invariant-loop-byte : goal.invariant-loop-byte

@@ -1,6 +1,6 @@
 use Rattle.std.proofs.Common.{◌∙◌, ap, sym}
 use Rattle.std.specs.Option.{option_map}
-use Rattle.trec_formats.proofs.JudgedLines.{grade_at, no_grade}
+use Rattle.trec_formats.proofs.RepeatedDocuments.JudgedLines.{grade_at, no_grade}
 use Rattle.trec_formats.proofs.qrel_tables.grade_of.Goals as goal
 
 pub returns-in-Some : goal.returns-in-Some

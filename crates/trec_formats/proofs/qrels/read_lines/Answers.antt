@@ -4,8 +4,8 @@ use Rattle.std.proofs.lemmas.List.{length_push, nil_from_length}
 use Rattle.trec_formats.specs.declared.qrels.QrelLine.{QrelLine}
 use Rattle.trec_formats.specs.Faults.{Stand}
 use Rattle.trec_formats.specs.Qrels.{qrel_of}
-use Rattle.trec_formats.proofs.Readings.{Stand-IsFormat}
-use Rattle.trec_formats.proofs.Progress.{goes_on, stops_at, is_empty}
+use Rattle.trec_formats.proofs.LineTexts.Readings.{Stand-IsFormat}
+use Rattle.trec_formats.proofs.LineTexts.Progress.{goes_on, stops_at, is_empty}
 use Rattle.trec_formats.proofs.qrels.read_lines.Goals as goal
 
 pub returns-in-Err-clause-fault : goal.returns-in-Err-clause-fault

@@ -2,7 +2,7 @@
 use Rattle.std.proofs.Common.{◌+◌, ◌≤◌, length}
 use Rattle.trec_formats.specs.Faults.{Stand}
 use Rattle.trec_formats.specs.Qrels.{qrel_of}
-use Rattle.trec_formats.proofs.Progress.{IsReadTo}
+use Rattle.trec_formats.proofs.LineTexts.Progress.{IsReadTo}
 use Rattle.trec_formats.proofs.qrels.read_lines.Given as goal
 
 abbrev pub invariant-loop-row : goal.invariant-loop-row

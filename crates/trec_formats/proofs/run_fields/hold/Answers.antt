@@ -1,5 +1,5 @@
 use Rattle.std.proofs.Common.{arith, ◌∙◌}
-use Rattle.trec_formats.proofs.KeptFields.{holds_all, holds_some}
+use Rattle.trec_formats.proofs.RunTexts.KeptFields.{holds_all, holds_some}
 use Rattle.trec_formats.proofs.run_fields.hold.Goals as goal
 
 pub returns-in_ok-extend_from_slice : goal.returns-in_ok-extend_from_slice

@@ -1,4 +1,4 @@
-use Rattle.trec_formats.proofs.RunLines.{full_line}
+use Rattle.trec_formats.proofs.RunTexts.RunLines.{full_line}
 use Rattle.trec_formats.proofs.run_reader.add_line.Goals as goal
 
 pub returns-then-not-branch-clause-fault : goal.returns-then-not-branch-clause-fault

@@ -1,6 +1,6 @@
 use Rattle.std.proofs.Common.{refl, ◌+◌}
 use Rattle.std.proofs.lemmas.Result.{on_ok_weaker}
-use Rattle.trec_formats.proofs.RunLines.{if_fault_weaker, blank_line, good_line, full, bad_line}
+use Rattle.trec_formats.proofs.RunTexts.RunLines.{if_fault_weaker, blank_line, good_line, full, bad_line}
 use Rattle.trec_formats.proofs.run_reader.end_line.Goals as goal
 
 pub returns-then-line-eq0-clause-ok : goal.returns-then-line-eq0-clause-ok

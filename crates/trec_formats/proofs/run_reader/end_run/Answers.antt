@@ -2,9 +2,9 @@ use Rattle.std.proofs.Common.{arith, sym, ap, ◌≡◌, [], length}
 use Rattle.std.proofs.lemmas.Bool.{eqb-true, eqb-false}
 use Rattle.std.proofs.lemmas.List.{nil_from_length}
 use Rattle.std.proofs.lemmas.Result.{err_from_is_err_and}
-use Rattle.trec_formats.proofs.LineNumbers.{run_ascends}
-use Rattle.trec_formats.proofs.RunEnds.{whole_lines, whole_run, empty_run, faulty_run}
-use Rattle.trec_formats.proofs.RunLines.{of_fault_weaker}
+use Rattle.trec_formats.proofs.RunTexts.LineNumbers.{run_ascends}
+use Rattle.trec_formats.proofs.RunTexts.RunEnds.{whole_lines, whole_run, empty_run, faulty_run}
+use Rattle.trec_formats.proofs.RunTexts.RunLines.{of_fault_weaker}
 use Rattle.trec_formats.proofs.run_reader.end_run.Goals as goal
 
 pub returns-in_err-end_line-clause-fault : goal.returns-in_err-end_line-clause-fault

@@ -1,8 +1,8 @@
 use Rattle.std.proofs.Common.{arith, subst, take, ◌++◌}
 use Rattle.std.proofs.lemmas.Result.{err_from_is_err_and}
 use Rattle.trec_formats.specs.RunStates.{IsFaulty, IsRead}
-use Rattle.trec_formats.proofs.RunFeeds.{piece_more, piece_whole}
-use Rattle.trec_formats.proofs.RunLines.{of_fault_weaker}
+use Rattle.trec_formats.proofs.RunTexts.RunFeeds.{piece_more, piece_whole}
+use Rattle.trec_formats.proofs.RunTexts.RunLines.{of_fault_weaker}
 use Rattle.trec_formats.proofs.run_reader.read_piece.Goals as goal
 
 pub returns-in_err-at-clause-fault : goal.returns-in_err-at-clause-fault

@@ -1,8 +1,8 @@
 use Rattle.std.proofs.Common.{◌∙◌}
 use Rattle.std.proofs.lemmas.Result.{err_from_is_err_and}
-use Rattle.trec_formats.proofs.KeptFields.{kept_few}
-use Rattle.trec_formats.proofs.RunLines.{of_fault_weaker}
-use Rattle.trec_formats.proofs.RunSteps.{step_part, step_white, step_line, step_faulty}
+use Rattle.trec_formats.proofs.RunTexts.KeptFields.{kept_few}
+use Rattle.trec_formats.proofs.RunTexts.RunLines.{of_fault_weaker}
+use Rattle.trec_formats.proofs.RunTexts.RunSteps.{step_part, step_white, step_line, step_faulty}
 use Rattle.trec_formats.proofs.run_reader.step.Goals as goal
 
 pub returns-in_default-clause-within : goal.returns-in_default-clause-within

@@ -1,6 +1,6 @@
 use Rattle.std.proofs.Common.{[]}
-use Rattle.trec_formats.proofs.RunFeeds.{if_ok_at}
-use Rattle.trec_formats.proofs.RunLines.{if_fault_weaker}
+use Rattle.trec_formats.proofs.RunTexts.RunFeeds.{if_ok_at}
+use Rattle.trec_formats.proofs.RunTexts.RunLines.{if_fault_weaker}
 use Rattle.trec_formats.proofs.runs.read_run.Goals as goal
 
 pub returns-clause-lines : goal.returns-clause-lines

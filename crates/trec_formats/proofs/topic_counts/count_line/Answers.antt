@@ -1,5 +1,5 @@
 use Rattle.std.proofs.Common.{refl}
-use Rattle.trec_formats.proofs.CountIn.{counted}
+use Rattle.trec_formats.proofs.RankedLists.CountIn.{counted}
 use Rattle.trec_formats.proofs.topic_counts.count_line.Goals as goal
 
 pub returns-clause-counted : goal.returns-clause-counted

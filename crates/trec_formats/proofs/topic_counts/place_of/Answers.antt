@@ -1,4 +1,4 @@
-use Rattle.trec_formats.proofs.CountIn.{count_new}
+use Rattle.trec_formats.proofs.RankedLists.CountIn.{count_new}
 use Rattle.trec_formats.proofs.topic_counts.place_of.Goals as goal
 
 pub returns-clause-same : goal.returns-clause-same

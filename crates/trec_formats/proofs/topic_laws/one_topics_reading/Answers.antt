@@ -2,8 +2,8 @@ use Rattle.std.specs.Prelude.{length}
 use Rattle.trec_formats.specs.Lines.{lines_of}
 use Rattle.trec_formats.specs.Marks.{marks_of}
 use Rattle.trec_formats.specs.Topics.{IsEachBlockRead, same_id}
-use Rattle.trec_formats.proofs.Readings.{read_once}
-use Rattle.trec_formats.proofs.TopicReadings.{one_blocks_reading}
+use Rattle.trec_formats.proofs.LineTexts.Readings.{read_once}
+use Rattle.trec_formats.proofs.TopicTexts.TopicReadings.{one_blocks_reading}
 use Rattle.trec_formats.proofs.topic_laws.one_topics_reading.Goals as goal
 
 pub returns : goal.returns

@@ -1,6 +1,6 @@
 use Rattle.std.proofs.Common.{◌-◌, ◌∙◌, sym}
 use Rattle.std.proofs.lemmas.Slice.Eq.{bytes_eq-Decides}
-use Rattle.trec_formats.proofs.NewestPlace.{number_at}
+use Rattle.trec_formats.proofs.RankedLists.NewestPlace.{number_at}
 use Rattle.trec_formats.proofs.topic_numbers.topic_number.Goals as goal
 
 pub returns-then-eq : goal.returns-then-eq

@@ -2,7 +2,7 @@ use Rattle.std.proofs.Common.{sym}
 use Rattle.std.proofs.lemmas.Bool.{eqb-true}
 use Rattle.std.proofs.lemmas.List.{nil_from_length}
 use Rattle.std.proofs.lemmas.Result.{err_from_is_err_and}
-use Rattle.trec_formats.proofs.TopicProgress.{begins, ends_within, finishes, goes_on, skips, stops_with, there_test, white_test}
+use Rattle.trec_formats.proofs.TopicTexts.TopicProgress.{begins, ends_within, finishes, goes_on, skips, stops_with, there_test, white_test}
 use Rattle.trec_formats.proofs.topics.read_blocks.Goals as goal
 
 pub loop-rest-init : goal.loop-rest-init

@@ -1,6 +1,6 @@
 -- The lines so far are read as the topics and the block that is open.
 use Rattle.std.proofs.Common.{length}
-use Rattle.trec_formats.proofs.TopicProgress.{IsTopicsTo}
+use Rattle.trec_formats.proofs.TopicTexts.TopicProgress.{IsTopicsTo}
 use Rattle.trec_formats.proofs.topics.read_blocks.Given as goal
 
 abbrev pub invariant-loop-rest : goal.invariant-loop-rest

@@ -1,9 +1,9 @@
 use Rattle.std.proofs.Common.{arith, ap, inr, length}
 use Rattle.std.proofs.lemmas.List.{length-map}
 use Rattle.std.proofs.lemmas.Result.{err_from_is_err_and}
-use Rattle.trec_formats.proofs.RunLines.{of_fault_weaker}
-use Rattle.trec_formats.proofs.TopicIds.{distinct_ids, twice_ids}
-use Rattle.trec_formats.proofs.TopicLimits.{sound_topics, topic_in}
+use Rattle.trec_formats.proofs.RunTexts.RunLines.{of_fault_weaker}
+use Rattle.trec_formats.proofs.TopicTexts.TopicIds.{distinct_ids, twice_ids}
+use Rattle.trec_formats.proofs.TopicTexts.TopicLimits.{sound_topics, topic_in}
 use Rattle.trec_formats.proofs.topics.read_topics.Goals as goal
 
 pub returns-in_err-table_of-clause-fault : goal.returns-in_err-table_of-clause-fault

@@ -2,7 +2,7 @@ use Rattle.std.proofs.Common.{◌≡◌, ◌∙◌, ap, ◌<◌, ◌%◌, List, 
 use Rattle.std.proofs.lemmas.List.{length-map}
 use Rattle.decimal_rank.specs.Linked.{AreLinked}
 use Rattle.decimal_rank.specs.declared.chains.Link.{Link}
-use Rattle.decimal_rank.proofs.Chained.{any-default, linked-push}
+use Rattle.decimal_rank.proofs.BucketTables.Chained.{any-default, linked-push}
 use Rattle.decimal_rank.proofs.chains.Chains.push.Goals as goal
 
 pub invariant_of-self-2 : goal.invariant_of-self-2

@@ -1,5 +1,5 @@
 use Rattle.std.proofs.Common.{sym}
-use Rattle.decimal_rank.proofs.Values.{cmp-negatives, cmp-negative_first, cmp-negative_second, some_digits}
+use Rattle.decimal_rank.proofs.Standings.Values.{cmp-negatives, cmp-negative_first, cmp-negative_second, some_digits}
 use Rattle.decimal_rank.proofs.decimals.Decimal.compare.Goals as goal
 
 pub returns-in-true-true : goal.returns-in-true-true

@@ -1,5 +1,5 @@
 use Rattle.std.proofs.Common.{inl, inr}
-use Rattle.decimal_rank.proofs.Values.{cmp-with_zero, cmp-sizes}
+use Rattle.decimal_rank.proofs.Standings.Values.{cmp-with_zero, cmp-sizes}
 use Rattle.decimal_rank.proofs.decimals.Decimal.compare_size.Goals as goal
 use Rattle.decimal_rank.proofs.decimals.Decimal.compare_size.Goals.{then-self-eq0-via-then-self-eq0, then-self-eq0-via-else-self-eq0+then-other-eq0}
 

@@ -2,9 +2,9 @@ use Rattle.std.proofs.Common.{◌<◌, ◌≤◌, length, Ok, ap, ◌∙◌, ari
 use Rattle.std.specs.List.{list_all}
 use Rattle.std.specs.Str.Parse.{digits_value, without_leading_sign}
 use Rattle.decimal_rank.specs.DecimalText.{is_digit, mantissa_digits, scaled}
-use Rattle.decimal_rank.proofs.Reading.{sized}
-use Rattle.decimal_rank.proofs.Scores.{of_parts, few_zeros, whole_again, quotient_trimmed, value_made, unwrapped, unwrapped_near}
-use Rattle.decimal_rank.proofs.ScoreTexts.{is_shaped, other_shape, many_digits, far_exponent, has_value, exponent_near}
+use Rattle.decimal_rank.proofs.DecimalText.Reading.{sized}
+use Rattle.decimal_rank.proofs.DecimalText.Scores.{of_parts, few_zeros, whole_again, quotient_trimmed, value_made, unwrapped, unwrapped_near}
+use Rattle.decimal_rank.proofs.DecimalText.ScoreTexts.{is_shaped, other_shape, many_digits, far_exponent, has_value, exponent_near}
 use Rattle.decimal_rank.proofs.decimals.Decimal.read.Goals as goal
 
 pub returns-in-None : goal.returns-in-None

@@ -1,7 +1,7 @@
 use Rattle.std.proofs.Common.{◌≡◌, ◌≤ℤ◌, pos, negsuc, Ok, IfOk, rules, subst}
 use Rattle.decimal_rank.specs.Decimal.{DecimalValue}
 use Rattle.decimal_rank.specs.DecimalText.{canonical, decimal_of}
-use Rattle.decimal_rank.proofs.Canonical.{aligned_reads_back, text_reads_back}
+use Rattle.decimal_rank.proofs.DecimalText.Canonical.{aligned_reads_back, text_reads_back}
 use Rattle.decimal_rank.proofs.decimals.Decimal.write.Goals as goal
 
 pub returns-clause-read_back : goal.returns-clause-read_back

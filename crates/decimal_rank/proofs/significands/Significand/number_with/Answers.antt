@@ -1,6 +1,6 @@
 use Rattle.std.proofs.Common.{arith}
-use Rattle.decimal_rank.proofs.Digits.{digit_range}
-use Rattle.decimal_rank.proofs.Reading.{room}
+use Rattle.decimal_rank.proofs.DecimalText.Digits.{digit_range}
+use Rattle.decimal_rank.proofs.DecimalText.Reading.{room}
 use Rattle.decimal_rank.proofs.significands.Significand.number_with.Goals as goal
 
 pub overflow_mul-result : goal.overflow_mul-result

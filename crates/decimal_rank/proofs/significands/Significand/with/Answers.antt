@@ -1,7 +1,7 @@
 use Rattle.std.proofs.Common.{◌≡◌, ◌<◌, ◌+◌, ap, sym, ◌∙◌, refl, arith, true, false, cond}
 use Rattle.std.proofs.lemmas.Bool.Decides.{nat_tests}
 use Rattle.decimal_rank.specs.DecimalText.{is_zero}
-use Rattle.decimal_rank.proofs.Reading.{read_more, read_zero}
+use Rattle.decimal_rank.proofs.DecimalText.Reading.{read_more, read_zero}
 use Rattle.decimal_rank.proofs.significands.Significand.with.Goals as goal
 use Rattle.decimal_rank.proofs.significands.Significand.with.Goals.{else-self-eq0-via-then-self-eq0+else-byte-eq48, else-self-eq0-via-else-self-eq0}
 

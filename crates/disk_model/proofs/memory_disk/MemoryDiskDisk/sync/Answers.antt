@@ -1,10 +1,10 @@
 -- What `sync` leaves.
 use Rattle.std.proofs.Common.{[], ◌∷◌, ◌++◌, subst, sym}
 use Rattle.std.specs.Prelude.{Some}
-use Rattle.disk_model.specs.declared.memory_disk.DiskCall.TheVariants.{Len, Read, Write, Cut, Sync}
-use Rattle.disk_model.specs.Disks.{Alone, CutShort, Follows, NoFurther, Torn}
+use Rattle.disk_model.specs.declared.memory_disk.DiskCall.TheVariants.{Sync}
+use Rattle.disk_model.specs.Disks.{Alone, NoFurther}
 use Rattle.disk_model.specs.Calls.{Images, begun_with}
-use Rattle.disk_model.proofs.Images.{alone, behind, cause_of, cut_follows, quiet, synced, time_behind, written_follows}
+use Rattle.disk_model.proofs.Images.{alone, behind, cause_of, synced, time_behind}
 use Rattle.disk_model.proofs.memory_disk.MemoryDiskDisk.sync.Goals as goal
 
 pub returns-in-Ok-clause-time : goal.returns-in-Ok-clause-time

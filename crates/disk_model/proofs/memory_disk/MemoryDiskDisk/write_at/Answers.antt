@@ -1,10 +1,9 @@
 -- What `write_at` leaves.
-use Rattle.std.proofs.Common.{length, refl}
-use Rattle.std.specs.Prelude.{Some}
-use Rattle.disk_model.specs.declared.memory_disk.DiskCall.TheVariants.{Len, Read, Write, Cut, Sync}
-use Rattle.disk_model.specs.Disks.{Alone, CutShort, Follows, NoFurther, Torn}
+use Rattle.std.proofs.Common.{length}
+use Rattle.disk_model.specs.declared.memory_disk.DiskCall.TheVariants.{Write}
+use Rattle.disk_model.specs.Disks.{Follows, Torn}
 use Rattle.disk_model.specs.Calls.{Images, begun_with}
-use Rattle.disk_model.proofs.Images.{alone, behind, cause_of, cut_follows, quiet, synced, time_behind, written_follows}
+use Rattle.disk_model.proofs.Images.{behind, cause_of, time_behind, written_follows}
 use Rattle.disk_model.proofs.memory_disk.MemoryDiskDisk.write_at.Goals as goal
 
 pub returns-in-Ok-clause-time : goal.returns-in-Ok-clause-time

@@ -1,26 +1,6 @@
-use Rattle.std.proofs.Common.{◌∙◌, Bool, ap, sym, subst, arith, nat_lt}
-use Rattle.lease_desk.specs.Series.{LeadEarlier, up_to, document_of, same_document}
-use Rattle.lease_desk.specs.DeskView.{DeskView}
-use Rattle.lease_desk.specs.Leases.{has_live}
-use Rattle.lease_desk.specs.declared.leases.Lease.{Lease}
+use Rattle.std.proofs.Common.{◌∙◌, ap, nat_lt}
 use Rattle.lease_desk.proofs.Asking.{has_one}
-use Rattle.lease_desk.proofs.Keeping.{documents_same, series_read, lead_earlier, newest_within}
 use Rattle.lease_desk.proofs.desk.Desk.has.Goals as goal
 
-pub count_live-requires-clause-within : goal.count_live-requires-clause-within
-count_live-requires-clause-within c =
-    let upper = ap up_to (c.copied-newest.ensures ∙ c.get.ensures.value) in
-    let long = c.as_slice.ensures.len in
-    let within = newest_within _ _ _ _ _ c.self.invariant.by_document (c.args.topic, c.args.doc.0) in
-    omega (arith, upper, long, within)
-
-pub count_live-requires-clause-back : goal.count_live-requires-clause-back
-count_live-requires-clause-back c = subst LeadEarlier (sym c.as_slice-links.ensures.value) (lead_earlier _ _ _ _ _ c.self.invariant.by_document documents_same)
-
 pub returns : goal.returns
-returns c =
-    let leases = c.as_slice.result.now in
-    let passes : Lease → Bool = λ lease. same_document (c.args.topic, c.args.doc.0) (document_of lease) in
-    let series = series_read _ _ _ _ _ c.self.invariant.by_document (c.args.topic, c.args.doc.0) leases c.as_slice-links.result.now c.copied-newest.result c.as_slice.ensures.value c.as_slice-links.ensures.value (c.copied-newest.ensures ∙ c.get.ensures.value) in
-    ap (nat_lt 0) (c.count_live.ensures passes series) ∙ has_one leases c.args.assessor.now c.args.topic c.args.doc c.args.now
-    ∙ ap (λ leases. has_live leases c.args.assessor.now c.args.topic c.args.doc c.args.now) (c.as_slice.ensures.value ∙ ap (λ (view : DeskView). view.leases) c.self.view_is)
+returns c = ap (nat_lt 0) c.count_on.ensures ∙ has_one c.args.self.now.leases c.args.assessor.now c.args.topic c.args.doc c.args.now

@@ -1,7 +1,7 @@
 use Rattle.std.proofs.Common.{subst, sym}
 use Rattle.routes.specs.AskStates.{AskFed, IsAsking, IsAt, IsHeld}
 use Rattle.routes.specs.Openings.{opening_of}
-use Rattle.routes.proofs.AskFeeds.{or_failed}
+use Rattle.routes.proofs.Requests.AskFeeds.{or_failed}
 use Rattle.routes.proofs.ask_reader.AskReader.feed.Goals as goal
 
 pub invariant_of-self-2 : goal.invariant_of-self-2

@@ -1,7 +1,7 @@
 use Rattle.std.proofs.Common.{subst, sym}
 use Rattle.routes.specs.AskStates.{AskFed, IsAsking, IsAt}
 use Rattle.routes.specs.Openings.{opening_of}
-use Rattle.routes.proofs.AskFeeds.{opened_read}
+use Rattle.routes.proofs.Requests.AskFeeds.{opened_read}
 use Rattle.routes.proofs.ask_reader.AskReader.finish.Goals as goal
 
 pub returns-in-Reads-clause-reading : goal.returns-in-Reads-clause-reading

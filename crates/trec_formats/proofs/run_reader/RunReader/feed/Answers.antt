@@ -1,6 +1,6 @@
 use Rattle.std.proofs.Common.{subst, ◌+◌, sym, length}
 use Rattle.trec_formats.specs.RunStates.{IsAt, IsHeld, RunFed}
-use Rattle.trec_formats.proofs.RunFeeds.{or_failed, held_few}
+use Rattle.trec_formats.proofs.RunTexts.RunFeeds.{or_failed, held_few}
 use Rattle.trec_formats.proofs.run_reader.RunReader.feed.Goals as goal
 
 pub invariant_of-self-2 : goal.invariant_of-self-2

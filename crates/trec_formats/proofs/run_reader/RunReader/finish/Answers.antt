@@ -1,6 +1,6 @@
 use Rattle.std.proofs.Common.{subst, sym}
 use Rattle.trec_formats.specs.RunStates.{IsAt, RunFed}
-use Rattle.trec_formats.proofs.RunEnds.{faulty_here}
+use Rattle.trec_formats.proofs.RunTexts.RunEnds.{faulty_here}
 use Rattle.trec_formats.proofs.run_reader.RunReader.finish.Goals as goal
 
 pub returns-in-Faulty-clause-fault : goal.returns-in-Faulty-clause-fault

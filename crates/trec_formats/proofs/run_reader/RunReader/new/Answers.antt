@@ -1,6 +1,6 @@
 use Rattle.std.proofs.Common.{arith, [], refl}
 use Rattle.trec_formats.specs.declared.run_reader.Ended.{Ended}
-use Rattle.trec_formats.proofs.RunEnds.{going_none}
+use Rattle.trec_formats.proofs.RunTexts.RunEnds.{going_none}
 use Rattle.trec_formats.proofs.run_reader.RunReader.new.Goals as goal
 
 pub invariant_of-result : goal.invariant_of-result

@@ -1,0 +1,35 @@
+//! A write and a cut that are synced at once: after Ok each image is an old one with all of it done, and
+//! before that one with all, a part or nothing of it done.
+ghost use Rattle.std.specs.Prelude.{◌≡◌, ℕ, ◌+◌, ◌≤◌, ◌^◌, List, length, take, OnOk};
+ghost use Rattle.decimal_rank.specs.Causes.{HasCause};
+ghost use Rattle.disk_model.specs.Disks.{CutShort, EachMoment, Follows, Torn, written};
+ghost use Rattle.journal.specs.DiskSteps.{ReachesTo, WithStep};
+
+use disk_model::{Disk, Failed};
+
+/// Writes the piece and syncs.
+pub(crate) fn write_through<D: Disk>(disk: &mut D, place: u64, piece: &[u8]) -> Result<(), Failed>
+    requires within { ReachesTo place (D.images disk.old) }
+    requires room { place + length piece.now ≤ 2 ^ 40 }
+    ensures done { OnOk result (Follows (λ earlier image. image ≡ written place piece.now earlier) (D.images disk.old) (D.images disk.new)) }
+    ensures crash { Follows (Torn place (length piece.now)) (D.images disk.old) (D.images disk.new) }
+    ensures any_moment { EachMoment D.clock D.images_since disk.old disk.new (WithStep (Torn place (length piece.now)) (D.images disk.old)) }
+    ensures cause { HasCause (D.fault_count disk.old) (D.fault_count disk.new) result }
+{
+    disk.write_at(place, piece)?;
+    disk.sync()?;
+    Ok(())
+}
+
+/// Cuts the disk and syncs.
+pub(crate) fn cut_through<D: Disk>(disk: &mut D, to: u64) -> Result<(), Failed>
+    requires within { ReachesTo to (D.images disk.old) }
+    ensures done { OnOk result (Follows (λ earlier image. image ≡ take to earlier) (D.images disk.old) (D.images disk.new)) }
+    ensures crash { Follows (CutShort to) (D.images disk.old) (D.images disk.new) }
+    ensures any_moment { EachMoment D.clock D.images_since disk.old disk.new (WithStep (CutShort to) (D.images disk.old)) }
+    ensures cause { HasCause (D.fault_count disk.old) (D.fault_count disk.new) result }
+{
+    disk.cut(to)?;
+    disk.sync()?;
+    Ok(())
+}

@@ -1,0 +1,210 @@
+-- The laws of the lists of an entry.
+use Rattle.std.proofs.Common.{◌-◌, ◌^◌, ◌<◌, ◌&&◌, Bool, List, [], ◌∷◌, length, refl, sym, append_assoc, arith}
+use Rattle.std.specs.Prelude.{IsTrue, nat_le, nat_lt}
+use Rattle.std.specs.List.{AllByRecursion, list_all}
+use Rattle.std.specs.Int.{w16, w32, w64, to_le_bytes}
+use Rattle.std.proofs.lemmas.Bool.{and_from, and_parts, leb-true, le-leb, lt-ltb, ltb-true}
+use Rattle.trec_formats.specs.declared.Topic.{Topic}
+use Rattle.trec_formats.specs.declared.TopicList.{TopicList}
+use Rattle.trec_formats.specs.Names.{is_between, is_docno, is_name}
+use Rattle.rulebook.specs.declared.rules.Rules.{Rules}
+use Rattle.rulebook.specs.Spelling.{are_rules, differ, is_ascending, is_plain_list, is_plain_topic, is_printable, list_bytes, listed, long, rules_bytes, short, topic_bytes}
+use Rattle.rulebook.specs.Words.{Text}
+use Rattle.record_codec.specs.Readings.{any_count, are_in_range, docs_at, doubles_at, few_doubles, ids_differ, is_length, is_some_count, list_at, list_of, lists_at, rules_at, rules_of, settings_at, topic_at, topic_of, topics_ascend, topics_at}
+use Rattle.record_codec.proofs.Codes.{Codes, both, byte_codes, changed, four_texts, like, listed_codes, number_codes, tested, wide16, wide32, wide64}
+use Rattle.record_codec.proofs.TextCodes.{docno_codes, name_codes, printable_codes}
+use Rattle.record_codec.proofs.ShortTexts.{between_most}
+
+-- Tests of each element
+
+pub each_passes : {X : Type 0} (test : X → Bool) (xs : List X) → AllByRecursion (λ x. IsTrue (test x)) xs
+    → IsTrue (list_all test xs)
+each_passes test [] all = refl
+each_passes test (x ∷ xs) all = and_from (test x) (list_all test xs) all.0 (each_passes test xs all.1)
+
+pub passes_each : {X : Type 0} (test : X → Bool) (xs : List X) → IsTrue (list_all test xs)
+    → AllByRecursion (λ x. IsTrue (test x)) xs
+passes_each test [] all = tt
+passes_each test (x ∷ xs) all =
+    let parts = and_parts (test x) (list_all test xs) all in (parts.0, passes_each test xs parts.1)
+
+-- The topics that need two labels, and the rules
+
+abbrev pub are_doubles : List Text → Bool
+are_doubles texts = few_doubles (length texts) && list_all is_name texts && is_ascending texts
+
+pub doubles_codes : Codes (listed short) (λ texts. IsTrue (are_doubles texts)) doubles_at
+unfolding doubles_at
+doubles_codes =
+    like (tested (listed_codes name_codes few_doubles) is_ascending) (listed short)
+    (λ texts. IsTrue (are_doubles texts)) (λ texts. refl)
+    (λ texts fits.
+    and_from (few_doubles (length texts) && list_all is_name texts) (is_ascending texts)
+    (and_from (few_doubles (length texts)) (list_all is_name texts) fits.0.0.1
+    (each_passes is_name texts fits.0.1)) fits.1)
+    (λ texts is.
+    let a = and_parts (few_doubles (length texts) && list_all is_name texts) (is_ascending texts) is in
+    let b = and_parts (few_doubles (length texts)) (list_all is_name texts) a.0 in
+    let few = leb-true (length texts) 250 b.0 in
+    (((omega arith, b.0), passes_each is_name texts b.1), a.1))
+
+-- a number of each field's width, and doubles
+abbrev AreSettings : Rules → Type 0
+AreSettings r = (r.depth < 2 ^ 16)
+    × ((r.term < 2 ^ 64) × ((r.hold < 256)
+    × ((r.level < 256) × ((r.top_grade < 256) × IsTrue (are_doubles r.doubles)))))
+
+settings_codes : Codes rules_bytes AreSettings settings_at
+unfolding settings_at
+settings_codes =
+    like (changed
+    (both (number_codes w16 (2 ^ 16) wide16) (both (number_codes w64 (2 ^ 64) wide64)
+    (both byte_codes (both byte_codes (both byte_codes doubles_codes)))))
+    rules_of (λ r. (r.depth, (r.term, (r.hold, (r.level, (r.top_grade, r.doubles)))))) (λ r. refl) (λ p. refl))
+    rules_bytes AreSettings (λ r. refl) (λ r fits. fits) (λ r fits. fits)
+
+are_rules_from : (r : Rules) → AreSettings r → IsTrue (are_in_range r) → IsTrue (are_rules r)
+are_rules_from r fits range =
+    let a = and_parts (few_doubles (length r.doubles) && list_all is_name r.doubles)
+    (is_ascending r.doubles) fits.1.1.1.1.1 in
+    let b = and_parts (few_doubles (length r.doubles)) (list_all is_name r.doubles) a.0 in
+    and_from (are_in_range r && few_doubles (length r.doubles) && list_all is_name r.doubles) (is_ascending r.doubles)
+    (and_from (are_in_range r && few_doubles (length r.doubles)) (list_all is_name r.doubles)
+    (and_from (are_in_range r) (few_doubles (length r.doubles)) range b.0) b.1) a.1
+
+are_settings : (r : Rules) → IsTrue (are_rules r) → AreSettings r × IsTrue (are_in_range r)
+are_settings r is =
+    let few = few_doubles (length r.doubles) in
+    let a = and_parts (are_in_range r && few && list_all is_name r.doubles) (is_ascending r.doubles) is in
+    let b = and_parts (are_in_range r && few) (list_all is_name r.doubles) a.0 in
+    let c = and_parts (are_in_range r) few b.0 in
+    let d = and_parts (is_between 1 1000 r.depth && is_between 1 (2 ^ 40) r.term && is_between 1 50 r.hold
+    && is_between 1 255 r.top_grade) (is_between 1 r.top_grade r.level) c.0 in
+    let e = and_parts (is_between 1 1000 r.depth && is_between 1 (2 ^ 40) r.term && is_between 1 50 r.hold)
+    (is_between 1 255 r.top_grade) d.0 in
+    let f = and_parts (is_between 1 1000 r.depth && is_between 1 (2 ^ 40) r.term) (is_between 1 50 r.hold) e.0 in
+    let g = and_parts (is_between 1 1000 r.depth) (is_between 1 (2 ^ 40) r.term) f.0 in
+    let depth = between_most 1 1000 r.depth g.0 in
+    let term = between_most 1 (2 ^ 40) r.term g.1 in
+    let hold = between_most 1 50 r.hold f.1 in
+    let top = between_most 1 255 r.top_grade e.1 in
+    let level = between_most 1 r.top_grade r.level d.1 in
+    let doubles = and_from (few && list_all is_name r.doubles) (is_ascending r.doubles)
+    (and_from few (list_all is_name r.doubles) c.1 b.1) a.1 in
+    ((omega arith, (omega arith, (omega arith, (omega arith, (omega arith, doubles))))), c.0)
+
+pub rules_codes : Codes rules_bytes (λ r. IsTrue (are_rules r)) rules_at
+unfolding rules_at
+rules_codes =
+    like (tested settings_codes are_in_range) rules_bytes (λ r. IsTrue (are_rules r)) (λ r. refl)
+    (λ r fits. are_rules_from r fits.0 fits.1) are_settings
+
+-- Topics
+
+pub topic_codes : Codes topic_bytes (λ t. IsTrue (is_plain_topic t)) topic_at
+unfolding topic_at
+topic_codes =
+    like (changed
+    (both name_codes (both (printable_codes 1000 (omega arith))
+    (both (printable_codes 8192 (omega arith)) (printable_codes 8192 (omega arith)))))
+    topic_of (λ t. (t.id, (t.title, (t.desc, t.narr)))) (λ t. refl) (λ p. refl))
+    topic_bytes (λ t. IsTrue (is_plain_topic t))
+    (λ t. four_texts (short t.id) (long t.title) (long t.desc) (long t.narr))
+    (λ t fits.
+    and_from (is_name t.id && is_printable 1000 t.title && is_printable 8192 t.desc) (is_printable 8192 t.narr)
+    (and_from (is_name t.id && is_printable 1000 t.title) (is_printable 8192 t.desc)
+    (and_from (is_name t.id) (is_printable 1000 t.title) fits.0 fits.1.0) fits.1.1.0) fits.1.1.1)
+    (λ t is.
+    let a = and_parts (is_name t.id && is_printable 1000 t.title && is_printable 8192 t.desc)
+    (is_printable 8192 t.narr) is in
+    let b = and_parts (is_name t.id && is_printable 1000 t.title) (is_printable 8192 t.desc) a.0 in
+    let c = and_parts (is_name t.id) (is_printable 1000 t.title) b.0 in
+    (c.0, (c.1, (b.1, a.1))))
+
+abbrev pub are_topics : List Topic → Bool
+are_topics topics = nat_lt (length topics) (2 ^ 32) && list_all is_plain_topic topics && ids_differ topics
+
+pub topics_codes : Codes (listed topic_bytes) (λ topics. IsTrue (are_topics topics)) topics_at
+unfolding topics_at
+topics_codes =
+    like (tested (listed_codes topic_codes any_count) ids_differ) (listed topic_bytes)
+    (λ topics. IsTrue (are_topics topics)) (λ topics. refl)
+    (λ topics fits.
+    and_from (nat_lt (length topics) (2 ^ 32) && list_all is_plain_topic topics) (ids_differ topics)
+    (and_from (nat_lt (length topics) (2 ^ 32)) (list_all is_plain_topic topics) (lt-ltb _ _ fits.0.0.0)
+    (each_passes is_plain_topic topics fits.0.1)) fits.1)
+    (λ topics is.
+    let a = and_parts (nat_lt (length topics) (2 ^ 32) && list_all is_plain_topic topics) (ids_differ topics) is in
+    let b = and_parts (nat_lt (length topics) (2 ^ 32)) (list_all is_plain_topic topics) a.0 in
+    (((ltb-true _ _ b.0, refl), passes_each is_plain_topic topics b.1), a.1))
+
+-- The lists of a run
+
+abbrev pub are_docs : List Text → Bool
+are_docs docs = is_length (length docs) && list_all is_docno docs && differ docs
+
+pub docs_codes : Codes (listed short) (λ docs. IsTrue (are_docs docs)) docs_at
+unfolding docs_at
+docs_codes =
+    like (tested (listed_codes docno_codes is_length) differ) (listed short) (λ docs. IsTrue (are_docs docs))
+    (λ docs. refl)
+    (λ docs fits.
+    and_from (is_length (length docs) && list_all is_docno docs) (differ docs)
+    (and_from (is_length (length docs)) (list_all is_docno docs) fits.0.0.1
+    (each_passes is_docno docs fits.0.1)) fits.1)
+    (λ docs is.
+    let a = and_parts (is_length (length docs) && list_all is_docno docs) (differ docs) is in
+    let b = and_parts (is_length (length docs)) (list_all is_docno docs) a.0 in
+    let few = between_most 1 1000 (length docs) b.0 in
+    (((omega arith, b.0), passes_each is_docno docs b.1), a.1))
+
+pub list_codes : Codes list_bytes (λ l. IsTrue (is_plain_list l)) list_at
+unfolding list_at
+list_codes =
+    like (changed (both name_codes (both (number_codes w32 (2 ^ 32) wide32) docs_codes)) list_of
+    (λ l. (l.topic, (l.line, l.docs))) (λ l. refl) (λ p. refl))
+    list_bytes (λ l. IsTrue (is_plain_list l))
+    (λ l. sym (append_assoc (short l.topic) (to_le_bytes w32 l.line) (listed short l.docs)))
+    (λ l fits.
+    let a = and_parts (is_length (length l.docs) && list_all is_docno l.docs) (differ l.docs) fits.1.1 in
+    let b = and_parts (is_length (length l.docs)) (list_all is_docno l.docs) a.0 in
+    and_from (is_name l.topic && nat_lt l.line (2 ^ 32) && is_length (length l.docs) && list_all is_docno l.docs)
+    (differ l.docs)
+    (and_from (is_name l.topic && nat_lt l.line (2 ^ 32) && is_length (length l.docs)) (list_all is_docno l.docs)
+    (and_from (is_name l.topic && nat_lt l.line (2 ^ 32)) (is_length (length l.docs))
+    (and_from (is_name l.topic) (nat_lt l.line (2 ^ 32)) fits.0 (lt-ltb _ _ fits.1.0)) b.0) b.1) a.1)
+    (λ l is.
+    let a = and_parts (is_name l.topic && nat_lt l.line (2 ^ 32) && is_length (length l.docs)
+    && list_all is_docno l.docs) (differ l.docs) is in
+    let b = and_parts (is_name l.topic && nat_lt l.line (2 ^ 32) && is_length (length l.docs))
+    (list_all is_docno l.docs) a.0 in
+    let c = and_parts (is_name l.topic && nat_lt l.line (2 ^ 32)) (is_length (length l.docs)) b.0 in
+    let d = and_parts (is_name l.topic) (nat_lt l.line (2 ^ 32)) c.0 in
+    let docs = and_from (is_length (length l.docs) && list_all is_docno l.docs) (differ l.docs)
+    (and_from (is_length (length l.docs)) (list_all is_docno l.docs) c.1 b.1) a.1 in
+    (d.0, (ltb-true _ _ d.1, docs)))
+
+abbrev pub are_lists : List TopicList → Bool
+are_lists lists = is_between 1 (2 ^ 32 - 1) (length lists) && list_all is_plain_list lists && topics_ascend lists
+
+pub lists_codes : Codes (listed list_bytes) (λ lists. IsTrue (are_lists lists)) lists_at
+unfolding lists_at
+lists_codes =
+    like (tested (listed_codes list_codes is_some_count) topics_ascend) (listed list_bytes)
+    (λ lists. IsTrue (are_lists lists)) (λ lists. refl)
+    (λ lists fits.
+    let some = ltb-true 0 (length lists) fits.0.0.1 in
+    let few : length lists < 2 ^ 32 = fits.0.0.0 in
+    let counts = and_from (nat_le 1 (length lists)) (nat_le (length lists) (2 ^ 32 - 1)) (le-leb _ _ (omega arith))
+    (le-leb _ _ (omega arith)) in
+    and_from (is_between 1 (2 ^ 32 - 1) (length lists) && list_all is_plain_list lists) (topics_ascend lists)
+    (and_from (is_between 1 (2 ^ 32 - 1) (length lists)) (list_all is_plain_list lists) counts
+    (each_passes is_plain_list lists fits.0.1)) fits.1)
+    (λ lists is.
+    let a = and_parts (is_between 1 (2 ^ 32 - 1) (length lists) && list_all is_plain_list lists)
+    (topics_ascend lists) is in
+    let b = and_parts (is_between 1 (2 ^ 32 - 1) (length lists)) (list_all is_plain_list lists) a.0 in
+    let c = and_parts (nat_le 1 (length lists)) (nat_le (length lists) (2 ^ 32 - 1)) b.0 in
+    let least = leb-true 1 (length lists) c.0 in
+    let most = leb-true (length lists) (2 ^ 32 - 1) c.1 in
+    (((omega arith, lt-ltb 0 (length lists) (omega arith)), passes_each is_plain_list lists b.1), a.1))

@@ -1,5 +1,0 @@
-use Rattle.record_codec.proofs.Written.{command_plain}
-use Rattle.record_codec.proofs.writing.put_entry.Goals as goal
-
-pub put_command-requires : goal.put_command-requires
-put_command-requires c = command_plain c.args.core.now c.requires

@@ -1,5 +1,0 @@
-use Rattle.record_codec.proofs.Written.{doubles_short}
-use Rattle.record_codec.proofs.writing.put_rules.Goals as goal
-
-pub put_texts-requires-clause-short : goal.put_texts-requires-clause-short
-put_texts-requires-clause-short c = doubles_short c.args.rules.now c.requires

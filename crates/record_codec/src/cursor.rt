@@ -1,0 +1,89 @@
+//! The bytes that are not read yet, and numbers and runs of bytes from their front.
+ghost use Rattle.std.specs.Prelude.{◌≡◌, ◌==◌, length};
+ghost use Rattle.std.specs.Int.{w16, w32, w64};
+ghost use Rattle.record_codec.specs.Outcomes.{Gives, GivesBy};
+ghost use Rattle.record_codec.specs.Readings.{byte_at, bytes_at, number_at};
+
+use crate::faults::CodecFault;
+
+/// The bytes that are not read yet. Each call takes what it reads from their front; what stands there
+/// after a fault is not said.
+#[derive(Clone, Copy)]
+pub(crate) struct Cursor<'a> {
+    bytes: &'a [u8],
+}
+
+impl<'a> Cursor<'a> {
+    pub(crate) fn new(bytes: &'a [u8]) -> Cursor<'a>
+        ensures { result.bytes.now ≡ bytes.entry.now }
+    {
+        Cursor { bytes }
+    }
+
+    pub(crate) fn is_at_end(&self) -> bool
+        ensures { result ≡ (length self.now.bytes.now == 0) }
+    {
+        self.bytes.is_empty()
+    }
+
+    pub(crate) fn byte(&mut self) -> Result<u8, CodecFault>
+        ensures { Gives result self.new.bytes.now (byte_at self.old.bytes.now) }
+    {
+        let [first, rest @ ..] = self.bytes else {
+            return Err(CodecFault::NoEntry);
+        };
+        self.bytes = rest;
+        Ok(*first)
+    }
+
+    /// So many bytes.
+    #[tactic(auto, unfolding(crate::specs::Readings::bytes_at))]
+    pub(crate) fn run(&mut self, len: usize) -> Result<&'a [u8], CodecFault>
+        ensures { GivesBy (λ run. run.now) result self.new.bytes.now (bytes_at len self.old.bytes.now) }
+    {
+        if self.bytes.len() < len {
+            return Err(CodecFault::NoEntry);
+        }
+        let (run, rest) = self.bytes.split_at(len);
+        self.bytes = rest;
+        Ok(run)
+    }
+
+    #[tactic(auto, unfolding(crate::specs::Readings::number_at))]
+    pub(crate) fn number16(&mut self) -> Result<u16, CodecFault>
+        ensures { Gives result self.new.bytes.now (number_at w16 self.old.bytes.now) }
+    {
+        if self.bytes.len() < 2 {
+            return Err(CodecFault::NoEntry);
+        }
+        let (front, rest) = self.bytes.split_at(2);
+        self.bytes = rest;
+        Ok(u16::from_le_bytes([front[0], front[1]]))
+    }
+
+    #[tactic(auto, unfolding(crate::specs::Readings::number_at))]
+    pub(crate) fn number32(&mut self) -> Result<u32, CodecFault>
+        ensures { Gives result self.new.bytes.now (number_at w32 self.old.bytes.now) }
+    {
+        if self.bytes.len() < 4 {
+            return Err(CodecFault::NoEntry);
+        }
+        let (front, rest) = self.bytes.split_at(4);
+        self.bytes = rest;
+        Ok(u32::from_le_bytes([front[0], front[1], front[2], front[3]]))
+    }
+
+    #[tactic(auto, unfolding(crate::specs::Readings::number_at))]
+    pub(crate) fn number64(&mut self) -> Result<u64, CodecFault>
+        ensures { Gives result self.new.bytes.now (number_at w64 self.old.bytes.now) }
+    {
+        if self.bytes.len() < 8 {
+            return Err(CodecFault::NoEntry);
+        }
+        let (front, rest) = self.bytes.split_at(8);
+        self.bytes = rest;
+        Ok(u64::from_le_bytes([
+            front[0], front[1], front[2], front[3], front[4], front[5], front[6], front[7],
+        ]))
+    }
+}

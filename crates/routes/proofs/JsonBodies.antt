@@ -1,0 +1,3 @@
+-- What a JSON body says.
+pub mod Matching
+pub mod Members

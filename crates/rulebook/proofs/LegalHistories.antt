@@ -1,0 +1,8 @@
+-- What holds of each list of entries that can come about.
+pub mod Added
+pub mod GrantedLeases
+pub mod JournalSizes
+pub mod LegalWalk
+pub mod LiveRuns
+pub mod PlainReplies
+pub mod UsedNumbers

@@ -1,0 +1,4 @@
+-- Answers of small campaigns, worked out row by row.
+pub mod EndedCampaign
+pub mod JudgedCampaign
+pub mod SmallCampaign
