@@ -7,7 +7,7 @@ use Rattle.rulebook.specs.Words.{Text, in_order}
 use Rattle.campaign_core.specs.Printed.{part_of}
 use Rattle.campaign_core.specs.Texts.{shown}
 use Rattle.assessment.specs.TopicFacts.{TopicFacts, facts_of}
-use Rattle.campaign_core.proofs.Paging.{ids-kept, listed-there}
+use Rattle.campaign_core.proofs.Printed.PageTopics.{ids-kept, listed-there}
 use Rattle.campaign_core.proofs.pages.page_reply.Goals as goal
 
 pub loop-id-init : goal.loop-id-init

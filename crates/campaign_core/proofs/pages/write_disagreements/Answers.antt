@@ -6,7 +6,7 @@ use Rattle.decimal_rank.specs.Names.{docno_of}
 use Rattle.rulebook.specs.Pages.{disagreement_line, disagreement_lines}
 use Rattle.rulebook.specs.Words.{Text, in_order}
 use Rattle.campaign_core.specs.Texts.{shown}
-use Rattle.campaign_core.proofs.Disagreeing.{disagreeing-texts}
+use Rattle.campaign_core.proofs.Printed.Disagreements.{disagreeing-texts}
 use Rattle.campaign_core.proofs.pages.write_disagreements.Goals as goal
 
 pub returns : goal.returns

@@ -2,7 +2,7 @@ use Rattle.std.proofs.Common.{◌≡◌, ◌<◌, ◌++◌, ◌∙◌, ap, lengt
 use Rattle.std.specs.Prelude.{All, OnOk}
 use Rattle.qrels_view.specs.declared.grades.Graded.{Graded}
 use Rattle.qrels_view.specs.Lines.{qrels_text}
-use Rattle.campaign_core.proofs.QrelsLines.{grades-within, qrels-same}
+use Rattle.campaign_core.proofs.Printed.QrelsLines.{grades-within, qrels-same}
 use Rattle.campaign_core.proofs.pages.write_part.Goals as goal
 
 pub write-requires : goal.write-requires

@@ -7,7 +7,7 @@ use Rattle.depth_pool.specs.Holdings.{Held, IsCount, some_run_holds}
 use Rattle.rulebook.specs.Campaign.{pool}
 use Rattle.rulebook.specs.Grades.{non_relevant_count, relevant_count}
 use Rattle.rulebook.specs.Pages.{counts_line, progress_line}
-use Rattle.campaign_core.proofs.Progressing.{non_relevant-count, pool-count, relevant-count}
+use Rattle.campaign_core.proofs.Printed.Progress.{non_relevant-count, pool-count, relevant-count}
 use Rattle.campaign_core.proofs.pages.write_progress.Goals as goal
 
 pub returns : goal.returns

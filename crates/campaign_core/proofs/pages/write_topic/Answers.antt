@@ -4,9 +4,9 @@ use Rattle.rulebook.specs.Pages.{live_count}
 use Rattle.campaign_core.specs.Leasing.{topic_in}
 use Rattle.campaign_core.specs.Printed.{part_of}
 use Rattle.assessment.specs.TopicFacts.{TopicFacts, facts_of}
-use Rattle.campaign_core.proofs.ListFacts.{get-map}
-use Rattle.campaign_core.proofs.Paging.{page-topic}
-use Rattle.campaign_core.proofs.Places.{some-there, topic-found}
+use Rattle.campaign_core.proofs.Lists.Elements.{get-map}
+use Rattle.campaign_core.proofs.Printed.PageTopics.{page-topic}
+use Rattle.campaign_core.proofs.Numbers.TopicNumbers.{some-there, topic-found}
 use Rattle.campaign_core.proofs.pages.write_topic.Goals as goal
 
 pub unwrap-number-requires : goal.unwrap-number-requires

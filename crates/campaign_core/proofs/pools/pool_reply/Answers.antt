@@ -9,8 +9,8 @@ use Rattle.campaign_core.specs.Topics.{KeptTopic, pool_of}
 use Rattle.std.specs.Option.{option_map}
 use Rattle.std.specs.Str.{bytes_eq}
 use Rattle.assessment.specs.TopicFacts.{TopicFacts, facts_of}
-use Rattle.campaign_core.proofs.ListFacts.{find-map}
-use Rattle.campaign_core.proofs.PoolFacts.{look, pool-numbers, pool-texts, pool-told, pool-unknown}
+use Rattle.campaign_core.proofs.Lists.Elements.{find-map}
+use Rattle.campaign_core.proofs.Printed.PoolTexts.{look, pool-numbers, pool-texts, pool-told, pool-unknown}
 use Rattle.campaign_core.proofs.pools.pool_reply.Goals as goal
 
 pub returns-in_default : goal.returns-in_default

@@ -4,8 +4,8 @@ use Rattle.std.specs.Prelude.{count_by}
 use Rattle.qrels_view.specs.Grades.{is_non_relevant, is_relevant}
 use Rattle.qrels_view.specs.declared.grades.Graded.{Graded}
 use Rattle.rulebook.specs.Grades.{relevant_count}
-use Rattle.campaign_core.proofs.CellFacts.{judged-count}
-use Rattle.campaign_core.proofs.Progressing.{non_relevant-count, relevant-count}
+use Rattle.campaign_core.proofs.Printed.TopicCells.{judged-count}
+use Rattle.campaign_core.proofs.Printed.Progress.{non_relevant-count, relevant-count}
 use Rattle.campaign_core.proofs.score_pages.is_counted.Goals as goal
 
 pub returns : goal.returns

@@ -9,10 +9,10 @@ use Rattle.rulebook.specs.Words.{Text}
 use Rattle.campaign_core.specs.Kept.{KnowsRun}
 use Rattle.assessment.specs.TopicFacts.{facts_of}
 use Rattle.campaign_core.specs.Leasing.{first_refusal}
-use Rattle.campaign_core.proofs.KnownRuns.{known-run}
-use Rattle.campaign_core.proofs.LiveRuns.{at-live}
-use Rattle.campaign_core.proofs.Submitted.{no_run}
-use Rattle.campaign_core.proofs.ScoresTold.{no-run-found, passed-live, run-found, told-refused, told-scores, told-unknown}
+use Rattle.campaign_core.proofs.Printed.KnownRuns.{known-run}
+use Rattle.campaign_core.proofs.Entries.LiveRuns.{at-live}
+use Rattle.campaign_core.proofs.Numbers.RunPlaces.{no_run}
+use Rattle.campaign_core.proofs.Rulings.RunRulings.{no-run-found, passed-live, run-found, told-refused, told-scores, told-unknown}
 use Rattle.campaign_core.proofs.score_pages.scores_reply.Goals as goal
 
 pub returns-in_default : goal.returns-in_default

@@ -11,11 +11,11 @@ use Rattle.campaign_core.specs.Kept.{KnowsRun}
 use Rattle.campaign_core.specs.Submissions.{AreSubmissions}
 use Rattle.campaign_core.specs.declared.submissions.Submission.{Submission}
 use Rattle.assessment.specs.TopicFacts.{facts_of}
-use Rattle.campaign_core.proofs.KnownRuns.{known-run}
-use Rattle.campaign_core.proofs.ListFacts.{get-there}
-use Rattle.campaign_core.proofs.LiveRuns.{at-live, live-passed, live-runs, live-taken, live_of}
-use Rattle.campaign_core.proofs.Submitted.{entry-at, entry-within, no_run, runs-many}
-use Rattle.campaign_core.proofs.Withdrawals.{flag-there}
+use Rattle.campaign_core.proofs.Printed.KnownRuns.{known-run}
+use Rattle.campaign_core.proofs.Lists.Elements.{get-there}
+use Rattle.campaign_core.proofs.Entries.LiveRuns.{at-live, live-passed, live-runs, live-taken, live_of}
+use Rattle.campaign_core.proofs.Numbers.RunPlaces.{entry-at, entry-within, no_run, runs-many}
+use Rattle.campaign_core.proofs.Entries.WithdrawalSteps.{flag-there}
 use Rattle.campaign_core.proofs.score_pages.table_reply.Goals as goal
 
 pub overflow_cast-run : goal.overflow_cast-run

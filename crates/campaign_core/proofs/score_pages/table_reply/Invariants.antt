@@ -3,7 +3,7 @@ use Rattle.std.proofs.Common.{◌≡◌, take}
 use Rattle.std.specs.List.{flat_map}
 use Rattle.rulebook.specs.Campaign.{runs}
 use Rattle.rulebook.specs.Scores.{summary_lines}
-use Rattle.campaign_core.proofs.LiveRuns.{live_of}
+use Rattle.campaign_core.proofs.Entries.LiveRuns.{live_of}
 use Rattle.campaign_core.proofs.score_pages.table_reply.Given as goal
 
 abbrev pub invariant-loop-number : goal.invariant-loop-number

@@ -4,7 +4,7 @@ use Rattle.measures.specs.ScoreLines.{summary_text}
 use Rattle.measures.specs.declared.means.Summary.{Summary}
 use Rattle.rulebook.specs.Words.{Text}
 use Rattle.assessment.specs.TopicFacts.{facts_of}
-use Rattle.campaign_core.proofs.RunFacts.{cells-same}
+use Rattle.campaign_core.proofs.Printed.RunCells.{cells-same}
 use Rattle.campaign_core.proofs.score_pages.write_run_summary.Goals as goal
 
 pub returns : goal.returns

@@ -8,7 +8,7 @@ use Rattle.rulebook.specs.Words.{Text, in_order}
 use Rattle.campaign_core.specs.Texts.{shown}
 use Rattle.campaign_core.specs.Topics.{topic_ids}
 use Rattle.assessment.specs.TopicFacts.{TopicFacts, facts_of}
-use Rattle.campaign_core.proofs.Paging.{ids-kept, listed-there}
+use Rattle.campaign_core.proofs.Printed.PageTopics.{ids-kept, listed-there}
 use Rattle.campaign_core.proofs.score_pages.write_scores.Goals as goal
 
 pub loop-id-init : goal.loop-id-init

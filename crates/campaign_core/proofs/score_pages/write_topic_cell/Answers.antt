@@ -8,11 +8,11 @@ use Rattle.rulebook.specs.Words.{Text}
 use Rattle.campaign_core.specs.Leasing.{topic_in}
 use Rattle.campaign_core.specs.Numbers.{names_of}
 use Rattle.assessment.specs.TopicFacts.{TopicFacts, facts_of}
-use Rattle.campaign_core.proofs.ListFacts.{get-map}
-use Rattle.campaign_core.proofs.LeaseFacts.{known-topic}
-use Rattle.campaign_core.proofs.Paging.{page-topic}
-use Rattle.campaign_core.proofs.Places.{some-there, topic-found}
-use Rattle.campaign_core.proofs.RunFacts.{as-many, cell-at}
+use Rattle.campaign_core.proofs.Lists.Elements.{get-map}
+use Rattle.campaign_core.proofs.Rulings.LeaseRulings.{known-topic}
+use Rattle.campaign_core.proofs.Printed.PageTopics.{page-topic}
+use Rattle.campaign_core.proofs.Numbers.TopicNumbers.{some-there, topic-found}
+use Rattle.campaign_core.proofs.Printed.RunCells.{as-many, cell-at}
 use Rattle.campaign_core.proofs.score_pages.write_topic_cell.Goals as goal
 
 pub unwrap-number-requires : goal.unwrap-number-requires

@@ -1,5 +1,5 @@
 use Rattle.std.proofs.Common.{◌∙◌}
-use Rattle.campaign_core.proofs.OpenDocs.{find-behind, labelled-closed}
+use Rattle.campaign_core.proofs.Judging.OpenDocs.{find-behind, labelled-closed}
 use Rattle.campaign_core.proofs.selection.open_of.Goals as goal
 
 pub returns : goal.returns

@@ -5,9 +5,9 @@ use Rattle.rulebook.specs.Numbers.{used}
 use Rattle.campaign_core.specs.Decisions.{IsDecision, IsWithinLimits, KeepsLimits}
 use Rattle.campaign_core.specs.NumberedRequests.{number_in, place_of}
 use Rattle.campaign_core.specs.declared.decisions.Decision.TheVariants.{Accepted}
-use Rattle.campaign_core.proofs.Fitting.{fits}
-use Rattle.campaign_core.proofs.Preparing.{prepared-entry}
-use Rattle.campaign_core.proofs.RequestFacts.{unused-kept}
+use Rattle.campaign_core.proofs.Entries.FittingChanges.{fits}
+use Rattle.campaign_core.proofs.Entries.ReadyEntries.{prepared-entry}
+use Rattle.campaign_core.proofs.Numbers.UsedNumbers.{unused-kept}
 use Rattle.campaign_core.proofs.state.prepared.Goals as goal
 
 pub add_number-requires : goal.add_number-requires

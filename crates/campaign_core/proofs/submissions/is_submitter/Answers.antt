@@ -2,8 +2,8 @@ use Rattle.std.proofs.Common.{◌≡◌, ◌||◌, ◌∙◌, ◌+◌, ◌<◌, 
 use Rattle.std.proofs.lemmas.List.{drop_all, length-map}
 use Rattle.rulebook.specs.declared.entry.Entry.{Entry}
 use Rattle.campaign_core.specs.Submissions.{any_at, entry_place, is_submitted_by}
-use Rattle.campaign_core.proofs.ListFacts.{get-map}
-use Rattle.campaign_core.proofs.Submitted.{any-entry, any-from, entry-within, submits-only}
+use Rattle.campaign_core.proofs.Lists.Elements.{get-map}
+use Rattle.campaign_core.proofs.Numbers.RunPlaces.{any-entry, any-from, entry-within, submits-only}
 use Rattle.campaign_core.proofs.submissions.is_submitter.Goals as goal
 
 pub bounds-history-submission : goal.bounds-history-submission

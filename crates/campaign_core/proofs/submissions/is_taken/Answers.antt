@@ -1,7 +1,7 @@
 use Rattle.std.proofs.Common.{◌∙◌, ap, is_some}
 use Rattle.std.specs.Str.{bytes_eq}
 use Rattle.rulebook.specs.Campaign.{Run, runs}
-use Rattle.campaign_core.proofs.FirstPlaces.{is-there}
+use Rattle.campaign_core.proofs.Lists.FirstPlaces.{is-there}
 use Rattle.campaign_core.proofs.submissions.is_taken.Goals as goal
 
 pub returns : goal.returns

@@ -3,9 +3,9 @@ use Rattle.std.specs.Str.{bytes_eq}
 use Rattle.assessment.specs.TopicsFacts.{at_place}
 use Rattle.rulebook.specs.Campaign.{Run, runs}
 use Rattle.campaign_core.specs.Submissions.{withdrawn}
-use Rattle.campaign_core.proofs.Accepting.{some-same}
-use Rattle.campaign_core.proofs.FirstPlaces.{is-there}
-use Rattle.campaign_core.proofs.ListFacts.{set-at_place}
+use Rattle.campaign_core.proofs.Rulings.AcceptedCommands.{some-same}
+use Rattle.campaign_core.proofs.Lists.FirstPlaces.{is-there}
+use Rattle.campaign_core.proofs.Lists.Elements.{set-at_place}
 use Rattle.campaign_core.proofs.submissions.mark_withdrawn.Goals as goal
 
 pub unwrap-number-requires : goal.unwrap-number-requires

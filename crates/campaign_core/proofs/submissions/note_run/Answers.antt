@@ -3,7 +3,7 @@ use Rattle.std.specs.Option.{option_map}
 use Rattle.std.proofs.lemmas.List.{with_items_is}
 use Rattle.assessment.specs.TopicsFacts.{at_place}
 use Rattle.campaign_core.specs.Submissions.{AreSubmissions, submissions_with, withdrawn, withdrawn_in}
-use Rattle.campaign_core.proofs.Withdrawals.{noted, noted-there, noted-withdrawn}
+use Rattle.campaign_core.proofs.Entries.WithdrawalSteps.{noted, noted-there, noted-withdrawn}
 use Rattle.campaign_core.proofs.submissions.note_run.Goals as goal
 
 pub mark_withdrawn-requires-clause-there : goal.mark_withdrawn-requires-clause-there

@@ -4,8 +4,8 @@ use Rattle.std.specs.Str.{bytes_eq}
 use Rattle.std.proofs.lemmas.List.Folds.{list_any_more}
 use Rattle.rulebook.specs.declared.entry.Entry.{Entry}
 use Rattle.rulebook.specs.Campaign.{Run, run_in, runs}
-use Rattle.campaign_core.proofs.FirstPlaces.{first-at, none-at}
-use Rattle.campaign_core.proofs.Submitted.{entry-at, entry-within, named-run, no_run, runs-many}
+use Rattle.campaign_core.proofs.Lists.FirstPlaces.{first-at, none-at}
+use Rattle.campaign_core.proofs.Numbers.RunPlaces.{entry-at, entry-within, named-run, no_run, runs-many}
 use Rattle.campaign_core.proofs.submissions.run_number.Goals as goal
 
 pub returns-then-submits : goal.returns-then-submits

@@ -6,7 +6,7 @@ use Rattle.rulebook.specs.Campaign.{is_withdrawn}
 use Rattle.rulebook.specs.Refusals.{◌when◌}
 use Rattle.rulebook.specs.Roles.{is_group}
 use Rattle.rulebook.specs.Scores.{is_submitter}
-use Rattle.campaign_core.proofs.Withdrawals.{flag-at}
+use Rattle.campaign_core.proofs.Entries.WithdrawalSteps.{flag-at}
 use Rattle.campaign_core.proofs.submissions.run_refusal.Goals as goal
 
 pub returns-then-submissions-number : goal.returns-then-submissions-number

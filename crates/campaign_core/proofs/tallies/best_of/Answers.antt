@@ -5,12 +5,12 @@ use Rattle.rulebook.specs.Campaign.{History, Run, is_withdrawn, live, runs}
 use Rattle.campaign_core.specs.Submissions.{AreSubmissions}
 use Rattle.campaign_core.specs.declared.submissions.Submission.{Submission}
 use Rattle.campaign_core.specs.Tallies.{first_best, greatest, map_of, submitted_at}
-use Rattle.campaign_core.proofs.BestRuns.{kept, taken}
-use Rattle.campaign_core.proofs.KnownRuns.{known-run}
-use Rattle.campaign_core.proofs.ListFacts.{get-there}
-use Rattle.campaign_core.proofs.LiveRuns.{at-live, live-passed, live-runs, live-taken, live_of}
-use Rattle.campaign_core.proofs.Submitted.{no_run, runs-many}
-use Rattle.campaign_core.proofs.Withdrawals.{flag-there}
+use Rattle.campaign_core.proofs.Printed.BestRuns.{kept, taken}
+use Rattle.campaign_core.proofs.Printed.KnownRuns.{known-run}
+use Rattle.campaign_core.proofs.Lists.Elements.{get-there}
+use Rattle.campaign_core.proofs.Entries.LiveRuns.{at-live, live-passed, live-runs, live-taken, live_of}
+use Rattle.campaign_core.proofs.Numbers.RunPlaces.{no_run, runs-many}
+use Rattle.campaign_core.proofs.Entries.WithdrawalSteps.{flag-there}
 use Rattle.campaign_core.proofs.tallies.best_of.Goals as goal
 use Rattle.campaign_core.proofs.tallies.best_of.Goals.{then-better, else-better}
 

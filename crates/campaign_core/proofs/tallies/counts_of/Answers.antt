@@ -2,7 +2,7 @@ use Rattle.std.proofs.Common.{◌∙◌, ap}
 use Rattle.std.specs.Prelude.{count_by}
 use Rattle.qrels_view.specs.Grades.{is_non_relevant, is_relevant}
 use Rattle.qrels_view.specs.declared.grades.Graded.{Graded}
-use Rattle.campaign_core.proofs.Progressing.{non_relevant-count, relevant-count}
+use Rattle.campaign_core.proofs.Printed.Progress.{non_relevant-count, relevant-count}
 use Rattle.campaign_core.proofs.tallies.counts_of.Goals as goal
 
 pub returns : goal.returns

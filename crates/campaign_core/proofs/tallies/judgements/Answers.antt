@@ -5,8 +5,8 @@ use Rattle.assessment.specs.TopicFacts.{facts_of}
 use Rattle.campaign_core.specs.Numbers.{names_of}
 use Rattle.campaign_core.specs.Tallies.{judged_on}
 use Rattle.campaign_core.specs.Topics.{topic_ids}
-use Rattle.campaign_core.proofs.ListFacts.{get-map}
-use Rattle.campaign_core.proofs.TopicsAt.{as-long, sum-all, sum-more, topic-at}
+use Rattle.campaign_core.proofs.Lists.Elements.{get-map}
+use Rattle.campaign_core.proofs.Numbers.TopicPlaces.{as-long, sum-all, sum-more, topic-at}
 use Rattle.campaign_core.proofs.tallies.judgements.Goals as goal
 
 pub loop-topic-preserved : goal.loop-topic-preserved

@@ -2,7 +2,7 @@ use Rattle.std.proofs.Common.{◌∙◌, ap, map}
 use Rattle.measures.specs.Means.{summary_of}
 use Rattle.measures.specs.declared.means.Summary.{Summary}
 use Rattle.assessment.specs.TopicFacts.{facts_of}
-use Rattle.campaign_core.proofs.RunFacts.{cells-same}
+use Rattle.campaign_core.proofs.Printed.RunCells.{cells-same}
 use Rattle.campaign_core.proofs.tallies.map_of.Goals as goal
 
 pub returns-clause-map : goal.returns-clause-map

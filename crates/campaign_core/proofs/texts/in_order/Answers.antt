@@ -1,7 +1,7 @@
 use Rattle.std.proofs.Common.{◌∙◌, ap}
 use Rattle.std.proofs.lemmas.List.Filters.{dedup_is}
 use Rattle.campaign_core.specs.Texts.{shown}
-use Rattle.campaign_core.proofs.Dedup.{same_now, sorted_once}
+use Rattle.campaign_core.proofs.Lists.SortedTexts.{same_now, sorted_once}
 use Rattle.campaign_core.proofs.texts.in_order.Goals as goal
 
 pub returns : goal.returns

@@ -4,8 +4,8 @@ use Rattle.decimal_rank.specs.Names.{number_of}
 use Rattle.decimal_rank.specs.Places.{AreDistinct}
 use Rattle.rulebook.specs.Words.{contains_text}
 use Rattle.campaign_core.specs.Numbers.{docs_in}
-use Rattle.campaign_core.proofs.Naming.{is_found, numbers-differ}
-use Rattle.campaign_core.proofs.ListFacts.{all_at}
+use Rattle.campaign_core.proofs.Numbers.DocNumbers.{is_found, numbers-differ}
+use Rattle.campaign_core.proofs.Lists.Elements.{all_at}
 use Rattle.campaign_core.proofs.topics.ranking_of.Goals as goal
 
 pub unwrap-requires : goal.unwrap-requires

@@ -1,7 +1,7 @@
 use Rattle.std.proofs.Common.{◌∙◌}
 use Rattle.std.specs.Str.{bytes_eq}
 use Rattle.assessment.specs.TopicFacts.{TopicFacts, facts_of}
-use Rattle.campaign_core.proofs.ListFacts.{position-map}
+use Rattle.campaign_core.proofs.Lists.Elements.{position-map}
 use Rattle.campaign_core.proofs.topics.topic_number.Goals as goal
 
 pub returns : goal.returns

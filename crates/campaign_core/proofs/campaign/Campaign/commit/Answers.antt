@@ -9,8 +9,8 @@ use Rattle.rulebook.specs.Campaign.{History, line_count}
 use Rattle.campaign_core.specs.Growth.{lists_in}
 use Rattle.campaign_core.specs.Numbers.{names_of}
 use Rattle.campaign_core.specs.Submissions.{AreSubmissions}
-use Rattle.campaign_core.proofs.CommitSteps.{change-within, have-lists, live_numbers}
-use Rattle.campaign_core.proofs.Commits.{Laws, carried-out, known-after, lines-fit}
+use Rattle.campaign_core.proofs.Entries.CommitCosts.{change-within, have-lists, live_numbers}
+use Rattle.campaign_core.proofs.Entries.Commits.{Laws, carried-out, known-after, lines-fit}
 use Rattle.campaign_core.proofs.campaign.Campaign.commit.Goals as goal
 
 pub returns-clause-known : goal.returns-clause-known

@@ -1,6 +1,6 @@
 use Rattle.std.proofs.Common.{rules}
 use Rattle.assessment.specs.Changes.{facts}
-use Rattle.campaign_core.proofs.Preparing.{founded-assessed, founded-legal, founded-runs, founded-submissions, founded-unjudged}
+use Rattle.campaign_core.proofs.Entries.ReadyEntries.{founded-assessed, founded-legal, founded-runs, founded-submissions, founded-unjudged}
 use Rattle.campaign_core.proofs.campaign.Campaign.found.Goals as goal
 
 pub returns-clause-known : goal.returns-clause-known

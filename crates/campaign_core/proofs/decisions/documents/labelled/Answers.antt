@@ -3,7 +3,7 @@ use Rattle.std.specs.Prelude.{nat_lt}
 use Rattle.labels.specs.Marked.{Marked, given_at}
 use Rattle.labels.specs.declared.given.Given.{Given}
 use Rattle.campaign_core.specs.Topics.{labelled_of}
-use Rattle.campaign_core.proofs.AmendFacts.{found-labels, number-of-found}
+use Rattle.campaign_core.proofs.Rulings.LabelRulings.{found-labels, number-of-found}
 use Rattle.campaign_core.proofs.decisions.documents.labelled.Goals as goal
 
 pub returns-then-count-gt0-clause-labelled : goal.returns-then-count-gt0-clause-labelled

@@ -2,7 +2,7 @@ use Rattle.std.proofs.Common.{◌∙◌, List, ap}
 use Rattle.labels.specs.Marked.{Marked, given_at}
 use Rattle.labels.specs.Labelled.{has_label}
 use Rattle.campaign_core.specs.Topics.{labelled_of}
-use Rattle.campaign_core.proofs.AmendFacts.{found-labels, number-of-found}
+use Rattle.campaign_core.proofs.Rulings.LabelRulings.{found-labels, number-of-found}
 use Rattle.campaign_core.proofs.decisions.documents.labelled_by.Goals as goal
 
 pub returns-then-has_label-clause-labelled : goal.returns-then-has_label-clause-labelled

@@ -12,9 +12,9 @@ use Rattle.campaign_core.specs.Kept.{KnowsAll}
 use Rattle.campaign_core.specs.Leasing.{KnownLease}
 use Rattle.campaign_core.specs.Numbers.{doc_in, names_of}
 use Rattle.campaign_core.specs.Topics.{KeptTopic}
-use Rattle.campaign_core.proofs.LeaseFacts.{found-lease, grade-given, grade-outside, grade-refused, stands-at, unended, within-states}
-use Rattle.campaign_core.proofs.ListFacts.{get-map}
-use Rattle.campaign_core.proofs.Naming.{docno-back}
+use Rattle.campaign_core.proofs.Rulings.LeaseRulings.{found-lease, grade-given, grade-outside, grade-refused, stands-at, unended, within-states}
+use Rattle.campaign_core.proofs.Lists.Elements.{get-map}
+use Rattle.campaign_core.proofs.Numbers.DocNumbers.{docno-back}
 use Rattle.campaign_core.proofs.decisions.grade.grade_decision.Goals as goal
 
 pub returns-in-Some-lease_refusal : goal.returns-in-Some-lease_refusal

@@ -12,12 +12,12 @@ use Rattle.rulebook.specs.Words.{Text, contains_text}
 use Rattle.campaign_core.specs.Kept.{KnowsAll}
 use Rattle.campaign_core.specs.Leasing.{first_open, is_open_in}
 use Rattle.campaign_core.specs.Numbers.{doc_in, names_of}
-use Rattle.campaign_core.proofs.Desks.{live-of-same}
-use Rattle.campaign_core.proofs.LeaseFacts.{doc-told, few-leases, known-topic, lease-granted, lease-many, lease-nothing, lease-unknown, none-named, stands-at, unknown-topic}
-use Rattle.campaign_core.proofs.LeaseSteps.{desk-long}
-use Rattle.campaign_core.proofs.ListFacts.{get-map}
-use Rattle.campaign_core.proofs.Naming.{docno-back}
-use Rattle.campaign_core.proofs.Told.{moment-of, term-fits}
+use Rattle.campaign_core.proofs.Judging.LiveLeases.{live-of-same}
+use Rattle.campaign_core.proofs.Rulings.LeaseRulings.{doc-told, few-leases, known-topic, lease-granted, lease-many, lease-nothing, lease-unknown, none-named, stands-at, unknown-topic}
+use Rattle.campaign_core.proofs.Entries.LeaseSteps.{desk-long}
+use Rattle.campaign_core.proofs.Lists.Elements.{get-map}
+use Rattle.campaign_core.proofs.Numbers.DocNumbers.{docno-back}
+use Rattle.campaign_core.proofs.Rulings.AcceptedEntries.{moment-of, term-fits}
 use Rattle.campaign_core.proofs.decisions.lease.lease_decision.Goals as goal
 
 pub returns-in_default : goal.returns-in_default

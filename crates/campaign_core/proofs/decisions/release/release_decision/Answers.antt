@@ -3,7 +3,7 @@ use Rattle.assessment.specs.Changes.{IsUnended}
 use Rattle.rulebook.specs.Answers.{ruled}
 use Rattle.campaign_core.specs.Leasing.{IsLeased}
 use Rattle.campaign_core.specs.Numbers.{names_of}
-use Rattle.campaign_core.proofs.LeaseFacts.{release-done, release-refused, unended}
+use Rattle.campaign_core.proofs.Rulings.LeaseRulings.{release-done, release-refused, unended}
 use Rattle.campaign_core.proofs.decisions.release.release_decision.Goals as goal
 
 pub returns-in-Some-lease_refusal : goal.returns-in-Some-lease_refusal

@@ -7,9 +7,9 @@ use Rattle.rulebook.specs.Grades.{is_labelled}
 use Rattle.rulebook.specs.Words.{Text}
 use Rattle.campaign_core.specs.Numbers.{IsNumberOf}
 use Rattle.campaign_core.specs.Topics.{topic_ids}
-use Rattle.campaign_core.proofs.AmendFacts.{doc-given, doc-outside, doc-unknown, doc-unlabelled, topic-there}
-use Rattle.campaign_core.proofs.LeaseFacts.{known-topic, states-long, unknown-topic}
-use Rattle.campaign_core.proofs.ListFacts.{get-map}
+use Rattle.campaign_core.proofs.Rulings.LabelRulings.{doc-given, doc-outside, doc-unknown, doc-unlabelled, topic-there}
+use Rattle.campaign_core.proofs.Rulings.LeaseRulings.{known-topic, states-long, unknown-topic}
+use Rattle.campaign_core.proofs.Lists.Elements.{get-map}
 use Rattle.campaign_core.proofs.decisions.rule.rule_decision.Goals as goal
 
 pub returns-in_default : goal.returns-in_default

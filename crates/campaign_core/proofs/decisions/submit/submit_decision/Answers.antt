@@ -16,12 +16,12 @@ use Rattle.rulebook.specs.Spelling.{is_plain}
 use Rattle.rulebook.specs.Words.{Text, contains_text, each_once}
 use Rattle.campaign_core.specs.Decisions.{IsDecision}
 use Rattle.campaign_core.specs.Numbers.{are_named, docs_in}
-use Rattle.campaign_core.proofs.Accepted.{collecting-from, each_once-submitted, submit-accepted, submit-fits, submit-too-many-docnos, submit-too-many-lines}
-use Rattle.campaign_core.proofs.ListFacts.{all_back}
-use Rattle.campaign_core.proofs.Naming.{each_named}
-use Rattle.campaign_core.proofs.PoolFacts.{lists-named}
-use Rattle.campaign_core.proofs.Submitted.{runs-many}
-use Rattle.campaign_core.proofs.Told.{command-short, docs-plain, plain-of}
+use Rattle.campaign_core.proofs.Rulings.CollectingRulings.{collecting-from, each_once-submitted, submit-accepted, submit-fits, submit-too-many-docnos, submit-too-many-lines}
+use Rattle.campaign_core.proofs.Lists.Elements.{all_back}
+use Rattle.campaign_core.proofs.Numbers.DocNumbers.{each_named}
+use Rattle.campaign_core.proofs.Printed.PoolTexts.{lists-named}
+use Rattle.campaign_core.proofs.Numbers.RunPlaces.{runs-many}
+use Rattle.campaign_core.proofs.Rulings.AcceptedEntries.{command-short, docs-plain, plain-of}
 use Rattle.campaign_core.proofs.decisions.submit.submit_decision.Goals as goal
 
 pub line_count-lines-requires : goal.line_count-lines-requires

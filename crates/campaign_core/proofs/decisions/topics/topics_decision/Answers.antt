@@ -6,7 +6,7 @@ use Rattle.rulebook.specs.Answers.{ruled}
 use Rattle.rulebook.specs.Campaign.{has_topics, phase}
 use Rattle.trec_formats.specs.declared.Topic.{Topic}
 use Rattle.campaign_core.specs.Topics.{empty_topic, kept, labelled_of}
-use Rattle.campaign_core.proofs.Accepted.{collecting-from, topics-accepted}
+use Rattle.campaign_core.proofs.Rulings.CollectingRulings.{collecting-from, topics-accepted}
 use Rattle.campaign_core.proofs.decisions.topics.topics_decision.Goals as goal
 
 pub returns : goal.returns

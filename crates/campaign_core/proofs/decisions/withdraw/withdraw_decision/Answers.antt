@@ -5,7 +5,7 @@ use Rattle.rulebook.specs.Answers.{ruled, run_refusals}
 use Rattle.rulebook.specs.Campaign.{History, Run, runs}
 use Rattle.rulebook.specs.Words.{Text}
 use Rattle.campaign_core.specs.Leasing.{first_refusal}
-use Rattle.campaign_core.proofs.ScoresTold.{no-run-found, run-found, withdraw-done, withdraw-refused, withdraw-unknown}
+use Rattle.campaign_core.proofs.Rulings.RunRulings.{no-run-found, run-found, withdraw-done, withdraw-refused, withdraw-unknown}
 use Rattle.campaign_core.proofs.decisions.withdraw.withdraw_decision.Goals as goal
 
 pub returns-in_default : goal.returns-in_default

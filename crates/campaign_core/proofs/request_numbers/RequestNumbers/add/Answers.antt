@@ -3,7 +3,7 @@ use Rattle.std.proofs.lemmas.List.{map-append}
 use Rattle.indexmap.proofs.CallerLemmas.{insert_entry-new}
 use Rattle.std.specs.Map.{lookup}
 use Rattle.campaign_core.specs.NumberedRequests.{numbered_at, place_of}
-use Rattle.campaign_core.proofs.NumberTables.{is_key, lookup-place, shown}
+use Rattle.campaign_core.proofs.Numbers.NumberTables.{is_key, lookup-place, shown}
 use Rattle.campaign_core.proofs.request_numbers.RequestNumbers.add.Goals as goal
 
 pub returns-clause-ok : goal.returns-clause-ok

@@ -1,6 +1,6 @@
 use Rattle.std.proofs.Common.{◌∙◌, ap, map, sym, take}
 use Rattle.std.proofs.lemmas.List.{take-map}
-use Rattle.campaign_core.proofs.NumberTables.{shown}
+use Rattle.campaign_core.proofs.Numbers.NumberTables.{shown}
 use Rattle.campaign_core.proofs.request_numbers.RequestNumbers.cut.Goals as goal
 
 pub returns : goal.returns

@@ -2,7 +2,7 @@ use Rattle.std.proofs.Common.{◌∙◌, ap}
 use Rattle.std.specs.Map.{lookup}
 use Rattle.rulebook.specs.Words.{Text}
 use Rattle.campaign_core.specs.NumberedRequests.{place_of}
-use Rattle.campaign_core.proofs.NumberTables.{is_key, lookup-place}
+use Rattle.campaign_core.proofs.Numbers.NumberTables.{is_key, lookup-place}
 use Rattle.campaign_core.proofs.request_numbers.RequestNumbers.find.Goals as goal
 
 pub returns : goal.returns

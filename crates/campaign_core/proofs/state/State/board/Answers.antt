@@ -8,7 +8,7 @@ use Rattle.campaign_core.specs.Lendings.{IsBoardOf}
 use Rattle.campaign_core.specs.Numbers.{names_of}
 use Rattle.campaign_core.specs.Seen.{Seen}
 use Rattle.campaign_core.specs.Topics.{kept, kept_of, topic_ids}
-use Rattle.campaign_core.proofs.KnownRuns.{board-of, listed-at}
+use Rattle.campaign_core.proofs.Printed.KnownRuns.{board-of, listed-at}
 use Rattle.campaign_core.proofs.state.State.board.Goals as goal
 
 pub returns-clause-board : goal.returns-clause-board

@@ -6,8 +6,8 @@ use Rattle.rulebook.specs.Campaign.{Run, run_in, runs}
 use Rattle.campaign_core.specs.Seen.{Seen}
 use Rattle.campaign_core.specs.Tallies.{submitted_at}
 use Rattle.campaign_core.specs.declared.submissions.Submission.{Submission}
-use Rattle.campaign_core.proofs.ListFacts.{get-there, slice-there}
-use Rattle.campaign_core.proofs.Submitted.{IsSubmission, entry-at, entry-within, no_run, runs-many}
+use Rattle.campaign_core.proofs.Lists.Elements.{get-there, slice-there}
+use Rattle.campaign_core.proofs.Numbers.RunPlaces.{IsSubmission, entry-at, entry-within, no_run, runs-many}
 use Rattle.campaign_core.proofs.state.State.run_name.Goals as goal
 
 some-within : {X : Type 0} (xs : List X) (i : ℕ) → IsSome (slice_get xs i) → i < length xs

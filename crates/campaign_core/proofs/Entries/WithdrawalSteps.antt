@@ -1,0 +1,159 @@
+-- The entries that submit runs, and which of the runs were withdrawn, after one more entry.
+use Rattle.std.proofs.Common.{◌≡◌, ◌||◌, ◌<◌, ℕ, Bool, true, false, List, [], ◌∷◌, ◌++◌, Option, None, Some, is_some, length, map, get_or, set, refl, sym, ap, subst, arith, ◌∙◌}
+use Rattle.std.specs.Prelude.{if◌then◌else◌}
+use Rattle.std.specs.List.{position}
+use Rattle.std.specs.Option.{option_map_or}
+use Rattle.std.specs.Str.{bytes_eq}
+use Rattle.std.proofs.lemmas.List.{map-append}
+use Rattle.assessment.specs.TopicsFacts.{at_place}
+use Rattle.rulebook.specs.declared.ask.Command.{Command}
+use Rattle.rulebook.specs.declared.ask.Command.TheVariants as command
+use Rattle.rulebook.specs.declared.entry.Entry.{Entry}
+use Rattle.rulebook.specs.Campaign.{History, Run, is_taken, is_withdrawn, run_in, runs, withdraws}
+use Rattle.rulebook.specs.Legal.{IsAccepted}
+use Rattle.rulebook.specs.Words.{Text}
+use Rattle.campaign_core.specs.Submissions.{ArePlaces, AreSubmissions, RunsAreKnown, entry_place, submissions_with, withdrawn, withdrawn_in}
+use Rattle.campaign_core.specs.declared.submissions.Submission.{Submission}
+use Rattle.campaign_core.proofs.Rulings.AcceptedCommands.{WithdrawTold, withdraw-told}
+use Rattle.campaign_core.proofs.Lists.Elements.{get-map, get_or-of, map-at_place, map-at_same, map-each}
+use Rattle.campaign_core.proofs.Entries.LiveRuns.{none-withdrawn, not-withdrawn, number-place, withdrawals-set, withdrawn-push}
+use Rattle.campaign_core.proofs.Rulings.RunRulings.{place-named, run-found, taken-named}
+use Rattle.campaign_core.proofs.Entries.PhaseSteps.{no-run, one-run}
+use Rattle.campaign_core.proofs.Numbers.RunPlaces.{no_run, places-grow, places-stay, runs-many}
+use Rattle.campaign_core.proofs.Rulings.AcceptedEntries.{ruled_ok, submit-told}
+
+-- Commands by what they submit or withdraw.
+
+withdraws-by : (name : Text) (c : Command)
+    → withdraws name c ≡ option_map_or (λ run. bytes_eq run name) (withdrawn_in c) false
+withdraws-by name (command.Withdraw run) = refl
+withdraws-by name (command.Found rules) = refl
+withdraws-by name (command.Topics topics) = refl
+withdraws-by name (command.Submit run lists) = refl
+withdraws-by name command.Open = refl
+withdraws-by name (command.Lease topic) = refl
+withdraws-by name (command.Grade lease grade) = refl
+withdraws-by name (command.Release lease) = refl
+withdraws-by name (command.Amend topic doc grade) = refl
+withdraws-by name (command.Rule topic doc grade) = refl
+withdraws-by name command.Publish = refl
+
+withdraws-none : (c : Command) → withdrawn_in c ≡ None → (name : Text) → withdraws name c ≡ false
+withdraws-none c none name = withdraws-by name c
+    ∙ ap (λ (o : Option Text). option_map_or (λ run. bytes_eq run name) o false) none
+
+withdraw-by : (c : Command) (name : Text) → withdrawn_in c ≡ Some name → c ≡ command.Withdraw name
+withdraw-by (command.Withdraw run) name is = let same : run ≡ name = cc is in ap command.Withdraw same
+withdraw-by (command.Found rules) name is = cc is
+withdraw-by (command.Topics topics) name is = cc is
+withdraw-by (command.Submit run lists) name is = cc is
+withdraw-by command.Open name is = cc is
+withdraw-by (command.Lease topic) name is = cc is
+withdraw-by (command.Grade lease grade) name is = cc is
+withdraw-by (command.Release lease) name is = cc is
+withdraw-by (command.Amend topic doc grade) name is = cc is
+withdraw-by (command.Rule topic doc grade) name is = cc is
+withdraw-by command.Publish name is = cc is
+
+submit-by : (c : Command) (run : Run) → run_in c ≡ Some run → c ≡ command.Submit run.name run.lists
+submit-by (command.Submit name lists) run is =
+    let same : (let r : Run = record { name = name; lists = lists } in r) ≡ run = cc is in
+    ap (λ (r : Run). command.Submit r.name r.lists) same
+submit-by (command.Withdraw name) run is = cc is
+submit-by (command.Found rules) run is = cc is
+submit-by (command.Topics topics) run is = cc is
+submit-by command.Open run is = cc is
+submit-by (command.Lease topic) run is = cc is
+submit-by (command.Grade lease grade) run is = cc is
+submit-by (command.Release lease) run is = cc is
+submit-by (command.Amend topic doc grade) run is = cc is
+submit-by (command.Rule topic doc grade) run is = cc is
+submit-by command.Publish run is = cc is
+
+abbrev flag : Submission → Bool
+flag one = one.is_withdrawn
+
+same-flags : (H J : History) (rs : List Run) → ((name : Text) → is_withdrawn J name ≡ is_withdrawn H name)
+    → map (λ (run : Run). is_withdrawn J run.name) rs ≡ map (λ (run : Run). is_withdrawn H run.name) rs
+same-flags H J rs withdrawn_are = map-each (λ (run : Run). is_withdrawn J run.name) (λ (run : Run). is_withdrawn H run.name) rs (λ run. withdrawn_are run.name)
+
+module _ (H : History) (e : Entry) (known : RunsAreKnown H) (accepted : IsAccepted H e) (all : List Submission) (are : AreSubmissions H all) where
+  abbrev J : History
+  J = H ++ e ∷ []
+
+  -- an entry that withdraws none
+  pub noted : withdrawn_in e.core.command ≡ None → AreSubmissions J (submissions_with e.core.command (length H) all)
+  noted none = step (run_in e.core.command) refl
+    where
+      withdrawn_are : (name : Text) → is_withdrawn J name ≡ is_withdrawn H name
+      withdrawn_are = none-withdrawn H e (withdraws-none e.core.command none)
+
+      step : (o : Option Run) → run_in e.core.command ≡ o
+          → AreSubmissions J (if is_some (run_in e.core.command) then all ++ record { place = length H; is_withdrawn = false } ∷ [] else all)
+      step None is = rw is (record {
+        places_are = places-stay H e (map entry_place all) is are.places_are;
+        withdrawn_are = are.withdrawn_are
+            ∙ sym (ap (map (λ (run : Run). is_withdrawn J run.name)) (no-run H e is)
+            ∙ same-flags H J (runs H) withdrawn_are);
+      })
+      step (Some run) is =
+          let new : Submission = record { place = length H; is_withdrawn = false } in
+          let free = (submit-told H run.name run.lists e.reply (rw (submit-by e.core.command run is) at (ruled_ok H e accepted))).0 in
+          let live : is_withdrawn J run.name ≡ false = withdrawn_are run.name ∙ not-withdrawn H run.name known free in
+          rw is (record {
+            places_are = subst (λ places. ArePlaces J places) (sym (map-append entry_place all (new ∷ []))) (places-grow H e (map entry_place all) run is are.places_are);
+            withdrawn_are =
+                map-append flag all (new ∷ [])
+                ∙ ap (λ bs. bs ++ false ∷ []) (are.withdrawn_are ∙ sym (same-flags H J (runs H) withdrawn_are))
+                ∙ ap (λ b. map (λ (run : Run). is_withdrawn J run.name) (runs H) ++ b ∷ []) (sym live)
+                ∙ sym (map-append (λ (run : Run). is_withdrawn J run.name) (runs H) (run ∷ []))
+                ∙ ap (map (λ (run : Run). is_withdrawn J run.name)) (sym (one-run H e run is));
+          })
+
+  module _ (name : Text) (is : withdrawn_in e.core.command ≡ Some name) where
+    command_is : e.core.command ≡ command.Withdraw name
+    command_is = withdraw-by e.core.command name is
+
+    abbrev told : WithdrawTold H name e.reply
+    told = withdraw-told H e.core.caller name e.reply (rw command_is at (ruled_ok H e accepted))
+
+    -- the run that an entry withdraws was submitted
+    pub noted-there : is_taken H name ≡ true
+    noted-there = taken-named H name told.run told.found
+
+    -- an entry that withdraws a run
+    pub noted-withdrawn : (later : List Submission)
+        → ((number : ℕ) → Some number ≡ position (λ (run : Run). bytes_eq run.name name) (runs H)
+        → later ≡ at_place number withdrawn all) → AreSubmissions J later
+    noted-withdrawn later each = step (position (λ (run : Run). bytes_eq run.name name) (runs H)) refl (place-named H name told.run told.found)
+      where
+        step : (o : Option ℕ) → position (λ (run : Run). bytes_eq run.name name) (runs H) ≡ o
+            → is_some (position (λ (run : Run). bytes_eq run.name name) (runs H)) ≡ true → AreSubmissions J later
+        step None there some = cc (rw there at some)
+        step (Some number) there some = subst (AreSubmissions J) (sym (each number (sym there))) (record {
+          places_are = subst (λ places. ArePlaces J places) (sym (map-at_same entry_place withdrawn all number (λ one. refl))) (places-stay H e (map entry_place all) (ap run_in command_is) are.places_are);
+          withdrawn_are =
+              map-at_place flag withdrawn all number (record { place = 0; is_withdrawn = false })
+              ∙ ap (λ bs. set bs number true) are.withdrawn_are
+              ∙ sym (withdrawals-set H J name number (no-run H e (ap run_in command_is)) (λ other. withdrawn-push H e other ∙ ap (λ c. is_withdrawn H other || withdraws other c) command_is)
+              known.names_differ (number-place H name number (sym there)));
+        })
+
+-- whether the run of a name was withdrawn, by its number
+pub flag-at : (H : History) (all : List Submission) (name : Text) (number : ℕ) (d : Submission) → AreSubmissions H all
+    → Some number ≡ position (λ (run : Run). bytes_eq run.name name) (runs H)
+    → (get_or all number d).is_withdrawn ≡ is_withdrawn H name
+flag-at H all name number d are is =
+    let found = run-found H name number is in
+    sym (get-map flag all number d)
+    ∙ ap (λ bs. get_or bs number (flag d)) are.withdrawn_are
+    ∙ get_or-of (λ (run : Run). is_withdrawn H run.name) (runs H) number no_run (flag d) found.within
+    ∙ ap (is_withdrawn H) found.name_is
+
+-- whether the run of a number was withdrawn
+pub flag-there : (H : History) (all : List Submission) (number : ℕ) (d : Submission) → AreSubmissions H all
+    → number < length all → (get_or all number d).is_withdrawn ≡ is_withdrawn H (get_or (runs H) number no_run).name
+flag-there H all number d are within =
+    sym (get-map flag all number d)
+    ∙ ap (λ bs. get_or bs number (flag d)) are.withdrawn_are
+    ∙ get_or-of (λ (run : Run). is_withdrawn H run.name) (runs H) number no_run (flag d) (omega (arith, within, runs-many H all are))

@@ -1,0 +1,5 @@
+-- The document that an assessor is told to grade, by numbers and by the rules.
+pub mod LiveLeases
+pub mod NamedDocs
+pub mod OpenDocs
+pub mod RunOrder

@@ -1,0 +1,5 @@
+-- Facts of lists, and texts in byte order.
+pub mod ByteOrder
+pub mod Elements
+pub mod FirstPlaces
+pub mod SortedTexts

@@ -1,0 +1,47 @@
+-- The topics that are kept are those of the rules, place by place.
+use Rattle.std.proofs.Common.{◌≡◌, ◌<◌, ◌≤◌, ◌+◌, ℕ, true, Option, Some, length, get_or, take, take_all, List, [], refl, sym, ap, ◌∙◌, arith}
+use Rattle.std.specs.List.{position, sum_by}
+use Rattle.std.specs.Str.{bytes_eq}
+use Rattle.std.proofs.lemmas.List.{take_more}
+use Rattle.std.proofs.lemmas.List.Sums.{sum_by_push}
+use Rattle.lease_desk.specs.declared.leases.Lease.{Lease}
+use Rattle.rulebook.specs.Campaign.{History}
+use Rattle.rulebook.specs.Words.{Text, contains_text}
+use Rattle.assessment.specs.TopicFacts.{TopicFacts}
+use Rattle.campaign_core.specs.Kept.{KnowsAll}
+use Rattle.campaign_core.specs.Numbers.{names_of}
+use Rattle.campaign_core.specs.Topics.{topic_ids}
+use Rattle.campaign_core.proofs.Rulings.LeaseRulings.{states-long}
+use Rattle.campaign_core.proofs.Numbers.NumberedDocs.{docno-there, first-place}
+use Rattle.campaign_core.proofs.Printed.PageTopics.{PageTopic, ids-kept, page-topic}
+use Rattle.campaign_core.proofs.Numbers.TopicNumbers.{topic-found}
+
+module _ (H : History) (topics : List TopicFacts) (desk : List Lease) (knows : KnowsAll H topics desk) where
+  pub as-long : length topics ≡ length (topic_ids H)
+  as-long = states-long H topics (topic_ids H) knows.topics_are
+
+  pub few-topics : length topics ≤ 250
+  few-topics =
+      let fit = knows.topics_fit in
+      omega (arith, fit, as-long)
+
+  pub topic-at : (k : ℕ) (s : TopicFacts) → k < length topics → s ≡ get_or topics k s → PageTopic H (names_of H) s desk (get_or (topic_ids H) k []) k
+  topic-at k s within is =
+      let ids = topic_ids H in
+      let id = get_or ids k [] in
+      let inside : k < length ids = omega (arith, within, as-long) in
+      let listed : contains_text ids id ≡ true = docno-there ids k inside in
+      let found : Some k ≡ position (λ (s : TopicFacts). bytes_eq s.id id) topics =
+      sym (topic-found topics ids id (ids-kept H topics ids knows.topics_are) listed ∙ ap (λ (n : ℕ). let o : Option ℕ = Some n in o) (first-place ids k knows.topics_differ inside)) in
+      page-topic H topics desk (names_of H) id k s knows refl found is
+
+-- a sum over texts, with one more, and over all
+
+pub sum-more : (f : Text → ℕ) (ids : List Text) (i sum one : ℕ) → i < length ids → sum ≡ sum_by f (take i ids) → one ≡ f (get_or ids i []) → sum + one ≡ sum_by f (take (i + 1) ids)
+sum-more f ids i sum one within sum_is one_is =
+    ap (λ n. n + one) sum_is
+    ∙ ap (λ n. sum_by f (take i ids) + n) one_is
+    ∙ sym (ap (sum_by f) (take_more ids i [] within) ∙ sum_by_push f (take i ids) (get_or ids i []))
+
+pub sum-all : (f : Text → ℕ) (ids : List Text) (i sum : ℕ) → length ids ≤ i → sum ≡ sum_by f (take i ids) → sum ≡ sum_by f ids
+sum-all f ids i sum past sum_is = sum_is ∙ ap (sum_by f) (take_all i ids past)

@@ -1,0 +1,65 @@
+-- What is known of a run, by the topics and the board.
+use Rattle.std.proofs.Common.{◌≡◌, ◌∙◌, ℕ, List, None, Some, ap, map, subst, sym}
+use Rattle.std.specs.Option.{option_map_or}
+use Rattle.std.proofs.lemmas.Option.{slice_get-get_or}
+use Rattle.depth_pool.specs.declared.runs.RunId.{RunId}
+use Rattle.lease_desk.specs.declared.leases.Lease.{Lease}
+use Rattle.score_index.specs.Scores.{Scores, docs_at}
+use Rattle.score_index.specs.Standing.{StandsFor}
+use Rattle.assessment.specs.RunLists.{RankedLists}
+use Rattle.assessment.specs.TopicFacts.{TopicView, facts_of, graded_of as graded_in}
+use Rattle.assessment.specs.TopicsFacts.{TopicsView, told}
+use Rattle.rulebook.specs.Campaign.{History, Run, rules_of}
+use Rattle.rulebook.specs.Legal.{IsLegal}
+use Rattle.rulebook.specs.Words.{Text}
+use Rattle.campaign_core.specs.Kept.{IsKnown, KnowsAll, KnowsRun}
+use Rattle.campaign_core.specs.Lendings.{IsBoardOf}
+use Rattle.campaign_core.specs.Numbers.{names_of}
+use Rattle.campaign_core.specs.Scoring.{AreListed, graded_of, list_in, ranked_on, run_at}
+use Rattle.campaign_core.specs.Topics.{topic_ids}
+use Rattle.campaign_core.specs.declared.campaign.Campaign.{Campaign}
+use Rattle.campaign_core.proofs.Lists.Elements.{map-map}
+
+pub knows-run : (H : History) (all : TopicsView) (items : List TopicView) (board : Scores) (desk : List Lease) (number : RunId) (run : Run) → IsLegal H → KnowsAll H (told all).topics desk
+    → (told all).level ≡ (rules_of H).level → AreListed H (names_of H) (told all).lists → items ≡ all.topics → board ≡ all.board → StandsFor board (map graded_in all.topics)
+    → run_at H number ≡ Some run → KnowsRun H (map facts_of items) board number run
+knows-run H all items board desk number run legal knows level_is lists_are items_are board_is stands run_is = record {
+  legal = legal;
+  desk = desk;
+  knows = subst (λ (topics : List TopicView). KnowsAll H (map facts_of topics) desk) (sym items_are) knows;
+  scored = record {
+    level_is = ap (λ (b : Scores). b.level) board_is ∙ level_is;
+    stands = subst (StandsFor board) (sym (ap (λ (topics : List TopicView). map graded_of (map facts_of topics)) items_are ∙ map-map graded_of facts_of all.topics)) stands;
+    lists_are = λ run on d within. ap (λ (b : Scores). docs_at b run on) board_is ∙ lists_are run on d within;
+  };
+  run_is = run_is;
+}
+
+pub board-of : (H : History) (all : TopicsView) (board : Scores) (desk : List Lease) → KnowsAll H (told all).topics desk → (told all).level ≡ (rules_of H).level
+    → AreListed H (names_of H) (told all).lists → board ≡ all.board → StandsFor board (map graded_in all.topics) → IsBoardOf H board
+board-of H all board desk knows level_is lists_are board_is stands = record {
+  topics = map facts_of all.topics;
+  desk = desk;
+  knows = knows;
+  scored = record {
+    level_is = ap (λ (b : Scores). b.level) board_is ∙ level_is;
+    stands = subst (StandsFor board) (sym (map-map graded_of facts_of all.topics)) stands;
+    lists_are = λ run on d within. ap (λ (b : Scores). docs_at b run on) board_is ∙ lists_are run on d within;
+  };
+}
+
+-- the lists by topic number are those by topic id
+pub listed-at : (H : History) (names : List Text) (lists : RankedLists) → ((run : RunId) (on : ℕ) → lists run on ≡ list_in names (topic_ids H) (run_at H run) on) → AreListed H names lists
+listed-at H names lists are = λ run on d within.
+    are run on ∙ ap (λ id. option_map_or (λ topic. option_map_or (ranked_on names topic) (run_at H run) None) id None) (slice_get-get_or (topic_ids H) on d within)
+
+-- a live run, by the topics and the board that a campaign lends
+pub known-run : (campaign : Campaign) (all : TopicsView) (items : List TopicView) (board : Scores) (number : RunId) (run : Run) → IsKnown campaign → all ≡ campaign.assessment.topics
+    → items ≡ all.topics → board ≡ all.board → StandsFor board (map graded_in all.topics) → run_at campaign.history.items number ≡ Some run → KnowsRun campaign.history.items (map facts_of items) board number run
+known-run campaign all items board number run known all_is items_are board_is stands run_is =
+    let H = campaign.history.items in
+    knows-run H all items board campaign.assessment.leases number run known.legal
+    (subst (λ (all : TopicsView). KnowsAll H (told all).topics campaign.assessment.leases) (sym all_is) known.assessed.knows)
+    (ap (λ (all : TopicsView). (told all).level) all_is ∙ known.assessed.level_is)
+    (subst (λ (all : TopicsView). AreListed H (names_of H) (told all).lists) (sym all_is) (listed-at H (names_of H) _ known.assessed.lists_are))
+    items_are board_is stands run_is

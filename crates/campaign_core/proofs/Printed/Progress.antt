@@ -1,0 +1,160 @@
+-- What the page of the progress counts of a topic.
+use Rattle.std.proofs.Common.{◌≡◌, ◌&&◌, ◌+◌, ℕ, Bool, true, false, not, cond, List, [], ◌∷◌, Option, None, Some, filter, is_some, length, map, refl, sym, ap, ◌∙◌, arith}
+use Rattle.std.specs.Prelude.{count_by}
+use Rattle.std.specs.List.{flat_map}
+use Rattle.std.specs.Str.{bytes_eq}
+use Rattle.std.proofs.lemmas.List.{length-map}
+use Rattle.depth_pool.specs.Holdings.{IsCount, some_run_holds}
+use Rattle.measures.specs.Grades.{is_non_relevant, is_relevant}
+use Rattle.qrels_view.specs.Grades.{is_non_relevant as non_relevant_there, is_relevant as relevant_there}
+use Rattle.qrels_view.specs.declared.grades.Graded.{Graded}
+use Rattle.rulebook.specs.Spelling.{differ}
+use Rattle.rulebook.specs.Words.{Text, contains_text, in_order}
+use Rattle.rulebook.specs.Campaign.{History, held, live, pool, rules_of}
+use Rattle.rulebook.specs.Entries.{GradedAreOnTrail}
+use Rattle.rulebook.specs.Grades.{Label, effective, given_labels, graded, labelled, non_relevant_count, relevant_count, trail}
+use Rattle.campaign_core.specs.Labelling.{graded_in}
+use Rattle.campaign_core.specs.Numbers.{doc_in, docs_in, names_of}
+use Rattle.campaign_core.specs.Printed.{IsTopicOf}
+use Rattle.campaign_core.specs.Topics.{KeptTopic, pool_of}
+use Rattle.assessment.specs.TopicFacts.{TopicFacts}
+use Rattle.campaign_core.proofs.Judging.LiveLeases.{count_by-cons}
+use Rattle.campaign_core.proofs.Entries.LabelSteps.{differ-all}
+use Rattle.campaign_core.proofs.Lists.Elements.{and_true, both_true}
+use Rattle.campaign_core.proofs.Numbers.DocNumbers.{numbers-differ}
+use Rattle.campaign_core.proofs.Numbers.NumberedDocs.{passing}
+use Rattle.campaign_core.proofs.Lists.ByteOrder.{Rises, below, in_order-is, in_order-rises, not_later}
+use Rattle.campaign_core.proofs.Printed.PoolTexts.{pool-named, same-docs}
+use Rattle.campaign_core.proofs.Printed.QrelsLines.{graded-same, put, sorted, sorts}
+
+-- Counts
+
+module _ (q : Text → Bool) where
+  count-put : (x : Text) (ys : List Text) → count_by q (put x ys) ≡ cond (q x) 1 0 + count_by q ys
+  count-put x [] = count_by-cons q x []
+  count-put x (y ∷ ys) = step (below x y) (count-put x ys)
+    where
+      step : (t : Bool) → count_by q (put x ys) ≡ cond (q x) 1 0 + count_by q ys → count_by q (cond t (x ∷ y ∷ ys) (y ∷ put x ys)) ≡ cond (q x) 1 0 + count_by q (y ∷ ys)
+      step true rest = count_by-cons q x (y ∷ ys)
+      step false rest = omega (arith, count_by-cons q y (put x ys), count_by-cons q y ys, rest)
+
+  count-sorted : (xs : List Text) → count_by q (sorted xs) ≡ count_by q xs
+  count-sorted [] = refl
+  count-sorted (x ∷ xs) = count-put x (sorted xs) ∙ ap (λ n. cond (q x) 1 0 + n) (count-sorted xs) ∙ sym (count_by-cons q x xs)
+
+  -- what doesn't pass a wider test isn't counted
+  count-filter : (has : Text → Bool) → ((doc : Text) → q doc ≡ true → has doc ≡ true) → (xs : List Text) → count_by q (filter has xs) ≡ count_by q xs
+  count-filter has wider [] = refl
+  count-filter has wider (x ∷ xs) = step (has x) refl (count-filter has wider xs)
+    where
+      no_count : (t : Bool) → q x ≡ t → has x ≡ false → ◌≡◌ {A = ℕ} (cond (q x) 1 0) 0
+      no_count true passes fails = let both : has x ≡ true = wider x passes in cc (both, fails)
+      no_count false passes fails = ap (λ t. let n : ℕ = cond t 1 0 in n) passes
+
+      step : (t : Bool) → has x ≡ t → count_by q (filter has xs) ≡ count_by q xs → count_by q (cond t (x ∷ filter has xs) (filter has xs)) ≡ count_by q (x ∷ xs)
+      step true is rest = count_by-cons q x (filter has xs) ∙ ap (λ n. cond (q x) 1 0 + n) rest ∙ sym (count_by-cons q x xs)
+      step false is rest = omega (arith, rest, count_by-cons q x xs, no_count (q x) refl is)
+
+count-map : {X Y : Type 0} (p : Y → Bool) (f : X → Y) (xs : List X) → count_by p (map f xs) ≡ count_by (λ x. p (f x)) xs
+count-map p f [] = refl
+count-map p f (x ∷ xs) = count_by-cons p (f x) (map f xs) ∙ ap (λ n. cond (p (f x)) 1 0 + n) (count-map p f xs) ∙ sym (count_by-cons (λ x. p (f x)) x xs)
+
+not-true : (t : Bool) → t ≡ false → not t ≡ true
+not-true t e = ap not e
+
+differ-filter : (p : Text → Bool) (xs : List Text) → differ xs ≡ true → differ (filter p xs) ≡ true
+differ-filter p [] differs = refl
+differ-filter p (x ∷ xs) differs =
+    let parts = both_true (not (contains_text xs x)) (differ xs) differs in
+    step (p x) (absent (contains_text xs x) refl parts.0) (differ-filter p xs parts.1)
+  where
+    none : (t : Bool) → (t && false) ≡ false
+    none true = refl
+    none false = refl
+
+    absent : (t : Bool) → contains_text xs x ≡ t → not t ≡ true → contains_text (filter p xs) x ≡ false
+    absent true is no_more = cc no_more
+    absent false is no_more = passing p xs x ∙ ap (λ t. p x && t) is ∙ none (p x)
+
+    step : (t : Bool) → contains_text (filter p xs) x ≡ false → differ (filter p xs) ≡ true → differ (cond t (x ∷ filter p xs) (filter p xs)) ≡ true
+    step true gone rest = and_true (not (contains_text (filter p xs) x)) (differ (filter p xs)) (not-true (contains_text (filter p xs) x) gone) rest
+    step false gone rest = rest
+
+labelled-differ : (H : History) (topic : Text) → differ (labelled H topic) ≡ true
+labelled-differ H topic = differ-all [] (map (λ (label : Label). label.doc) (filter (λ (label : Label). bytes_eq label.topic topic) (given_labels H))) refl
+
+-- of the documents of the trail, and of those with an effective grade
+module _ (H : History) (names : List Text) (topic : Text) (on_trail : GradedAreOnTrail) (p : Option ℕ → Bool) (none : p None ≡ false) where
+  abbrev has : Text → Bool
+  has doc = is_some (effective H topic doc)
+
+  abbrev q : Text → Bool
+  q doc = p (effective H topic doc)
+
+  wider : (doc : Text) → q doc ≡ true → has doc ≡ true
+  wider doc = step (effective H topic doc)
+    where
+      step : (o : Option ℕ) → p o ≡ true → is_some o ≡ true
+      step None passes = cc (none, passes)
+      step (Some grade) passes = refl
+
+  ordered : sorted (graded H topic) ≡ in_order (graded H topic)
+  ordered =
+      let sort = sorts (graded H topic) (differ-filter has (labelled H topic) (labelled-differ H topic)) in
+      in_order-is (graded H topic) (sorted (graded H topic)) sort.rises (λ doc. sort.members (bytes_eq doc))
+
+  pub count-same : count_by (λ g. p g.grade) (map (graded_in H names topic) (trail H topic)) ≡ count_by q (graded H topic)
+  count-same =
+      count-map (λ (g : Graded). p g.grade) (graded_in H names topic) (trail H topic)
+      ∙ sym (count-sorted q (trail H topic))
+      ∙ sym (count-filter q has wider (sorted (trail H topic)))
+      ∙ ap (count_by q) (graded-same H names topic on_trail ∙ sym ordered)
+      ∙ count-sorted q (graded H topic)
+
+same-relevant : (level : ℕ) (o : Option ℕ) → relevant_there level o ≡ is_relevant level o
+same-relevant level None = refl
+same-relevant level (Some grade) = refl
+
+same-non_relevant : (level : ℕ) (o : Option ℕ) → non_relevant_there level o ≡ is_non_relevant level o
+same-non_relevant level None = refl
+same-non_relevant level (Some grade) = refl
+
+count-alike : {X : Type 0} (p q : X → Bool) (xs : List X) → ((x : X) → p x ≡ q x) → count_by p xs ≡ count_by q xs
+count-alike p q [] same = refl
+count-alike p q (x ∷ xs) same = count_by-cons p x xs ∙ ap (λ t. cond t 1 0 + count_by p xs) (same x) ∙ ap (λ n. cond (q x) 1 0 + n) (count-alike p q xs same) ∙ sym (count_by-cons q x xs)
+
+-- a pool
+
+rises-differ : (xs : List Text) → Rises xs → differ xs ≡ true
+rises-differ [] up = refl
+rises-differ (x ∷ xs) up = and_true (not (contains_text xs x)) (differ xs) (not-true (contains_text xs x) (not_later x xs up)) (rises-differ xs up.1)
+
+module _ (H : History) (names : List Text) (topic : TopicFacts) (is : IsTopicOf H names topic) where
+  level-is : topic.level ≡ (rules_of H).level
+  level-is = ap (λ (k : KeptTopic). k.level) is.kept_is
+
+  runs-are : topic.pool ≡ pool_of H topic.id
+  runs-are = ap (λ (k : KeptTopic). k.runs) is.kept_is
+
+  pub pool-count : (count : ℕ) → IsCount (λ doc. some_run_holds doc topic.pool) count → count ≡ length (pool H topic.id)
+  pool-count count counts =
+      let docs = pool H topic.id in
+      let differs = rises-differ docs (in_order-rises (flat_map (held H topic.id) (live H))) in
+      counts (docs_in (names_of H) docs) (numbers-differ (names_of H) docs differs (pool-named H topic.id))
+      (λ doc. sym (same-docs H topic.id doc) ∙ sym (ap (some_run_holds doc) runs-are))
+      ∙ length-map docs (λ doc. doc_in (names_of H) doc)
+
+  module _ (on_trail : GradedAreOnTrail) where
+    pub relevant-count : count_by (λ g. relevant_there topic.level g.grade) topic.graded ≡ relevant_count H topic.id
+    relevant-count =
+        ap (count_by (λ (g : Graded). relevant_there topic.level g.grade)) is.labelled.graded_are
+        ∙ ap (λ level. count_by (λ (g : Graded). relevant_there level g.grade) (map (graded_in H names topic.id) (trail H topic.id))) level-is
+        ∙ count-same H names topic.id on_trail (relevant_there (rules_of H).level) refl
+        ∙ count-alike (λ doc. relevant_there (rules_of H).level (effective H topic.id doc)) (λ doc. is_relevant (rules_of H).level (effective H topic.id doc)) (graded H topic.id) (λ doc. same-relevant (rules_of H).level (effective H topic.id doc))
+
+    pub non_relevant-count : count_by (λ g. non_relevant_there topic.level g.grade) topic.graded ≡ non_relevant_count H topic.id
+    non_relevant-count =
+        ap (count_by (λ (g : Graded). non_relevant_there topic.level g.grade)) is.labelled.graded_are
+        ∙ ap (λ level. count_by (λ (g : Graded). non_relevant_there level g.grade) (map (graded_in H names topic.id) (trail H topic.id))) level-is
+        ∙ count-same H names topic.id on_trail (non_relevant_there (rules_of H).level) refl
+        ∙ count-alike (λ doc. non_relevant_there (rules_of H).level (effective H topic.id doc)) (λ doc. is_non_relevant (rules_of H).level (effective H topic.id doc)) (graded H topic.id) (λ doc. same-non_relevant (rules_of H).level (effective H topic.id doc))
