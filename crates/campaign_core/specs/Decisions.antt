@@ -29,6 +29,11 @@ pub record IsAskedFor (campaign : Campaign) (core : EntryCore) (command : Comman
   pub asked : IsAsked campaign core
   pub command_is : core.command ≡ command
 
+-- and these are the docnos of the history
+pub record IsAskedWith (campaign : Campaign) (docnos : List Text) (core : EntryCore) (command : Command) : Type 0 where
+  pub asked : IsAskedFor campaign core command
+  pub names : docnos ≡ names_of campaign.history.items
+
 -- The decision is what the rules say: the refusal; or the reply, with a change that carries the entry out, by the numbers of these docnos.
 abbrev pub IsDecision : Campaign → List Text → EntryCore → Decision → Type 0
 IsDecision campaign names core (Refused refusal) = ruled campaign.history.items core.caller core.moment core.command ≡ Err refusal

@@ -1,8 +1,9 @@
 -- Docnos by their numbers.
-use Rattle.std.specs.Prelude.{◌≡◌, List, map, Bool, IsTrue}
+use Rattle.std.specs.Prelude.{◌≡◌, ◌≤◌, List, map, Bool, IsTrue, length}
 use Rattle.std.specs.List.{list_all, position_or_len}
 use Rattle.std.specs.Str.{bytes_eq}
 use Rattle.decimal_rank.specs.declared.naming.DocId.{DocId}
+use Rattle.rulebook.specs.Spelling.{differ}
 use Rattle.rulebook.specs.Words.{Text, contains_text, each_once}
 use Rattle.rulebook.specs.Campaign.{History, submitted_docnos}
 
@@ -25,3 +26,9 @@ are_named names docs = list_all (contains_text names) docs
 pub record IsNumberOf (names : List Text) (doc : Text) (number : DocId) : Type 0 where
   pub named : IsTrue (contains_text names doc)
   pub number_is : number ≡ doc_in names doc
+
+-- a run's documents on a topic can be ranked by number: they are few, differ, and are among the names
+pub record IsRankable (names : List Text) (docs : List Text) : Type 0 where
+  pub few : length docs ≤ 1000
+  pub distinct : IsTrue (differ docs)
+  pub named : IsTrue (are_named names docs)

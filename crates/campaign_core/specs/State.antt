@@ -2,6 +2,7 @@
 use Rattle.std.specs.Prelude.{◌≡◌, [], ◌∷◌, Option, None, Some}
 use Rattle.rulebook.specs.declared.entry.Entry.{Entry}
 use Rattle.rulebook.specs.Answers.{Answer}
+use Rattle.campaign_core.specs.Seen.{Seen}
 use Rattle.campaign_core.specs.declared.verdict.Verdict.{Verdict}
 use Rattle.campaign_core.specs.declared.verdict.Verdict.TheVariants.{Told, Ready}
 
@@ -9,3 +10,8 @@ use Rattle.campaign_core.specs.declared.verdict.Verdict.TheVariants.{Told, Ready
 abbrev pub IsVerdict : Answer → Verdict → Option Entry → Type 0
 IsVerdict answer (Told reply) prepared = (answer.added ≡ []) × (reply ≡ answer.reply) × (prepared ≡ None)
 IsVerdict answer (Ready entry) prepared = (answer.added ≡ entry ∷ []) × (prepared ≡ Some entry)
+
+-- the history stays, and no entry is prepared
+pub record IsAtRest (old new : Seen) : Type 0 where
+  pub history : new.history ≡ old.history
+  pub prepared : new.prepared ≡ None

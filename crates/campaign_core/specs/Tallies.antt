@@ -53,3 +53,9 @@ pub record IsTally (H : History) (tally : Tally) : Type 0 where
   pub best_is : option_map (submitted_at H) tally.best ≡ option_map Some (best_run H)
   pub map_is : tally.map ≡ best_map H
   pub map_fits : tally.map ≤ 10 ^ 15
+
+-- a run by its number of submission, and a value: the best live run and its mean
+pub record IsBest (H : History) (run : Option RunId) (value : ℕ) : Type 0 where
+  pub best : option_map (submitted_at H) run ≡ option_map Some (best_run H)
+  pub map : value ≡ best_map H
+  pub fits : value ≤ 10 ^ 15

@@ -14,7 +14,7 @@ ghost use Rattle.campaign_core.specs.Growth.{BeginsWith};
 ghost use Rattle.campaign_core.specs.Kept.{IsPrepared, IsUnchanged};
 ghost use Rattle.campaign_core.specs.NumberedRequests.{number_in, numbers_of, place_of, repeated_reply};
 ghost use Rattle.campaign_core.specs.Lendings.{IsBoardOf, IsQueueOf};
-ghost use Rattle.campaign_core.specs.State.{IsVerdict};
+ghost use Rattle.campaign_core.specs.State.{IsAtRest, IsVerdict};
 ghost use Rattle.campaign_core.specs.Tallies.{IsTally, submitted_at};
 ghost use Rattle.campaign_core.specs.Topics.{topic_ids};
 
@@ -192,16 +192,14 @@ impl State {
     /// Drops the prepared entry.
     pub fn cancel(&mut self, p: Prepared)
         requires { self.old.prepared ≡ Some p }
-        ensures history { self.new.history ≡ self.old.history }
-        ensures prepared { self.new.prepared ≡ None }
+        ensures { IsAtRest self.old self.new }
     {
         drop(p);
         self.forget();
     }
 
     fn forget(&mut self)
-        ensures history { self.new.history ≡ self.old.history }
-        ensures prepared { self.new.prepared ≡ None }
+        ensures { IsAtRest self.old self.new }
     {
         self.prepared = None;
         self.campaign.assessment.cancel();
@@ -215,8 +213,7 @@ impl State {
         command: &Command,
     ) -> Result<Option<Reply>, Memory>
         requires forgotten { self.old.prepared ≡ None }
-        ensures history { self.new.history ≡ self.old.history }
-        ensures prepared { self.new.prepared ≡ None }
+        ensures rest { IsAtRest self.old self.new }
         ensures reply { IfOk result (λ told. told ≡ repeated_reply self.old.history who.now.name number command.now) }
     {
         let alloc = *self.campaign.history.allocator();

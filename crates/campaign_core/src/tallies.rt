@@ -1,13 +1,12 @@
 //! How the judgements and the runs of a campaign stand, from the counts that are kept.
 ghost use Rattle.std.specs.Prelude.{◌≡◌, ◌≤◌, ◌^◌, ◌||◌, ℕ, List, Some, is_none, length, map, nat_lt};
-ghost use Rattle.std.specs.Option.{option_map};
 ghost use Rattle.assessment.specs.TopicFacts.{facts_of};
 ghost use Rattle.lease_desk.specs.declared.leases.Lease.{Lease};
 ghost use Rattle.rulebook.specs.Campaign.{History, Run};
 ghost use Rattle.rulebook.specs.Grades.{non_relevant_count, relevant_count};
 ghost use Rattle.campaign_core.specs.Kept.{IsKnown, KnowsAll, KnowsRun};
 ghost use Rattle.campaign_core.specs.Printed.{IsTopicOf};
-ghost use Rattle.campaign_core.specs.Tallies.{IsTally, best_map, best_run, judged_in, map_of, relevant_in, submitted_at};
+ghost use Rattle.campaign_core.specs.Tallies.{IsBest, IsTally, judged_in, map_of, relevant_in};
 
 use crate::campaign::Campaign;
 use assessment::Topic;
@@ -72,9 +71,7 @@ fn counts_of(topic: &Topic) -> (u32, u32)
 /// The live run with the greatest mean average precision, the earliest submitted of several, and that mean.
 fn best_of(campaign: &Campaign) -> (Option<RunId>, u64)
     requires { IsKnown campaign.now }
-    ensures best { option_map (submitted_at campaign.now.history.items) result.0 ≡ option_map Some (best_run campaign.now.history.items) }
-    ensures map { result.1 ≡ best_map campaign.now.history.items }
-    ensures fits { result.1 ≤ 10 ^ 15 }
+    ensures { IsBest campaign.now.history.items result.0 result.1 }
 {
     let topics = campaign.assessment.topics();
     let items = topics.items();

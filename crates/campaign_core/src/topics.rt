@@ -1,13 +1,12 @@
 //! The campaign's topics by id and by number, and what a command gives them.
-ghost use Rattle.std.specs.Prelude.{◌≡◌, ◌≤◌, ℕ, List, IfOk, IsTrue, length, map, find, option_map};
+ghost use Rattle.std.specs.Prelude.{◌≡◌, ℕ, List, IfOk, map, find, option_map};
 ghost use Rattle.std.specs.List.{position};
 ghost use Rattle.std.specs.Str.{bytes_eq};
 ghost use Rattle.assessment.specs.TopicFacts.{facts_of};
 ghost use Rattle.assessment.specs.TopicFacts.{new_topic};
 ghost use Rattle.rulebook.specs.Campaign.{docs_on, needed};
 ghost use Rattle.rulebook.specs.Words.{contains_text};
-ghost use Rattle.rulebook.specs.Spelling.{differ};
-ghost use Rattle.campaign_core.specs.Numbers.{are_named, docs_in};
+ghost use Rattle.campaign_core.specs.Numbers.{IsRankable, docs_in};
 ghost use Rattle.campaign_core.specs.Topics.{empty_topic, kept, labelled_of, unlabelled};
 
 use crate::pools::docs_on;
@@ -77,9 +76,7 @@ pub(crate) fn topic_rules(
 
 /// The ranking of documents by their numbers.
 fn ranking_of(alloc: Global, docs: &[Text], docnos: &Names) -> Result<Ranking, Memory>
-    requires few { length docs.now ≤ 1000 }
-    requires distinct { IsTrue (differ docs.now) }
-    requires named { IsTrue (are_named docnos.now docs.now) }
+    requires { IsRankable docnos.now docs.now }
     ensures { IfOk result (λ ranking. ranking ≡ docs_in docnos.now docs.now) }
 {
     let mut numbers = Vec::with_capacity(alloc, docs.len())?;
@@ -96,9 +93,7 @@ pub(crate) fn rankings_of(
     lists: &[TopicList],
     docnos: &Names,
 ) -> Result<Vec<Ranking>, Memory>
-    requires few { (topic : List ℕ) → length (docs_on lists.now topic) ≤ 1000 }
-    requires distinct { (topic : List ℕ) → IsTrue (differ (docs_on lists.now topic)) }
-    requires named { (topic : List ℕ) → IsTrue (are_named docnos.now (docs_on lists.now topic)) }
+    requires { (topic : List ℕ) → IsRankable docnos.now (docs_on lists.now topic) }
     ensures { IfOk result (λ made. made.items ≡ map (λ topic. docs_in docnos.now (docs_on lists.now topic.id)) (map facts_of topics.now)) }
 {
     let mut made = Vec::with_capacity(alloc, topics.len())?;

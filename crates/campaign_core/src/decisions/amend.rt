@@ -1,8 +1,7 @@
 //! Amend: an assessor gives a document another grade.
-ghost use Rattle.std.specs.Prelude.{◌≡◌, IfOk};
+ghost use Rattle.std.specs.Prelude.{IfOk};
 ghost use Rattle.rulebook.specs.declared.ask.Command.TheVariants as command;
-ghost use Rattle.campaign_core.specs.Decisions.{IsAskedFor, IsDecision};
-ghost use Rattle.campaign_core.specs.Numbers.{names_of};
+ghost use Rattle.campaign_core.specs.Decisions.{IsAskedWith, IsDecision};
 
 use super::documents::labelled_by;
 use super::{Decision, is_judging, wrong_phase};
@@ -19,8 +18,7 @@ pub(crate) fn amend_decision(
     doc: &Text,
     grade: u8,
 ) -> Result<Decision, Memory>
-    requires asked { IsAskedFor campaign.now core.now (command.Amend topic.now doc.now grade) }
-    requires names { docnos.now ≡ names_of campaign.now.history.items }
+    requires { IsAskedWith campaign.now docnos.now core.now (command.Amend topic.now doc.now grade) }
     ensures { IfOk result (IsDecision campaign.now docnos.now core.now) }
 {
     if !is_judging(campaign.phase) {

@@ -1,8 +1,7 @@
 //! Grade: an assessor grades a leased document.
-ghost use Rattle.std.specs.Prelude.{◌≡◌, IfOk};
+ghost use Rattle.std.specs.Prelude.{IfOk};
 ghost use Rattle.rulebook.specs.declared.ask.Command.TheVariants as command;
-ghost use Rattle.campaign_core.specs.Decisions.{IsAskedFor, IsDecision};
-ghost use Rattle.campaign_core.specs.Numbers.{names_of};
+ghost use Rattle.campaign_core.specs.Decisions.{IsAskedWith, IsDecision};
 
 use super::leases::{docno, lease_refusal};
 use super::{Decision, is_judging, wrong_phase};
@@ -20,8 +19,7 @@ pub(crate) fn grade_decision(
     number: u32,
     grade: u8,
 ) -> Result<Decision, Memory>
-    requires asked { IsAskedFor campaign.now core.now (command.Grade number grade) }
-    requires names { docnos.now ≡ names_of campaign.now.history.items }
+    requires { IsAskedWith campaign.now docnos.now core.now (command.Grade number grade) }
     ensures { IfOk result (IsDecision campaign.now docnos.now core.now) }
 {
     if !is_judging(campaign.phase) {

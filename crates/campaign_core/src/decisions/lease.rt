@@ -1,8 +1,7 @@
 //! Lease: an assessor asks for a document of a topic.
-ghost use Rattle.std.specs.Prelude.{◌≡◌, IfOk};
+ghost use Rattle.std.specs.Prelude.{IfOk};
 ghost use Rattle.rulebook.specs.declared.ask.Command.TheVariants as command;
-ghost use Rattle.campaign_core.specs.Decisions.{IsAskedFor, IsDecision};
-ghost use Rattle.campaign_core.specs.Numbers.{names_of};
+ghost use Rattle.campaign_core.specs.Decisions.{IsAskedWith, IsDecision};
 
 use super::leases::docno;
 use super::{Decision, is_judging, wrong_phase};
@@ -21,8 +20,7 @@ pub(crate) fn lease_decision(
     core: &EntryCore,
     topic: &Text,
 ) -> Result<Decision, Memory>
-    requires asked { IsAskedFor campaign.now core.now (command.Lease topic.now) }
-    requires names { docnos.now ≡ names_of campaign.now.history.items }
+    requires { IsAskedWith campaign.now docnos.now core.now (command.Lease topic.now) }
     ensures { IfOk result (IsDecision campaign.now docnos.now core.now) }
 {
     if !is_judging(campaign.phase) {

@@ -1,8 +1,6 @@
 //! Rule: the organiser settles the grade of a document.
-ghost use Rattle.std.specs.Prelude.{◌≡◌};
 ghost use Rattle.rulebook.specs.declared.ask.Command.TheVariants as command;
-ghost use Rattle.campaign_core.specs.Decisions.{IsAskedFor, IsDecision};
-ghost use Rattle.campaign_core.specs.Numbers.{names_of};
+ghost use Rattle.campaign_core.specs.Decisions.{IsAskedWith, IsDecision};
 
 use super::documents::labelled;
 use super::{Decision, is_judging, wrong_phase};
@@ -19,8 +17,7 @@ pub(crate) fn rule_decision(
     doc: &Text,
     grade: u8,
 ) -> Decision
-    requires asked { IsAskedFor campaign.now core.now (command.Rule topic.now doc.now grade) }
-    requires names { docnos.now ≡ names_of campaign.now.history.items }
+    requires { IsAskedWith campaign.now docnos.now core.now (command.Rule topic.now doc.now grade) }
     ensures { IsDecision campaign.now docnos.now core.now result }
 {
     if !is_judging(campaign.phase) {

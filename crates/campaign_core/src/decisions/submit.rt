@@ -1,9 +1,8 @@
 //! Submit: a group hands in a run.
 ghost use Rattle.std.specs.Prelude.{◌≡◌, ◌≤◌, ◌<◌, ◌^◌, ◌+◌, IfOk, nat_lt};
 ghost use Rattle.rulebook.specs.declared.ask.Command.TheVariants as command;
-ghost use Rattle.campaign_core.specs.Decisions.{IsAskedFor, IsDecision, KeepsLimits};
+ghost use Rattle.campaign_core.specs.Decisions.{IsAskedWith, IsDecision, KeepsLimits};
 ghost use Rattle.campaign_core.specs.Growth.{BeginsWith};
-ghost use Rattle.campaign_core.specs.Numbers.{names_of};
 
 use super::{Decision, is_collecting, wrong_phase};
 use crate::campaign::Campaign;
@@ -26,8 +25,7 @@ pub(crate) fn submit_decision(
     run: &Text,
     lists: &[TopicList],
 ) -> Result<Decision, Memory>
-    requires asked { IsAskedFor campaign.now core.now (command.Submit run.now lists.now) }
-    requires names { docnos.old ≡ names_of campaign.now.history.items }
+    requires { IsAskedWith campaign.now docnos.old core.now (command.Submit run.now lists.now) }
     ensures decision { IfOk result (IsDecision campaign.now docnos.new core.now) }
     ensures limits { IfOk result (KeepsLimits campaign.now.history.items docnos.new core.now.command) }
     ensures grown { BeginsWith docnos.old docnos.new }

@@ -108,16 +108,13 @@ loop-number-preserved c =
       fits = elim c.if-better.branch [ then-better w ↦ omega (arith, w.greatest-is, c.map_of-value.ensures.fits) | else-better w ↦ omega (arith, w.greatest-is, c.loop-number.invariant.fits) ];
     }
 
-pub returns-clause-best : goal.returns-clause-best
-returns-clause-best c =
+pub returns : goal.returns
+returns c =
     let H = c.args.campaign.now.history.items in
-    let past : length (runs H) ≤ c.loop-number.number = omega (arith, runs-many H c.args.campaign.now.submissions.items c.requires.submissions_are, c.loop-number-test.false) in
+    let past : length (runs H) ≤ c.loop-number.number = omega (arith, runs-many H c.args.campaign.now.submissions.items c.requires.submissions_are, c.loop-number-test.false, ap length c.deref-submission-items.ensures.value) in
     let whole : live_of H (take c.loop-number.number (runs H)) ≡ live H = ap (live_of H) (take_all c.loop-number.number (runs H) past) ∙ sym (live-runs H) in
-    c.loop-number.invariant.best_is ∙ ap (λ (rs : List Run). option_map Some (first_best (map_of H) rs)) whole
-
-pub returns-clause-map : goal.returns-clause-map
-returns-clause-map c =
-    let H = c.args.campaign.now.history.items in
-    let past : length (runs H) ≤ c.loop-number.number = omega (arith, runs-many H c.args.campaign.now.submissions.items c.requires.submissions_are, c.loop-number-test.false) in
-    let whole : live_of H (take c.loop-number.number (runs H)) ≡ live H = ap (live_of H) (take_all c.loop-number.number (runs H) past) ∙ sym (live-runs H) in
-    c.loop-number.invariant.greatest_is ∙ ap (greatest (map_of H)) whole
+    record {
+      best = c.loop-number.invariant.best_is ∙ ap (λ (rs : List Run). option_map Some (first_best (map_of H) rs)) whole;
+      map = c.loop-number.invariant.greatest_is ∙ ap (greatest (map_of H)) whole;
+      fits = c.loop-number.invariant.fits;
+    }

@@ -81,25 +81,17 @@ overflow_cast-reply c =
     let lists = c.args.lists.now in
     omega (arith, submit-fits core.command c.args.run.now lists lists c.requires.asked.command_is (command-short core.caller core.number core.command core.moment c.requires.asked.asked.addressed) refl)
 
-pub rankings_of-requires-clause-few : goal.rankings_of-requires-clause-few
-rankings_of-requires-clause-few c = λ topic.
+pub rankings_of-requires : goal.rankings_of-requires
+rankings_of-requires c = λ topic.
     let core = c.args.core.now in
-    (docs-plain (command.Submit c.args.run.now c.args.lists.now) topic (ap is_plain (sym c.requires.asked.command_is) ∙ plain-of core.caller core.number core.command core.moment c.requires.asked.asked.addressed)).0
-
-pub rankings_of-requires-clause-distinct : goal.rankings_of-requires-clause-distinct
-rankings_of-requires-clause-distinct c = λ topic.
-    let core = c.args.core.now in
-    (docs-plain (command.Submit c.args.run.now c.args.lists.now) topic (ap is_plain (sym c.requires.asked.command_is) ∙ plain-of core.caller core.number core.command core.moment c.requires.asked.asked.addressed)).1
-
-pub rankings_of-requires-clause-named : goal.rankings_of-requires-clause-named
-rankings_of-requires-clause-named c = λ topic.
     let H = c.args.campaign.now.history.items in
     let lists = c.args.lists.now in
+    let plain = docs-plain (command.Submit c.args.run.now lists) topic (ap is_plain (sym c.requires.asked.command_is) ∙ plain-of core.caller core.number core.command core.moment c.requires.asked.asked.addressed) in
     let docnos_are : c.add_docnos.new.docnos ≡ each_once (submitted_docnos H ++ docnos lists) =
     c.in_ok-add_docnos.ensures.ok ∙ ap (λ texts. fold with_name texts (docnos lists)) c.requires.names ∙ sym (each_once-submitted H lists) in
     let all : are_named c.add_docnos.new.docnos (docnos lists) ≡ true =
     rw docnos_are (all_back (contains_text (each_once (submitted_docnos H ++ docnos lists))) (submitted_docnos H) (docnos lists) (each_named (submitted_docnos H ++ docnos lists))) in
-    lists-named c.add_docnos.new.docnos lists all topic
+    record { few = plain.0; distinct = plain.1; named = lists-named c.add_docnos.new.docnos lists all topic }
 
 pub returns-clause-decision : goal.returns-clause-decision
 returns-clause-decision c =
