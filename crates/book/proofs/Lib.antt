@@ -1,8 +1,8 @@
-mod Keeping
-mod Acting
-mod Following
-mod Storied
-mod Founders
-mod TakenUps
 mod AddedEntries
+mod Founders
+mod Keeping
+mod OpenJournals
+mod PayloadEntries
+mod Requests
 pub mod Sending
+mod StorySteps

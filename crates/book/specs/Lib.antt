@@ -1,11 +1,11 @@
-pub mod Stories
+pub mod Books
 pub mod Halls
 pub mod Images
-pub mod Books
-pub mod RunLaws
 pub mod Journaling
 pub mod Laws
-pub mod Openings
+pub mod OpenJournals
 pub mod OpeningLaws
+pub mod Openings
 pub mod Replays
-pub mod Taking
+pub mod RunLaws
+pub mod Stories

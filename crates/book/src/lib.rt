@@ -3,15 +3,14 @@
 //!
 //! - `books`: a book, and one request to it. `journaling`: an entry's record, what is due before it, and
 //!   the entry that may be on the disk though its journaling failed (`pending`).
-//! - `opening`: a book from what a disk holds. `replaying`: its records as entries. `entering`: an entry
-//!   from a record. `founding`: the first entry. `commits`: the last step of an accepted one.
+//! - `opening`: a book from what a disk holds. `replays`: its records as entries. `record_entries`: an
+//!   entry from a record. `founding`: the first entry. `commits`: the last step of an accepted one.
 //! - `halls`: a book as what a hall holds, on which many callers act one at a time.
 //! - `faults`: why a disk isn't opened. `laws`: what the rules promise of the entries that they add.
 #![tactic(auto)]
 
 mod books;
 mod commits;
-mod entering;
 mod faults;
 mod founding;
 mod halls;
@@ -19,7 +18,8 @@ mod journaling;
 mod laws;
 mod opening;
 mod pending;
-mod replaying;
+mod record_entries;
+mod replays;
 
 pub use books::Book;
 pub use disk_model::Disk;

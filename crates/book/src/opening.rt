@@ -11,14 +11,14 @@ ghost use Rattle.book.specs.Laws.{Laws};
 ghost use Rattle.book.specs.Books.{IsSound};
 ghost use Rattle.book.specs.Openings.{Opened, Refused};
 ghost use Rattle.book.specs.Stories.{spellings};
-ghost use Rattle.book.specs.Taking.{TakesUp, told_as};
+ghost use Rattle.book.specs.OpenJournals.{TakesUp, told_as};
 
 use crate::books::Book;
 use crate::faults::BookFault;
 use crate::founding::founded;
 use crate::laws::rule_laws;
 use crate::pending::Pending;
-use crate::replaying::{give_up, replay};
+use crate::replays::{give_up, replay};
 use campaign_core::State;
 use decimal_rank::Memory;
 use journal::{Disk, Failed, Frame, Journal, OpenFault};

@@ -6,7 +6,7 @@ ghost use Rattle.campaign_server.specs.Chains.{Chain};
 ghost use Rattle.campaign_server.specs.Connections.{Ends};
 ghost use Rattle.campaign_server.specs.LoopParts.{EndsFrom, Pauses, ReadsPiece, RefusesWith, at_end, last_end, worn};
 
-use crate::answering::{answer, refuse};
+use crate::answers::{answer, refuse};
 use crate::asks::{AskStep, AskStream};
 use crate::buffers::Buffer;
 use crate::ends::End;

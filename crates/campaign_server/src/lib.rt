@@ -5,9 +5,9 @@
 #![tactic(auto)]
 
 mod acceptors;
-mod answering;
+mod answers;
 mod asks;
-mod booked;
+mod book_tellers;
 mod buffers;
 mod connections;
 mod doors;

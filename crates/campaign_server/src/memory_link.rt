@@ -58,7 +58,7 @@ impl MemoryLink {
     /// A link whose bytes come in these pieces, none of them empty, and whose clock gives these
     /// moments, each at most 2^40. The last moment stays, and without any it is 0. The reads and the
     /// writes at the given places, from 1, fail.
-    #[tactic(auto, using(crate::proofs::PieceLemmas::place_at_start))]
+    #[tactic(auto, using(crate::proofs::ReadPieces::PieceLemmas::place_at_start))]
     pub fn new(
         pieces: Vec<Text>,
         moments: Vec<u64>,

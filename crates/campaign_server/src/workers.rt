@@ -43,7 +43,7 @@ fn is_memory(end: End) -> bool
 }
 
 /// Serves the next link, and tells whether to go on: not where memory was short or no link was given.
-#[tactic(auto, using(crate::proofs::WorkerLemmas::goes_still, crate::proofs::WorkerLemmas::goes_short))]
+#[tactic(auto, using(crate::proofs::ServerEnds::WorkerLemmas::goes_still, crate::proofs::ServerEnds::WorkerLemmas::goes_short))]
 fn serve_next<D: Disk, R: Door, J: Opening, W: Wait>(
     rt: &W,
     alloc: Global,
@@ -80,7 +80,7 @@ fn serve_next<D: Disk, R: Door, J: Opening, W: Wait>(
 }
 
 /// Serves links until the acceptor gives none, at most so many.
-#[tactic(auto, using(crate::proofs::WorkerLemmas::goes_still, crate::proofs::WorkerLemmas::goes_both))]
+#[tactic(auto, using(crate::proofs::ServerEnds::WorkerLemmas::goes_still, crate::proofs::ServerEnds::WorkerLemmas::goes_both))]
 fn serve_all<D: Disk, R: Door, J: Opening, W: Wait>(
     rt: &W,
     alloc: Global,

@@ -1,5 +1,5 @@
 -- The journaling of an entry, by its exits.
-use Rattle.book.proofs.Acting.{accepts_memory}
+use Rattle.book.proofs.Requests.{accepts_memory}
 use Rattle.book.proofs.Keeping.{book_holds}
 use Rattle.book.proofs.books.accept.Goals as goal
 

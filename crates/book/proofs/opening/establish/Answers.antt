@@ -4,7 +4,7 @@ use Rattle.journal.specs.Kept.{Settled, StandsForOneOf}
 use Rattle.journal.specs.Moments.{weaker}
 use Rattle.book.specs.Openings.{Establishes}
 use Rattle.book.proofs.Keeping.{keeps_settled}
-use Rattle.book.proofs.TakenUps.{established, establishes, not_established}
+use Rattle.book.proofs.OpenJournals.{established, establishes, not_established}
 use Rattle.book.proofs.opening.establish.Goals as goal
 
 pub reopen-requires-clause-settled : goal.reopen-requires-clause-settled

@@ -3,8 +3,8 @@ use Rattle.std.proofs.Common.{◌≡◌, ◌∷◌, ◌-◌, List, ℕ, [], leng
 use Rattle.journal.specs.Kept.{Settled, payloads as payloads_of}
 use Rattle.rulebook.specs.Words.{Text}
 use Rattle.book.specs.Openings.{OpensWith}
-use Rattle.book.specs.Taking.{TakenUp, TakesUp}
-use Rattle.book.proofs.TakenUps.{first_and_others, no_records, taken_up}
+use Rattle.book.specs.OpenJournals.{TakenUp, TakesUp}
+use Rattle.book.proofs.OpenJournals.{first_and_others, no_records, taken_up}
 use Rattle.book.proofs.opening.take_up.Goals as goal
 
 pub establish-requires-clause-settled : goal.establish-requires-clause-settled

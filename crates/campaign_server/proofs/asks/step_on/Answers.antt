@@ -1,5 +1,5 @@
 use Rattle.campaign_server.specs.Asking.{stream_at}
-use Rattle.campaign_server.proofs.StreamSteps.{shorter_from}
+use Rattle.campaign_server.proofs.ReadPieces.StreamSteps.{shorter_from}
 use Rattle.campaign_server.proofs.asks.step_on.Goals as goal
 
 pub returns-in-Ok-Some-clause-asks : goal.returns-in-Ok-Some-clause-asks

@@ -1,6 +1,6 @@
 use Rattle.std.proofs.Common.{subst, sym}
 use Rattle.campaign_server.specs.Asking.{AsksAt, EndsWith, PieceOn, stream_at}
-use Rattle.campaign_server.proofs.StreamSteps.{head_fits, head_stands, need_asks, piece_stands, refused_asks, whole_asks}
+use Rattle.campaign_server.proofs.ReadPieces.StreamSteps.{head_fits, head_stands, need_asks, piece_stands, refused_asks, whole_asks}
 use Rattle.campaign_server.proofs.asks.take_step.Goals as goal
 
 pub returns-in-Ok-Head-clause-goes : goal.returns-in-Ok-Head-clause-goes

@@ -1,5 +1,5 @@
 use Rattle.std.proofs.Common.{◌∙◌, inl, refl}
-use Rattle.campaign_server.proofs.Speaking.{turn_more, turn_closes, turn_part, refused_ends, spoke_pause}
+use Rattle.campaign_server.proofs.TalkSteps.Speaking.{turn_more, turn_closes, turn_part, refused_ends, spoke_pause}
 use Rattle.http_wire.specs.Heads.{passed}
 use Rattle.campaign_server.proofs.connections.answer_all.Goals as goal
 

@@ -1,6 +1,6 @@
 use Rattle.std.proofs.Common.{refl}
 use Rattle.campaign_server.specs.Chains.{Chain}
-use Rattle.campaign_server.proofs.Hearing.{ends_before}
+use Rattle.campaign_server.proofs.ReadPieces.Hearing.{ends_before}
 use Rattle.campaign_server.proofs.connections.converse.Goals as goal
 
 pub returns-in_default : goal.returns-in_default

@@ -2,8 +2,8 @@ use Rattle.std.proofs.Common.{◌≡◌, ◌∙◌, ◌++◌, ◌^◌, [], ap, r
 use Rattle.campaign_server.specs.Chains.{Chain}
 use Rattle.campaign_server.specs.Asking.{StandsFor}
 use Rattle.campaign_server.specs.Links.{Reading}
-use Rattle.campaign_server.proofs.Hearing.{so_none, so_more, ends_at_end, ends_last, ends_memory, ends_read_fault, ends_worn, piece_spoken}
-use Rattle.campaign_server.proofs.StreamSteps.{fed_stands}
+use Rattle.campaign_server.proofs.ReadPieces.Hearing.{so_none, so_more, ends_at_end, ends_last, ends_memory, ends_read_fault, ends_worn, piece_spoken}
+use Rattle.campaign_server.proofs.ReadPieces.StreamSteps.{fed_stands}
 use Rattle.campaign_server.proofs.connections.converse_by.Goals as goal
 
 pub pieces-init : goal.pieces-init

@@ -2,7 +2,7 @@ use Rattle.std.proofs.Common.{rules, ◌≡◌, ◌∙◌, ap, length, subst, sy
 use Rattle.hall.specs.Places.{Rises}
 use Rattle.book.specs.Halls.{seen_as}
 use Rattle.campaign_server.specs.HallConnections.{Serves}
-use Rattle.campaign_server.proofs.HallTalks.{connection_serves, ends_come}
+use Rattle.campaign_server.proofs.BookTalks.HallTalks.{connection_serves, ends_come}
 use Rattle.campaign_server.proofs.hall_connections.serve_connection.Goals as goal
 
 pub join-requires-clause-other : goal.join-requires-clause-other

@@ -1,6 +1,6 @@
 use Rattle.std.proofs.Common.{◌+◌, ℕ, arith, rules, ◌∙◌}
 use Rattle.std.proofs.lemmas.List.{length-drop, length-take}
-use Rattle.campaign_server.proofs.PieceLemmas.{place_at, inside_of, bytes_of, taken_on, taken_next, left_next, left_none, whole_of}
+use Rattle.campaign_server.proofs.ReadPieces.PieceLemmas.{place_at, inside_of, bytes_of, taken_on, taken_next, left_next, left_none, whole_of}
 use Rattle.campaign_server.proofs.memory_link.give.Goals as goal
 
 pub returns-in_default-clause-end : goal.returns-in_default-clause-end

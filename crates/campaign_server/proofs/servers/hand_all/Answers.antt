@@ -2,7 +2,7 @@ use Rattle.std.proofs.Common.{rules, ◌≡◌, [], ◌∷◌, ◌++◌, ap, app
 use Rattle.std.specs.Vec.Iter.{into_iter_items}
 use Rattle.campaign_server.specs.Doors.{HandsOver}
 use Rattle.campaign_server.specs.Records.{ended_all, ended_of}
-use Rattle.campaign_server.proofs.RecordLemmas.{all_more, all_part, hands_more}
+use Rattle.campaign_server.proofs.ServerEnds.RecordLemmas.{all_more, all_part, hands_more}
 use Rattle.campaign_server.proofs.servers.hand_all.Goals as goal
 
 pub loop-records-preserved : goal.loop-records-preserved

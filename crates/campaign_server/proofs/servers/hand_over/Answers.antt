@@ -2,8 +2,8 @@ use Rattle.std.proofs.Common.{rules, ◌≡◌, [], ◌∷◌, ◌++◌, ap, app
 use Rattle.std.specs.Vec.Iter.{into_iter_items}
 use Rattle.campaign_server.specs.Doors.{HandsOver}
 use Rattle.campaign_server.specs.Records.{ended_of}
-use Rattle.campaign_server.proofs.RecordLemmas.{hands_more, hands_none, hands_still, nothing_left, part_of}
-use Rattle.campaign_server.proofs.WorkerLemmas.{ended_more}
+use Rattle.campaign_server.proofs.ServerEnds.RecordLemmas.{hands_more, hands_none, hands_still, nothing_left, part_of}
+use Rattle.campaign_server.proofs.ServerEnds.WorkerLemmas.{ended_more}
 use Rattle.campaign_server.proofs.servers.hand_over.Goals as goal
 
 pub loop-record-init : goal.loop-record-init

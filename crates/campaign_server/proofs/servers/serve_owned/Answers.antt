@@ -6,8 +6,8 @@ use Rattle.campaign_server.specs.declared.ends.ServeEnd.TheVariants as serve_end
 use Rattle.campaign_server.specs.Acceptors.{Closes}
 use Rattle.campaign_server.specs.Records.{ended_all}
 use Rattle.campaign_server.specs.Workers.{Worked}
-use Rattle.campaign_server.proofs.ServerLemmas.{fault_counted, leaves_closed, leaves_shut}
-use Rattle.campaign_server.proofs.WorkerLemmas.{most_on, most_same}
+use Rattle.campaign_server.proofs.ServerEnds.ServerLemmas.{fault_counted, leaves_closed, leaves_shut}
+use Rattle.campaign_server.proofs.ServerEnds.WorkerLemmas.{most_on, most_same}
 use Rattle.campaign_server.proofs.servers.serve_owned.Goals as goal
 
 pub returns-in_default-clause-told : goal.returns-in_default-clause-told

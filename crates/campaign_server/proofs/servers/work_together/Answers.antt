@@ -5,8 +5,8 @@ use Rattle.book.specs.Halls.{seen_as}
 use Rattle.campaign_server.specs.Doors.{Ended}
 use Rattle.campaign_server.specs.Records.{ended_all, ended_of}
 use Rattle.campaign_server.specs.Workers.{HasServed, IsFresh, Worked}
-use Rattle.campaign_server.proofs.RecordLemmas.{all_more}
-use Rattle.campaign_server.proofs.WorkerLemmas.{works_in, works_none}
+use Rattle.campaign_server.proofs.ServerEnds.RecordLemmas.{all_more}
+use Rattle.campaign_server.proofs.ServerEnds.WorkerLemmas.{works_in, works_none}
 use Rattle.campaign_server.proofs.servers.work_together.Goals as goal
 
 pub serve_by-requires-clause-fresh : goal.serve_by-requires-clause-fresh

@@ -3,7 +3,7 @@ use Rattle.book.specs.Halls.{seen_as}
 use Rattle.campaign_server.specs.Doors.{IsNew}
 use Rattle.campaign_server.specs.Records.{ended_of}
 use Rattle.campaign_server.specs.Workers.{Worked}
-use Rattle.campaign_server.proofs.WorkerLemmas.{ended_more, works_more}
+use Rattle.campaign_server.proofs.ServerEnds.WorkerLemmas.{ended_more, works_more}
 use Rattle.campaign_server.proofs.workers.serve_next.Goals as goal
 
 pub returns-clause-goes_on : goal.returns-clause-goes_on

@@ -6,7 +6,7 @@ use Rattle.rulebook.specs.Campaign.{History}
 use Rattle.rulebook.specs.Stories.{added_by, reply_by}
 use Rattle.book.specs.Books.{IsSound}
 use Rattle.book.specs.Journaling.{Accepts, HasRoom, Parts}
-use Rattle.book.proofs.Acting.{acts_before, acts_still, kept_after, memory_acts, quiet_acts, ready_acts, room_for, seen_by, sound_of}
+use Rattle.book.proofs.Requests.{acts_before, acts_still, kept_after, memory_acts, quiet_acts, ready_acts, room_for, seen_by, sound_of}
 use Rattle.book.proofs.Keeping.{book_holds}
 use Rattle.book.proofs.books.Book.act.Goals as goal
 

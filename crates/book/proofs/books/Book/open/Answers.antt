@@ -4,8 +4,8 @@ use Rattle.std.specs.declared.alloc.Global.{Global}
 use Rattle.journal.specs.Kept.{payloads as payloads_of}
 use Rattle.rulebook.specs.Words.{Text}
 use Rattle.book.specs.Openings.{Refused}
-use Rattle.book.specs.Taking.{TakesUp}
-use Rattle.book.proofs.TakenUps.{not_opened, opened_result, refused_result}
+use Rattle.book.specs.OpenJournals.{TakesUp}
+use Rattle.book.proofs.OpenJournals.{not_opened, opened_result, refused_result}
 use Rattle.book.proofs.books.Book.open.Goals as goal
 
 pub returns-in-Ok-clause-opened : goal.returns-in-Ok-clause-opened

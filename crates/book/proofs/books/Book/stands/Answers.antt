@@ -2,7 +2,7 @@
 use Rattle.std.proofs.Common.{subst}
 use Rattle.book.specs.Books.{IsSound, Seen}
 use Rattle.book.specs.Journaling.{Parts}
-use Rattle.book.proofs.Acting.{sound_of}
+use Rattle.book.proofs.Requests.{sound_of}
 use Rattle.book.proofs.Keeping.{book_holds}
 use Rattle.book.proofs.books.Book.stands.Goals as goal
 

@@ -10,7 +10,7 @@ ghost use Rattle.book.specs.Laws.{Laws};
 ghost use Rattle.book.specs.Replays.{Replays};
 ghost use Rattle.book.specs.Stories.{IsOnlyStory};
 
-use crate::entering::enter_all;
+use crate::record_entries::enter_all;
 use crate::faults::BookFault;
 use crate::founding::{begin, founding_bytes};
 use campaign_core::State;

@@ -20,7 +20,7 @@ use Rattle.campaign_server.specs.Chains.{Said}
 use Rattle.campaign_server.specs.Stories.{IsByRules, added_since}
 use Rattle.campaign_server.specs.Talks.{Before, IsSeen, Talk, place_of}
 use Rattle.campaign_server.specs.HallConnections.{TellsInHall}
-use Rattle.campaign_server.proofs.Chaining.{since_is}
+use Rattle.campaign_server.proofs.TalkSteps.Chaining.{since_is}
 
 -- a hall's places count from 1, those of a talk from 0
 pub places_are : (before more after : History) → after ≡ before ++ more → length after ≤ length before + 1

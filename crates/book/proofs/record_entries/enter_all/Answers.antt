@@ -2,8 +2,8 @@
 use Rattle.std.proofs.Common.{◌≡◌, ◌+◌, ◌<◌, ℕ, Bool, true, false, List, ◌++◌, ◌∷◌, [], length, take, subst, ap, ◌∙◌, arith, length-append}
 use Rattle.journal.specs.Kept.{payloads as payloads_of}
 use Rattle.book.specs.Replays.{Enters, GoesOn}
-use Rattle.book.proofs.Storied.{breaks_off, goes_all, goes_more, goes_none}
-use Rattle.book.proofs.entering.enter_all.Goals as goal
+use Rattle.book.proofs.StorySteps.{breaks_off, goes_all, goes_more, goes_none}
+use Rattle.book.proofs.record_entries.enter_all.Goals as goal
 
 pub loop-place-init : goal.loop-place-init
 loop-place-init c = (goes_none c.args.state.now.history c.args.payloads.now, omega arith)

@@ -4,7 +4,7 @@ use Rattle.routes.specs.declared.keys.KeyRow.{KeyRow}
 use Rattle.rulebook.specs.Campaign.{History}
 use Rattle.campaign_server.specs.Chains.{Said}
 use Rattle.campaign_server.specs.Talks.{Talk, TalkLaws}
-use Rattle.campaign_server.proofs.Speaking.{rose_later}
+use Rattle.campaign_server.proofs.TalkSteps.Speaking.{rose_later}
 
 talk_longer : (keys : List KeyRow) (n c : ℕ) (S : History) (last : ℕ) (places : List ℕ) (said : List Said) (more : History) (later : ℕ) → last ≤ later → Talk false keys n c S last places said → Talk false keys n c (S ++ more) later places said
 talk_longer keys n c S last places [] more later least (few, fewer, none) = (omega (arith, few, length-append S more), omega (arith, fewer, least), none)

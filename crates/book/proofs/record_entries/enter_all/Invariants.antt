@@ -2,7 +2,7 @@
 use Rattle.std.proofs.Common.{◌≡◌, ◌+◌, length, take}
 use Rattle.journal.specs.Kept.{payloads as payloads_of}
 use Rattle.book.specs.Replays.{GoesOn}
-use Rattle.book.proofs.entering.enter_all.Given as goal
+use Rattle.book.proofs.record_entries.enter_all.Given as goal
 
 abbrev pub invariant-loop-place : goal.invariant-loop-place
 invariant-loop-place l = GoesOn l.initial.state.history (take l.place (payloads_of l.payloads)) l.state.history × (length l.state.history ≡ length l.initial.state.history + l.place)

@@ -16,8 +16,8 @@ use Rattle.campaign_server.specs.Connections.{Ends}
 use Rattle.campaign_server.specs.Links.{Clock, LinkState}
 use Rattle.campaign_server.specs.Sessions.{IsLeft, IsSession, IsTalkAlone}
 use Rattle.campaign_server.specs.Talks.{IsSeen}
-use Rattle.campaign_server.proofs.Chaining.{chain_talks, chain_ticks}
-use Rattle.campaign_server.proofs.Known.{ends_known}
+use Rattle.campaign_server.proofs.TalkSteps.Chaining.{chain_talks, chain_ticks}
+use Rattle.campaign_server.proofs.TalkSteps.TalkFacts.{ends_known}
 
 module _ {D : Type 0} (images : D → List ℕ → Type 0) (clock : D → ℕ) (since : D → ℕ → List ℕ → Type 0) (faults : D → ℕ) (keys : List KeyRow) where
   -- a book's states are seen as stories

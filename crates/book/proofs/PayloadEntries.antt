@@ -14,7 +14,7 @@ use Rattle.rulebook.specs.Spelling.{IsSpelling, entry_bytes, has_spelling}
 use Rattle.rulebook.specs.Words.{Text}
 use Rattle.book.specs.Laws.{Laws}
 use Rattle.book.specs.Replays.{AddsAt, Enters, EntersCore, Follows, added_again}
-use Rattle.book.proofs.Acting.{accepted_givable, accepted_short, accepted_spells}
+use Rattle.book.proofs.Requests.{accepted_givable, accepted_short, accepted_spells}
 
 both : (s t : Bool) → s ≡ true → t ≡ true → (s && t) ≡ true
 both true true e f = refl

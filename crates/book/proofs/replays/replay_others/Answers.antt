@@ -5,7 +5,7 @@ use Rattle.journal.specs.Kept.{payloads as payloads_of}
 use Rattle.book.specs.declared.faults.BookFault.{BookFault}
 use Rattle.book.specs.Replays.{EntersAll, Stops}
 use Rattle.book.proofs.Founders.{broken, differs_from, opens_with, replayed}
-use Rattle.book.proofs.replaying.replay_others.Goals as goal
+use Rattle.book.proofs.replays.replay_others.Goals as goal
 
 pub returns-then-are_equal : goal.returns-then-are_equal
 returns-then-are_equal c rules plain wanted =

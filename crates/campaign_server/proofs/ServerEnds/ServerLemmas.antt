@@ -12,7 +12,7 @@ use Rattle.campaign_server.specs.Acceptors.{Closes}
 use Rattle.campaign_server.specs.Records.{AreServed, NoneShort}
 use Rattle.campaign_server.specs.Servers.{Leaves, Settles}
 use Rattle.campaign_server.specs.Workers.{Worked}
-use Rattle.campaign_server.proofs.WorkerLemmas.{works_later}
+use Rattle.campaign_server.proofs.ServerEnds.WorkerLemmas.{works_later}
 
 -- a door through which nothing came
 pub leaves_shut : (keys : List KeyRow) (workers limit port : ℕ) (start after : Story) (how : ServeEnd) (told : Option Told) → how ≢ serve_end.Ended

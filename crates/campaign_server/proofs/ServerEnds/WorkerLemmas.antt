@@ -20,8 +20,8 @@ use Rattle.campaign_server.specs.Links.{Clock, LinkState}
 use Rattle.campaign_server.specs.HallConnections.{IsTalkAmong, Licensed, Serves}
 use Rattle.campaign_server.specs.Records.{AreServed, IsServed, NoneShort, ended_of}
 use Rattle.campaign_server.specs.Workers.{GoesOn, HasServed, Worked}
-use Rattle.campaign_server.proofs.Known.{ends_known}
-use Rattle.campaign_server.proofs.TalkLemmas.{talk_laws}
+use Rattle.campaign_server.proofs.TalkSteps.TalkFacts.{ends_known}
+use Rattle.campaign_server.proofs.TalkSteps.TalkLemmas.{talk_laws}
 
 -- what is said on a connection, over a longer list and from an earlier start
 among_on : (keys : List KeyRow) (n c m b : ℕ) (clock : Clock) (S more : History) (last then_ : ℕ) (later : Clock) (places : List ℕ) (told : ℕ) (said : List Said)

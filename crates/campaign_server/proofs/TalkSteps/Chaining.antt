@@ -20,7 +20,7 @@ use Rattle.campaign_server.specs.Chains.{Said, at_moment, Answers, Chain}
 use Rattle.campaign_server.specs.Links.{Clock}
 use Rattle.campaign_server.specs.Stories.{added_since, is_query}
 use Rattle.campaign_server.specs.Talks.{Before, Between, IsSeen, Says, Talk, Ticked, place_of}
-use Rattle.campaign_server.proofs.Speaking.{rose_later}
+use Rattle.campaign_server.proofs.TalkSteps.Speaking.{rose_later}
 
 asking_adds : (H : History) (who : Caller) (number : Option ℕ) (ask : Ask) (moment : ℕ) → is_query ask ≡ true → (answer H who number ask moment).added ≡ []
 asking_adds H who number (See q) moment is = refl

@@ -24,7 +24,7 @@ use Rattle.book.specs.Journaling.{IsKept, Parts}
 use Rattle.book.specs.Openings.{Causes, Establishes, Opened, OpensTo, OpensWith, Reads, Refused}
 use Rattle.book.specs.Replays.{Stops}
 use Rattle.book.specs.Stories.{spellings}
-use Rattle.book.specs.Taking.{GivenUp, TakenUp, TakesUp, WhyNot, told_as}
+use Rattle.book.specs.OpenJournals.{GivenUp, TakenUp, TakesUp, WhyNot, told_as}
 use Rattle.book.proofs.Keeping.{settled_keeps}
 
 -- the records by their first

@@ -12,10 +12,10 @@ use Rattle.campaign_server.specs.Chains.{Chain, Said}
 use Rattle.campaign_server.specs.Connections.{Ends}
 use Rattle.campaign_server.specs.Links.{LinkState}
 use Rattle.campaign_server.specs.HallConnections.{IsTalkAmong, Licensed, Serves, disk_faults}
-use Rattle.campaign_server.proofs.Chaining.{chain_talks, chain_ticks}
-use Rattle.campaign_server.proofs.Known.{ends_known}
-use Rattle.campaign_server.proofs.FaultCounts.{talk_licensed}
-use Rattle.campaign_server.proofs.HallPlaces.{Asks, Gains, joined_later, look, merged_behind, talk_rises, visits_seen}
+use Rattle.campaign_server.proofs.TalkSteps.Chaining.{chain_talks, chain_ticks}
+use Rattle.campaign_server.proofs.TalkSteps.TalkFacts.{ends_known}
+use Rattle.campaign_server.proofs.TalkSteps.FaultCounts.{talk_licensed}
+use Rattle.campaign_server.proofs.BookTalks.HallPlaces.{Asks, Gains, joined_later, look, merged_behind, talk_rises, visits_seen}
 
 -- what a pass gained on a connection
 pub record Came (old new : Known Entry) : Type 0 where

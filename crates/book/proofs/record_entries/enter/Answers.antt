@@ -5,8 +5,8 @@ use Rattle.rulebook.specs.declared.ask.Ask.TheVariants.{Act}
 use Rattle.rulebook.specs.declared.entry.EntryCore.{EntryCore}
 use Rattle.rulebook.specs.Roles.{may_give}
 use Rattle.rulebook.specs.Spelling.{IsSpelling, entry_bytes}
-use Rattle.book.proofs.Following.{addressed_core, enters_long, enters_result, enters_ungiven, enters_unread}
-use Rattle.book.proofs.entering.enter.Goals as goal
+use Rattle.book.proofs.PayloadEntries.{addressed_core, enters_long, enters_result, enters_ungiven, enters_unread}
+use Rattle.book.proofs.record_entries.enter.Goals as goal
 
 pub returns-then-payload : goal.returns-then-payload
 returns-then-payload c = enters_long c.args.state.now.history c.args.payload.now c.if-payload.true

@@ -2,8 +2,8 @@ use Rattle.std.proofs.Common.{subst}
 use Rattle.std.specs.Prelude.{OnOk, OnErr}
 use Rattle.std.specs.Io.KnownBytes.{Appends}
 use Rattle.decimal_rank.specs.KnownBytes.{AppendsPart}
-use Rattle.campaign_server.proofs.Turning.{turn_of}
-use Rattle.campaign_server.proofs.answering.answer.Goals as goal
+use Rattle.campaign_server.proofs.TalkSteps.Turning.{turn_of}
+use Rattle.campaign_server.proofs.answers.answer.Goals as goal
 
 pub returns-clause-turn : goal.returns-clause-turn
 returns-clause-turn g c =

@@ -1,0 +1,4 @@
+-- What a server, its workers and their records leave at the end.
+pub mod RecordLemmas
+pub mod ServerLemmas
+pub mod WorkerLemmas
