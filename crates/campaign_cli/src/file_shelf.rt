@@ -37,7 +37,7 @@ impl<R: Files + Drop> Shelf for FileShelf<R> {
         match result {
             Err(ShelfFault::Absent) => self.misses = count_more(self.misses),
             Err(ShelfFault::Failed) => self.faults = count_more(self.faults),
-            _ => {}
+            Ok(_) | Err(ShelfFault::Memory) => {}
         }
         result
     }
