@@ -47,19 +47,19 @@ SuitsBody asked (Gathered bytes) = Unit {0}
 -- what is kept of a body that may be this text
 abbrev pub KeepsBody : List ℕ → Body → Type 0
 KeepsBody text Passed = Unit {0}
-KeepsBody text (Run reader) = IsAfter text reader
+KeepsBody text (Run reader) = IsAfter text reader.value
 KeepsBody text (Gathered bytes) = bytes.items ≡ text
 
 -- there is such a text of at most so many bytes, and no more were fed
 abbrev pub IsFew : ℕ → Body → Type 0
 IsFew most Passed = Unit {0}
-IsFew most (Run reader) = (reader.fed ≤ most) × ((text : List ℕ) × (length text ≤ most) × IsAfter text reader)
+IsFew most (Run reader) = (reader.value.fed ≤ most) × ((text : List ℕ) × (length text ≤ most) × IsAfter text reader.value)
 IsFew most (Gathered bytes) = length bytes.items ≤ most
 
 -- a body may go on with so many bytes
 abbrev pub HasRoom : Body → ℕ → Type 0
 HasRoom Passed more = Unit {0}
-HasRoom (Run reader) more = reader.fed + more ≤ 268435456
+HasRoom (Run reader) more = reader.value.fed + more ≤ 268435456
 HasRoom (Gathered bytes) more = Unit {0}
 
 pub record BeginsBody (asked : Question) (body : Body) : Type 0 where

@@ -34,7 +34,8 @@ use trec_formats::RunReader;
 enum Body {
     /// That of a query isn't looked at.
     Passed,
-    Run(RunReader),
+    /// The reader is large, so it lies apart.
+    Run(Box<RunReader>),
     Gathered(Vec<u8>),
 }
 
@@ -78,11 +79,11 @@ impl Model for AskReader {
 }
 
 // What is kept of a body of which nothing came so far.
-fn begin_body(alloc: Global, question: Question) -> Body
-    ensures { BeginsBody question result }
+fn begin_body(alloc: Global, question: Question) -> Result<Body, Memory>
+    ensures { IfOk result (BeginsBody question) }
 {
     match question {
-        Question::Submit => Body::Run(RunReader::new(alloc)),
+        Question::Submit => begin_run(alloc),
         Question::Topics
         | Question::Open
         | Question::Lease
@@ -91,7 +92,7 @@ fn begin_body(alloc: Global, question: Question) -> Body
         | Question::Amend
         | Question::Rule
         | Question::Withdraw
-        | Question::Publish => Body::Gathered(Vec::new(alloc)),
+        | Question::Publish => Ok(Body::Gathered(Vec::new(alloc))),
         Question::Pool
         | Question::Qrels
         | Question::Scores
@@ -99,8 +100,17 @@ fn begin_body(alloc: Global, question: Question) -> Body
         | Question::Disagreements
         | Question::Progress
         | Question::ReleaseQrels
-        | Question::ReleaseScores => Body::Passed,
+        | Question::ReleaseScores => Ok(Body::Passed),
     }
+}
+
+// What is kept of a run's body of which nothing came so far.
+#[inline(never)]
+fn begin_run(alloc: Global) -> Result<Body, Memory>
+    ensures { IfOk result (BeginsBody question.Submit) }
+{
+    let reader = Box::new(alloc, RunReader::new(alloc))?;
+    Ok(Body::Run(reader))
 }
 
 fn begin_opened(alloc: Global, opening: &Opening, path: &[u8]) -> Result<Opened, Memory>
@@ -118,7 +128,7 @@ fn begin_opened(alloc: Global, opening: &Opening, path: &[u8]) -> Result<Opened,
         number: opening.number,
         place: opening.place,
         text: Text::from_slice(alloc, parameter(path))?,
-        body: begin_body(alloc, opening.place.question),
+        body: begin_body(alloc, opening.place.question)?,
     })
 }
 
@@ -226,7 +236,7 @@ fn ask_of(alloc: Global, place: Place, text: &[u8], body: Body) -> Result<Ask, R
 {
     match body {
         Body::Passed => ask_at(alloc, place, text, &[]),
-        Body::Run(reader) => ask_run(alloc, text, reader),
+        Body::Run(reader) => ask_run(alloc, text, Box::into_inner(reader)),
         Body::Gathered(bytes) => ask_at(alloc, place, text, bytes.as_slice()),
     }
 }

@@ -1,4 +1,5 @@
 use Rattle.std.proofs.Common.{[], subst, sym}
+use Rattle.trec_formats.specs.RunStates.{IsAfter}
 use Rattle.routes.specs.Asks.{Asks}
 use Rattle.routes.specs.Faults.{IsRead}
 use Rattle.routes.proofs.Requests.AskFeeds.{query_asked}
@@ -10,4 +11,4 @@ returns-in-Passed-clause-ask c = λ told kept.
 
 pub returns-in-Run-clause-ask : goal.returns-in-Run-clause-ask
 returns-in-Run-clause-ask c = λ told kept.
-    subst (λ asked. IsRead (Asks asked c.args.text.now told) c.ask_run.result) (sym (rw c.in-Run.is at c.requires.suits)) (c.ask_run.ensures told (rw c.in-Run.is at kept))
+    subst (λ asked. IsRead (Asks asked c.args.text.now told) c.ask_run.result) (sym (rw c.in-Run.is at c.requires.suits)) (c.ask_run.ensures told (subst (IsAfter told) (sym c.into_inner.ensures) (rw c.in-Run.is at kept)))
