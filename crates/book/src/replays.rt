@@ -10,9 +10,9 @@ ghost use Rattle.book.specs.Laws.{Laws};
 ghost use Rattle.book.specs.Replays.{Replays};
 ghost use Rattle.book.specs.Stories.{IsOnlyStory};
 
-use crate::record_entries::enter_all;
 use crate::faults::BookFault;
 use crate::founding::{begin, founding_bytes};
+use crate::record_entries::enter_all;
 use campaign_core::State;
 use decimal_rank::Memory;
 use rulebook::Rules;

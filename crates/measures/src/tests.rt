@@ -68,7 +68,10 @@ fn expect_cell(rt: &impl Abort, cell: &Cell, expected: (u32, u32, u64, u64)) {
 
 #[test]
 fn bpref_is_over_the_relevant_times_its_cap(rt: HostRuntime) {
-    assert_eq!(rt; (bpref_den(0, 5), bpref_den(3, 0), bpref_den(3, 2)), (1, 3, 6));
+    assert_eq!(rt;
+        (bpref_den(0, 5), bpref_den(3, 0), bpref_den(3, 2)),
+        (1, 3, 6)
+    );
 }
 
 #[test]
