@@ -1,6 +1,6 @@
 pub mod FrontSteps
 mod Entering
-mod ListFacts
+pub mod ListFacts
 mod Marking
 mod Queueing
 mod Regrading

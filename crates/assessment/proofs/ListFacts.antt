@@ -74,10 +74,10 @@ at-each P (x ∷ xs) zero within here = here x
 at-each P (x ∷ xs) (suc i) within here = at-each P xs i (omega (arith, within)) here
 
 -- an element changed in its place
-pub set-at_place : {X : Type 0} (f : X → X) (xs : List X) (i : ℕ) (d : X) → i < length xs → set xs i (f (get_or xs i d)) ≡ at_place i f xs
-set-at_place f [] i d within = absurd (omega (arith, within))
-set-at_place f (x ∷ xs) zero d within = refl
-set-at_place f (x ∷ xs) (suc i) d within = ap (λ ys. x ∷ ys) (set-at_place f xs i d (omega (arith, within)))
+pub set-at_place : {X : Type 0} (change : X → X) (xs : List X) (i : ℕ) (d : X) → set xs i (change (get_or xs i d)) ≡ at_place i change xs
+set-at_place change [] i d = refl
+set-at_place change (x ∷ xs) zero d = refl
+set-at_place change (x ∷ xs) (suc i) d = ap (λ ys. x ∷ ys) (set-at_place change xs i d)
 
 -- the element behind a list
 pub get-behind : {X : Type 0} (xs : List X) (x : X) (ys : List X) (d : X) → get_or (xs ++ x ∷ ys) (length xs) d ≡ x

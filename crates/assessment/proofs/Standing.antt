@@ -37,11 +37,10 @@ graded-at topics i T within there = get_or-map graded_of topics i T [] within �
 pub facts-then : (change : TopicFacts → TopicFacts) (topics : List TopicView) (i : ℕ) (T U : TopicView) → i < length topics → T ≡ get_or topics i T → U.facts ≡ change T.facts
     → map facts_of (set topics i U) ≡ at_place i change (map facts_of topics)
 facts-then change topics i T U within there is =
-    let inside : i < length (map facts_of topics) = omega (arith, within, length-map topics facts_of) in
     let before : T.facts ≡ get_or (map facts_of topics) i T.facts = ap facts_of there ∙ sym (get_or-map facts_of topics i T T.facts within) in
     map-set facts_of topics i U
     ∙ ap (set (map facts_of topics) i) (is ∙ ap change before)
-    ∙ set-at_place change (map facts_of topics) i T.facts inside
+    ∙ set-at_place change (map facts_of topics) i T.facts
 
 -- what a grade on a topic takes: its pool's runs and one more, and then the lists
 pub steps-then : (runs : List RunId) (board : Scores) (topics : List TopicView) (i : ℕ) (T : TopicView) (before between after : ℕ) → i < length topics → T ≡ get_or topics i T

@@ -22,8 +22,18 @@ pub record AssessmentView : Type 0 where
   pub leases : List Lease
   pub pending : Option Change
 
+-- no change is pending, and nothing is left reserved
+pub record IsIdle (view : AssessmentView) : Type 0 where
+  pub pending : view.pending ≡ None
+  pub unreserved : view.topics.board.rooms ≡ []
+
 abbrev pub facts_in : TopicsView → List Lease → Facts
 facts_in topics leases = record { topics = told topics; leases = leases }
+
+-- this is known, and nothing is left reserved on the board
+pub record IsLeft (known : Facts) (topics : TopicsView) (leases : List Lease) : Type 0 where
+  pub facts : facts_in topics leases ≡ known
+  pub unreserved : topics.board.rooms ≡ []
 
 -- what an assessment knows
 abbrev pub facts : AssessmentView → Facts

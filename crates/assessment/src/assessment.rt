@@ -9,7 +9,7 @@
 ghost use Rattle.std.specs.Prelude.{◌≡◌, ◌+◌, ◌≤◌, [], List, IfOk, IfSome, IsSome, None, OnErr, OnOk, Some};
 ghost use Rattle.depth_pool.specs.declared.runs.RunId.{RunId};
 ghost use Rattle.assessment.specs.Costs.{HaveLists, change_steps};
-ghost use Rattle.assessment.specs.Changes.{Fits, after, facts};
+ghost use Rattle.assessment.specs.Changes.{Fits, IsIdle, after, facts};
 ghost use Rattle.assessment.specs.TopicsFacts.{new_topics};
 
 use crate::change::Change;
@@ -59,8 +59,7 @@ impl Assessment {
     pub fn reserve(&mut self, change: Change) -> Result<(), Memory>
         requires { Fits change (facts self.old) }
         ensures ok { OnOk result (self.new.pending ≡ Some change) }
-        ensures err { OnErr result (self.new.pending ≡ None) }
-        ensures unreserved { OnErr result (self.new.topics.board.rooms ≡ []) }
+        ensures err { OnErr result (IsIdle self.new) }
         ensures facts { facts self.new ≡ facts self.old }
     {
         self.cancel();
@@ -81,8 +80,7 @@ impl Assessment {
     pub fn commit<L: Ledger>(&mut self, steps: &mut Steps<L>)
         requires { IsSome self.old.pending }
         ensures facts { IfSome self.old.pending (λ change. facts self.new ≡ after change (facts self.old)) }
-        ensures pending { self.new.pending ≡ None }
-        ensures unreserved { self.new.topics.board.rooms ≡ [] }
+        ensures idle { IsIdle self.new }
         ensures cost { (runs : List RunId) → HaveLists runs (facts self.old).topics → IfSome self.old.pending (λ change. steps.new ≤ steps.old + change_steps runs change (facts self.old).topics) }
     {
         if let Some(change) = self.pending.take() {
@@ -93,8 +91,7 @@ impl Assessment {
     /// Gives the room of the change that is pending back.
     pub fn cancel(&mut self)
         ensures facts { facts self.new ≡ facts self.old }
-        ensures pending { self.new.pending ≡ None }
-        ensures unreserved { self.new.topics.board.rooms ≡ [] }
+        ensures idle { IsIdle self.new }
     {
         if let Some(change) = self.pending.take() {
             give_back(&mut self.topics, &self.desk, &change);

@@ -66,8 +66,7 @@ pub(crate) enum Mark {
 impl Mark {
     /// The topic and the document.
     pub(crate) fn place(&self) -> (u16, DocId)
-        ensures topic { result.0 ≡ topic_of self.now }
-        ensures doc { result.1 ≡ doc_of self.now }
+        ensures { result ≡ (topic_of self.now, doc_of self.now) }
     {
         match self {
             Mark::Label(label) => (label.topic, label.doc),

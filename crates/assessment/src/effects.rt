@@ -3,7 +3,7 @@ ghost use Rattle.std.specs.Prelude.{◌≡◌, ◌+◌, ◌≤◌, [], List, OnE
 ghost use Rattle.depth_pool.specs.declared.runs.RunId.{RunId};
 ghost use Rattle.assessment.specs.Costs.{HaveLists, change_steps};
 ghost use Rattle.assessment.specs.TopicsFacts.{IsAtRest, told};
-ghost use Rattle.assessment.specs.Changes.{Fits, HasRoom, IsReady, after, facts_in};
+ghost use Rattle.assessment.specs.Changes.{Fits, HasRoom, IsLeft, IsReady, after, facts_in};
 
 use crate::change::{Change, Grant, Mark};
 use crate::runs::enter_run;
@@ -59,8 +59,7 @@ pub(crate) fn make<L: Ledger>(
     steps: &mut Steps<L>,
 )
     requires { IsReady change topics.old desk.old }
-    ensures facts { facts_in topics.new desk.new.leases ≡ after change (facts_in topics.old desk.old.leases) }
-    ensures none { topics.new.board.rooms ≡ [] }
+    ensures effect { IsLeft (after change (facts_in topics.old desk.old.leases)) topics.new desk.new.leases }
     ensures cost { (runs : List RunId) → HaveLists runs (told topics.old) → steps.new ≤ steps.old + change_steps runs change (told topics.old) }
 {
     match change {

@@ -40,8 +40,7 @@ impl Topics {
     /// These topics before any run, and a board of this level.
     pub fn new(alloc: Global, rules: Vec<TopicRules>, level: u8) -> Result<Topics, Memory>
         requires { vec_len rules < 2 ^ 16 }
-        ensures facts { IfOk result (λ all. told all ≡ new_topics rules.items level) }
-        ensures unreserved { IfOk result (λ all. (all.board.rooms ≡ [])) }
+        ensures { IfOk result (IsAtRest (new_topics rules.items level)) }
     {
         let board = Board::new(alloc, rules.len() as u16, level)?;
         let topics = each_new(alloc, rules)?;

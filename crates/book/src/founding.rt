@@ -1,7 +1,6 @@
 //! The first entry of a campaign: made of its rules, and known among records.
 ghost use Rattle.std.specs.Prelude.{◌≡◌, ◌∷◌, [], IfOk, IfSome, IsTrue, MatchOption, map, take};
 ghost use Rattle.record_codec.specs.Laws.{OneSpelling};
-ghost use Rattle.rulebook.specs.declared.rules.Rules.{Rules as CampaignRules};
 ghost use Rattle.rulebook.specs.Legal.{founding};
 ghost use Rattle.rulebook.specs.Spelling.{are_rules, entry_bytes};
 ghost use Rattle.book.specs.Laws.{Laws};
@@ -11,11 +10,8 @@ use campaign_core::State;
 use decimal_rank::{Memory, Rows, Text};
 use journal::Frame;
 use record_codec::{CodecFault, read_entry, write_entry};
-use rulebook::{Caller, Command, EntryCore, Role, Rules};
+use rulebook::{Rules, founding_core, rules_founded};
 use std::alloc::Global;
-
-/// The name of the caller of the first entry.
-const FOUNDER: &[u8] = b"campaign";
 
 fn copy_of_names(alloc: Global, names: &[Text]) -> Result<Vec<Text>, Memory>
     ensures { IfOk result (λ copy. copy.items ≡ names.now) }
@@ -38,22 +34,6 @@ fn copy_of_rules(alloc: Global, rules: &Rules) -> Result<Rules, Memory>
         level: rules.level,
         top_grade: rules.top_grade,
         doubles,
-    })
-}
-
-// What the first entry of a campaign of these rules keeps.
-fn founding_core(alloc: Global, rules: Rules) -> Result<EntryCore, Memory>
-    ensures { IfOk result (λ core. core ≡ (founding rules).core) }
-{
-    let name = Text::from_slice(alloc, FOUNDER)?;
-    Ok(EntryCore {
-        caller: Caller {
-            name,
-            role: Role::Organiser,
-        },
-        number: None,
-        moment: 0,
-        command: Command::Found { rules },
     })
 }
 
@@ -80,29 +60,6 @@ pub(crate) fn founded(alloc: Global, rules: Rules) -> Result<(State, Frame), Mem
     let frame = Frame::of(alloc, &bytes)?;
     let state = State::found(alloc, rules)?;
     Ok((state, frame))
-}
-
-// The rules of a campaign that this entry founds.
-fn rules_founded(core: EntryCore) -> Option<Rules>
-    ensures { MatchOption result ((rules : CampaignRules) → core ≡ (founding rules).core → ⊥) (λ rules. core ≡ (founding rules).core) }
-{
-    let EntryCore {
-        caller,
-        number,
-        moment,
-        command,
-    } = core;
-    if caller.name.bytes() != FOUNDER
-        || caller.role != Role::Organiser
-        || number.is_some()
-        || moment != 0
-    {
-        return None;
-    }
-    let Command::Found { rules } = command else {
-        return None;
-    };
-    Some(rules)
 }
 
 /// The campaign that a first record founds. None is that it founds none.

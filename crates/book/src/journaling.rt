@@ -50,33 +50,6 @@ fn mend_first<D: Disk>(journal: &mut Journal<D>, pending: &mut Pending) -> Resul
     }
 }
 
-// Adds an entry's record where nothing is pending.
-fn add<D: Disk>(
-    journal: &mut Journal<D>,
-    pending: &mut Pending,
-    prepared: &Prepared,
-    frame: &Frame,
-) -> Result<(), Failed>
-    requires frame { frame.now ≡ entry_bytes prepared.now.core }
-    requires room { journal.old.place + 6 + length (entry_bytes prepared.now.core) ≤ 2 ^ 40 }
-    requires none { pending.old ≡ None }
-    ensures added { OnOk result ((H : History) → KeepsBook D.images journal.old H None → KeepsBook D.images journal.new (H ++ prepared.now ∷ []) None) }
-    ensures none { OnOk result (pending.new ≡ None) }
-    ensures kept { OnErr result ((H : History) → KeepsBook D.images journal.old H None → KeepsBook D.images journal.new H (Some prepared.now)) }
-    ensures pending { OnErr result (pending.new ≡ Some prepared.now) }
-    ensures any_moment { (H : History) → KeepsBook D.images journal.old H None
-        → EachMoment D.clock D.images_since journal.old.disk journal.new.disk (HoldsWith H (Some prepared.now)) }
-    ensures cause { HasCause (D.fault_count journal.old.disk) (D.fault_count journal.new.disk) result }
-{
-    match journal.append(frame) {
-        Ok(()) => Ok(()),
-        Err(Failed) => {
-            pending.leave(prepared);
-            Err(Failed)
-        }
-    }
-}
-
 /// Journals an entry: what is due is mended, and its record is added. It takes no memory.
 pub(crate) fn keep<D: Disk>(
     journal: &mut Journal<D>,
@@ -94,12 +67,12 @@ pub(crate) fn keep<D: Disk>(
         → EachMoment D.clock D.images_since journal.old.disk journal.new.disk (HoldsOneOf H pending.old (prepared.now ∷ [])) }
     ensures cause { HasCause (D.fault_count journal.old.disk) (D.fault_count journal.new.disk) result }
 {
-    match mend_first(journal, pending) {
-        Ok(()) => {}
-        Err(Failed) => return Err(Failed),
-    }
-    match add(journal, pending, prepared, frame) {
+    mend_first(journal, pending)?;
+    match journal.append(frame) {
         Ok(()) => Ok(()),
-        Err(Failed) => Err(Failed),
+        Err(Failed) => {
+            pending.leave(prepared);
+            Err(Failed)
+        }
     }
 }

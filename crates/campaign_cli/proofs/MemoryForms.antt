@@ -10,7 +10,7 @@ use Rattle.campaign_cli.specs.declared.faults.ShelfFault.{ShelfFault}
 use Rattle.campaign_cli.specs.declared.faults.ShelfFault.TheVariants as fault
 use Rattle.decimal_rank.specs.FailurePlans.{count_more}
 use Rattle.campaign_cli.specs.Shelves.{Follows, MemoryShelfState, after_read, told_by as shelf_told}
-use Rattle.campaign_cli.specs.Sinks.{MemorySinkState, after_write}
+use Rattle.campaign_server.specs.MemoryWritten.{Written, after_write}
 
 pub count_more_rose : (n : ℕ) → Rose n (count_more n)
 count_more_rose n = grind arith
@@ -24,11 +24,11 @@ follows_read old (Err fault.Absent) = record { files = refl; faults = omega arit
 follows_read old (Err fault.Failed) = record { files = refl; faults = count_more_later old.faults; misses = omega arith }
 follows_read old (Err fault.Memory) = record { files = refl; faults = omega arith; misses = omega arith }
 
-pub cause_of_write : (old : MemorySinkState) (piece : List ℕ) (result : Result ℕ Failed) → HasCause old.faults (after_write old piece result).faults result
+pub cause_of_write : (old : Written) (piece : List ℕ) (result : Result ℕ Failed) → HasCause old.faults (after_write old piece result).faults result
 cause_of_write old piece (Ok count) = record { later = omega arith; failed = tt }
 cause_of_write old piece (Err failed) = record { later = count_more_later old.faults; failed = count_more_rose old.faults }
 
-pub appends_write : (old : MemorySinkState) (piece : List ℕ) (result : Result ℕ Failed) → IfOk result (λ count. count ≡ length piece)
+pub appends_write : (old : Written) (piece : List ℕ) (result : Result ℕ Failed) → IfOk result (λ count. count ≡ length piece)
     → WriteAppends (Some old.written) (Some (after_write old piece result).written) result piece
 appends_write old piece (Ok count) whole =
     let enough : length piece ≤ count = omega arith in ap (λ bytes. old.written ++ bytes) (sym (take_all count piece enough))

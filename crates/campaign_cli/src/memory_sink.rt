@@ -1,38 +1,34 @@
 //! An output in memory, whose writes fail as it is told.
-ghost use Rattle.std.specs.Prelude.{◌≡◌, [], Some, IsTrue, IsErr, IfOk, length};
+ghost use Rattle.std.specs.Prelude.{◌≡◌, IsTrue, IsErr, IfOk, length};
 ghost use Rattle.decimal_rank.specs.FailurePlans.{fails_next};
-ghost use Rattle.campaign_cli.specs.Sinks.{told_by, after_write};
+ghost use Rattle.campaign_server.specs.MemoryWritten.{after_write, nothing_written};
+ghost use Rattle.campaign_cli.specs.Sinks.{told_by};
 
-use decimal_rank::{Failed, FailurePlan, Output, count_more};
+use campaign_server::MemoryWrites;
+use decimal_rank::{Failed, Output};
 use std::marker::Model;
 
 /// A sink in memory, which tells its bytes. It takes each piece whole.
 #[derive(Debug, Drop)]
 pub struct MemorySink {
-    written: Vec<u8>,
-    plan: FailurePlan,
-    faults: u64,
-    wants: u64,
+    writes: MemoryWrites,
 }
 
 impl Model for MemorySink {
-    ghost use Rattle.campaign_cli.specs.Sinks.{MemorySinkState};
+    ghost use Rattle.campaign_server.specs.MemoryWritten.{Written};
 
-    ghost Value = { MemorySinkState };
+    ghost Value = { Written };
 
-    ghost view = { λ sink. record { written = sink.written.items; plan = sink.plan; faults = sink.faults; wants = sink.wants } };
+    ghost view = { λ sink. sink.writes };
 }
 
 impl MemorySink {
     /// A sink without bytes. The writes at the places in `fails`, from 1, fail.
     pub fn new(fails: Vec<u64>) -> MemorySink
-        ensures { result ≡ record { written = []; plan = record { fails = fails.items; calls = 0 }; faults = 0; wants = 0 } }
+        ensures { result ≡ nothing_written fails.items }
     {
         MemorySink {
-            written: Vec::new(*fails.allocator()),
-            plan: FailurePlan::new(fails),
-            faults: 0,
-            wants: 0,
+            writes: MemoryWrites::new(fails),
         }
     }
 
@@ -40,14 +36,14 @@ impl MemorySink {
     pub fn written(&self) -> &[u8]
         ensures { result.now ≡ self.now.written }
     {
-        self.written.as_slice()
+        self.writes.written()
     }
 
     /// How many writes failed for want of memory.
     pub fn wants(&self) -> u64
         ensures { result ≡ self.now.wants }
     {
-        self.wants
+        self.writes.wants()
     }
 }
 
@@ -66,15 +62,6 @@ impl Output for MemorySink {
         ensures failed { IsTrue (fails_next self.old.plan) → IsErr result }
         ensures after { self.new ≡ after_write self.old piece.now result }
     {
-        if self.plan.call() {
-            self.faults = count_more(self.faults);
-            return Err(Failed);
-        }
-        if self.written.extend_from_slice(piece).is_err() {
-            self.faults = count_more(self.faults);
-            self.wants = count_more(self.wants);
-            return Err(Failed);
-        }
-        Ok(piece.len())
+        self.writes.write(piece)
     }
 }

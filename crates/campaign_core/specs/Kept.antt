@@ -91,6 +91,11 @@ pub record IsKnown (campaign : Campaign) : Type 0 where
   -- documents are judged once the campaign is opened
   pub unjudged : phase campaign.history.items ≡ Collecting → IsUnjudged campaign.history.items (map labelled_of (facts campaign.assessment).topics.topics)
 
+-- the same, with the docnos of the history
+pub record IsKnownWith (docnos : List Text) (campaign : Campaign) : Type 0 where
+  pub known : IsKnown campaign
+  pub docnos_are : docnos ≡ names_of campaign.history.items
+
 -- the history and all that is known of it stay
 pub record IsUnchanged (old new : Campaign) : Type 0 where
   pub history_is : new.history.items ≡ old.history.items

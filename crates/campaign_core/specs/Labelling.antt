@@ -1,11 +1,18 @@
 -- What the labels and the grades that are kept of a topic have to do with the history's.
-use Rattle.std.specs.Prelude.{◌≡◌, ◌≤◌, false, List, [], length, map, IsTrue}
+use Rattle.std.specs.Prelude.{◌≡◌, ◌≤◌, ◌∷◌, ℕ, Bool, false, not, List, [], Option, Result, Ok, Err, length, map, IsTrue}
+use Rattle.std.specs.Option.{option_map_or}
 use Rattle.decimal_rank.specs.declared.naming.DocId.{DocId}
 use Rattle.labels.specs.Marked.{given_at, ruling_at}
 use Rattle.qrels_view.specs.declared.grades.Graded.{Graded}
 use Rattle.rulebook.specs.Words.{Text, contains_text}
-use Rattle.rulebook.specs.Campaign.{History}
-use Rattle.rulebook.specs.Grades.{effective, labels_on, ruling, trail}
+use Rattle.rulebook.specs.declared.reply.Refusal.{Refusal}
+use Rattle.rulebook.specs.declared.reply.Refusal.TheVariants as refusal
+use Rattle.rulebook.specs.declared.reply.Reply.TheVariants as reply
+use Rattle.rulebook.specs.declared.rules.Phase.TheVariants.{Judging}
+use Rattle.rulebook.specs.Answers.{grade_range}
+use Rattle.rulebook.specs.Campaign.{History, is_topic}
+use Rattle.rulebook.specs.Grades.{effective, is_labelled, is_labelled_by, labels_on, ruling, trail}
+use Rattle.rulebook.specs.Refusals.{Ruling, ◌when◌, unless, wrong_phase_unless}
 use Rattle.campaign_core.specs.Numbers.{are_named, doc_in}
 use Rattle.campaign_core.specs.Topics.{LabelledTopic}
 
@@ -21,3 +28,17 @@ pub record IsLabelled (H : History) (names : List Text) (topic : LabelledTopic) 
   pub labels_named : (doc : Text) → contains_text names doc ≡ false → labels_on H topic.id doc ≡ []
   pub graded_are : topic.graded ≡ map (graded_in H names topic.id) (trail H topic.id)
   pub trail_named : IsTrue (are_named names (trail H topic.id))
+
+-- whether a document has a label of an assessor, or where none is named of some assessor
+abbrev pub is_labelled_for : History → Text → Text → Option Text → Bool
+is_labelled_for H topic doc assessor = option_map_or (is_labelled_by H topic doc) assessor (is_labelled H topic doc)
+
+-- what the rules say of a grade for a document, by whether it has the label that is asked for
+abbrev pub doc_ruling : History → Text → Bool → ℕ → Ruling
+doc_ruling H topic labelled grade =
+    unless (wrong_phase_unless Judging H ∷ (refusal.UnknownTopic when not (is_topic H topic)) ∷ (refusal.NotLabelled when not labelled) ∷ grade_range H grade ∷ []) (Ok reply.Done)
+
+-- what is ruled where a place was found, or why there is none
+abbrev pub ruling_on : Result (ℕ × DocId) Refusal → Ruling
+ruling_on (Ok place) = Ok reply.Done
+ruling_on (Err why) = Err why

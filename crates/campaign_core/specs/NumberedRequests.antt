@@ -1,5 +1,5 @@
 -- The numbers that callers gave their accepted commands.
-use Rattle.std.specs.Prelude.{ℕ, ◌&&◌, ◌==◌, Bool, List, [], ◌∷◌, Option, find}
+use Rattle.std.specs.Prelude.{◌≡◌, ℕ, ◌&&◌, ◌==◌, ◌++◌, Bool, List, [], ◌∷◌, OnOk, Option, Result, find}
 use Rattle.std.specs.List.{enumerate_from, flat_map}
 use Rattle.std.specs.Option.{option_map, option_map_or}
 use Rattle.std.specs.Str.{bytes_eq}
@@ -10,6 +10,7 @@ use Rattle.rulebook.specs.Answers.{repeated}
 use Rattle.rulebook.specs.Numbers.{used}
 use Rattle.rulebook.specs.Words.{Text}
 use Rattle.rulebook.specs.Campaign.{History}
+use Rattle.campaign_core.specs.Growth.{BeginsWith}
 
 -- a number of a caller, and the place of the entry that has it, from 1
 pub record Numbered : Type 0 where
@@ -23,6 +24,11 @@ numbered_at place caller number = record { caller = caller; number = number; pla
 -- the number of an entry at a place, if it has one
 abbrev pub number_in : ℕ → EntryCore → List Numbered
 number_in place core = option_map_or (λ number. numbered_at place core.caller.name number ∷ []) core.number []
+
+-- the number of an entry is added behind the others, or there was no memory for it; the others stay
+pub record AddsNumber {T E : Type 0} (place : ℕ) (core : EntryCore) (old new : List Numbered) (result : Result T E) : Type 0 where
+  pub ok : OnOk result (new ≡ old ++ number_in place core)
+  pub grown : BeginsWith old new
 
 -- the numbers of a history, in the order of its entries
 abbrev pub numbers_of : History → List Numbered

@@ -1,7 +1,12 @@
 -- What a state stands for, and how it answers.
-use Rattle.std.specs.Prelude.{◌≡◌, [], ◌∷◌, Option, None, Some}
+use Rattle.std.specs.Prelude.{◌≡◌, [], ◌∷◌, ℕ, IsTrue, Option, None, Some}
+use Rattle.rulebook.specs.declared.ask.Ask.TheVariants.{Act}
+use Rattle.rulebook.specs.declared.ask.Command.{Command}
 use Rattle.rulebook.specs.declared.entry.Entry.{Entry}
+use Rattle.rulebook.specs.declared.rules.Caller.{Caller}
 use Rattle.rulebook.specs.Answers.{Answer}
+use Rattle.rulebook.specs.Legal.{is_well_addressed}
+use Rattle.rulebook.specs.Numbers.{used}
 use Rattle.campaign_core.specs.Seen.{Seen}
 use Rattle.campaign_core.specs.declared.verdict.Verdict.{Verdict}
 use Rattle.campaign_core.specs.declared.verdict.Verdict.TheVariants.{Told, Ready}
@@ -15,3 +20,9 @@ IsVerdict answer (Ready entry) prepared = (answer.added ≡ entry ∷ []) × (pr
 pub record IsAtRest (old new : Seen) : Type 0 where
   pub history : new.history ≡ old.history
   pub prepared : new.prepared ≡ None
+
+-- a well addressed command whose number its caller didn't use before, while no entry is prepared
+pub record IsFirst (s : Seen) (who : Caller) (number : Option ℕ) (command : Command) (moment : ℕ) : Type 0 where
+  pub addressed : IsTrue (is_well_addressed who number (Act command) moment)
+  pub unused : used s.history who.name number ≡ None
+  pub none : s.prepared ≡ None

@@ -1,14 +1,21 @@
 -- The entries that submit runs, and their places in the history.
-use Rattle.std.specs.Prelude.{◌≡◌, ◌&&◌, ◌++◌, ◌∷◌, [], ℕ, Bool, IsTrue, false, true, if◌then◌else◌, List, None, Option, Some, filter, is_some, map, slice_get}
-use Rattle.std.specs.List.{list_any}
+use Rattle.std.specs.Prelude.{◌≡◌, ◌&&◌, ◌<◌, ℕ, Bool, IsTrue, false, true, List, Ok, Err, Result, Some, filter, is_some, length, map, slice_get, vec_capacity, vec_len}
+use Rattle.std.specs.List.{list_any, position}
 use Rattle.std.specs.Option.{option_map_or}
 use Rattle.std.specs.Str.{bytes_eq}
-use Rattle.rulebook.specs.declared.ask.Command.{Command}
-use Rattle.rulebook.specs.declared.ask.Command.TheVariants as command
+use Rattle.std.specs.declared.alloc.Global.{Global}
+use Rattle.std.specs.declared.vec.Vec.{Vec}
 use Rattle.rulebook.specs.declared.entry.Entry.{Entry}
+use Rattle.rulebook.specs.declared.limits.TheConstants.{MAX_ENTRIES}
+use Rattle.rulebook.specs.declared.reply.Refusal.{Refusal}
+use Rattle.rulebook.specs.declared.reply.Refusal.TheVariants as refusal
+use Rattle.rulebook.specs.declared.rules.Caller.{Caller}
 use Rattle.rulebook.specs.Words.{Text}
-use Rattle.rulebook.specs.Campaign.{History, is_taken, is_withdrawn, run_in, runs}
-use Rattle.rulebook.specs.Scores.{submits}
+use Rattle.rulebook.specs.Answers.{run_refusals}
+use Rattle.rulebook.specs.Campaign.{History, Run, is_taken, is_withdrawn, run_in, runs}
+use Rattle.rulebook.specs.Legal.{IsAccepted}
+use Rattle.rulebook.specs.Refusals.{Ruling, given, unless}
+use Rattle.rulebook.specs.Scores.{run_named, submits}
 use Rattle.rulebook.specs.Spelling.{differ}
 use Rattle.campaign_core.specs.declared.submissions.Submission.{Submission}
 
@@ -36,31 +43,21 @@ pub record AreSubmissions (H : History) (all : List Submission) : Type 0 where
   pub places_are : ArePlaces H (map entry_place all)
   pub withdrawn_are : map (λ one. one.is_withdrawn) all ≡ withdrawals H
 
--- the name of the run that a command withdraws
-abbrev pub withdrawn_in : Command → Option Text
-withdrawn_in (command.Withdraw run) = Some run
-withdrawn_in (command.Found rules) = None
-withdrawn_in (command.Topics topics) = None
-withdrawn_in (command.Submit run lists) = None
-withdrawn_in command.Open = None
-withdrawn_in (command.Lease topic) = None
-withdrawn_in (command.Grade lease grade) = None
-withdrawn_in (command.Release lease) = None
-withdrawn_in (command.Amend topic doc grade) = None
-withdrawn_in (command.Rule topic doc grade) = None
-withdrawn_in command.Publish = None
-
 abbrev pub withdrawn : Submission → Submission
 withdrawn one = record one { is_withdrawn = true }
-
--- the entries that submit runs, after one more entry with a command that withdraws none
-abbrev pub submissions_with : Command → ℕ → List Submission → List Submission
-submissions_with command place all = if is_some (run_in command) then all ++ record { place = place; is_withdrawn = false } ∷ [] else all
 
 -- no two runs have one name, and each withdrawn run was submitted
 pub record RunsAreKnown (H : History) : Type 0 where
   pub names_differ : IsTrue (differ (map (λ run. run.name) (runs H)))
   pub withdrawn_taken : (name : Text) → IsTrue (is_withdrawn H name) → IsTrue (is_taken H name)
+
+-- An entry may be noted: these are the submissions of the history, with room for one more, and the rules accept the entry.
+pub record MayNote (H : History) (all : Vec Submission Global) (e : Entry) : Type 0 where
+  pub submissions : AreSubmissions H all.items
+  pub room : vec_len all < vec_capacity all
+  pub known : RunsAreKnown H
+  pub accepted : IsAccepted H e
+  pub few : length H < MAX_ENTRIES
 
 -- whether an entry at one of the places passes a test
 abbrev pub any_at : (Entry → Bool) → History → List ℕ → Bool
@@ -69,3 +66,21 @@ any_at passes H places = list_any (λ place. option_map_or passes (slice_get H p
 -- whether an entry submits the run of a name for a caller
 abbrev pub is_submitted_by : Text → Text → Entry → Bool
 is_submitted_by caller name e = submits name e && bytes_eq e.core.caller.name caller
+
+-- what the rules say of a run that a caller names
+abbrev pub asked_run : History → Caller → Text → (Run → Ruling) → Ruling
+asked_run H who name on = given (run_named H name) refusal.UnknownRun (λ run. unless (run_refusals H who name) (on run))
+
+-- the number of a live run of a name, in which a caller has a part
+pub record IsRunOf (H : History) (who : Caller) (name : Text) (number : ℕ) : Type 0 where
+  pub run : Run
+  pub there : slice_get (runs H) number ≡ Some run
+  pub name_is : run.name ≡ name
+  pub first : Some number ≡ position (λ run. bytes_eq run.name name) (runs H)
+  pub live : is_withdrawn H name ≡ false
+  pub asked : (on : Run → Ruling) → asked_run H who name on ≡ on run
+
+-- The number of the run that a caller names; or why the caller has no part in one, which the rules tell whatever is asked of it.
+abbrev pub IsRunAsked : History → Caller → Text → Result ℕ Refusal → Type 0
+IsRunAsked H who name (Err why) = (on : Run → Ruling) → asked_run H who name on ≡ Err why
+IsRunAsked H who name (Ok number) = IsRunOf H who name number

@@ -16,12 +16,12 @@ ghost use Rattle.campaign_core.specs.Kept.{AwaitsChange, IsKnown, IsReady, IsUnc
 use crate::submissions::{Submission, line_count, lists_of, note_run};
 use crate::topics::topic_number;
 use assessment::{Assessment, Change, Topic};
-use decimal_rank::{Memory, Steps, Text};
+use decimal_rank::{Memory, Steps};
 use depth_pool::greatest_run_goes_last;
 use labels::{marks_follow_labels, marks_follow_rulings};
 use rulebook::{
-    Caller, Command, Entry, EntryCore, Phase, Reply, Role, Rules, labels_join,
-    quiet_entries_keep_grades, rulings_join,
+    Command, Entry, Phase, Reply, Rules, founding_core, labels_join, quiet_entries_keep_grades,
+    rulings_join,
 };
 use std::alloc::Global;
 use std::sync::ledger::Ledger;
@@ -47,17 +47,8 @@ impl Campaign {
         ensures history { IfOk result (λ campaign. campaign.history.items ≡ founding rules ∷ []) }
         ensures known { IfOk result IsKnown }
     {
-        let name = Text::from_slice(alloc, b"campaign")?;
         let assessment = Assessment::new(alloc, rules.level)?;
-        let core = EntryCore {
-            caller: Caller {
-                name,
-                role: Role::Organiser,
-            },
-            number: None,
-            moment: 0,
-            command: Command::Found { rules },
-        };
+        let core = founding_core(alloc, rules)?;
         let mut history = Vec::new(alloc);
         history.push(Entry {
             core,
@@ -87,9 +78,7 @@ impl Campaign {
     pub(crate) fn has_topics(&self) -> bool
         ensures { result ≡ has_topics self.now.history.items }
     {
-        self.history
-            .iter()
-            .any(|entry| is_topics(&entry.core.command))
+        self.history.iter().any(|entry| matches!(entry.core.command, Command::Topics { .. }))
     }
 
     /// The title of a topic of the campaign: empty where it isn't one.
@@ -133,12 +122,6 @@ impl Campaign {
         self.assessment.topics().items()
     }
 
-    /// The number of the topic of this id, from 0.
-    pub(crate) fn topic_number(&self, id: &[u8]) -> Option<usize>
-        ensures { result ≡ position (λ topic. bytes_eq topic.id id.now) (map facts_of self.now.assessment.topics.topics) }
-    {
-        topic_number(self.topics(), id)
-    }
     /// Makes room for a change, for the entry that it carries out, and for a run.
     pub(crate) fn reserve(&mut self, change: Change) -> Result<(), Memory>
         requires { Fits change (facts self.old.assessment) }
@@ -175,12 +158,6 @@ impl Campaign {
     }
 }
 
-fn is_topics(command: &Command) -> bool
-    ensures { result ≡ is_some (topics_in command.now) }
-{
-    matches!(command, Command::Topics { .. })
-}
-
 /// The campaign's topics as they were given: none before it has them.
 fn given_topics(history: &[Entry]) -> &[GivenTopic]
     ensures { result.now ≡ topics_of history.now }
@@ -204,23 +181,11 @@ fn has_topic(topics: &[GivenTopic], id: &[u8]) -> bool
 fn phase_after(command: &Command, phase: Phase) -> Phase
     ensures { result ≡ phase_after command.now phase }
 {
-    if publishes(command) {
+    if matches!(command, Command::Publish) {
         Phase::Published
-    } else if opens(command) {
+    } else if matches!(command, Command::Open) {
         Phase::Judging
     } else {
         phase
     }
-}
-
-fn publishes(command: &Command) -> bool
-    ensures { result ≡ publishes command.now }
-{
-    matches!(command, Command::Publish)
-}
-
-fn opens(command: &Command) -> bool
-    ensures { result ≡ opens command.now }
-{
-    matches!(command, Command::Open)
 }

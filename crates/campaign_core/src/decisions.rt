@@ -1,11 +1,9 @@
 //! What a command comes to, decided once, by reading alone: the first refusal that holds, or the reply with the
 //! change that carries the entry out. A file a command.
 ghost use Rattle.std.specs.Prelude.{◌≡◌, IfOk};
-ghost use Rattle.rulebook.specs.declared.rules.Phase.TheVariants.{Collecting, Judging, Published};
 ghost use Rattle.rulebook.specs.Refusals.{is_phase};
-ghost use Rattle.campaign_core.specs.Decisions.{IsAsked, IsDecision, KeepsLimits};
+ghost use Rattle.campaign_core.specs.Decisions.{IsAskedWith, IsDecision, KeepsLimits};
 ghost use Rattle.campaign_core.specs.Growth.{BeginsWith};
-ghost use Rattle.campaign_core.specs.Numbers.{names_of};
 
 mod amend;
 mod documents;
@@ -51,8 +49,7 @@ pub(crate) fn decide(
     docnos: &mut Names,
     core: &EntryCore,
 ) -> Result<Decision, Memory>
-    requires asked { IsAsked campaign.now core.now }
-    requires names { docnos.old ≡ names_of campaign.now.history.items }
+    requires { IsAskedWith campaign.now docnos.old core.now core.now.command }
     ensures decision { IfOk result (IsDecision campaign.now docnos.new core.now) }
     ensures limits { IfOk result (KeepsLimits campaign.now.history.items docnos.new core.now.command) }
     ensures grown { BeginsWith docnos.old docnos.new }
@@ -89,20 +86,13 @@ fn wrong_phase(campaign: &Campaign) -> Decision
     })
 }
 
-pub(crate) fn is_published(phase: Phase) -> bool
-    ensures { result ≡ is_phase Published phase }
+/// Whether a campaign is in this phase.
+pub(crate) fn is_in(campaign: &Campaign, wanted: Phase) -> bool
+    ensures { result ≡ is_phase wanted campaign.now.phase }
 {
-    matches!(phase, Phase::Published)
-}
-
-fn is_judging(phase: Phase) -> bool
-    ensures { result ≡ is_phase Judging phase }
-{
-    matches!(phase, Phase::Judging)
-}
-
-fn is_collecting(phase: Phase) -> bool
-    ensures { result ≡ is_phase Collecting phase }
-{
-    matches!(phase, Phase::Collecting)
+    match wanted {
+        Phase::Collecting => matches!(campaign.phase, Phase::Collecting),
+        Phase::Judging => matches!(campaign.phase, Phase::Judging),
+        Phase::Published => matches!(campaign.phase, Phase::Published),
+    }
 }

@@ -3,11 +3,10 @@ ghost use Rattle.std.specs.Prelude.{◌≡◌, ◌==◌, ◌&&◌, IfOk};
 ghost use Rattle.rulebook.specs.declared.rules.Phase.TheVariants.{Published};
 ghost use Rattle.rulebook.specs.Answers.{reply_of, told as told_of};
 ghost use Rattle.rulebook.specs.Refusals.{is_phase};
-ghost use Rattle.campaign_core.specs.Kept.{IsKnown};
-ghost use Rattle.campaign_core.specs.Numbers.{names_of};
+ghost use Rattle.campaign_core.specs.Kept.{IsKnownWith};
 
 use crate::campaign::Campaign;
-use crate::decisions::is_published;
+use crate::decisions::is_in;
 use crate::pages::{Page, page_reply};
 use crate::pools::pool_reply;
 use crate::score_pages::{scores_reply, table_reply};
@@ -24,8 +23,7 @@ pub(crate) fn told(
     now: u64,
     query: Query,
 ) -> Result<Reply, Memory>
-    requires known { IsKnown campaign.now }
-    requires names { docnos.now ≡ names_of campaign.now.history.items }
+    requires { IsKnownWith docnos.now campaign.now }
     ensures { IfOk result (λ reply. reply ≡ reply_of (told_of campaign.now.history.items who.now now query)) }
 {
     let topics = campaign.topics();
@@ -38,13 +36,13 @@ pub(crate) fn told(
         Query::Disagreements => page_reply(alloc, Page::Disagreements, topics, docnos, desk, now),
         Query::Progress => page_reply(alloc, Page::Progress, topics, docnos, desk, now),
         Query::ReleaseQrels { release } => {
-            if !is_released(campaign.phase, release) {
+            if !is_released(campaign, release) {
                 return Ok(Reply::Refused(Refusal::UnknownRelease));
             }
             page_reply(alloc, Page::Qrels, topics, docnos, desk, now)
         }
         Query::ReleaseScores { release } => {
-            if !is_released(campaign.phase, release) {
+            if !is_released(campaign, release) {
                 return Ok(Reply::Refused(Refusal::UnknownRelease));
             }
             table_reply(alloc, campaign)
@@ -53,8 +51,8 @@ pub(crate) fn told(
 }
 
 /// Whether there is a release of this number.
-fn is_released(phase: Phase, release: u32) -> bool
-    ensures { result ≡ (is_phase Published phase && release == 1) }
+fn is_released(campaign: &Campaign, release: u32) -> bool
+    ensures { result ≡ (is_phase Published campaign.now.phase && release == 1) }
 {
-    is_published(phase) && release == 1
+    is_in(campaign, Phase::Published) && release == 1
 }

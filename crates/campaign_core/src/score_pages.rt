@@ -10,14 +10,14 @@ ghost use Rattle.campaign_core.specs.Kept.{IsKnown, KnowsRun};
 ghost use Rattle.campaign_core.specs.Printed.{IsTopicOf};
 
 use crate::campaign::Campaign;
-use crate::submissions::{name_of, run_number, run_refusal};
+use crate::submissions::{name_of, run_asked};
 use crate::texts::{ids_of, in_order};
 use crate::topics::topic_number;
 use assessment::Topic;
 use decimal_rank::{Memory, Text};
 use depth_pool::RunId;
 use measures::{write_cell, write_summary};
-use rulebook::{Caller, Refusal, Reply, graded_are_on_trail, graded_are_there};
+use rulebook::{Caller, Reply, graded_are_on_trail, graded_are_there};
 use score_index::Board;
 use std::alloc::Global;
 
@@ -31,14 +31,10 @@ pub(crate) fn scores_reply(
     requires { IsKnown campaign.now }
     ensures { IfOk result (λ reply. reply ≡ reply_of (scores_ruling campaign.now.history.items who.now name.now)) }
 {
-    let history = campaign.history.as_slice();
-    let submissions = campaign.submissions.as_slice();
-    let Some(number) = run_number(history, submissions, name.bytes()) else {
-        return Ok(Reply::Refused(Refusal::UnknownRun));
+    let number = match run_asked(&campaign.history, &campaign.submissions, who, name) {
+        Ok(number) => number,
+        Err(refusal) => return Ok(Reply::Refused(refusal)),
     };
-    if let Some(refusal) = run_refusal(history, submissions, who, name.bytes(), number) {
-        return Ok(Reply::Refused(refusal));
-    }
     let run = RunId(number as u16);
     let topics = campaign.assessment.topics();
     let items = topics.items();

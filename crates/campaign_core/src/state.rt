@@ -7,14 +7,13 @@ ghost use Rattle.rulebook.specs.Spelling.{are_rules};
 ghost use Rattle.rulebook.specs.Campaign.{phase as phase_of};
 ghost use Rattle.rulebook.specs.Answers.{answer};
 ghost use Rattle.rulebook.specs.Legal.{is_well_addressed, founding, IsLegal};
-ghost use Rattle.rulebook.specs.Numbers.{used};
 ghost use Rattle.campaign_core.specs.Costs.{commit_steps};
 ghost use Rattle.campaign_core.specs.Decisions.{IsNew};
 ghost use Rattle.campaign_core.specs.Growth.{BeginsWith};
 ghost use Rattle.campaign_core.specs.Kept.{IsPrepared, IsUnchanged};
-ghost use Rattle.campaign_core.specs.NumberedRequests.{number_in, numbers_of, place_of, repeated_reply};
+ghost use Rattle.campaign_core.specs.NumberedRequests.{AddsNumber, numbers_of, place_of, repeated_reply};
 ghost use Rattle.campaign_core.specs.Lendings.{IsBoardOf, IsQueueOf};
-ghost use Rattle.campaign_core.specs.State.{IsAtRest, IsVerdict};
+ghost use Rattle.campaign_core.specs.State.{IsAtRest, IsFirst, IsVerdict};
 ghost use Rattle.campaign_core.specs.Tallies.{IsTally, submitted_at};
 ghost use Rattle.campaign_core.specs.Topics.{topic_ids};
 
@@ -236,9 +235,7 @@ impl State {
         command: Command,
         moment: u64,
     ) -> Result<Verdict, Memory>
-        requires addressed { IsTrue (is_well_addressed who.now number (Act command) moment) }
-        requires unused { used self.old.history who.now.name number ≡ None }
-        requires forgotten { self.old.prepared ≡ None }
+        requires { IsFirst self.old who.now number command moment }
         ensures history { self.new.history ≡ self.old.history }
         ensures verdict { let answer = answer self.old.history who.now number (Act command) moment in
             IfOk result (λ verdict. IsVerdict answer verdict self.new.prepared) }
@@ -333,8 +330,7 @@ fn prepared(
 /// Adds the number of an entry at a place, from 1, if it has one.
 fn add_number(numbers: &mut RequestNumbers, core: &EntryCore, place: u32) -> Result<(), Memory>
     requires { (number : ℕ) → core.now.number ≡ Some number → place_of core.now.caller.name number numbers.old ≡ None }
-    ensures ok { OnOk result (numbers.new ≡ numbers.old ++ number_in place core.now) }
-    ensures grown { BeginsWith numbers.old numbers.new }
+    ensures { AddsNumber place core.now numbers.old numbers.new result }
 {
     match core.number {
         Some(number) => numbers.add(core.caller.name.copy()?, number, place),

@@ -1,19 +1,16 @@
 //! The entries that submit runs, by their places in the history.
-ghost use Rattle.std.specs.Prelude.{◌≡◌, ◌++◌, ◌∷◌, ◌&&◌, ◌<◌, ◌^◌, ℕ, [], IsTrue, Some, is_some, length, not, vec_len, vec_capacity};
+ghost use Rattle.std.specs.Prelude.{◌≡◌, ◌++◌, ◌∷◌, ◌&&◌, ◌<◌, ◌^◌, ℕ, [], IsTrue, Some, is_some, not};
 ghost use Rattle.std.specs.List.{position};
-ghost use Rattle.std.specs.Option.{option_map, option_map_or};
+ghost use Rattle.std.specs.Option.{option_map_or};
 ghost use Rattle.std.specs.Str.{bytes_eq};
 ghost use Rattle.assessment.specs.TopicsFacts.{at_place};
-ghost use Rattle.rulebook.specs.declared.limits.TheConstants.{MAX_ENTRIES};
-ghost use Rattle.rulebook.specs.Answers.{run_refusals};
 ghost use Rattle.rulebook.specs.Campaign.{is_taken, line_count as lines_of, run_in, runs};
-ghost use Rattle.rulebook.specs.Legal.{IsAccepted};
 ghost use Rattle.rulebook.specs.Roles.{is_group};
 ghost use Rattle.rulebook.specs.Scores.{is_submitter, submits};
 ghost use Rattle.campaign_core.specs.Growth.{lists_in};
-ghost use Rattle.campaign_core.specs.Leasing.{first_refusal};
-ghost use Rattle.campaign_core.specs.Submissions.{AreSubmissions, RunsAreKnown, is_submitted_by, submissions_with, withdrawn, withdrawn_in};
+ghost use Rattle.campaign_core.specs.Submissions.{AreSubmissions, IsRunAsked, MayNote, is_submitted_by, withdrawn};
 
+use decimal_rank::Text;
 use rulebook::{Caller, Command, Entry, Refusal, Role};
 use trec_formats::TopicList;
 
@@ -46,16 +43,6 @@ pub(crate) fn lists_of(command: &Command) -> &[TopicList]
     lists.items()
 }
 
-/// The name of the run that a command withdraws.
-fn withdrawn_run(command: &Command) -> Option<&[u8]>
-    ensures { option_map (λ name. name.now) result ≡ withdrawn_in command.now }
-{
-    let Command::Withdraw { run } = command else {
-        return None;
-    };
-    Some(run.bytes())
-}
-
 fn submits(entry: &Entry, name: &[u8]) -> bool
     ensures { result ≡ submits name.now entry.now }
 {
@@ -82,33 +69,26 @@ pub(crate) fn run_number(
     None
 }
 
-/// Whether a run of this name was ever submitted.
-pub(crate) fn is_taken(history: &[Entry], submissions: &[Submission], name: &[u8]) -> bool
-    requires { AreSubmissions history.now submissions.now }
-    ensures { result ≡ is_taken history.now name.now }
-{
-    run_number(history, submissions, name).is_some()
-}
-
-/// Why a caller has no part in the run of this name and of this number.
-pub(crate) fn run_refusal(
+/// The number of the run of this name, or why a caller has no part in it.
+pub(crate) fn run_asked(
     history: &[Entry],
     submissions: &[Submission],
     who: &Caller,
-    name: &[u8],
-    number: usize,
-) -> Option<Refusal>
-    requires submissions { AreSubmissions history.now submissions.now }
-    requires number { Some number ≡ position (λ run. bytes_eq run.name name.now) (runs history.now) }
-    ensures { result ≡ first_refusal (run_refusals history.now who.now name.now) }
+    name: &Text,
+) -> Result<usize, Refusal>
+    requires { AreSubmissions history.now submissions.now }
+    ensures { IsRunAsked history.now who.now name.now result }
 {
+    let Some(number) = run_number(history, submissions, name.bytes()) else {
+        return Err(Refusal::UnknownRun);
+    };
     if is_another_group(history, submissions, who, name) {
-        return Some(Refusal::NotYours);
+        return Err(Refusal::NotYours);
     }
     if submissions[number].is_withdrawn {
-        return Some(Refusal::Withdrawn);
+        return Err(Refusal::Withdrawn);
     }
-    None
+    Ok(number)
 }
 
 /// Whether a caller is a group, and not the one that submitted the run of this name.
@@ -116,31 +96,26 @@ fn is_another_group(
     history: &[Entry],
     submissions: &[Submission],
     who: &Caller,
-    name: &[u8],
+    name: &Text,
 ) -> bool
     requires { AreSubmissions history.now submissions.now }
     ensures { result ≡ (is_group who.now.role && not (is_submitter history.now who.now.name name.now)) }
 {
-    matches!(who.role, Role::Group) && !is_submitter(history, submissions, who.name.bytes(), name)
-}
-
-/// Whether a caller of this name submitted the run of this name.
-fn is_submitter(history: &[Entry], submissions: &[Submission], caller: &[u8], name: &[u8]) -> bool
-    requires { AreSubmissions history.now submissions.now }
-    ensures { result ≡ is_submitter history.now caller.now name.now }
-{
+    let Role::Group = who.role else {
+        return false;
+    };
     for submission in submissions {
-        if is_submitted_by(&history[submission.place as usize], caller, name) {
-            return true;
+        if is_submitted_by(&history[submission.place as usize], &who.name, name) {
+            return false;
         }
     }
-    false
+    true
 }
 
-fn is_submitted_by(entry: &Entry, caller: &[u8], name: &[u8]) -> bool
+fn is_submitted_by(entry: &Entry, caller: &Text, name: &Text) -> bool
     ensures { result ≡ is_submitted_by caller.now name.now entry.now }
 {
-    submits(entry, name) && entry.core.caller.name.bytes() == caller
+    submits(entry, name.bytes()) && entry.core.caller.name.bytes() == caller.bytes()
 }
 
 /// How many lines a run has.
@@ -156,16 +131,17 @@ pub(crate) fn line_count(lists: &[TopicList]) -> u64
 
 /// Notes a run that an entry submits, or that it withdraws. The entry is the next of the history.
 pub(crate) fn note_run(history: &[Entry], submissions: &mut Vec<Submission>, entry: &Entry)
-    requires submissions { AreSubmissions history.now submissions.old.items }
-    requires room { vec_len submissions.old < vec_capacity submissions.old }
-    requires known { RunsAreKnown history.now }
-    requires accepted { IsAccepted history.now entry.now }
-    requires few { length history.now < MAX_ENTRIES }
+    requires { MayNote history.now submissions.old entry.now }
     ensures { AreSubmissions (history.now ++ entry.now ∷ []) submissions.new.items }
 {
-    match withdrawn_run(&entry.core.command) {
-        Some(name) => mark_withdrawn(history, submissions, name),
-        None => add_submission(submissions, &entry.core.command, history.len() as u32),
+    let command = &entry.core.command;
+    if let Command::Withdraw { run } = command {
+        mark_withdrawn(history, submissions, run.bytes());
+    } else if submits_run(command) {
+        submissions.push_reserved(Submission {
+            place: history.len() as u32,
+            is_withdrawn: false,
+        });
     }
 }
 
@@ -178,19 +154,6 @@ fn mark_withdrawn(history: &[Entry], submissions: &mut [Submission], name: &[u8]
 {
     let number = run_number(history, submissions, name).unwrap();
     submissions[number].is_withdrawn = true;
-}
-
-/// Adds the place of an entry whose command submits a run.
-fn add_submission(submissions: &mut Vec<Submission>, command: &Command, place: u32)
-    requires { vec_len submissions.old < vec_capacity submissions.old }
-    ensures { submissions.new.items ≡ submissions_with command.now place submissions.old.items }
-{
-    if submits_run(command) {
-        submissions.push_reserved(Submission {
-            place,
-            is_withdrawn: false,
-        });
-    }
 }
 
 fn submits_run(command: &Command) -> bool

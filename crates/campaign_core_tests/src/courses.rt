@@ -1,74 +1,65 @@
 //! Courses of a campaign, compared with the plain walk.
-ghost use Rattle.std.specs.Prelude.{◌<◌, ◌≤◌};
-
-use crate::collecting::{opened, submitted, topics};
-use crate::plain_walk::{Plain, granted, plainly_told, ranking};
-use crate::requests::{O, Page, Request, Setting, Told, asked, founded, letter_or_a};
+use crate::campaigns::{Setting, founded};
+use crate::plain_walk::{Plain, plainly_told, ranking};
+use crate::requests::{Door, asked_of, told};
 use campaign_core::State;
-use decimal_rank::Memory;
+use rand_core::Rng;
+use rand_pcg::Pcg32;
 use std::alloc::Global;
+use std::process::Abort;
 use std::test::Fail;
 
-// A fixed sequence of numbers.
-#[derive(Drop)]
-struct Dice(u64);
-
-impl Dice {
-    fn below(&mut self, sides: u32) -> u32
-        requires { 0 < sides }
-        ensures { result < sides }
-    {
-        self.0 = self
-            .0
-            .wrapping_mul(6364136223846793005)
-            .wrapping_add(1442695040888963407);
-        ((self.0 >> 33) % u64::from(sides)) as u32
+// A setting whose runs, documents and leases are few.
+fn thrown_setting(dice: &mut Pcg32) -> Setting {
+    Setting {
+        depth: (dice.next_u32() % 6) as u16 + 1,
+        hold: (dice.next_u32() % 3) as u8 + 1,
+        labels: (dice.next_u32() % 2) as usize + 1,
     }
 }
 
-// A setting whose runs, documents and leases are few.
-fn thrown_setting(dice: &mut Dice) -> Setting
-    ensures low_depth { 1 ≤ result.depth }
-    ensures high_depth { result.depth ≤ 1000 }
-    ensures low_hold { 1 ≤ result.hold }
-    ensures high_hold { result.hold ≤ 50 }
-{
-    Setting {
-        depth: dice.below(6) as u16 + 1,
-        hold: dice.below(3) as u8 + 1,
-        is_double: dice.below(2) == 0,
-    }
+// What a line is told at a campaign.
+fn answer(alloc: Global, state: &mut State, door: &Door, line: &str) -> Result<String, Fail> {
+    told(alloc, state, door, &asked_of(line)?)
 }
 
 // Submits up to four runs and opens the campaign. Tells its plain lists.
 fn judging_begun(
     alloc: Global,
     state: &mut State,
-    dice: &mut Dice,
+    door: &Door,
+    dice: &mut Pcg32,
     setting: Setting,
-) -> Result<Plain, Memory> {
-    topics(alloc, state)?;
+) -> Result<Plain, Fail> {
+    answer(alloc, state, door, "org 1000 topics")?;
     let mut runs = Vec::new(alloc);
-    for run in 0..dice.below(5) {
-        let ranked = dice.below(10);
-        let name = letter_or_a(b'a'.saturating_add(run as u8));
-        submitted(alloc, state, &[name], ranking(ranked))?;
+    for run in 0..dice.next_u32() % 5 {
+        let ranked = dice.next_u32() % 10;
+        let name = letter(b'a', run);
+        let docs = ranking(ranked);
+        let line = format!(in alloc; "grp 1000 submit {name} {docs}")?;
+        answer(alloc, state, door, line.as_str())?;
         runs.push(ranked)?;
     }
-    opened(alloc, state)?;
+    answer(alloc, state, door, "org 1000 open")?;
     Ok(Plain::opened(alloc, setting, runs))
 }
 
+// The letter so many behind another.
+fn letter(first: u8, place: u32) -> char {
+    char::from(first.saturating_add((place % 26) as u8))
+}
+
 // A document with a label, mostly.
-fn thrown_doc(dice: &mut Dice, plain: &Plain) -> u8 {
-    let any = b'a' + dice.below(9) as u8;
-    let place = dice.below(12) as usize;
-    plain.labelled(place).unwrap_or(any)
+fn thrown_doc(dice: &mut Pcg32, plain: &Plain) -> char {
+    let any = letter(b'a', dice.next_u32() % 9);
+    let place = (dice.next_u32() % 12) as usize;
+    plain.labelled(place).map_or(any, char::from)
 }
 
 // 0 or 1, mostly.
-fn thrown_grade(dice: &mut Dice) -> u8 {
-    match dice.below(10) {
+fn thrown_grade(dice: &mut Pcg32) -> u8 {
+    match dice.next_u32() % 10 {
         0..=3 => 0,
         4..=7 => 1,
         8 => 3,
@@ -76,71 +67,114 @@ fn thrown_grade(dice: &mut Dice) -> u8 {
     }
 }
 
-// Who asks what next. A lease is mostly graded by its own assessor.
-fn thrown(dice: &mut Dice, plain: &Plain) -> (u8, Request) {
-    let assessor = b'p' + dice.below(3) as u8;
-    let number = granted(plain).saturating_sub(dice.below(4));
-    let holder = plain.holder(number).unwrap_or(assessor);
+// What is asked next, at a moment.
+fn thrown(alloc: Global, dice: &mut Pcg32, plain: &Plain, moment: u64) -> Result<String, Fail> {
+    match dice.next_u32() % 28 {
+        0..=15 => thrown_lease(alloc, dice, plain, moment),
+        16..=20 => thrown_change(alloc, dice, plain, moment),
+        _ => thrown_page(alloc, dice, moment),
+    }
+}
+
+// A lease is asked for, or is ended, mostly by its own assessor.
+fn thrown_lease(
+    alloc: Global,
+    dice: &mut Pcg32,
+    plain: &Plain,
+    moment: u64,
+) -> Result<String, Fail> {
+    let assessor = letter(b'p', dice.next_u32() % 3);
+    let number = plain.lease_count().saturating_sub(dice.next_u32() % 4);
+    let holder = plain.holder(number).map_or(assessor, char::from);
+    let words = match dice.next_u32() % 16 {
+        0..=5 => "lease 1",
+        6 => "lease 2",
+        7 => "cancel lease 1",
+        8 => return Ok(format!(in alloc; "{holder} {moment} release {number}")?),
+        throw => {
+            let holder = if throw == 9 { assessor } else { holder };
+            let grade = thrown_grade(dice);
+            return Ok(format!(in alloc; "{holder} {moment} grade {number} {grade}")?);
+        }
+    };
+    Ok(format!(in alloc; "{assessor} {moment} {words}")?)
+}
+
+// A label that changes, a ruling, or a run that is withdrawn.
+fn thrown_change(
+    alloc: Global,
+    dice: &mut Pcg32,
+    plain: &Plain,
+    moment: u64,
+) -> Result<String, Fail> {
+    let throw = dice.next_u32() % 10;
+    if throw == 0 {
+        let run = letter(b'a', dice.next_u32() % 5);
+        return Ok(format!(in alloc; "org {moment} withdraw {run}")?);
+    }
+    let doc = thrown_doc(dice, plain);
     let grade = thrown_grade(dice);
-    match dice.below(28) {
-        0..=6 => (assessor, Request::Lease(b'1')),
-        7..=11 => (holder, Request::Grade(number, grade)),
-        12 => (assessor, Request::Grade(dice.below(9), grade)),
-        13 => (holder, Request::Release(number)),
-        14 => (assessor, Request::Lease(b'2')),
-        15 => (assessor, Request::CancelledLease),
-        16..=18 => (assessor, Request::Amend(thrown_doc(dice, plain), grade)),
-        19 => (O, Request::Rule(thrown_doc(dice, plain), grade)),
-        20 => (O, Request::Page(Page::Qrels)),
-        21 => (O, Request::Page(Page::Disagreements)),
-        22 | 23 => (O, Request::Scores(letter_or_a(b'a' + dice.below(5) as u8))),
-        24 => (O, Request::Table),
-        25 => (O, Request::ReleaseQrels(dice.below(2))),
-        26 => (O, thrown_withdrawal(dice)),
-        _ => (O, Request::Page(Page::Progress)),
+    if throw < 3 {
+        return Ok(format!(in alloc; "org {moment} rule {doc} {grade}")?);
     }
+    let assessor = letter(b'p', dice.next_u32() % 3);
+    Ok(format!(in alloc; "{assessor} {moment} amend {doc} {grade}")?)
 }
 
-// A withdrawal now and then, of a run or of none, and else a table.
-fn thrown_withdrawal(dice: &mut Dice) -> Request {
-    if dice.below(2) == 0 {
-        return Request::Withdraw(letter_or_a(b'a' + dice.below(5) as u8));
-    }
-    Request::Table
+// A page of the organiser's.
+fn thrown_page(alloc: Global, dice: &mut Pcg32, moment: u64) -> Result<String, Fail> {
+    let page = match dice.next_u32() % 8 {
+        0 => "qrels",
+        1 => "disagreements",
+        2 => "progress",
+        3 => "release-qrels 0",
+        4 => "release-qrels 1",
+        5 => "table",
+        _ => {
+            let run = letter(b'a', dice.next_u32() % 5);
+            return Ok(format!(in alloc; "org {moment} scores {run}")?);
+        }
+    };
+    Ok(format!(in alloc; "org {moment} {page}")?)
 }
 
-// Plays a course, and tells its first reply that the plain lists don't want.
-fn first_departure(
+// Plays a course, whose requests have to be told what the plain lists want.
+fn play_course(
+    rt: &impl Abort,
     alloc: Global,
     state: &mut State,
-    dice: &mut Dice,
+    door: &Door,
+    dice: &mut Pcg32,
     setting: Setting,
-) -> Result<Option<(Told, Told)>, Memory> {
-    let mut plain = judging_begun(alloc, state, dice, setting)?;
+) -> Result<(), Fail> {
+    let mut plain = judging_begun(alloc, state, door, dice, setting)?;
     for step in 0..60 {
-        let (name, request) = thrown(dice, &plain);
-        let moment = 700 + step * 60 + u64::from(dice.below(500));
-        let wanted = plainly_told(&mut plain, name, request, moment)?;
-        let told = asked(alloc, state, name, request, moment)?;
-        if told != wanted {
-            return Ok(Some((told, wanted)));
-        }
+        let moment = 700 + step * 60 + u64::from(dice.next_u32() % 500);
+        let line = thrown(alloc, dice, &plain, moment)?;
+        let asked = asked_of(line.as_str())?;
+        let wanted = plainly_told(&mut plain, &asked)?;
+        let told = told(alloc, state, door, &asked)?;
+        assert!(rt;
+            told.as_str() == wanted.as_str(),
+            "{line}: {told}, {wanted}"
+        );
     }
-    Ok(None)
+    Ok(())
 }
 
-fn first_departure_of_next(alloc: Global, dice: &mut Dice) -> Result<Option<(Told, Told)>, Memory> {
+fn play_next(rt: &impl Abort, alloc: Global, door: &Door, dice: &mut Pcg32) -> Result<(), Fail> {
     let setting = thrown_setting(dice);
     let mut state = founded(alloc, setting)?;
-    first_departure(alloc, &mut state, dice, setting)
+    play_course(rt, alloc, &mut state, door, dice, setting)
 }
 
 #[test]
 fn courses_go_as_a_plain_walk_over_them_tells(rt: HostRuntime) -> Result<(), Fail> {
     let alloc = rt.alloc();
-    let mut dice = Dice(7);
+    let door = Door::new(alloc)?;
+    let mut dice = Pcg32::new(7, 0);
     for _ in 0..200 {
-        assert_eq!(rt; first_departure_of_next(alloc, &mut dice)?, None);
+        play_next(&rt, alloc, &door, &mut dice)?;
     }
     Ok(())
 }

@@ -1,179 +1,114 @@
 //! Leases and their ends, and who is given which document.
-use crate::requests::{
-    DOUBLE, LEASE, O, P, Q, R, Request, SINGLE, Setting, Start, Step, Told, graded, leased, played,
-    refused,
-};
-use rulebook::{Phase, Refusal};
+use crate::campaigns::play_cases;
 use std::test::Fail;
 
-#[test]
-fn the_next_document_is_of_the_first_run_with_an_open_one(rt: HostRuntime) -> Result<(), Fail> {
-    let alloc = rt.alloc();
-    let steps = [
-        (P, 1000, LEASE, leased(1, b'a', 1600)),
-        (P, 1000, Request::Grade(1, 0), graded(b'a', 0)),
-        (P, 1000, LEASE, leased(2, b'c', 1600)),
-        (Q, 1000, LEASE, leased(3, b'd', 1600)),
-    ];
-    assert_eq!(rt; played(alloc, SINGLE, Start::TwoRuns, &steps)?, (None, 9));
-    Ok(())
-}
+const CASES: &str = "\
+the next document is of the first run with an open one: two-runs 3 2 1
+p 1000 lease 1 -> leased 1 a 1600
+p 1000 grade 1 0 -> graded a 0
+p 1000 lease 1 -> leased 2 c 1600
+q 1000 lease 1 -> leased 3 d 1600
+entries -> 9
+
+a lease ends at its moment: two-runs 3 2 1
+p 1000 lease 1 -> leased 1 a 1600
+p 1600 grade 1 0 -> refused Expired { until: 1600 }
+q 1600 lease 1 -> leased 2 a 2200
+q 900 release 2 -> done 1600
+q 900 lease 1 -> leased 3 a 2200
+entries -> 9
+
+a lease is graded up to its last second: two-runs 3 2 1
+p 1000 lease 1 -> leased 1 a 1600
+p 1599 grade 1 0 -> graded a 0
+entries -> 7
+
+no more leases than the hold: two-runs 3 1 1
+p 1000 lease 1 -> leased 1 a 1600
+p 1000 lease 1 -> refused TooMany { live: 1 }
+q 1000 lease 1 -> leased 2 b 1600
+q 1000 release 2 -> done 1000
+q 1000 lease 1 -> leased 3 b 1600
+p 1599 lease 1 -> refused TooMany { live: 1 }
+p 1600 lease 1 -> leased 4 a 2200
+entries -> 10
+
+refusals come in their order: two-runs 3 2 1
+p 1000 lease 1 -> leased 1 a 1600
+q 1000 grade 1 1 -> refused NotYours
+q 1000 release 1 -> refused NotYours
+p 1000 grade 1 4 -> refused GradeRange
+p 1000 grade 1 1 -> graded a 1
+p 1000 grade 1 1 -> refused Ended
+p 1000 grade 9 1 -> refused UnknownLease
+p 1000 release 0 -> refused UnknownLease
+p 1000 lease 9 -> refused UnknownTopic
+p 1000 lease 1 -> leased 2 b 1600
+q 1600 grade 2 4 -> refused NotYours
+p 1600 release 1 -> refused Ended
+p 1600 grade 2 4 -> refused Expired { until: 1600 }
+p 1600 release 2 -> refused Expired { until: 1600 }
+entries -> 8
+
+nothing is judged before the opening: topic 3 2 1
+p 1000 lease 9 -> refused WrongPhase { phase: Collecting }
+p 1000 grade 1 9 -> refused WrongPhase { phase: Collecting }
+p 1000 release 1 -> refused WrongPhase { phase: Collecting }
+p 1000 amend a 9 -> refused WrongPhase { phase: Collecting }
+org 1000 rule a 9 -> refused WrongPhase { phase: Collecting }
+entries -> 2
+
+all documents are graded as they are named: judged 3 2 1
+p 1000 lease 1 -> refused NothingLeft
+entries -> 17
+
+two labels are of two assessors: two-runs 3 2 2
+p 1000 lease 1 -> leased 1 a 1600
+p 1000 lease 1 -> leased 2 b 1600
+q 1000 lease 1 -> leased 3 a 1600
+r 1000 lease 1 -> leased 4 b 1600
+p 1000 grade 1 1 -> graded a 1
+p 1000 lease 1 -> leased 5 e 1600
+entries -> 11
+
+two labels that agree on 1 are a grade: two-runs 3 2 2
+p 1000 lease 1 -> leased 1 a 1600
+q 1000 lease 1 -> leased 2 a 1600
+p 1000 grade 1 1 -> graded a 1
+q 1000 grade 2 1 -> graded a 1
+r 1000 lease 1 -> leased 3 b 1600
+entries -> 10
+
+two labels of 1 and 2 leave the order: two-runs 3 2 2
+p 1000 lease 1 -> leased 1 a 1600
+q 1000 lease 1 -> leased 2 a 1600
+p 1000 grade 1 1 -> graded a 1
+q 1000 grade 2 2 -> graded a 2
+r 1000 lease 1 -> leased 3 b 1600
+entries -> 10
+
+two labels that agree on 0 put the run behind the other: two-runs 3 2 2
+p 1000 lease 1 -> leased 1 a 1600
+q 1000 lease 1 -> leased 2 a 1600
+p 1000 grade 1 0 -> graded a 0
+q 1000 grade 2 0 -> graded a 0
+r 1000 lease 1 -> leased 3 c 1600
+entries -> 10
+
+two labels of 0 and 1 leave the order: two-runs 3 2 2
+p 1000 lease 1 -> leased 1 a 1600
+q 1000 lease 1 -> leased 2 a 1600
+p 1000 grade 1 0 -> graded a 0
+q 1000 grade 2 1 -> graded a 1
+r 1000 lease 1 -> leased 3 b 1600
+entries -> 10
+
+a cancelled lease leaves nothing: two-runs 3 2 1
+p 1000 cancel lease 1 -> cancelled 1000
+q 1000 lease 1 -> leased 1 a 1600
+entries -> 6";
 
 #[test]
-fn a_lease_ends_at_its_moment(rt: HostRuntime) -> Result<(), Fail> {
-    let alloc = rt.alloc();
-    let expired = refused(Refusal::Expired { until: 1600 });
-    let steps = [
-        (P, 1000, LEASE, leased(1, b'a', 1600)),
-        (P, 1600, Request::Grade(1, 0), expired),
-        (Q, 1600, LEASE, leased(2, b'a', 2200)),
-        (Q, 900, Request::Release(2), Told::Done(1600)),
-        (Q, 900, LEASE, leased(3, b'a', 2200)),
-    ];
-    assert_eq!(rt; played(alloc, SINGLE, Start::TwoRuns, &steps)?, (None, 9));
-    Ok(())
-}
-
-#[test]
-fn a_lease_is_graded_up_to_its_last_second(rt: HostRuntime) -> Result<(), Fail> {
-    let alloc = rt.alloc();
-    let steps = [
-        (P, 1000, LEASE, leased(1, b'a', 1600)),
-        (P, 1599, Request::Grade(1, 0), graded(b'a', 0)),
-    ];
-    assert_eq!(rt; played(alloc, SINGLE, Start::TwoRuns, &steps)?, (None, 7));
-    Ok(())
-}
-
-#[test]
-fn no_more_leases_than_the_hold(rt: HostRuntime) -> Result<(), Fail> {
-    let alloc = rt.alloc();
-    let setting = Setting { hold: 1, ..SINGLE };
-    let full = refused(Refusal::TooMany { live: 1 });
-    let steps = [
-        (P, 1000, LEASE, leased(1, b'a', 1600)),
-        (P, 1000, LEASE, full),
-        (Q, 1000, LEASE, leased(2, b'b', 1600)),
-        (Q, 1000, Request::Release(2), Told::Done(1000)),
-        (Q, 1000, LEASE, leased(3, b'b', 1600)),
-        (P, 1599, LEASE, full),
-        (P, 1600, LEASE, leased(4, b'a', 2200)),
-    ];
-    assert_eq!(rt; played(alloc, setting, Start::TwoRuns, &steps)?, (None, 10));
-    Ok(())
-}
-
-#[test]
-fn refusals_come_in_their_order(rt: HostRuntime) -> Result<(), Fail> {
-    let alloc = rt.alloc();
-    let expired = refused(Refusal::Expired { until: 1600 });
-    let unknown = refused(Refusal::UnknownLease);
-    let steps = [
-        (P, 1000, LEASE, leased(1, b'a', 1600)),
-        (Q, 1000, Request::Grade(1, 1), refused(Refusal::NotYours)),
-        (Q, 1000, Request::Release(1), refused(Refusal::NotYours)),
-        (P, 1000, Request::Grade(1, 4), refused(Refusal::GradeRange)),
-        (P, 1000, Request::Grade(1, 1), graded(b'a', 1)),
-        (P, 1000, Request::Grade(1, 1), refused(Refusal::Ended)),
-        (P, 1000, Request::Grade(9, 1), unknown),
-        (P, 1000, Request::Release(0), unknown),
-        (
-            P,
-            1000,
-            Request::Lease(b'9'),
-            refused(Refusal::UnknownTopic),
-        ),
-        (P, 1000, LEASE, leased(2, b'b', 1600)),
-        (Q, 1600, Request::Grade(2, 4), refused(Refusal::NotYours)),
-        (P, 1600, Request::Release(1), refused(Refusal::Ended)),
-        (P, 1600, Request::Grade(2, 4), expired),
-        (P, 1600, Request::Release(2), expired),
-    ];
-    assert_eq!(rt; played(alloc, SINGLE, Start::TwoRuns, &steps)?, (None, 8));
-    Ok(())
-}
-
-#[test]
-fn nothing_is_judged_before_the_opening(rt: HostRuntime) -> Result<(), Fail> {
-    let alloc = rt.alloc();
-    let phase = Phase::Collecting;
-    let closed = refused(Refusal::WrongPhase { phase });
-    let steps = [
-        (P, 1000, Request::Lease(b'9'), closed),
-        (P, 1000, Request::Grade(1, 9), closed),
-        (P, 1000, Request::Release(1), closed),
-        (P, 1000, Request::Amend(b'a', 9), closed),
-        (O, 1000, Request::Rule(b'a', 9), closed),
-    ];
-    assert_eq!(rt; played(alloc, SINGLE, Start::Topic, &steps)?, (None, 2));
-    Ok(())
-}
-
-#[test]
-fn all_documents_are_graded_in_the_order_of_their_names(rt: HostRuntime) -> Result<(), Fail> {
-    let alloc = rt.alloc();
-    let mut steps: Vec<Step> = Vec::new(alloc);
-    let docs = [
-        (1, b'a', 0),
-        (2, b'c', 1),
-        (3, b'd', 0),
-        (4, b'b', 1),
-        (5, b'e', 0),
-        (6, b'f', 2),
-    ];
-    for (lease, doc, grade) in docs {
-        steps.push((P, 1000, LEASE, leased(lease, doc, 1600)))?;
-        steps.push((P, 1000, Request::Grade(lease, grade), graded(doc, grade)))?;
-    }
-    steps.push((P, 1000, LEASE, refused(Refusal::NothingLeft)))?;
-    assert_eq!(rt;
-        played(alloc, SINGLE, Start::TwoRuns, steps.as_slice())?,
-        (None, 17)
-    );
-    Ok(())
-}
-
-#[test]
-fn two_labels_are_of_two_assessors(rt: HostRuntime) -> Result<(), Fail> {
-    let alloc = rt.alloc();
-    let steps = [
-        (P, 1000, LEASE, leased(1, b'a', 1600)),
-        (P, 1000, LEASE, leased(2, b'b', 1600)),
-        (Q, 1000, LEASE, leased(3, b'a', 1600)),
-        (R, 1000, LEASE, leased(4, b'b', 1600)),
-        (P, 1000, Request::Grade(1, 1), graded(b'a', 1)),
-        (P, 1000, LEASE, leased(5, b'e', 1600)),
-    ];
-    assert_eq!(rt; played(alloc, DOUBLE, Start::TwoRuns, &steps)?, (None, 11));
-    Ok(())
-}
-
-// The documents of X and Y are open to nobody once two labels stand, and X comes after Y once the
-// two agree that its document isn't relevant.
-#[test]
-fn two_labels_are_a_grade_where_they_agree(rt: HostRuntime) -> Result<(), Fail> {
-    let alloc = rt.alloc();
-    let cases = [(1, 1, b'b'), (1, 2, b'b'), (0, 0, b'c'), (0, 1, b'b')];
-    for (first, second, next) in cases {
-        let steps = [
-            (P, 1000, LEASE, leased(1, b'a', 1600)),
-            (Q, 1000, LEASE, leased(2, b'a', 1600)),
-            (P, 1000, Request::Grade(1, first), graded(b'a', first)),
-            (Q, 1000, Request::Grade(2, second), graded(b'a', second)),
-            (R, 1000, LEASE, leased(3, next, 1600)),
-        ];
-        assert_eq!(rt; played(alloc, DOUBLE, Start::TwoRuns, &steps)?, (None, 10));
-    }
-    Ok(())
-}
-
-#[test]
-fn a_cancelled_lease_leaves_nothing(rt: HostRuntime) -> Result<(), Fail> {
-    let alloc = rt.alloc();
-    let steps = [
-        (P, 1000, Request::CancelledLease, Told::Cancelled),
-        (Q, 1000, LEASE, leased(1, b'a', 1600)),
-    ];
-    assert_eq!(rt; played(alloc, SINGLE, Start::TwoRuns, &steps)?, (None, 6));
-    Ok(())
+fn leases_and_their_ends(rt: HostRuntime) -> Result<(), Fail> {
+    play_cases(&rt, rt.alloc(), CASES)
 }

@@ -5,6 +5,8 @@
 #[cfg(test)]
 mod amendments;
 #[cfg(test)]
+mod campaigns;
+#[cfg(test)]
 mod collecting;
 #[cfg(test)]
 mod courses;

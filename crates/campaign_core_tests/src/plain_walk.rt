@@ -1,20 +1,15 @@
-//! The plain walk over what happened in a campaign, which its replies are compared with.
-ghost use Rattle.std.specs.Prelude.{◌≡◌, ℕ, ◌∷◌, [], map, None, IfOk, IfSome, IsTrue, codes, count_by};
+//! The plain walk over what happened in a campaign, which its answers are compared with.
+ghost use Rattle.std.specs.Prelude.{IfOk, IfSome};
 ghost use Rattle.measures.specs.Cells.{IsSound};
-ghost use Rattle.measures.specs.Grades.{is_non_relevant, is_relevant};
-ghost use Rattle.rulebook.specs.declared.ask.Ask.TheVariants.{Act};
-ghost use Rattle.rulebook.specs.declared.ask.Command.TheVariants.{Submit};
-ghost use Rattle.rulebook.specs.declared.rules.Role.TheVariants.{Group};
-ghost use Rattle.rulebook.specs.declared.rules.Caller.{Caller};
-ghost use Rattle.rulebook.specs.Legal.{is_well_addressed};
-ghost use Rattle.trec_formats.specs.declared.TopicList.{TopicList};
-ghost use Rattle.trec_formats.specs.Names.{is_name};
 
-use crate::requests::{Page, Request, Setting, Told, printed};
-use decimal_rank::{Memory, is_non_relevant, is_relevant};
-use measures::{Cell, mean, scratch, write_cell, write_summary};
+use crate::campaigns::Setting;
+use crate::requests::{Asked, page, refused};
+use decimal_rank::Memory;
+use judging_tests::plain_cell;
+use measures::{Cell, mean, write_cell, write_summary};
 use rulebook::Refusal;
 use std::alloc::Global;
+use std::test::Fail;
 
 // A lease as a plain list keeps it.
 #[derive(Clone, Copy)]
@@ -75,6 +70,11 @@ impl Plain {
         }
     }
 
+    /// How many leases were granted.
+    pub(crate) fn lease_count(&self) -> u32 {
+        u32::try_from(self.leases.len()).unwrap_or(u32::MAX)
+    }
+
     /// Whom the lease of a number was granted to.
     pub(crate) fn holder(&self, number: u32) -> Option<u8> {
         let place = number.checked_sub(1)?;
@@ -88,41 +88,30 @@ impl Plain {
 }
 
 /// Documents of one letter, by rank.
-pub(crate) fn ranking(number: u32) -> &'static [u8]
-    ensures { (name : ℕ) → IsTrue (is_name (name ∷ [])) →
-        let group : Caller = record { name = codes "grp"; role = Group } in
-        let docs = map (λ doc. doc ∷ []) result.now in
-        let list : TopicList = record { topic = codes "1"; line = 1; docs = docs } in
-        IsTrue (is_well_addressed group None (Act (Submit (name ∷ []) (list ∷ []))) 1000) }
-{
+pub(crate) fn ranking(number: u32) -> &'static str {
     match number {
-        0 => b"abcdefgh",
-        1 => b"hgfedcba",
-        2 => b"cadbe",
-        3 => b"bdfh",
-        4 => b"eca",
-        5 => b"g",
-        6 => b"fbdhac",
-        7 => b"dghe",
-        8 => b"hab",
-        _ => b"acegbdfh",
+        0 => "abcdefgh",
+        1 => "hgfedcba",
+        2 => "cadbe",
+        3 => "bdfh",
+        4 => "eca",
+        5 => "g",
+        6 => "fbdhac",
+        7 => "dghe",
+        8 => "hab",
+        _ => "acegbdfh",
     }
 }
 
 fn holds(plain: &Plain, ranked: u32, doc: u8) -> bool {
     let mut place = 0;
-    for other in ranking(ranked) {
+    for other in ranking(ranked).as_bytes() {
         if *other == doc && place < plain.setting.depth {
             return true;
         }
         place = place.saturating_add(1);
     }
     false
-}
-
-// How many labels a document needs.
-fn need(plain: &Plain) -> usize {
-    if plain.setting.is_double { 2 } else { 1 }
 }
 
 fn ruling(plain: &Plain, doc: u8) -> Option<u8> {
@@ -149,7 +138,11 @@ fn common_grade(plain: &Plain, doc: u8) -> Option<u8> {
             count = count.saturating_add(1);
         }
     }
-    if count == need(plain) { common } else { None }
+    if count == plain.setting.labels {
+        common
+    } else {
+        None
+    }
 }
 
 fn effective_grade(plain: &Plain, doc: u8) -> Option<u8> {
@@ -178,11 +171,6 @@ fn takes_part(plain: &Plain, run: usize) -> bool {
 
 fn is_live(lease: &PlainLease, now: u64) -> bool {
     !lease.is_ended && now < lease.until
-}
-
-/// How many leases were granted.
-pub(crate) fn granted(plain: &Plain) -> u32 {
-    u32::try_from(plain.leases.len()).unwrap_or(u32::MAX)
 }
 
 // How many leases of an assessor are live.
@@ -214,11 +202,11 @@ fn is_open(plain: &Plain, assessor: u8, doc: u8, now: u64) -> bool {
             }
         }
     }
-    taken < need(plain) && effective_grade(plain, doc).is_none()
+    taken < plain.setting.labels && effective_grade(plain, doc).is_none()
 }
 
 fn first_open(plain: &Plain, ranked: u32, assessor: u8, now: u64) -> Option<u8> {
-    for doc in ranking(ranked) {
+    for doc in ranking(ranked).as_bytes() {
         if holds(plain, ranked, *doc) && is_open(plain, assessor, *doc, now) {
             return Some(*doc);
         }
@@ -261,11 +249,27 @@ fn leasable(plain: &Plain, assessor: u8, now: u64) -> Result<u8, Refusal> {
     named(plain, assessor, now).ok_or(Refusal::NothingLeft)
 }
 
-fn plainly_leased(plain: &mut Plain, assessor: u8, now: u64) -> Result<Told, Memory> {
-    let doc = match leasable(plain, assessor, now) {
-        Err(refusal) => return Ok(Told::Refused(refusal)),
-        Ok(doc) => doc,
-    };
+fn plainly_leased(
+    plain: &mut Plain,
+    assessor: u8,
+    topic: u8,
+    is_kept: bool,
+    now: u64,
+) -> Result<String, Fail> {
+    let alloc = *plain.runs.allocator();
+    if topic != b'1' {
+        return refused(alloc, Refusal::UnknownTopic);
+    }
+    match leasable(plain, assessor, now) {
+        Err(refusal) => refused(alloc, refusal),
+        Ok(doc) if is_kept => granted(plain, assessor, doc, now),
+        Ok(_) => Ok(format!(in alloc; "cancelled {now}")?),
+    }
+}
+
+// Grants a lease.
+fn granted(plain: &mut Plain, assessor: u8, doc: u8, now: u64) -> Result<String, Fail> {
+    let alloc = *plain.runs.allocator();
     let until = now.saturating_add(600);
     plain.leases.push(PlainLease {
         assessor,
@@ -274,18 +278,9 @@ fn plainly_leased(plain: &mut Plain, assessor: u8, now: u64) -> Result<Told, Mem
         is_ended: false,
     })?;
     plain.now = now;
-    Ok(Told::Leased {
-        lease: granted(plain),
-        doc,
-        until,
-    })
-}
-
-fn plainly_cancelled(plain: &Plain, assessor: u8, now: u64) -> Told {
-    match leasable(plain, assessor, now) {
-        Err(refusal) => Told::Refused(refusal),
-        Ok(_) => Told::Cancelled,
-    }
+    let lease = plain.leases.len();
+    let doc = char::from(doc);
+    Ok(format!(in alloc; "leased {lease} {doc} {until}")?)
 }
 
 // The first refusal of a grade or of a release, which has none. Else the document, whose lease is
@@ -359,28 +354,34 @@ fn follow(plain: &mut Plain, doc: u8) -> Result<(), Memory> {
     Ok(())
 }
 
-fn plainly_graded(
-    plain: &mut Plain,
-    assessor: u8,
-    number: u32,
-    grade: u8,
-    now: u64,
-) -> Result<Told, Memory> {
+fn plainly_graded(plain: &mut Plain, asked: &Asked, now: u64) -> Result<String, Fail> {
+    let alloc = *plain.runs.allocator();
+    let assessor = letter(asked.caller);
+    let number = asked.first.parse::<u32>()?;
+    let grade = asked.second.parse::<u8>()?;
     match ended(plain, assessor, number, Some(grade), now) {
-        Err(refusal) => Ok(Told::Refused(refusal)),
+        Err(refusal) => refused(alloc, refusal),
         Ok(doc) => {
             set_label(plain, assessor, doc, grade)?;
             follow(plain, doc)?;
-            Ok(Told::Graded { doc, grade })
+            let doc = char::from(doc);
+            Ok(format!(in alloc; "graded {doc} {grade}")?)
         }
     }
 }
 
-fn plainly_released(plain: &mut Plain, assessor: u8, number: u32, now: u64) -> Told {
-    match ended(plain, assessor, number, None, now) {
-        Err(refusal) => Told::Refused(refusal),
-        Ok(_) => Told::Done(now),
+fn plainly_released(plain: &mut Plain, asked: &Asked, now: u64) -> Result<String, Fail> {
+    let alloc = *plain.runs.allocator();
+    let number = asked.first.parse::<u32>()?;
+    match ended(plain, letter(asked.caller), number, None, now) {
+        Err(refusal) => refused(alloc, refusal),
+        Ok(_) => done(alloc, now),
     }
+}
+
+// What is told by an entry of this moment alone.
+fn done(alloc: Global, now: u64) -> Result<String, Fail> {
+    Ok(format!(in alloc; "done {now}")?)
 }
 
 // The refusal of a grade for a document that has a label as it must, or doesn't.
@@ -394,46 +395,48 @@ fn grade_refusal(is_labelled: bool, grade: u8) -> Option<Refusal> {
     None
 }
 
-fn plainly_amended(
-    plain: &mut Plain,
-    assessor: u8,
-    doc: u8,
-    grade: u8,
-    now: u64,
-) -> Result<Told, Memory> {
+fn plainly_amended(plain: &mut Plain, asked: &Asked, now: u64) -> Result<String, Fail> {
+    let alloc = *plain.runs.allocator();
+    let assessor = letter(asked.caller);
+    let doc = letter(asked.first);
+    let grade = asked.second.parse::<u8>()?;
     let is_labelled = plain
         .labels
         .iter()
         .any(|label| label.doc == doc && label.assessor == assessor);
     if let Some(refusal) = grade_refusal(is_labelled, grade) {
-        return Ok(Told::Refused(refusal));
+        return refused(alloc, refusal);
     }
     set_label(plain, assessor, doc, grade)?;
     follow(plain, doc)?;
     plain.now = now;
-    Ok(Told::Done(now))
+    done(alloc, now)
 }
 
-fn plainly_ruled(plain: &mut Plain, doc: u8, grade: u8, now: u64) -> Result<Told, Memory> {
+fn plainly_ruled(plain: &mut Plain, asked: &Asked, now: u64) -> Result<String, Fail> {
+    let alloc = *plain.runs.allocator();
+    let doc = letter(asked.first);
+    let grade = asked.second.parse::<u8>()?;
     let is_labelled = plain.labels.iter().any(|label| label.doc == doc);
     if let Some(refusal) = grade_refusal(is_labelled, grade) {
-        return Ok(Told::Refused(refusal));
+        return refused(alloc, refusal);
     }
     set_ruling(plain, doc, grade)?;
     follow(plain, doc)?;
     plain.now = now;
-    Ok(Told::Done(now))
+    done(alloc, now)
 }
 
 // The documents a to h with an effective grade, each with its grade.
-fn print_qrels(plain: &Plain, out: &mut Vec<u8>) -> Result<(), Memory> {
+fn qrels(plain: &Plain) -> Result<Vec<u8>, Memory> {
+    let mut out = Vec::new(*plain.runs.allocator());
     for doc in b'a'..=b'h' {
         if let Some(grade) = effective_grade(plain, doc) {
             out.extend_from_slice(b"1 0 ")?;
             out.extend_from_slice(&[doc, b' ', digit(grade as usize), b'\n'])?;
         }
     }
-    Ok(())
+    Ok(out)
 }
 
 // Whether a document has two labels that differ and no ruling.
@@ -447,13 +450,14 @@ fn is_disputed(plain: &Plain, doc: u8) -> bool {
     }
 }
 
-fn print_disagreements(plain: &Plain, out: &mut Vec<u8>) -> Result<(), Memory> {
+fn disagreements(plain: &Plain) -> Result<Vec<u8>, Memory> {
+    let mut out = Vec::new(*plain.runs.allocator());
     for doc in b'a'..=b'h' {
         if is_disputed(plain, doc) {
             out.extend_from_slice(&[b'1', b' ', doc, b'\n'])?;
         }
     }
-    Ok(())
+    Ok(out)
 }
 
 fn is_pooled(plain: &Plain, doc: u8) -> bool {
@@ -484,7 +488,8 @@ fn counted(plain: &Plain) -> (usize, usize, usize) {
 }
 
 // The topic 1 and four numbers below 10.
-fn print_progress(plain: &Plain, now: u64, out: &mut Vec<u8>) -> Result<(), Memory> {
+fn progress(plain: &Plain, now: u64) -> Result<Vec<u8>, Memory> {
+    let mut out = Vec::new(*plain.runs.allocator());
     let (pooled, relevant, lower) = counted(plain);
     let live = plain
         .leases
@@ -496,7 +501,7 @@ fn print_progress(plain: &Plain, now: u64, out: &mut Vec<u8>) -> Result<(), Memo
         out.extend_from_slice(&[b' ', digit(count)])?;
     }
     out.push(b'\n')?;
-    Ok(())
+    Ok(out)
 }
 
 // The digit of a number below 10.
@@ -504,45 +509,22 @@ fn digit(number: usize) -> u8 {
     b'0' + (number % 10) as u8
 }
 
+// The effective grades of documents of one letter.
+fn grades_of(plain: &Plain, docs: &str) -> Result<Vec<Option<u8>>, Memory> {
+    let mut grades = Vec::new(*plain.runs.allocator());
+    for doc in docs.as_bytes() {
+        grades.push(effective_grade(plain, *doc))?;
+    }
+    Ok(grades)
+}
+
 // The cell of a ranking: none where the documents a to h don't say enough.
 fn cell_of(plain: &Plain, ranked: u32) -> Result<Option<Cell>, Memory>
     ensures { IfOk result (λ cell. IfSome cell IsSound) }
 {
-    let mut grades = Vec::new(*plain.runs.allocator());
-    for doc in ranking(ranked) {
-        grades.push(effective_grade(plain, *doc))?;
-    }
-    let (_, relevant, lower) = counted(plain);
-    Ok(cell_by(&grades, relevant, lower))
-}
-
-// The cell of these grades by rank, where the topic has as many relevant documents and others.
-fn cell_by(grades: &[Option<u8>], relevant: usize, lower: usize) -> Option<Cell>
-    ensures { IfSome result IsSound }
-{
-    let fits = grades.len() <= 1000 && relevant <= 1000 && lower <= 1000;
-    if fits && relevant_in(grades) <= relevant && lower_in(grades) <= lower {
-        return Some(scratch(grades, relevant as u32, lower as u32, 1));
-    }
-    None
-}
-
-fn relevant_in(grades: &[Option<u8>]) -> usize
-    ensures { result ≡ count_by (is_relevant 1) grades.now }
-{
-    grades
-        .iter()
-        .filter(|grade| is_relevant(1, **grade))
-        .count()
-}
-
-fn lower_in(grades: &[Option<u8>]) -> usize
-    ensures { result ≡ count_by (is_non_relevant 1) grades.now }
-{
-    grades
-        .iter()
-        .filter(|grade| is_non_relevant(1, **grade))
-        .count()
+    let by_rank = grades_of(plain, ranking(ranked))?;
+    let all = grades_of(plain, "abcdefgh")?;
+    Ok(plain_cell(&by_rank, &all))
 }
 
 // The cell of the run at a place, where the topic counts.
@@ -574,81 +556,102 @@ fn run_letter(run: usize) -> u8 {
     b'a' + (run % 26) as u8
 }
 
-fn plainly_scored(plain: &Plain, letter: u8) -> Result<Told, Memory> {
+fn plainly_scored(plain: &Plain, letter: u8) -> Result<String, Fail> {
+    let alloc = *plain.runs.allocator();
     for (run, ranked) in plain.runs.iter().enumerate() {
         if run_letter(run) == letter {
             if !takes_part(plain, run) {
-                return Ok(Told::Refused(Refusal::Withdrawn));
+                return refused(alloc, Refusal::Withdrawn);
             }
-            let mut out = Vec::new(*plain.runs.allocator());
+            let mut out = Vec::new(alloc);
             print_cell(plain, run, *ranked, &mut out)?;
             print_summary(plain, run, *ranked, &mut out)?;
-            return Ok(printed(&out));
+            return printed(alloc, &out);
         }
     }
-    Ok(Told::Refused(Refusal::UnknownRun))
+    refused(alloc, Refusal::UnknownRun)
 }
 
-fn plainly_withdrawn(plain: &mut Plain, letter: u8, now: u64) -> Result<Told, Memory> {
+fn plainly_withdrawn(plain: &mut Plain, letter: u8, now: u64) -> Result<String, Fail> {
+    let alloc = *plain.runs.allocator();
     for run in 0..plain.runs.len() {
         if run_letter(run) == letter {
             if !takes_part(plain, run) {
-                return Ok(Told::Refused(Refusal::Withdrawn));
+                return refused(alloc, Refusal::Withdrawn);
             }
             plain.withdrawn.push(run)?;
             plain.now = now;
-            return Ok(Told::Done(now));
+            return done(alloc, now);
         }
     }
-    Ok(Told::Refused(Refusal::UnknownRun))
+    refused(alloc, Refusal::UnknownRun)
 }
 
-fn plainly_tabled(plain: &Plain) -> Result<Told, Memory> {
-    let mut out = Vec::new(*plain.runs.allocator());
+fn plainly_tabled(plain: &Plain) -> Result<String, Fail> {
+    let alloc = *plain.runs.allocator();
+    let mut out = Vec::new(alloc);
     for (run, ranked) in plain.runs.iter().enumerate() {
         if takes_part(plain, run) {
             print_summary(plain, run, *ranked, &mut out)?;
         }
     }
-    Ok(printed(&out))
+    printed(alloc, &out)
 }
 
-fn plainly_printed(plain: &Plain, page: Page, now: u64) -> Result<Told, Memory> {
-    let mut out = Vec::new(*plain.runs.allocator());
-    match page {
-        Page::Qrels => print_qrels(plain, &mut out)?,
-        Page::Disagreements => print_disagreements(plain, &mut out)?,
-        Page::Progress => print_progress(plain, now, &mut out)?,
-    }
-    Ok(printed(&out))
+fn printed(alloc: Global, text: &[u8]) -> Result<String, Fail> {
+    page(alloc, str::from_utf8(text)?)
 }
 
-/// What a request comes to at a moment, by the plain lists, which then have what it adds.
-pub(crate) fn plainly_told(
-    plain: &mut Plain,
-    name: u8,
-    request: Request,
-    moment: u64,
-) -> Result<Told, Memory> {
-    let now = moment.max(plain.now);
-    match request {
-        Request::Lease(b'1') => plainly_leased(plain, name, now),
-        Request::Lease(_) => Ok(Told::Refused(Refusal::UnknownTopic)),
-        Request::CancelledLease => Ok(plainly_cancelled(plain, name, now)),
-        Request::Grade(lease, grade) => plainly_graded(plain, name, lease, grade, now),
-        Request::Release(lease) => Ok(plainly_released(plain, name, lease, now)),
-        Request::Amend(doc, grade) => plainly_amended(plain, name, doc, grade, now),
-        Request::Rule(doc, grade) => plainly_ruled(plain, doc, grade, now),
-        Request::Page(page) => plainly_printed(plain, page, now),
-        Request::Scores(run) => plainly_scored(plain, run),
-        Request::GroupScores(_) => Ok(Told::Refused(Refusal::NotYours)),
-        Request::Table => plainly_tabled(plain),
-        Request::Withdraw(run) => plainly_withdrawn(plain, run, now),
-        Request::GroupWithdraw(_) => Ok(Told::Refused(Refusal::NotYours)),
-        // no campaign of the walk is published
-        Request::Publish => Ok(Told::Other),
-        Request::ReleaseQrels(_) | Request::ReleaseScores(_) => {
-            Ok(Told::Refused(Refusal::UnknownRelease))
-        }
+// The first letter of a word.
+fn letter(word: &str) -> u8 {
+    word.bytes().next().unwrap_or(0)
+}
+
+/// What a request comes to, by the plain lists, which then have what it adds.
+pub(crate) fn plainly_told(plain: &mut Plain, asked: &Asked) -> Result<String, Fail> {
+    let now = asked.moment.max(plain.now);
+    if asked.verb == "lease" {
+        let caller = letter(asked.caller);
+        return plainly_leased(plain, caller, letter(asked.first), asked.is_kept, now);
     }
+    if asked.verb == "grade" {
+        return plainly_graded(plain, asked, now);
+    }
+    if asked.verb == "release" {
+        return plainly_released(plain, asked, now);
+    }
+    if asked.verb == "amend" {
+        return plainly_amended(plain, asked, now);
+    }
+    if asked.verb == "rule" {
+        return plainly_ruled(plain, asked, now);
+    }
+    if asked.verb == "withdraw" {
+        return plainly_withdrawn(plain, letter(asked.first), now);
+    }
+    page_told(plain, asked, now)
+}
+
+// What a page comes to.
+fn page_told(plain: &Plain, asked: &Asked, now: u64) -> Result<String, Fail> {
+    let alloc = *plain.runs.allocator();
+    if asked.verb == "qrels" {
+        return printed(alloc, &qrels(plain)?);
+    }
+    if asked.verb == "disagreements" {
+        return printed(alloc, &disagreements(plain)?);
+    }
+    if asked.verb == "progress" {
+        return printed(alloc, &progress(plain, now)?);
+    }
+    if asked.verb == "scores" {
+        return plainly_scored(plain, letter(asked.first));
+    }
+    if asked.verb == "table" {
+        return plainly_tabled(plain);
+    }
+    if asked.verb == "release-qrels" {
+        return refused(alloc, Refusal::UnknownRelease);
+    }
+    Err(Fail::new("not walked"))
 }

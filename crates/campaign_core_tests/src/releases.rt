@@ -1,87 +1,41 @@
 //! The publication and its release.
-use crate::requests::{
-    LEASE, O, P, Page, Request, SINGLE, Start, Told, asked, first_surprise, founded, leased,
-    played, printed, refused, started, told_at,
-};
-use crate::scores::{ALL_GRADED, SCORES_OF_X, SCORES_OF_Y, TABLE, told_of_scores};
-use campaign_core::State;
-use rulebook::{Phase, Refusal};
-use std::alloc::Global;
-use std::process::Abort;
+use crate::campaigns::play_cases;
 use std::test::Fail;
 
-const QRELS: &str = "1 0 a 0\n1 0 b 1\n1 0 c 1\n1 0 d 0\n1 0 e 0\n1 0 f 2\n";
+const CASES: &str = "\
+a judged campaign is released: judged 3 2 1
+p 1000 lease 1 -> refused NothingLeft
+grp 1000 release-qrels 1 -> refused UnknownRelease
+org 1000 publish -> done 1000
+grp 1000 release-qrels 1 -> page 1 0 a 0|1 0 b 1|1 0 c 1|1 0 d 0|1 0 e 0|1 0 f 2
+p 1000 release-scores 1 -> page scores X all 1 3 3 1 0.1667 0.3333 0.2222 0.5000 0.2000 0.1000 0.0667 0.0500 0.0333 0.0100 0.0050 0.0020 0.0010|scores Y all 1 3 3 2 0.5556 0.6667 0.5556 1.0000 0.4000 0.2000 0.1333 0.1000 0.0667 0.0200 0.0100 0.0040 0.0020
+org 1000 progress -> page 1 6 3 3 0
+grp 1000 scores X -> page scores X 1 3 3 1 0.1667 0.3333 0.2222 0.5000 0.2000 0.1000 0.0667 0.0500 0.0333 0.0100 0.0050 0.0020 0.0010|scores X all 1 3 3 1 0.1667 0.3333 0.2222 0.5000 0.2000 0.1000 0.0667 0.0500 0.0333 0.0100 0.0050 0.0020 0.0010
+grp 1000 scores Y -> page scores Y 1 3 3 2 0.5556 0.6667 0.5556 1.0000 0.4000 0.2000 0.1333 0.1000 0.0667 0.0200 0.0100 0.0040 0.0020|scores Y all 1 3 3 2 0.5556 0.6667 0.5556 1.0000 0.4000 0.2000 0.1333 0.1000 0.0667 0.0200 0.0100 0.0040 0.0020
+grp 1000 release-qrels 2 -> refused UnknownRelease
+p 1000 release-scores 0 -> refused UnknownRelease
+phase -> Published
+entries -> 18
+
+a published campaign takes no command: two-runs 3 2 1
+p 1000 lease 1 -> leased 1 a 1600
+p 1000 release-scores 1 -> refused UnknownRelease
+org 1000 publish -> done 1000
+org 1000 publish -> refused WrongPhase { phase: Published }
+p 1000 lease 1 -> refused WrongPhase { phase: Published }
+p 1000 grade 1 1 -> refused WrongPhase { phase: Published }
+p 1000 release 1 -> refused WrongPhase { phase: Published }
+org 1000 withdraw X -> refused WrongPhase { phase: Published }
+org 1000 withdraw Z -> refused WrongPhase { phase: Published }
+grp 1000 release-qrels 1 -> page
+entries -> 7
+
+a collecting campaign is not published: topic 3 2 1
+org 1000 publish -> refused WrongPhase { phase: Collecting }
+grp 1000 release-qrels 1 -> refused UnknownRelease
+entries -> 2";
 
 #[test]
-fn a_judged_campaign_is_released(rt: HostRuntime) -> Result<(), Fail> {
-    let mut state = founded(rt.alloc(), SINGLE)?;
-    a_release_of_all_grades(&rt, rt.alloc(), &mut state)
-}
-
-fn a_release_of_all_grades(rt: &impl Abort, alloc: Global, state: &mut State) -> Result<(), Fail> {
-    let unknown = refused(Refusal::UnknownRelease);
-    started(alloc, state, Start::TwoRuns)?;
-    assert_eq!(rt; first_surprise(alloc, state, &ALL_GRADED)?, None);
-    let steps = [
-        (P, 1000, LEASE, refused(Refusal::NothingLeft)),
-        (P, 1000, Request::ReleaseQrels(1), unknown),
-        (O, 1000, Request::Publish, Told::Done(1000)),
-        (P, 1000, Request::ReleaseQrels(1), printed(QRELS.as_bytes())),
-        (
-            P,
-            1000,
-            Request::ReleaseScores(1),
-            printed(TABLE.as_bytes()),
-        ),
-        (
-            O,
-            1000,
-            Request::Page(Page::Progress),
-            printed(b"1 6 3 3 0\n"),
-        ),
-    ];
-    assert_eq!(rt; first_surprise(alloc, state, &steps)?, None);
-    let of_x = printed(SCORES_OF_X.as_bytes());
-    let of_y = printed(SCORES_OF_Y.as_bytes());
-    assert_eq!(rt; told_of_scores(alloc, state, true, b'X')?, of_x);
-    assert_eq!(rt; told_of_scores(alloc, state, true, b'Y')?, of_y);
-    let later = [
-        (P, 1000, Request::ReleaseQrels(2), unknown),
-        (P, 1000, Request::ReleaseScores(0), unknown),
-    ];
-    assert_eq!(rt; first_surprise(alloc, state, &later)?, None);
-    assert_eq!(rt; state.phase(), Phase::Published);
-    assert_eq!(rt; state.entries(), 18);
-    Ok(())
-}
-
-#[test]
-fn a_published_campaign_takes_no_command(rt: HostRuntime) -> Result<(), Fail> {
-    let alloc = rt.alloc();
-    let published = refused(Refusal::WrongPhase {
-        phase: Phase::Published,
-    });
-    let collecting = refused(Refusal::WrongPhase {
-        phase: Phase::Collecting,
-    });
-    let unknown = refused(Refusal::UnknownRelease);
-    let steps = [
-        (P, 1000, LEASE, leased(1, b'a', 1600)),
-        (P, 1000, Request::ReleaseScores(1), unknown),
-        (O, 1000, Request::Publish, Told::Done(1000)),
-        (O, 1000, Request::Publish, published),
-        (P, 1000, LEASE, published),
-        (P, 1000, Request::Grade(1, 1), published),
-        (P, 1000, Request::Release(1), published),
-        (O, 1000, Request::Withdraw(b'X'), published),
-        (O, 1000, Request::Withdraw(b'Z'), published),
-        (P, 1000, Request::ReleaseQrels(1), printed(b"")),
-    ];
-    assert_eq!(rt; played(alloc, SINGLE, Start::TwoRuns, &steps)?, (None, 7));
-    let steps = [
-        (O, 1000, Request::Publish, collecting),
-        (P, 1000, Request::ReleaseQrels(1), unknown),
-    ];
-    assert_eq!(rt; played(alloc, SINGLE, Start::Topic, &steps)?, (None, 2));
-    Ok(())
+fn publications_and_their_releases(rt: HostRuntime) -> Result<(), Fail> {
+    play_cases(&rt, rt.alloc(), CASES)
 }

@@ -1,405 +1,274 @@
-//! Requests to the campaigns of the tests.
-ghost use Rattle.std.specs.Prelude.{◌≡◌, ℕ, ◌≤◌, ◌∷◌, [], None, Some, IfOk, IsTrue, codes};
-ghost use Rattle.rulebook.specs.declared.ask.Ask.TheVariants.{Act};
+//! Requests to a campaign as lines of words, and the words that they are told.
+//!
+//!     p 1000 lease 1               who asks, at which moment, and what
+//!     p#7 1000 grade 1 0           under the number 7
+//!     p 1000 cancel lease 1        the entry is cancelled once it is prepared
+//!
+//! A request is made of its method, path and body, which `routes` reads. Its topic is 1, where it names no other.
+ghost use Rattle.std.specs.Prelude.{◌≡◌, ◌<◌, ◌≤◌, ℕ, IfOk, IsTrue, Some};
+ghost use Rattle.rulebook.specs.Legal.{is_well_addressed};
 ghost use Rattle.rulebook.specs.declared.limits.TheConstants.{MAX_MOMENT};
-ghost use Rattle.rulebook.specs.declared.rules.Role.TheVariants.{Organiser};
-ghost use Rattle.rulebook.specs.declared.rules.Caller.{Caller};
-ghost use Rattle.rulebook.specs.Legal.{is_named, is_well_addressed};
-ghost use Rattle.rulebook.specs.Roles.{may_see};
-ghost use Rattle.trec_formats.specs.Names.{is_docno, is_name};
 
-use crate::collecting::{caller, committed, opened, submitted, text, topics};
 use campaign_core::{Prepared, State, Verdict};
-use decimal_rank::{Memory, Rows, Text};
-use rulebook::{Ask, Caller, Command, MAX_MOMENT, Query, Refusal, Reply, Role, Rules};
+use decimal_rank::{Memory, Rows, Steps, Text};
+use http_wire::{HttpField, HttpHead};
+use routes::{AskReader, KeyRow, Keys, Paths, are_rows};
+use rulebook::{Ask, Caller, MAX_MOMENT, Refusal, Reply, Role};
 use std::alloc::Global;
 use std::marker::Brand;
-use std::sync::ledger::Blank;
+use std::sync::ledger::{Blank, Ledger};
+use std::test::Fail;
 
-pub(crate) const O: u8 = b'o';
+// Each verb, and the method, the path and the body of its request: `$` is the first word behind the verb, `%` the second,
+// `@` the lines of a run of the second's letters by rank, and `|` ends a line. A stray run has a list of the topic 9.
+const FORMS: &str = r#"topics POST /topics <top>|<num> 1|<title> pooling|</top>|
+submit POST /runs/$ @
+stray POST /runs/$ 1 Q0 a 1 1 t|9 Q0 b 1 1 t|
+open POST /open
+lease POST /topics/$/lease
+grade POST /leases/$/grade {"grade":%}
+release POST /leases/$/release
+amend POST /topics/1/amend {"doc":"$","grade":%}
+rule POST /topics/1/rule {"doc":"$","grade":%}
+withdraw POST /runs/$/withdraw
+publish POST /publish
+pool GET /topics/$/pool
+qrels GET /qrels
+disagreements GET /disagreements
+progress GET /progress
+scores GET /runs/$/scores
+table GET /table
+release-qrels GET /releases/$/qrels
+release-scores GET /releases/$/scores"#;
 
-pub(crate) const P: u8 = b'p';
-
-pub(crate) const Q: u8 = b'q';
-
-pub(crate) const R: u8 = b'r';
-
-/// The pages of an organiser that stand by topic.
-#[derive(Clone, Copy)]
-pub(crate) enum Page {
-    Qrels,
-    Disagreements,
-    Progress,
-}
-
-/// What an assessor or an organiser asks.
-#[derive(Clone, Copy)]
-pub(crate) enum Request {
-    /// A document of the topic of this one letter.
-    Lease(u8),
-    /// The lease's number and the grade.
-    Grade(u32, u8),
-    Release(u32),
-    /// The letter of a document of the topic 1 and the grade.
-    Amend(u8, u8),
-    /// The same, of an organiser.
-    Rule(u8, u8),
-    /// A document of the topic 1, whose lease is cancelled once it is prepared.
-    CancelledLease,
-    /// A page, of an organiser.
-    Page(Page),
-    /// The scores of the run of this one letter, of an organiser.
-    Scores(u8),
-    /// The same, of a group.
-    GroupScores(u8),
-    /// The scores of all runs, of an organiser.
-    Table,
-    /// The withdrawal of the run of this one letter, of an organiser.
-    Withdraw(u8),
-    /// The same, of a group.
-    GroupWithdraw(u8),
-    /// The publication, of an organiser.
-    Publish,
-    /// The qrels of the release of this number, of a group.
-    ReleaseQrels(u32),
-    /// The scores of all runs of the release of this number, of an assessor.
-    ReleaseScores(u32),
-}
-
-/// How long a page is, its first 64 bytes with zeros behind, and a checksum of all of it.
-#[derive(Clone, Copy, Debug, PartialEq, Eq)]
-pub(crate) struct PageText {
-    length: usize,
-    first: [u8; 64],
-    checksum: u64,
-}
-
-/// What a reply says about the topic 1: documents have one letter.
-#[derive(Clone, Copy, Debug, PartialEq, Eq)]
-pub(crate) enum Told {
-    /// The moment of the entry.
-    Done(u64),
-    Leased { lease: u32, doc: u8, until: u64 },
-    Graded { doc: u8, grade: u8 },
-    Cancelled,
-    Page(PageText),
-    Refused(Refusal),
-    Other,
-}
-
-/// Who asks, at which moment, what, and what is to be told.
-pub(crate) type Step = (u8, u64, Request, Told);
-
-/// The rules of a campaign of the tests. Its term is 600, its level 1, its greatest grade 3.
-#[derive(Clone, Copy)]
-pub(crate) struct Setting {
-    pub(crate) depth: u16,
-    pub(crate) hold: u8,
-    /// Whether the topic 1 needs two labels.
-    pub(crate) is_double: bool,
-}
-
-/// What a campaign has before the first step.
-#[derive(Clone, Copy)]
-pub(crate) enum Start {
-    /// The founding alone.
-    Founding,
-    /// The topic 1.
-    Topic,
-    /// And the opened run X of b, e, a.
-    OneRun,
-    /// And the opened runs X of a, b, e and Y of c, d, f.
-    TwoRuns,
-}
-
-/// The place and the reply of the first step that is told another thing than it wants.
-pub(crate) type Surprise = Option<(usize, Told)>;
-
-/// Each document needs one label, and two leases are held at most.
-pub(crate) const SINGLE: Setting = Setting {
-    depth: 3,
-    hold: 2,
-    is_double: false,
-};
-
-/// Each document needs two labels.
-pub(crate) const DOUBLE: Setting = Setting {
-    depth: 3,
-    hold: 2,
-    is_double: true,
-};
-
-pub(crate) const LEASE: Request = Request::Lease(b'1');
-
-pub(crate) fn leased(lease: u32, doc: u8, until: u64) -> Told {
-    Told::Leased { lease, doc, until }
-}
-
-pub(crate) fn graded(doc: u8, grade: u8) -> Told {
-    Told::Graded { doc, grade }
-}
-
-pub(crate) fn refused(refusal: Refusal) -> Told {
-    Told::Refused(refusal)
-}
-
-/// A page of this text.
-pub(crate) fn printed(text: &[u8]) -> Told {
-    let mut first = [0; 64];
-    for (place, byte) in first.iter_mut().zip(text) {
-        *place = *byte;
+// The method, the path and the body of a verb.
+fn form_of(verb: &str) -> Result<&'static str, Fail> {
+    for line in FORMS.lines() {
+        let (word, form) = cut(line);
+        if word == verb {
+            return Ok(form);
+        }
     }
-    Told::Page(PageText {
-        length: text.len(),
+    Err(Fail::new("no such verb"))
+}
+
+/// A line's request. The words behind the verb are empty where there are none.
+#[derive(Clone, Copy)]
+pub(crate) struct Asked<'x> {
+    pub(crate) caller: &'x str,
+    pub(crate) number: Option<&'x str>,
+    pub(crate) moment: u64,
+    pub(crate) is_kept: bool,
+    pub(crate) verb: &'x str,
+    pub(crate) first: &'x str,
+    pub(crate) second: &'x str,
+}
+
+/// The first word and the rest.
+pub(crate) fn cut(words: &str) -> (&str, &str) {
+    words.split_once(' ').unwrap_or((words, ""))
+}
+
+/// The request of a line.
+pub(crate) fn asked_of(line: &str) -> Result<Asked<'_>, Fail> {
+    let (caller, rest) = cut(line);
+    let (caller, number) = caller_of(caller);
+    let (moment, words) = cut(rest);
+    let kept = words.strip_prefix("cancel ");
+    let (verb, rest) = cut(kept.unwrap_or(words));
+    let (first, second) = cut(rest);
+    Ok(Asked {
+        caller,
+        number,
+        moment: moment.parse::<u64>()?,
+        is_kept: kept.is_none(),
+        verb,
         first,
-        checksum: checksum(text),
+        second,
     })
 }
 
-fn checksum(text: &[u8]) -> u64 {
-    let mut sum: u64 = 14695981039346656037;
-    for byte in text {
-        sum = (sum ^ u64::from(*byte)).wrapping_mul(1099511628211);
+// The caller and the number behind its mark.
+fn caller_of(word: &str) -> (&str, Option<&str>) {
+    match word.split_once('#') {
+        Some((caller, number)) => (caller, Some(number)),
+        None => (word, None),
     }
-    sum
 }
 
-/// A new campaign.
-pub(crate) fn founded(alloc: Global, setting: Setting) -> Result<State, Memory>
-    requires low_depth { 1 ≤ setting.depth }
-    requires high_depth { setting.depth ≤ 1000 }
-    requires low_hold { 1 ≤ setting.hold }
-    requires high_hold { setting.hold ≤ 50 }
-{
-    let doubles = if setting.is_double {
-        first_topic(alloc)?
-    } else {
-        Rows::new(Vec::new(alloc))
-    };
-    let rules = Rules {
-        depth: setting.depth,
-        term: 600,
-        hold: setting.hold,
-        level: 1,
-        top_grade: 3,
-        doubles,
-    };
-    State::found(alloc, rules)
+/// The table of the paths, and the callers of the campaigns, whose keys are their names.
+#[derive(Drop)]
+pub(crate) struct Door {
+    paths: Paths,
+    keys: Keys,
 }
 
-// The list of the topic 1.
-fn first_topic(alloc: Global) -> Result<Rows<Text>, Memory>
-    ensures { IfOk result (λ topics. topics ≡ (codes "1" ∷ [])) }
-{
-    let mut topics = Vec::new(alloc);
-    topics.push(text(alloc, b"1")?)?;
-    Ok(Rows::new(topics))
-}
-
-/// Plays the steps in a new campaign. Tells the first surprise and how many entries there are.
-pub(crate) fn played(
-    alloc: Global,
-    setting: Setting,
-    start: Start,
-    steps: &[Step],
-) -> Result<(Surprise, u32), Memory>
-    requires low_depth { 1 ≤ setting.depth }
-    requires high_depth { setting.depth ≤ 1000 }
-    requires low_hold { 1 ≤ setting.hold }
-    requires high_hold { setting.hold ≤ 50 }
-{
-    let mut state = founded(alloc, setting)?;
-    played_from(alloc, &mut state, start, steps)
-}
-
-fn played_from(
-    alloc: Global,
-    state: &mut State,
-    start: Start,
-    steps: &[Step],
-) -> Result<(Surprise, u32), Memory> {
-    started(alloc, state, start)?;
-    let surprise = first_surprise(alloc, state, steps)?;
-    Ok((surprise, state.entries()))
-}
-
-pub(crate) fn started(alloc: Global, state: &mut State, start: Start) -> Result<(), Memory> {
-    if matches!(start, Start::Founding) {
-        return Ok(());
+impl Door {
+    pub(crate) fn new(alloc: Global) -> Result<Door, Fail> {
+        Ok(Door {
+            paths: Paths::new(alloc)?,
+            keys: keys(alloc)?,
+        })
     }
-    topics(alloc, state)?;
-    match start {
-        Start::Founding | Start::Topic => {}
-        Start::OneRun => {
-            submitted(alloc, state, b"X", b"bea")?;
-            opened(alloc, state)?;
-        }
-        Start::TwoRuns => {
-            submitted(alloc, state, b"X", b"abe")?;
-            submitted(alloc, state, b"Y", b"cdf")?;
-            opened(alloc, state)?;
-        }
+}
+
+fn keys(alloc: Global) -> Result<Keys, Fail> {
+    let mut rows = Vec::new(alloc);
+    rows.push(row(alloc, "org", Role::Organiser)?)?;
+    rows.push(row(alloc, "grp", Role::Group)?)?;
+    rows.push(row(alloc, "gr", Role::Group)?)?;
+    rows.push(row(alloc, "p", Role::Assessor)?)?;
+    rows.push(row(alloc, "q", Role::Assessor)?)?;
+    rows.push(row(alloc, "r", Role::Assessor)?)?;
+    if !are_rows(&rows) {
+        return Err(Fail::new("no callers"));
+    }
+    Ok(Keys::new(rows))
+}
+
+fn row(alloc: Global, name: &str, role: Role) -> Result<KeyRow, Memory> {
+    Ok(KeyRow {
+        name: Text::from_slice(alloc, name.as_bytes())?,
+        role,
+        key: Text::from_slice(alloc, name.as_bytes())?,
+    })
+}
+
+fn field(alloc: Global, name: &str, value: &str) -> Result<HttpField, Memory> {
+    Ok(HttpField {
+        name: Text::from_slice(alloc, name.as_bytes())?,
+        value: Text::from_slice(alloc, value.as_bytes())?,
+    })
+}
+
+fn fields(alloc: Global, asked: &Asked) -> Result<Rows<HttpField>, Memory> {
+    let mut fields = Vec::new(alloc);
+    fields.push(field(alloc, "X-Campaign-Key", asked.caller)?)?;
+    if let Some(number) = asked.number {
+        fields.push(field(alloc, "X-Request-Number", number)?)?;
+    }
+    Ok(Rows::new(fields))
+}
+
+// The lines of a run of these documents on the topic 1.
+fn add_run(alloc: Global, docs: &str, out: &mut Vec<u8>) -> Result<(), Memory> {
+    for (place, doc) in docs.chars().enumerate() {
+        let line = format!(in alloc; "1 Q0 {doc} {place} -{place} t\n")?;
+        add(line.as_bytes(), out)?;
     }
     Ok(())
 }
 
-pub(crate) fn first_surprise(
-    alloc: Global,
-    state: &mut State,
-    steps: &[Step],
-) -> Result<Surprise, Memory> {
-    for (place, step) in steps.iter().enumerate() {
-        let (name, moment, request, wanted) = *step;
-        let told = asked(alloc, state, name, request, moment)?;
-        if told != wanted {
-            return Ok(Some((place, told)));
-        }
+// A part of a form with the words of a request in it.
+fn filled(alloc: Global, part: &str, asked: &Asked) -> Result<Text, Memory> {
+    let mut out = Vec::new(alloc);
+    for byte in part.as_bytes() {
+        add_byte(alloc, *byte, asked, &mut out)?;
     }
-    Ok(None)
+    Ok(Text::new(out))
 }
 
-/// What a caller of a name of one letter is told at a moment. An entry that is made is committed,
-/// but for that of a cancelled lease.
-pub(crate) fn asked(
-    alloc: Global,
-    state: &mut State,
-    name: u8,
-    request: Request,
-    moment: u64,
-) -> Result<Told, Memory> {
-    let (role, ask) = ask_of(alloc, request)?;
-    let who = caller(alloc, &[letter_or_a(name)], role)?;
-    let is_kept = !matches!(request, Request::CancelledLease);
-    told_at(state, &who, None, ask, moment.min(MAX_MOMENT), is_kept)
-}
-
-// What a request asks, and the role of those who may ask it.
-fn ask_of(alloc: Global, request: Request) -> Result<(Role, Ask), Memory>
-    ensures { IfOk result (λ made. (name moment : ℕ) → IsTrue (is_name (name ∷ [])) → moment ≤ MAX_MOMENT →
-        let who : Caller = record { name = name ∷ []; role = made.0 } in
-        IsTrue (is_well_addressed who None made.1 moment)) }
-{
-    match request {
-        Request::Lease(topic) => {
-            let topic = text(alloc, &[letter_or_a(topic)])?;
-            Ok((Role::Assessor, Ask::Act(Command::Lease { topic })))
-        }
-        Request::CancelledLease => {
-            let topic = text(alloc, b"1")?;
-            Ok((Role::Assessor, Ask::Act(Command::Lease { topic })))
-        }
-        Request::Grade(lease, grade) => {
-            Ok((Role::Assessor, Ask::Act(Command::Grade { lease, grade })))
-        }
-        Request::Release(lease) => Ok((Role::Assessor, Ask::Act(Command::Release { lease }))),
-        Request::Amend(doc, grade) => {
-            let (topic, doc) = named(alloc, letter_or_a(doc))?;
-            Ok((
-                Role::Assessor,
-                Ask::Act(Command::Amend { topic, doc, grade }),
-            ))
-        }
-        Request::Rule(doc, grade) => {
-            let (topic, doc) = named(alloc, letter_or_a(doc))?;
-            Ok((
-                Role::Organiser,
-                Ask::Act(Command::Rule { topic, doc, grade }),
-            ))
-        }
-        Request::Page(page) => Ok((Role::Organiser, Ask::See(query_of(page)))),
-        Request::Scores(run) => {
-            let run = text(alloc, &[letter_or_a(run)])?;
-            Ok((Role::Organiser, Ask::See(Query::Scores { run })))
-        }
-        Request::GroupScores(run) => {
-            let run = text(alloc, &[letter_or_a(run)])?;
-            Ok((Role::Group, Ask::See(Query::Scores { run })))
-        }
-        Request::Table => Ok((Role::Organiser, Ask::See(Query::Table))),
-        Request::Withdraw(run) => {
-            let run = text(alloc, &[letter_or_a(run)])?;
-            Ok((Role::Organiser, Ask::Act(Command::Withdraw { run })))
-        }
-        Request::GroupWithdraw(run) => {
-            let run = text(alloc, &[letter_or_a(run)])?;
-            Ok((Role::Group, Ask::Act(Command::Withdraw { run })))
-        }
-        Request::Publish => Ok((Role::Organiser, Ask::Act(Command::Publish))),
-        Request::ReleaseQrels(release) => {
-            Ok((Role::Group, Ask::See(Query::ReleaseQrels { release })))
-        }
-        Request::ReleaseScores(release) => {
-            Ok((Role::Assessor, Ask::See(Query::ReleaseScores { release })))
-        }
-    }
-}
-
-// The query of a page.
-fn query_of(page: Page) -> Query
-    ensures seen { IsTrue (may_see Organiser result) }
-    ensures named { IsTrue (is_named result) }
-{
-    match page {
-        Page::Qrels => Query::Qrels,
-        Page::Disagreements => Query::Disagreements,
-        Page::Progress => Query::Progress,
-    }
-}
-
-// The topic 1 and a document of one letter.
-fn named(alloc: Global, letter: u8) -> Result<(Text, Text), Memory>
-    ensures { IfOk result (λ made. (made.0 ≡ codes "1") × (made.1 ≡ letter ∷ [])) }
-{
-    Ok((text(alloc, b"1")?, text(alloc, &[letter])?))
-}
-
-/// The letter or digit itself, or else `a`.
-pub(crate) fn letter_or_a(byte: u8) -> u8
-    ensures name { IsTrue (is_name (result ∷ [])) }
-    ensures docno { IsTrue (is_docno (result ∷ [])) }
-{
+fn add_byte(alloc: Global, byte: u8, asked: &Asked, out: &mut Vec<u8>) -> Result<(), Memory> {
     match byte {
-        b'a'..=b'z' => byte,
-        b'A'..=b'Z' => byte,
-        b'0'..=b'9' => byte,
-        _ => b'a',
+        b'$' => add(asked.first.as_bytes(), out),
+        b'%' => add(asked.second.as_bytes(), out),
+        b'@' => add_run(alloc, asked.second, out),
+        b'|' => add(b"\n", out),
+        _ => add(&[byte], out),
     }
 }
 
-/// What a request is told at a moment. The entry is committed, or else cancelled.
-pub(crate) fn told_at(
-    state: &mut State,
-    who: &Caller,
-    number: Option<u64>,
-    ask: Ask,
-    moment: u64,
-    is_kept: bool,
-) -> Result<Told, Memory>
-    requires { IsTrue (is_well_addressed who.now number ask moment) }
+fn add(bytes: &[u8], out: &mut Vec<u8>) -> Result<(), Memory> {
+    Ok(out.extend_from_slice(bytes)?)
+}
+
+// The caller, the number and what is asked, by the words of a request.
+fn ask_of(alloc: Global, door: &Door, asked: &Asked) -> Result<(Caller, Option<u64>, Ask), Fail>
+    ensures { IfOk result (λ read. (moment : ℕ) → moment ≤ MAX_MOMENT → IsTrue (is_well_addressed read.0 read.1 read.2 moment)) }
 {
-    match state.prepare(who, number, ask, moment)? {
-        Verdict::Told(reply) => Ok(told_by(&reply, 0)),
-        Verdict::Ready(prepared) => Ok(told_after(state, prepared, is_kept)),
+    let (method, rest) = cut(form_of(asked.verb)?);
+    let (path, body) = cut(rest);
+    let body = filled(alloc, body, asked)?;
+    let head = HttpHead {
+        method: filled(alloc, method, asked)?,
+        path: filled(alloc, path, asked)?,
+        fields: fields(alloc, asked)?,
+        length: body.bytes().len().min(16_777_216) as u32,
+        close: false,
+    };
+    read(alloc, door, &head, body.bytes())
+}
+
+fn read(
+    alloc: Global,
+    door: &Door,
+    head: &HttpHead,
+    body: &[u8],
+) -> Result<(Caller, Option<u64>, Ask), Fail>
+    ensures { IfOk result (λ read. (moment : ℕ) → moment ≤ MAX_MOMENT → IsTrue (is_well_addressed read.0 read.1 read.2 moment)) }
+{
+    if body.len() > 16_777_216 {
+        return Err(Fail::new("a long body"));
+    }
+    let mut reader = AskReader::new_by(alloc, &door.paths, head, &door.keys)?;
+    reader.feed(body)?;
+    Ok(reader.finish()?)
+}
+
+/// What a request is told. Its entry is committed or cancelled.
+pub(crate) fn told(
+    alloc: Global,
+    state: &mut State,
+    door: &Door,
+    asked: &Asked,
+) -> Result<String, Fail> {
+    let (who, number, ask) = ask_of(alloc, door, asked)?;
+    match state.prepare(&who, number, ask, asked.moment.min(MAX_MOMENT))? {
+        Verdict::Told(reply) => words_of(alloc, &reply, 0),
+        Verdict::Ready(prepared) => told_after(alloc, state, prepared, asked.is_kept),
     }
 }
 
-// What the reply to a prepared entry says.
-fn told_after(state: &mut State, prepared: Prepared, is_kept: bool) -> Told
+fn told_after(
+    alloc: Global,
+    state: &mut State,
+    prepared: Prepared,
+    is_kept: bool,
+) -> Result<String, Fail>
     requires { state.old.prepared ≡ Some prepared }
 {
+    let moment = prepared.core().moment;
     if !is_kept {
         state.cancel(prepared);
-        return Told::Cancelled;
+        return Ok(format!(in alloc; "cancelled {moment}")?);
     }
-    let moment = prepared.core().moment;
     let reply = committed::<Brand>(state, prepared, Blank::new(1));
-    told_by(&reply, moment)
+    words_of(alloc, &reply, moment)
 }
 
-// What a reply says, of whose entry this is the moment.
-fn told_by(reply: &Reply, moment: u64) -> Told {
+fn committed<L: Ledger>(state: &mut State, prepared: Prepared, blank: Blank) -> Reply
+    requires prepared { state.old.prepared ≡ Some prepared }
+    requires name { blank.name ≡ L.name }
+    requires parts { blank.parts ≡ L.parts }
+    requires some { 0 < L.parts }
+{
+    let mut steps = Steps::<L>::new(blank);
+    state.commit(prepared, &mut steps)
+}
+
+fn word(text: &Text) -> Result<&str, Fail> {
+    Ok(str::from_utf8(text.bytes())?)
+}
+
+// What a reply says, of whose entry this is the moment. The topic 1 and its title aren't said.
+fn words_of(alloc: Global, reply: &Reply, moment: u64) -> Result<String, Fail> {
     match reply {
-        Reply::Done => Told::Done(moment),
+        Reply::Done => Ok(format!(in alloc; "done {moment}")?),
+        Reply::Topics { topics } => Ok(format!(in alloc; "topics {topics}")?),
+        Reply::Submitted { run, topics, lines } => {
+            let run = word(run)?;
+            Ok(format!(in alloc; "submitted {run} {topics} {lines}")?)
+        }
         Reply::Leased {
             lease,
             topic,
@@ -407,34 +276,45 @@ fn told_by(reply: &Reply, moment: u64) -> Told {
             until,
             title,
         } => {
-            if topic.bytes() != b"1".as_slice() || title.bytes() != b"pooling".as_slice() {
-                return Told::Other;
+            if word(title)? != "pooling" {
+                return Err(Fail::new("another title"));
             }
-            Told::Leased {
-                lease: *lease,
-                doc: one_letter(doc.bytes()),
-                until: *until,
-            }
+            let doc = of_topic_one(topic, doc)?;
+            Ok(format!(in alloc; "leased {lease} {doc} {until}")?)
         }
         Reply::Graded { topic, doc, grade } => {
-            if topic.bytes() != b"1".as_slice() {
-                return Told::Other;
-            }
-            Told::Graded {
-                doc: one_letter(doc.bytes()),
-                grade: *grade,
-            }
+            let doc = of_topic_one(topic, doc)?;
+            Ok(format!(in alloc; "graded {doc} {grade}")?)
         }
-        Reply::Page { text } => printed(text.bytes()),
-        Reply::Refused(refusal) => Told::Refused(*refusal),
-        _ => Told::Other,
+        Reply::Pool { docs, .. } => pool_words(alloc, docs.items()),
+        Reply::Page { text } => page(alloc, word(text)?),
+        Reply::Refused(refusal) => refused(alloc, *refusal),
     }
 }
 
-// The byte of a text of one byte, or else 0.
-fn one_letter(bytes: &[u8]) -> u8 {
-    match bytes {
-        [letter] => *letter,
-        _ => 0,
+// The document, of the topic 1.
+fn of_topic_one<'x>(topic: &'x Text, doc: &'x Text) -> Result<&'x str, Fail> {
+    if word(topic)? != "1" {
+        return Err(Fail::new("another topic"));
     }
+    word(doc)
+}
+
+fn pool_words(alloc: Global, docs: &[Text]) -> Result<String, Fail> {
+    let mut words = String::from_str(alloc, "pool")?;
+    for doc in docs {
+        words.push_str(" ")?;
+        words.push_str(word(doc)?)?;
+    }
+    Ok(words)
+}
+
+/// What is told by a page of this text.
+pub(crate) fn page(alloc: Global, text: &str) -> Result<String, Fail> {
+    Ok(format!(in alloc; "page\n{text}")?)
+}
+
+/// What is told by a refusal.
+pub(crate) fn refused(alloc: Global, refusal: Refusal) -> Result<String, Fail> {
+    Ok(format!(in alloc; "refused {refusal:?}")?)
 }

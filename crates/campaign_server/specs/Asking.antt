@@ -1,5 +1,5 @@
 -- What comes next of the bytes of a connection, as what is asked.
-use Rattle.std.specs.Prelude.{◌≡◌, ℕ, ◌+◌, ◌≤◌, ◌<◌, Bool, List, [], ◌++◌, length, Option, None, Some, Result, Err, IfOk, IsTrue}
+use Rattle.std.specs.Prelude.{◌≡◌, ℕ, ◌+◌, ◌≤◌, ◌<◌, Bool, List, [], ◌++◌, length, None, Some, Result, Err, IfOk, IsTrue}
 use Rattle.http_wire.specs.declared.messages.HttpHead.{HttpHead}
 use Rattle.http_wire.specs.declared.messages.HttpRequest.{HttpRequest}
 use Rattle.http_wire.specs.Heads.{passed}
@@ -16,6 +16,8 @@ use Rattle.rulebook.specs.Legal.{is_well_addressed}
 use Rattle.campaign_server.specs.declared.asks.AskStep.{AskStep}
 use Rattle.campaign_server.specs.declared.asks.AskStep.TheVariants.{Whole, Need, Refused}
 use Rattle.campaign_server.specs.declared.asks.Present.{Present}
+use Rattle.campaign_server.specs.declared.asks.Turn.{Turn}
+use Rattle.campaign_server.specs.declared.asks.Turn.TheVariants.{GoesOn, Ends, Needs, Refused as TurnRefused}
 use Rattle.campaign_server.specs.declared.asks.Present.TheVariants.{Nothing, Reads as ReadsOn, Starved}
 
 -- what is read may be asked at each moment
@@ -113,10 +115,12 @@ AsksAt keys rest (Refused cause) new = IsFront rest (Faulty cause)
 abbrev pub AsksNext : List KeyRow → StreamState → AskStep → StreamState → Type 0
 AsksNext keys old step new = (rest : List ℕ) → StandsFor keys rest old → AsksAt keys rest step new
 
--- what one step of the wire comes to
-abbrev pub Goes : List KeyRow → StreamState → Option AskStep → StreamState → Type 0
-Goes keys old None new = (rest : List ℕ) → StandsFor keys rest old → StandsFor keys rest new
-Goes keys old (Some step) new = AsksNext keys old step new
+-- What one step of the wire comes to. Behind a whole body the bytes that are left stand for themselves, once the request is read.
+abbrev pub Goes : List KeyRow → StreamState → Turn → StreamState → Type 0
+Goes keys old GoesOn new = (rest : List ℕ) → StandsFor keys rest old → StandsFor keys rest new
+Goes keys old Ends new = (told : AskStep) → EndsWith new.present told → AsksNext keys old told (stream_at new.wire Nothing)
+Goes keys old (Needs clean) new = AsksNext keys old (Need clean) new
+Goes keys old (TurnRefused cause) new = AsksNext keys old (Refused cause) new
 
 abbrev pub IsAskable : AskStep → Type 0
 IsAskable (Whole reading close) = MayBeAsked reading
@@ -129,6 +133,15 @@ IsShorter old (Whole reading close) new = size new.wire < size old.wire
 IsShorter old (Need clean) new = Unit {0}
 IsShorter old (Refused cause) new = Unit {0}
 
-abbrev pub GoesShorter : StreamState → Option AskStep → StreamState → Type 0
-GoesShorter old None new = size new.wire < size old.wire
-GoesShorter old (Some step) new = IsShorter old step new
+abbrev pub GoesShorter : StreamState → Turn → StreamState → Type 0
+GoesShorter old GoesOn new = size new.wire < size old.wire
+GoesShorter old Ends new = size new.wire < size old.wire
+GoesShorter old (Needs clean) new = Unit {0}
+GoesShorter old (TurnRefused cause) new = Unit {0}
+
+-- the request that was begun fits the wire; where its body is whole, the wire has none
+abbrev pub GoesFit : Turn → Present → WireState → Type 0
+GoesFit GoesOn present wire = Fits present wire
+GoesFit Ends present wire = IsBegun present × Fits Nothing wire
+GoesFit (Needs clean) present wire = Fits present wire
+GoesFit (TurnRefused cause) present wire = Fits present wire

@@ -5,6 +5,7 @@ pub mod Connections
 pub mod Links
 pub mod LoopParts
 pub mod MemoryLinkFields
+pub mod MemoryWritten
 pub mod MemoryLinks
 pub mod Pieces
 pub mod Stories

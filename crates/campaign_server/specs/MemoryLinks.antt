@@ -1,10 +1,11 @@
 -- A link in memory.
-use Rattle.std.specs.Prelude.{ℕ, Bool, List, ◌++◌, Some, Result, Ok, Err, take, drop, nat_le, if◌then◌else◌}
+use Rattle.std.specs.Prelude.{ℕ, Bool, List, ◌++◌, Some, Result, Ok, Err, take, drop, nat_le}
 use Rattle.std.specs.List.{list_all}
 use Rattle.rulebook.specs.declared.limits.TheConstants.{MAX_MOMENT}
 use Rattle.decimal_rank.specs.declared.failures.Failed.{Failed}
-use Rattle.decimal_rank.specs.FailurePlans.{PlanState, count_more, after_call, fails_next}
+use Rattle.decimal_rank.specs.FailurePlans.{PlanState, count_more, after_call}
 use Rattle.campaign_server.specs.Links.{LinkState}
+use Rattle.campaign_server.specs.MemoryWritten.{Written, after_write as written_after}
 
 -- the bytes taken, left and written, the moments and how many were asked for, the reads and writes that are to fail, the two
 -- counts of faults, and how many writes failed for want of memory
@@ -37,11 +38,12 @@ abbrev pub after_read : MemoryLinkState → Result ℕ Failed → MemoryLinkStat
 after_read link (Ok count) = record link { taken = link.taken ++ take count link.left; left = drop count link.left; reads = after_call link.reads }
 after_read link (Err failed) = record link { reads = after_call link.reads; read_faults = count_more link.read_faults }
 
+-- what was written to it
+abbrev pub written_of : MemoryLinkState → Written
+written_of link = record { written = link.written; plan = link.writes; faults = link.write_faults; wants = link.wants }
+
 -- and after a write of the piece with this answer
 abbrev pub after_write : MemoryLinkState → List ℕ → Result ℕ Failed → MemoryLinkState
-after_write link piece (Ok count) = record link { written = link.written ++ piece; writes = after_call link.writes }
-after_write link piece (Err failed) = record link {
-  writes = after_call link.writes;
-  write_faults = count_more link.write_faults;
-  wants = if fails_next link.writes then link.wants else count_more link.wants;
-}
+after_write link piece result =
+    let all = written_after (written_of link) piece result in
+    record link { written = all.written; writes = all.plan; write_faults = all.faults; wants = all.wants }

@@ -1,8 +1,8 @@
 //! The requests of a connection's bytes, as what they ask. A head begins a reader, the pieces of the body go to
 //! it as they come, and where the body is whole its reading is given. How bytes are kept is known here alone.
-ghost use Rattle.std.specs.Prelude.{◌≡◌, ◌+◌, ◌≤◌, IfOk, IfSome, OnOk, OnErr, length};
+ghost use Rattle.std.specs.Prelude.{◌≡◌, ◌+◌, ◌≤◌, IfOk, OnOk, OnErr, length};
 ghost use Rattle.http_wire.specs.Pieces.{BodyFits, Shortens, Steps};
-ghost use Rattle.campaign_server.specs.Asking.{AsksNext, Begins, EndsWith, Fits, Goes, GoesShorter, IsAskable, IsBegun, IsShorter, PieceFits, PieceOn, fed_on, fresh, stream_at};
+ghost use Rattle.campaign_server.specs.Asking.{AsksNext, Begins, EndsWith, Fits, Goes, GoesFit, GoesShorter, IsAskable, IsBegun, IsShorter, PieceFits, PieceOn, fed_on, fresh, stream_at};
 
 use decimal_rank::Memory;
 use http_wire::{HttpHead, Step, Wire, WireFault, pieces_go_on};
@@ -35,6 +35,17 @@ enum Present {
     Starved { close: bool },
 }
 
+/// What one step of the wire comes to. It is small, so that a step that only goes on moves nothing large.
+#[derive(Clone, Copy)]
+enum Turn {
+    /// The present request was begun or goes on.
+    GoesOn,
+    /// The body of the present request is whole.
+    Ends,
+    Needs { clean: bool },
+    Refused(WireFault),
+}
+
 /// The bytes of a connection that were fed and not yet given, and the request that they began, which contracts
 /// see.
 #[derive(Drop)]
@@ -54,41 +65,42 @@ impl Model for AskStream {
     ghost invariant = { λ stream. Fits stream.present stream.wire };
 }
 
-// What a head begins.
-fn begin(alloc: Global, paths: &Paths, keys: &Keys, head: &HttpHead) -> Present
-    ensures { Begins keys.now head.now result }
+// Begins the request of a head.
+fn begin(alloc: Global, paths: &Paths, keys: &Keys, head: &HttpHead, present: &mut Present)
+    ensures { Begins keys.now head.now present.new }
 {
-    match AskReader::new_by(alloc, paths, head, keys) {
-        Ok(reader) => Present::Reads {
-            reader,
-            close: head.close,
-        },
-        Err(Memory) => Present::Starved { close: head.close },
-    }
+    let close = head.close;
+    *present = match AskReader::new_by(alloc, paths, head, keys) {
+        Ok(reader) => Present::Reads { reader, close },
+        Err(Memory) => Present::Starved { close },
+    };
 }
 
-// The request behind a piece of its body.
-fn take_piece(present: Present, piece: &[u8]) -> Present
-    requires { PieceFits present (length piece.now) }
-    ensures { PieceOn present piece.now result }
+// Reads a piece of the body.
+fn take_piece(present: &mut Present, piece: &[u8])
+    requires { PieceFits present.old (length piece.now) }
+    ensures { PieceOn present.old piece.now present.new }
 {
     match present {
-        Present::Nothing => Present::Nothing,
-        Present::Reads { mut reader, close } => match reader.feed(piece) {
-            Ok(()) => Present::Reads { reader, close },
-            Err(Memory) => Present::Starved { close },
-        },
-        Present::Starved { close } => Present::Starved { close },
+        Present::Nothing | Present::Starved { .. } => {}
+        Present::Reads { reader, close } => {
+            let close = *close;
+            match reader.feed(piece) {
+                Ok(()) => {}
+                Err(Memory) => *present = Present::Starved { close },
+            }
+        }
     }
 }
 
-// What a request is read as whose body is whole.
-fn end(present: Present) -> AskStep
-    requires { IsBegun present }
-    ensures reading { EndsWith present result }
+// What a request is read as whose body is whole. None is begun behind it.
+fn end(present: &mut Present) -> AskStep
+    requires { IsBegun present.old }
+    ensures reading { EndsWith present.old result }
     ensures askable { IsAskable result }
+    ensures after { present.new ≡ Present.Nothing }
 {
-    match present {
+    match replace(present, Present::Nothing) {
         Present::Nothing => unreachable!(),
         Present::Reads { reader, close } => AskStep::Whole {
             reading: reader.finish(),
@@ -101,37 +113,33 @@ fn end(present: Present) -> AskStep
     }
 }
 
-// One step of the wire. None is that the present request was begun or goes on.
+// One step of the wire.
 fn take_step(
     alloc: Global,
     paths: &Paths,
     keys: &Keys,
     wire: &mut Wire,
     present: &mut Present,
-) -> Result<Option<AskStep>, Memory>
+) -> Result<Turn, Memory>
     requires { Fits present.old wire.old }
-    ensures goes { IfOk result (λ step. Goes keys.now (stream_at wire.old present.old) step (stream_at wire.new present.new)) }
-    ensures askable { IfOk result (λ step. IfSome step IsAskable) }
-    ensures shorter { IfOk result (λ step. GoesShorter (stream_at wire.old present.old) step (stream_at wire.new present.new)) }
-    ensures fits { Fits present.new wire.new }
+    ensures goes { IfOk result (λ turn. Goes keys.now (stream_at wire.old present.old) turn (stream_at wire.new present.new)) }
+    ensures shorter { IfOk result (λ turn. GoesShorter (stream_at wire.old present.old) turn (stream_at wire.new present.new)) }
+    ensures fits { IfOk result (λ turn. GoesFit turn present.new wire.new) }
+    ensures memory { OnErr result (Fits present.new wire.new) }
 {
     pieces_go_on();
     match wire.next() {
         Ok(Step::Head(head)) => {
-            *present = begin(alloc, paths, keys, &head);
-            Ok(None)
+            begin(alloc, paths, keys, &head, present);
+            Ok(Turn::GoesOn)
         }
         Ok(Step::Piece(text)) => {
-            let before = replace(present, Present::Nothing);
-            *present = take_piece(before, text.bytes());
-            Ok(None)
+            take_piece(present, text.bytes());
+            Ok(Turn::GoesOn)
         }
-        Ok(Step::Whole) => {
-            let ended = replace(present, Present::Nothing);
-            Ok(Some(end(ended)))
-        }
-        Ok(Step::Need { clean }) => Ok(Some(AskStep::Need { clean })),
-        Ok(Step::Refused(fault)) => Ok(Some(AskStep::Refused(fault))),
+        Ok(Step::Whole) => Ok(Turn::Ends),
+        Ok(Step::Need { clean }) => Ok(Turn::Needs { clean }),
+        Ok(Step::Refused(fault)) => Ok(Turn::Refused(fault)),
         Err(memory) => Err(memory),
     }
 }
@@ -152,8 +160,10 @@ fn step_on(
 {
     'steps: loop {
         match take_step(alloc, paths, keys, wire, present) {
-            Ok(None) => {}
-            Ok(Some(step)) => return Ok(step),
+            Ok(Turn::GoesOn) => {}
+            Ok(Turn::Ends) => return Ok(end(present)),
+            Ok(Turn::Needs { clean }) => return Ok(AskStep::Need { clean }),
+            Ok(Turn::Refused(fault)) => return Ok(AskStep::Refused(fault)),
             Err(memory) => return Err(memory),
         }
     }

@@ -8,6 +8,7 @@ ghost use Rattle.campaign_server.specs.Pieces.{are_filled, taken_of, left_of, Is
 ghost use Rattle.campaign_server.specs.MemoryLinks.{told_by, are_moments, after_read, after_write};
 
 use crate::links::Link;
+use crate::memory_writes::MemoryWrites;
 use decimal_rank::{Failed, FailurePlan, Text, count_more};
 use std::marker::Model;
 
@@ -20,14 +21,11 @@ pub struct MemoryLink {
     at: usize,
     /// How many bytes of the next piece were taken.
     within: usize,
-    written: Vec<u8>,
     moments: Vec<u64>,
     asked: u64,
     reads: FailurePlan,
-    writes: FailurePlan,
     read_faults: u64,
-    write_faults: u64,
-    wants: u64,
+    writes: MemoryWrites,
 }
 
 impl Model for MemoryLink {
@@ -41,14 +39,14 @@ impl Model for MemoryLink {
     ghost view = { λ link. record {
       taken = taken_of link.pieces.items link.at link.within;
       left = left_of link.pieces.items link.at link.within;
-      written = link.written.items;
+      written = link.writes.written;
       moments = link.moments.items;
       asked = link.asked;
       reads = link.reads;
-      writes = link.writes;
+      writes = link.writes.plan;
       read_faults = link.read_faults;
-      write_faults = link.write_faults;
-      wants = link.wants;
+      write_faults = link.writes.faults;
+      wants = link.writes.wants;
     } };
 
     ghost invariant = { IsKept };
@@ -81,17 +79,14 @@ impl MemoryLink {
         } }
     {
         MemoryLink {
-            written: Vec::new(*pieces.allocator()),
             pieces,
             at: 0,
             within: 0,
             moments,
             asked: 0,
             reads: FailurePlan::new(read_fails),
-            writes: FailurePlan::new(write_fails),
             read_faults: 0,
-            write_faults: 0,
-            wants: 0,
+            writes: MemoryWrites::new(write_fails),
         }
     }
 
@@ -99,14 +94,14 @@ impl MemoryLink {
     pub fn written(&self) -> &[u8]
         ensures { result.now ≡ self.now.written }
     {
-        self.written.as_slice()
+        self.writes.written()
     }
 
     /// How many writes failed for want of memory.
     pub fn wants(&self) -> u64
         ensures { result ≡ self.now.wants }
     {
-        self.wants
+        self.writes.wants()
     }
 }
 
@@ -135,16 +130,7 @@ impl Link for MemoryLink {
         ensures failed { IsTrue (fails_next self.old.writes) → IsErr result }
         ensures after { self.new ≡ after_write self.old piece.now result }
     {
-        if self.writes.call() {
-            self.write_faults = count_more(self.write_faults);
-            return Err(Failed);
-        }
-        if self.written.extend_from_slice(piece).is_err() {
-            self.write_faults = count_more(self.write_faults);
-            self.wants = count_more(self.wants);
-            return Err(Failed);
-        }
-        Ok(piece.len())
+        self.writes.write(piece)
     }
 
     fn moment(&mut self) -> u64

@@ -1,15 +1,13 @@
 -- The images of a disk in memory: its content is one, and one more call adds its own.
-use Rattle.std.proofs.Common.{◌≡◌, ◌≢◌, ◌⊎◌, inl, inr, ⊎_elim, ℕ, suc, ◌+◌, ◌-◌, ◌<◌, ◌≤◌, min, max, List, [], ◌∷◌, ◌++◌, length, take, drop, refl, sym, ap, ◌∙◌, subst, arith, length-append, length-drop, le_refl}
-use Rattle.std.specs.Prelude.{Err, Result, Some, Vec}
+use Rattle.std.proofs.Common.{◌≡◌, ◌⊎◌, inl, inr, ⊎_elim, ℕ, ◌+◌, ◌-◌, ◌≤◌, min, List, [], ◌∷◌, ◌++◌, length, take, drop, refl, sym, ap, ◌∙◌, subst, arith, length-append, length-drop, le_refl}
+use Rattle.std.specs.Prelude.{Some, Vec}
 use Rattle.std.specs.declared.alloc.Global.{Global}
-use Rattle.std.proofs.lemmas.List.{append-nil, append_assoc, drop-append-le, drop_all, length-take-le, take-append-le, take_all, take-append-drop}
+use Rattle.std.proofs.lemmas.List.{drop-append-le, drop_all, length-take-le, take-append-le, take_all}
 use mathlib.Core.Logic.{dite}
 use native.Mathlib.Decide.{dec_le}
-use Rattle.decimal_rank.specs.Causes.{HasCause, Rose}
-use Rattle.decimal_rank.specs.declared.failures.Failed.{Failed}
-use Rattle.disk_model.specs.declared.memory_disk.DiskCall.{DiskCall}
-use Rattle.disk_model.specs.declared.memory_disk.DiskCall.TheVariants.{Len, Read, Write, Cut, Sync}
-use Rattle.disk_model.specs.Calls.{ImageSince, Images, content_after, content_by, images_after, images_by, images_of}
+use Rattle.disk_model.specs.declared.disk_calls.DiskCall.{DiskCall}
+use Rattle.disk_model.specs.declared.disk_calls.DiskCall.TheVariants.{Len, Read, Write, Cut, Sync}
+use Rattle.disk_model.specs.Calls.{ImageSince, Images, IsQuiet, content_after, content_by, images_after, images_by, images_of}
 use Rattle.disk_model.specs.Disks.{Alone, CutShort, Elapses, Follows, NoFurther, Torn, written}
 
 -- One call more
@@ -85,6 +83,20 @@ content_among (Cut to) content images here = (content, here, cut_any)
         (λ (beyond : ¬ (to ≤ length content)). subst (λ (xs : List ℕ). CutShort to content xs) (sym (take_all to content (omega arith))) (cut_same to content))
 content_among Sync content images here = refl
 
+quiet_among : (call : DiskCall) → IsQuiet call → (content : List ℕ) (images : List ℕ → Type 0) (image : List ℕ) → images content → images_by call content images image → images image
+quiet_among Len is content images image now here = here
+quiet_among (Read place count) is content images image now here = here
+quiet_among (Write place piece) is content images image now here = absurd is
+quiet_among (Cut to) is content images image now here = absurd is
+quiet_among Sync is content images image now here = subst images (sym here) now
+
+pub content_left : (call : DiskCall) → IsQuiet call → (content : List ℕ) → content ≡ content_by call content
+content_left Len is content = refl
+content_left (Read place count) is content = refl
+content_left (Write place piece) is content = absurd is
+content_left (Cut to) is content = absurd is
+content_left Sync is content = refl
+
 images_hold : (calls : List DiskCall) (content : List ℕ) (images : List ℕ → Type 0) → images content → images_after calls content images (content_after calls content)
 images_hold [] content images here = here
 images_hold (call ∷ calls) content images here = images_hold calls (content_by call content) (images_by call content images) (content_among call content images here)
@@ -119,17 +131,14 @@ module _ (calls : List DiskCall) (start content : List ℕ) (replayed : content 
           inr (inr (subst (λ (cs : List DiskCall). images_of cs start image) (take_all count (calls ++ call ∷ []) (omega arith)) here)))
 
   -- What a crash leaves behind a call.
-  pub quiet : (call : DiskCall) → ((found : List ℕ) (images : List ℕ → Type 0) (image : List ℕ) → images_by call found images image → images image)
-      → NoFurther (Images calls start content) (Images (calls ++ call ∷ []) start content)
-  quiet call leaves image (inl is) = inl is
-  quiet call leaves image (inr here) = inr (leaves (content_after calls start) (images_of calls start) image (images_push calls call start (λ other. other ≡ start) image here))
+  pub quiet : (call : DiskCall) → IsQuiet call → NoFurther (Images calls start content) (Images (calls ++ call ∷ []) start content)
+  quiet call is_quiet image (inl is) = inl is
+  quiet call is_quiet image (inr here) =
+      inr (quiet_among call is_quiet (content_after calls start) (images_of calls start) image (images_hold calls start (λ other. other ≡ start) refl) (images_push calls call start (λ other. other ≡ start) image here))
 
   synced_image : (image : List ℕ) → Images (calls ++ Sync ∷ []) start content image → image ≡ content
   synced_image image (inl is) = is
   synced_image image (inr here) = let now : image ≡ content_after calls start = images_push calls Sync start (λ other. other ≡ start) image here in now ∙ sym replayed
-
-  pub synced : NoFurther (Images calls start content) (Images (calls ++ Sync ∷ []) start content)
-  synced image here = inl (synced_image image here)
 
   pub alone : Alone (Some content) (Images (calls ++ Sync ∷ []) start content)
   alone image here = ap (λ (i : List ℕ). Some i) (sym (synced_image image here))
@@ -170,7 +179,3 @@ module _ (calls calls' : List DiskCall) (start start' content content' : List �
   pub replayed_behind : content' ≡ content_by call content → content' ≡ content_after calls' start'
   replayed_behind content_is = content_is ∙ ap (content_by call) replayed ∙ sym (content_push calls call start)
       ∙ ap (λ (cs : List DiskCall). content_after cs start) (sym calls_are) ∙ ap (content_after calls') (sym start_is)
-
--- a call that failed for want of memory has its cause
-pub cause_of : {T : Type 0} (before between after : ℕ) (failed : Failed) → before ≤ between → between ≤ after → Rose between after → (let result : Result T Failed = Err failed in HasCause before after result)
-cause_of before between after failed first second rose = record { later = omega arith; failed = omega arith }

@@ -3,8 +3,8 @@ use Rattle.std.specs.Prelude.{◌≡◌, ◌≤◌, ◌⊎◌, ℕ, List, [], �
 use Rattle.std.specs.declared.alloc.Global.{Global}
 use Rattle.std.proofs.Common.{inl, inr, subst, sym, le_refl}
 use Rattle.std.proofs.lemmas.List.{take_all}
-use Rattle.disk_model.specs.declared.memory_disk.DiskCall.{DiskCall}
-use Rattle.disk_model.specs.declared.memory_disk.DiskCall.TheVariants.{Len, Read, Write, Cut, Sync}
+use Rattle.disk_model.specs.declared.disk_calls.DiskCall.{DiskCall}
+use Rattle.disk_model.specs.declared.disk_calls.DiskCall.TheVariants.{Len, Read, Write, Cut, Sync}
 use Rattle.disk_model.specs.Disks.{CutShort, Torn, written}
 
 -- the content after a call
@@ -14,6 +14,14 @@ content_by (Read place count) content = content
 content_by (Write place piece) content = written place piece.items content
 content_by (Cut to) content = take to content
 content_by Sync content = content
+
+-- the call leaves the content
+abbrev pub IsQuiet : DiskCall → Type 0
+IsQuiet Len = Unit {0}
+IsQuiet (Read place count) = Unit {0}
+IsQuiet (Write place piece) = ⊥
+IsQuiet (Cut to) = ⊥
+IsQuiet Sync = Unit {0}
 
 -- the images after a call that found this content and these images
 abbrev pub images_by : DiskCall → List ℕ → (List ℕ → Type 0) → List ℕ → Type 0

@@ -149,43 +149,33 @@ impl<'a, R: Files<File = File> + Drop> Disk for FileDisk<'a, R> {
     ghost fault_count = { λ disk. disk.faults };
 
     fn len(&mut self) -> Result<u64, Failed> {
-        let outcome = match opened(&self.files, self.path, &mut self.file) {
-            Ok(file) => length_of(file),
-            Err(error) => Err(error),
-        };
-        counted(outcome, &mut self.faults)
+        let opening = opened(&self.files, self.path, &mut self.file);
+        let file = counted(opening, &mut self.faults)?;
+        counted(length_of(file), &mut self.faults)
     }
 
     fn read(&mut self, place: u64, out: &mut [u8]) -> Result<(), Failed> {
-        let outcome = match opened(&self.files, self.path, &mut self.file) {
-            Ok(file) => read_whole(file, place, out),
-            Err(error) => Err(error),
-        };
-        counted(outcome, &mut self.faults)
+        let opening = opened(&self.files, self.path, &mut self.file);
+        let file = counted(opening, &mut self.faults)?;
+        counted(read_whole(file, place, out), &mut self.faults)
     }
 
     fn write_at(&mut self, place: u64, piece: &[u8]) -> Result<(), Failed> {
-        let outcome = match opened(&self.files, self.path, &mut self.file) {
-            Ok(file) => write_whole(file, place, piece),
-            Err(error) => Err(error),
-        };
-        counted(outcome, &mut self.faults)
+        let opening = opened(&self.files, self.path, &mut self.file);
+        let file = counted(opening, &mut self.faults)?;
+        counted(write_whole(file, place, piece), &mut self.faults)
     }
 
     fn cut(&mut self, to: u64) -> Result<(), Failed> {
-        let outcome = match opened(&self.files, self.path, &mut self.file) {
-            Ok(file) => file.set_len(to),
-            Err(error) => Err(error),
-        };
-        counted(outcome, &mut self.faults)
+        let opening = opened(&self.files, self.path, &mut self.file);
+        let file = counted(opening, &mut self.faults)?;
+        counted(file.set_len(to), &mut self.faults)
     }
 
     fn sync(&mut self) -> Result<(), Failed> {
-        let outcome = match opened(&self.files, self.path, &mut self.file) {
-            Ok(file) => file.sync_data(),
-            Err(error) => Err(error),
-        };
-        counted(outcome, &mut self.faults)
+        let opening = opened(&self.files, self.path, &mut self.file);
+        let file = counted(opening, &mut self.faults)?;
+        counted(file.sync_data(), &mut self.faults)
     }
 
     fn faults(&self) -> u64 {

@@ -2,11 +2,13 @@
 //! which tests and drills try each fault and each crash, and a file of the system.
 #![tactic(auto)]
 
+mod disk_calls;
 mod disks;
 mod file_disk;
 mod memory_disk;
 
 pub use decimal_rank::Failed;
+pub use disk_calls::DiskCall;
 pub use disks::{Disk, MOST_BYTES};
 pub use file_disk::FileDisk;
-pub use memory_disk::{DiskCall, MemoryDisk};
+pub use memory_disk::MemoryDisk;

@@ -1,36 +1,16 @@
 //! A disk in memory, which keeps all its calls, so that its images are exactly those that the rules
 //! allow.
-ghost use Rattle.std.specs.Prelude.{◌≡◌, ℕ, ◌+◌, ◌≤◌, [], ◌∷◌, ◌++◌, true, List, Some, Vec, length, take, OnOk, OnErr, Ok};
-ghost use Rattle.std.specs.declared.alloc.Global.{Global};
-ghost use Rattle.decimal_rank.specs.Causes.{HasCause, Rose};
-ghost use Rattle.disk_model.specs.declared.memory_disk.DiskCall.TheVariants.{Cut as CutCall, Write as WriteCall};
-ghost use Rattle.disk_model.specs.Calls.{begun_with, content_after, content_by};
-ghost use Rattle.disk_model.specs.Disks.{written, Alone};
+ghost use Rattle.std.specs.Prelude.{◌≡◌, ℕ, ◌+◌, ◌≤◌, List, Ok, Some, length, take, OnErr, OnOk};
+ghost use Rattle.decimal_rank.specs.Causes.{HasCause};
+ghost use Rattle.disk_model.specs.declared.disk_calls.DiskCall.TheVariants.{Sync as SyncCall};
+ghost use Rattle.disk_model.specs.Calls.{IsQuiet, begun_with};
+ghost use Rattle.disk_model.specs.Disks.{Alone, CutShort, Follows, NoFurther, Torn, written};
+ghost use Rattle.disk_model.specs.HeldImages.{GoesOn, images_now};
 
+use crate::disk_calls::{DiskCall, Held};
 use crate::disks::Disk;
 use decimal_rank::{Failed, FailurePlan, Memory, count_more};
 use std::alloc::Global;
-
-/// A call that did its work.
-#[derive(Debug, Drop)]
-pub enum DiskCall {
-    Len,
-    /// So many bytes were read.
-    Read { place: u64, count: usize },
-    Write { place: u64, piece: Vec<u8> },
-    Cut { to: u64 },
-    Sync,
-}
-
-// What the disk holds, and the calls that made it.
-#[derive(Drop)]
-struct Held {
-    // the content at the start, from the first call on that changes it
-    start: Option<Vec<u8>>,
-    content: Vec<u8>,
-    calls: Vec<DiskCall>,
-    ghost replayed: { content.items ≡ content_after calls.items (begun_with start content.items) },
-}
 
 // The calls that are to fail, and how many failed, in all and for want of memory.
 #[derive(Drop)]
@@ -92,71 +72,52 @@ impl MemoryDisk {
 impl Disk for MemoryDisk {
     ghost use Rattle.std.specs.Prelude.{ℕ, List, Some, length};
     ghost use Rattle.std.proofs.Common.{inl, refl};
-    ghost use Rattle.disk_model.specs.Calls.{ImageSince, Images, begun_with, now_among, only_now_left};
+    ghost use Rattle.disk_model.specs.Calls.{begun_with, now_among, only_now_left};
+    ghost use Rattle.disk_model.specs.HeldImages.{images_from, images_now};
 
     ghost content = { λ disk. Some disk.held.content.items };
 
-    ghost images = { λ disk. Images disk.held.calls.items (begun_with disk.held.start disk.held.content.items) disk.held.content.items };
+    ghost images = { λ disk. images_now disk.held };
 
     ghost clock = { λ disk. length disk.held.calls.items };
 
-    ghost images_since = { λ disk. ImageSince disk.held.calls.items (begun_with disk.held.start disk.held.content.items) disk.held.content.items };
+    ghost images_since = { λ disk. images_from disk.held };
 
     ghost fault_count = { λ disk. disk.counts.faults };
 
     fn len(&mut self) -> Result<u64, Failed> {
-        if self.counts.fails() {
-            return Err(Failed);
-        }
-        match self.held.note(DiskCall::Len) {
-            Ok(()) => Ok(self.held.content.len() as u64),
-            Err(Memory) => Err(self.counts.want()),
-        }
+        self.counts.begin()?;
+        let kept = self.held.note(DiskCall::Len);
+        self.counts.end(kept)?;
+        Ok(self.held.content.len() as u64)
     }
 
     fn read(&mut self, place: u64, out: &mut [u8]) -> Result<(), Failed> {
-        if self.counts.fails() {
-            return Err(Failed);
-        }
+        self.counts.begin()?;
         let count = out.len();
-        match self.held.note(DiskCall::Read { place, count }) {
-            Ok(()) => {
-                let place = place as usize;
-                out.copy_from_slice(&self.held.content[place..place + count]);
-                Ok(())
-            }
-            Err(Memory) => Err(self.counts.want()),
-        }
+        let kept = self.held.note(DiskCall::Read { place, count });
+        self.counts.end(kept)?;
+        let place = place as usize;
+        out.copy_from_slice(&self.held.content[place..place + count]);
+        Ok(())
     }
 
     fn write_at(&mut self, place: u64, piece: &[u8]) -> Result<(), Failed> {
-        if self.counts.fails() {
-            return Err(Failed);
-        }
-        match self.held.write(place, piece) {
-            Ok(()) => Ok(()),
-            Err(Memory) => Err(self.counts.want()),
-        }
+        self.counts.begin()?;
+        let kept = self.held.write(place, piece);
+        self.counts.end(kept)
     }
 
     fn cut(&mut self, to: u64) -> Result<(), Failed> {
-        if self.counts.fails() {
-            return Err(Failed);
-        }
-        match self.held.cut(to) {
-            Ok(()) => Ok(()),
-            Err(Memory) => Err(self.counts.want()),
-        }
+        self.counts.begin()?;
+        let kept = self.held.cut(to);
+        self.counts.end(kept)
     }
 
     fn sync(&mut self) -> Result<(), Failed> {
-        if self.counts.fails() {
-            return Err(Failed);
-        }
-        match self.held.note(DiskCall::Sync) {
-            Ok(()) => Ok(()),
-            Err(Memory) => Err(self.counts.want()),
-        }
+        self.counts.begin()?;
+        let kept = self.held.note(DiskCall::Sync);
+        self.counts.end(kept)
     }
 
     fn faults(&self) -> u64 {
@@ -171,37 +132,41 @@ impl Disk for MemoryDisk {
 }
 
 impl Counts {
-    // Counts one more call, and tells whether it is to fail.
-    fn fails(&mut self) -> bool
-        ensures later { self.old.faults ≤ self.new.faults }
-        ensures rose { result ≡ true → Rose self.old.faults self.new.faults }
+    // Counts one more call, which fails where that is planned.
+    fn begin(&mut self) -> Result<(), Failed>
+        ensures { HasCause self.old.faults self.new.faults result }
     {
-        let fails = self.plan.call();
-        if fails {
+        if self.plan.call() {
             self.faults = count_more(self.faults);
+            return Err(Failed);
         }
-        fails
+        Ok(())
     }
 
-    // Counts a call that failed for want of memory.
-    fn want(&mut self) -> Failed
-        ensures later { self.old.faults ≤ self.new.faults }
-        ensures rose { Rose self.old.faults self.new.faults }
+    // What keeping a call came to. Want of memory is a fault.
+    fn end(&mut self, kept: Result<(), Memory>) -> Result<(), Failed>
+        ensures kept { OnOk result (kept ≡ Ok tt) }
+        ensures cause { HasCause self.old.faults self.new.faults result }
     {
-        self.faults = count_more(self.faults);
-        self.wants = count_more(self.wants);
-        Failed
+        match kept {
+            Ok(()) => Ok(()),
+            Err(Memory) => {
+                self.faults = count_more(self.faults);
+                self.wants = count_more(self.wants);
+                Err(Failed)
+            }
+        }
     }
 }
 
 impl Held {
     // Keeps a call that leaves the content.
     fn note(&mut self, call: DiskCall) -> Result<(), Memory>
-        requires { (content : List ℕ) → content_by call content ≡ content }
-        ensures ok { OnOk result (self.new.calls.items ≡ self.old.calls.items ++ call ∷ []) }
-        ensures err { OnErr result (self.new.calls.items ≡ self.old.calls.items) }
+        requires { IsQuiet call }
         ensures content { self.new.content.items ≡ self.old.content.items }
-        ensures begun { begun_with self.new.start self.new.content.items ≡ begun_with self.old.start self.old.content.items }
+        ensures crash { NoFurther (images_now self.old) (images_now self.new) }
+        ensures alone { OnOk result (call ≡ SyncCall → Alone (Some self.new.content.items) (images_now self.new)) }
+        ensures time { GoesOn self.old self.new }
     {
         self.calls.reserve(1)?;
         self.calls.push_reserved(call);
@@ -226,10 +191,9 @@ impl Held {
 
     fn write(&mut self, place: u64, piece: &[u8]) -> Result<(), Memory>
         requires { place ≤ length self.old.content.items }
-        ensures call { OnOk result ((kept : Vec ℕ Global) × (kept.items ≡ piece.now) × (self.new.calls.items ≡ self.old.calls.items ++ WriteCall place kept ∷ [])) }
         ensures content { OnOk result (self.new.content.items ≡ written place piece.now self.old.content.items) }
-        ensures err { OnErr result ((self.new.calls.items ≡ self.old.calls.items) × (self.new.content.items ≡ self.old.content.items)) }
-        ensures begun { begun_with self.new.start self.new.content.items ≡ begun_with self.old.start self.old.content.items }
+        ensures crash { Follows (Torn place (length piece.now)) (images_now self.old) (images_now self.new) }
+        ensures time { GoesOn self.old self.new }
     {
         let kept = piece.to_vec(*self.content.allocator())?;
         self.keep_start()?;
@@ -242,10 +206,9 @@ impl Held {
 
     fn cut(&mut self, to: u64) -> Result<(), Memory>
         requires { to ≤ length self.old.content.items }
-        ensures call { OnOk result (self.new.calls.items ≡ self.old.calls.items ++ CutCall to ∷ []) }
         ensures content { OnOk result (self.new.content.items ≡ take to self.old.content.items) }
-        ensures err { OnErr result ((self.new.calls.items ≡ self.old.calls.items) × (self.new.content.items ≡ self.old.content.items)) }
-        ensures begun { begun_with self.new.start self.new.content.items ≡ begun_with self.old.start self.old.content.items }
+        ensures crash { Follows (CutShort to) (images_now self.old) (images_now self.new) }
+        ensures time { GoesOn self.old self.new }
     {
         self.keep_start()?;
         self.calls.reserve(1)?;

@@ -1,11 +1,12 @@
 -- What a message that is sent twice is answered by the rules, and what it adds to the accepted entries.
-use Rattle.std.specs.Prelude.{◌≡◌, ◌≢◌, ℕ, List, [], ◌∷◌, ◌++◌}
+use Rattle.std.specs.Prelude.{◌≡◌, ◌≢◌, ℕ, List, Option, [], ◌∷◌, ◌++◌}
 use Rattle.http_wire.specs.Messages.{Messages, End, Closed, Refused, Clean, Cut}
 use Rattle.routes.specs.Answers.{status_of}
 use Rattle.routes.specs.declared.answers.Answered.{Answered}
 use Rattle.rulebook.specs.Campaign.{History}
 use Rattle.campaign_server.specs.Chains.{Said, requests_of, texts_of}
 use Rattle.campaign_server.specs.Talks.{Says}
+use Rattle.drill.specs.Answers.{leased_doc}
 use Rattle.drill.specs.Messages.{Message, callers, message_text}
 
 -- an answer that tells neither want of memory nor a fault of the disk
@@ -33,6 +34,10 @@ pub record IsExchange (H : History) (text : List ℕ) (S : History) (answers : L
   pub whole : IsWhole ending
   pub told : AreTold H said S
   pub answers_are : answers ≡ texts_of said
+
+-- an exchange, and the document that its answers tell
+abbrev pub IsAnswered : History → List ℕ → History → Option ℕ → Type 0
+IsAnswered H text S doc = (answers : List ℕ) × IsExchange H text S answers × (doc ≡ leased_doc answers)
 
 -- the message was sent twice, whatever its answers are
 abbrev pub IsSent : History → Message → History → Type 0

@@ -1,7 +1,7 @@
 //! The messages of a generated campaign, in their order.
-ghost use Rattle.std.specs.Prelude.{◌≡◌, ◌+◌, ◌*◌, ◌≤◌, [], ◌∷◌, IfOk, IsTrue, MatchBool, OnOk};
+ghost use Rattle.std.specs.Prelude.{◌≡◌, ◌+◌, ◌*◌, ◌≤◌, ◌<◌, [], ◌∷◌, IfOk, IsTrue, MatchBool, OnOk, length};
 ghost use Rattle.rulebook.specs.Legal.{founding};
-ghost use Rattle.drill.specs.Exchanges.{IsSent};
+ghost use Rattle.drill.specs.Exchanges.{IsAnswered, IsSent};
 ghost use Rattle.drill.specs.Figures.{are_numbers};
 ghost use Rattle.drill.specs.Messages.{callers, rules, run_message as message_of_run};
 ghost use Rattle.drill.specs.Plays.{After, AreJudged, IsGraded, IsJudged, IsPlayed, IsRefused, judging};
@@ -17,6 +17,15 @@ use decimal_rank::Memory;
 use disk_model::MemoryDisk;
 use routes::Keys;
 use std::alloc::Global;
+
+/// Sends the messages of a generated campaign.
+#[derive(Drop)]
+struct Sender<'a, R> {
+    rt: &'a R,
+    alloc: Global,
+    numbers: &'a DrillNumbers,
+    keys: &'a Keys,
+}
 
 /// How many messages the assessor sent, and how many leases were accepted.
 #[derive(Clone, Copy)]
@@ -38,122 +47,115 @@ pub(crate) fn play<R>(
     requires founded { book.old.history ≡ founding rules ∷ [] }
     ensures { OnOk result (IsPlayed numbers.now book.new.history) }
 {
-    send(rt, alloc, book, keys, topics_message(alloc, numbers)?)?;
-    submit_runs(rt, alloc, numbers, book, keys)?;
-    send(rt, alloc, book, keys, open_message(alloc)?)?;
-    judge_topics(rt, alloc, numbers, book, keys)?;
-    send(rt, alloc, book, keys, publish_message(alloc)?)?;
-    Ok(())
-}
-
-/// Submits each run.
-fn submit_runs<R>(
-    rt: &R,
-    alloc: Global,
-    numbers: &DrillNumbers,
-    book: &mut Book<MemoryDisk>,
-    keys: &Keys,
-) -> Result<(), Memory>
-    requires numbers { IsTrue (are_numbers numbers.now) }
-    requires keys { keys.now ≡ callers }
-    ensures { OnOk result (After (λ r old new. IsSent old (message_of_run numbers.now r) new) numbers.now.runs book.old.history book.new.history) }
-{
-    for before in 0..numbers.runs {
-        send(
-            rt,
-            alloc,
-            book,
-            keys,
-            run_message(alloc, numbers, before + 1)?,
-        )?;
-    }
-    Ok(())
-}
-
-/// Leases and grades the documents of each topic.
-fn judge_topics<R>(
-    rt: &R,
-    alloc: Global,
-    numbers: &DrillNumbers,
-    book: &mut Book<MemoryDisk>,
-    keys: &Keys,
-) -> Result<(), Memory>
-    requires numbers { IsTrue (are_numbers numbers.now) }
-    requires keys { keys.now ≡ callers }
-    ensures { OnOk result (AreJudged numbers.now book.old.history book.new.history) }
-{
-    let mut sent = Sent {
-        number: 0,
-        leases: 0,
+    let sender = Sender {
+        rt,
+        alloc,
+        numbers,
+        keys,
     };
-    for before in 0..numbers.topics {
-        judge_topic(rt, alloc, numbers, before + 1, book, keys, &mut sent)?;
-    }
+    sender.send(book, topics_message(alloc, numbers)?)?;
+    sender.submit_runs(book)?;
+    sender.send(book, open_message(alloc)?)?;
+    sender.judge_topics(book)?;
+    sender.send(book, publish_message(alloc)?)?;
     Ok(())
 }
 
-/// Leases and grades the documents of a topic, until no lease is accepted.
-fn judge_topic<R>(
-    rt: &R,
-    alloc: Global,
-    numbers: &DrillNumbers,
-    t: u32,
-    book: &mut Book<MemoryDisk>,
-    keys: &Keys,
-    sent: &mut Sent,
-) -> Result<(), Memory>
-    requires numbers { IsTrue (are_numbers numbers.now) }
-    requires keys { keys.now ≡ callers }
-    requires topic { t ≤ 250 }
-    requires few { sent.old.number ≤ 1000000 }
-    requires few_leases { sent.old.leases ≤ 1000000 }
-    ensures judged { OnOk result (IsJudged numbers.now t (judging book.old.history sent.old) (judging book.new.history sent.new)) }
-    ensures few { sent.new.number ≤ sent.old.number + 2003 }
-    ensures few_leases { sent.new.leases ≤ sent.old.leases + 1001 }
-{
-    for round in 0..numbers.docs + 1 {
-        let is_graded = judge_next(rt, alloc, numbers, t, book, keys, sent)?;
-        if !is_graded {
-            return Ok(());
-        }
+impl<'a, R> Sender<'a, R> {
+    /// Sends a message twice. Its answers tell the number of a document where they lease one.
+    fn send(&self, book: &mut Book<MemoryDisk>, text: Vec<u8>) -> Result<Option<u32>, Memory>
+        requires keys { self.now.keys.now ≡ callers }
+        requires some { 0 < length text.items }
+        ensures { IfOk result (IsAnswered book.old.history text.items book.new.history) }
+    {
+        send(self.rt, self.alloc, book, self.keys, text)
     }
-    // a topic has no more documents, so its leases came to an end
-    Err(Memory)
-}
 
-/// Asks for a lease on a topic, and grades its document. False is that the lease wasn't accepted.
-fn judge_next<R>(
-    rt: &R,
-    alloc: Global,
-    numbers: &DrillNumbers,
-    t: u32,
-    book: &mut Book<MemoryDisk>,
-    keys: &Keys,
-    sent: &mut Sent,
-) -> Result<bool, Memory>
-    requires keys { keys.now ≡ callers }
-    requires topic { t ≤ 250 }
-    requires few { sent.old.number ≤ 2000000 }
-    requires few_leases { sent.old.leases ≤ 2000000 }
-    ensures judged { IfOk result (λ is_graded. MatchBool is_graded
-        (IsGraded numbers.now t (judging book.old.history sent.old) (judging book.new.history sent.new))
-        (IsRefused t (judging book.old.history sent.old) (judging book.new.history sent.new))) }
-    ensures few { sent.new.number ≤ sent.old.number + 2 }
-    ensures few_leases { sent.new.leases ≤ sent.old.leases + 1 }
-{
-    let lease = lease_message(alloc, t, sent.number + 1)?;
-    match send(rt, alloc, book, keys, lease)? {
-        Some(doc) => {
-            let grade = grade_of(numbers, t, doc);
-            let text = grade_message(alloc, sent.leases + 1, sent.number + 2, grade)?;
-            send(rt, alloc, book, keys, text)?;
-            sent.number += 2;
-            sent.leases += 1;
-            Ok(true)
+    /// Submits each run.
+    fn submit_runs(&self, book: &mut Book<MemoryDisk>) -> Result<(), Memory>
+        requires numbers { IsTrue (are_numbers self.now.numbers.now) }
+        requires keys { self.now.keys.now ≡ callers }
+        ensures { OnOk result (After (λ r old new. IsSent old (message_of_run self.now.numbers.now r) new) self.now.numbers.now.runs book.old.history book.new.history) }
+    {
+        for before in 0..self.numbers.runs {
+            self.send(book, run_message(self.alloc, self.numbers, before + 1)?)?;
         }
-        None => {
-            sent.number += 1;
-            Ok(false)
+        Ok(())
+    }
+
+    /// Leases and grades the documents of each topic.
+    fn judge_topics(&self, book: &mut Book<MemoryDisk>) -> Result<(), Memory>
+        requires numbers { IsTrue (are_numbers self.now.numbers.now) }
+        requires keys { self.now.keys.now ≡ callers }
+        ensures { OnOk result (AreJudged self.now.numbers.now book.old.history book.new.history) }
+    {
+        let mut sent = Sent {
+            number: 0,
+            leases: 0,
+        };
+        for before in 0..self.numbers.topics {
+            self.judge_topic(before + 1, book, &mut sent)?;
+        }
+        Ok(())
+    }
+
+    /// Leases and grades the documents of a topic, until no lease is accepted.
+    fn judge_topic(
+        &self,
+        t: u32,
+        book: &mut Book<MemoryDisk>,
+        sent: &mut Sent,
+    ) -> Result<(), Memory>
+        requires numbers { IsTrue (are_numbers self.now.numbers.now) }
+        requires keys { self.now.keys.now ≡ callers }
+        requires topic { t ≤ 250 }
+        requires few { sent.old.number ≤ 1000000 }
+        requires few_leases { sent.old.leases ≤ 1000000 }
+        ensures judged { OnOk result (IsJudged self.now.numbers.now t (judging book.old.history sent.old) (judging book.new.history sent.new)) }
+        ensures few { sent.new.number ≤ sent.old.number + 2003 }
+        ensures few_leases { sent.new.leases ≤ sent.old.leases + 1001 }
+    {
+        for round in 0..self.numbers.docs + 1 {
+            let is_graded = self.judge_next(t, book, sent)?;
+            if !is_graded {
+                return Ok(());
+            }
+        }
+        // a topic has no more documents, so its leases came to an end
+        Err(Memory)
+    }
+
+    /// Asks for a lease on a topic, and grades its document. False is that the lease wasn't accepted.
+    fn judge_next(
+        &self,
+        t: u32,
+        book: &mut Book<MemoryDisk>,
+        sent: &mut Sent,
+    ) -> Result<bool, Memory>
+        requires keys { self.now.keys.now ≡ callers }
+        requires topic { t ≤ 250 }
+        requires few { sent.old.number ≤ 2000000 }
+        requires few_leases { sent.old.leases ≤ 2000000 }
+        ensures judged { IfOk result (λ is_graded. MatchBool is_graded
+            (IsGraded self.now.numbers.now t (judging book.old.history sent.old) (judging book.new.history sent.new))
+            (IsRefused t (judging book.old.history sent.old) (judging book.new.history sent.new))) }
+        ensures few { sent.new.number ≤ sent.old.number + 2 }
+        ensures few_leases { sent.new.leases ≤ sent.old.leases + 1 }
+    {
+        let lease = lease_message(self.alloc, t, sent.number + 1)?;
+        match self.send(book, lease)? {
+            Some(doc) => {
+                let grade = grade_of(self.numbers, t, doc);
+                let text = grade_message(self.alloc, sent.leases + 1, sent.number + 2, grade)?;
+                self.send(book, text)?;
+                sent.number += 2;
+                sent.leases += 1;
+                Ok(true)
+            }
+            None => {
+                sent.number += 1;
+                Ok(false)
+            }
         }
     }
 }

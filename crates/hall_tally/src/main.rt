@@ -46,7 +46,7 @@ fn main(rt: HostRuntime) -> io::Result<ExitCode> {
     };
     match Hall::new(alloc, Tally::new(alloc)) {
         Ok((hall, pass)) => {
-            let pass = write_notes(&rt, &hall, pass, crowd, notes);
+            let pass = write_notes(&rt, &hall, pass, crowd, 0, notes);
             let tally = hall.close(&rt, pass);
             let written = tally.notes.len();
             let in_order = are_in_order(&tally.notes, crowd.size(), notes);

@@ -56,11 +56,13 @@ fn work<R: Wait>(
     pass
 }
 
-// Two workers, the second of which has the number after the first's.
-fn two<R: Threads + Wait + Sync>(
+/// Each worker writes so many notes, the workers with the numbers from the first one's on. The pass afterwards has seen
+/// all of them.
+pub fn write_notes<R: Threads + Wait + Sync>(
     rt: &R,
     hall: &Hall<Tally>,
     mut pass: Pass<Tally>,
+    crowd: Crowd,
     first: u32,
     notes: u32,
 ) -> Pass<Tally>
@@ -68,64 +70,24 @@ fn two<R: Threads + Wait + Sync>(
     requires shared { IsSync R.row }
     ensures { result.hall ≡ hall.now }
 {
+    let half = match crowd {
+        Crowd::One => return work(rt, hall, pass, first, notes),
+        Crowd::Two => Crowd::One,
+        Crowd::Four => Crowd::Two,
+    };
     let other = hall.split(&mut pass);
-    let second = first.saturating_add(1);
-    let (mut pass, other) = thread::join(
-        rt,
-        move ||
-            requires { pass.hall ≡ hall.now }
-            ensures { result.hall ≡ hall.entry.now }
-        { work(rt, hall, pass, first, notes) },
-        move ||
-            requires { other.hall ≡ hall.now }
-            ensures { result.hall ≡ hall.entry.now }
-        { work(rt, hall, other, second, notes) },
-    );
-    hall.join(other, &mut pass);
-    pass
-}
-
-fn four<R: Threads + Wait + Sync>(
-    rt: &R,
-    hall: &Hall<Tally>,
-    mut pass: Pass<Tally>,
-    notes: u32,
-) -> Pass<Tally>
-    requires pass { pass.hall ≡ hall.now }
-    requires shared { IsSync R.row }
-    ensures { result.hall ≡ hall.now }
-{
-    let other = hall.split(&mut pass);
+    let second = first.saturating_add(half.size());
     let (mut pass, other) = thread::join(
         rt,
         move ||
             requires { IsSync R.row × (pass.hall ≡ hall.now) }
             ensures { result.hall ≡ hall.entry.now }
-        { two(rt, hall, pass, 0, notes) },
+        { write_notes(rt, hall, pass, half, first, notes) },
         move ||
             requires { IsSync R.row × (other.hall ≡ hall.now) }
             ensures { result.hall ≡ hall.entry.now }
-        { two(rt, hall, other, 2, notes) },
+        { write_notes(rt, hall, other, half, second, notes) },
     );
     hall.join(other, &mut pass);
     pass
-}
-
-/// Each worker writes so many notes. The pass afterwards has seen all of them.
-pub fn write_notes<R: Threads + Wait + Sync>(
-    rt: &R,
-    hall: &Hall<Tally>,
-    pass: Pass<Tally>,
-    crowd: Crowd,
-    notes: u32,
-) -> Pass<Tally>
-    requires pass { pass.hall ≡ hall.now }
-    requires shared { IsSync R.row }
-    ensures { result.hall ≡ hall.now }
-{
-    match crowd {
-        Crowd::One => work(rt, hall, pass, 0, notes),
-        Crowd::Two => two(rt, hall, pass, 0, notes),
-        Crowd::Four => four(rt, hall, pass, notes),
-    }
 }

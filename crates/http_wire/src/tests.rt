@@ -166,12 +166,12 @@ fn a_head_has_8192_bytes_and_32_fields_at_most(rt: HostRuntime) -> Result<(), Fa
     Ok(())
 }
 
-const SUBMITTED: &str = "\
+const CREATED: &str = "\
 HTTP/1.1 201 Created\r
 Content-Type: application/json\r
-Content-Length: 33\r
+Content-Length: 12\r
 \r
-{\"lines\":3,\"run\":\"X\",\"topics\":1}
+{\"lease\":7}
 ";
 
 const REFUSED: &str = "\
@@ -185,14 +185,8 @@ page";
 #[test]
 fn answers_have_a_head_and_the_body(rt: HostRuntime) -> Result<(), Fail> {
     let mut out = Vec::new(rt.alloc());
-    write_answer(
-        201,
-        true,
-        false,
-        b"{\"lines\":3,\"run\":\"X\",\"topics\":1}\n",
-        &mut out,
-    )?;
-    assert_eq!(rt; out.as_slice(), SUBMITTED.as_bytes());
+    write_answer(201, true, false, b"{\"lease\":7}\n", &mut out)?;
+    assert_eq!(rt; out.as_slice(), CREATED.as_bytes());
     out.clear();
     write_answer(431, false, true, b"page", &mut out)?;
     assert_eq!(rt; out.as_slice(), REFUSED.as_bytes());

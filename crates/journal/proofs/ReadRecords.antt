@@ -56,7 +56,7 @@ module _ (bytes : List ℕ) (place : ℕ) (all : List (List ℕ)) (front : IsFro
       is_front = front;
       gate = get_or bytes place 0;
       shut = at_end.0;
-      each = λ image here. (drop (place + 1) bytes, alone image here ∙ sym (take-append-drop place bytes) ∙ ap (λ (rest : List ℕ). take place bytes ++ rest) at_end.1);
+      each = λ image here. (drop (place + 1) bytes, alone image here ∙ sym (take-append-drop place bytes) ∙ ap (λ (rest : List ℕ). take place bytes ++ rest) at_end.1, tt);
     },
     refl,
   )

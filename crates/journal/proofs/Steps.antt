@@ -1,15 +1,16 @@
 -- What each step leaves of the images.
-use Rattle.std.proofs.Common.{◌≡◌, ◌≢◌, ◌⊎◌, inl, inr, ⊎_elim, ℕ, ◌+◌, ◌≤◌, List, [], ◌∷◌, ◌++◌, length, get_or, take, drop, sym, ap, ◌∙◌, arith, append_assoc, length-append}
+use Rattle.std.proofs.Common.{◌≡◌, ◌≢◌, ◌⊎◌, inl, inr, ⊎_elim, ℕ, ◌+◌, ◌≤◌, List, [], ◌∷◌, ◌++◌, length, get_or, take, drop, refl, sym, ap, ◌∙◌, arith, append_assoc, length-append}
 use Rattle.std.specs.Prelude.{Some}
 use Rattle.std.proofs.lemmas.List.{append-nil, drop_all, drop_at, drop_more, take-append-drop, take_all, take_at}
 use Rattle.std.proofs.lemmas.Bool.{cases_eq}
 use mathlib.Core.Logic.{dite}
 use native.Mathlib.Decide.{dec_le}
-use Rattle.disk_model.specs.Disks.{CutShort, Follows, Torn, written}
+use Rattle.disk_model.specs.Disks.{CutShort, EachMoment, Follows, Torn, written}
 use Rattle.journal.specs.Format.{decode, payload_behind, records}
 use Rattle.journal.specs.Frames.{IsFrame}
-use Rattle.journal.specs.Kept.{CutDue, GateDue, IsFront, Settled, Staged, StandsFor}
+use Rattle.journal.specs.Kept.{CutDue, GateDue, IsFront, Settled, Shut, Staged, StandsFor}
 use Rattle.journal.specs.DiskSteps.{ReachesTo, WithStep}
+use Rattle.journal.specs.Moments.{weaker}
 use Rattle.journal.proofs.RecordBytes.{body, frame_gives, front_grows, shut_ends}
 
 -- Bytes with a gate at this place.
@@ -58,24 +59,18 @@ module _ (front : List ℕ) (place : ℕ) (size : length front ≡ place) where
 
 -- What is kept stands for these records.
 module _ (images : List ℕ → Type 0) (place : ℕ) (all : List (List ℕ)) where
-  shut_reads : (front : List ℕ) → IsFront front place all → (gate : ℕ) → gate ≢ 1 → (rest image : List ℕ) → image ≡ front ++ gate ∷ rest → decode image ≡ Some all
-  shut_reads front is_front gate shut rest image is =
+  shut_gives : (front : List ℕ) → IsFront front place all → (gate : ℕ) → gate ≢ 1 → (rest image : List ℕ) → image ≡ front ++ gate ∷ rest → decode image ≡ Some all
+  shut_gives front is_front gate shut rest image is =
       ap (λ (bytes : List ℕ). decode bytes) is ∙ is_front.reads (gate ∷ rest)
       ∙ ap (λ (more : List (List ℕ)). Some (all ++ more)) (shut_ends gate rest shut) ∙ ap (λ (found : List (List ℕ)). Some found) (append-nil all)
 
-  pub settled_reads : Settled images place all → (image : List ℕ) → images image → decode image ≡ Some all
-  settled_reads kept image here = shut_reads kept.front kept.is_front kept.gate kept.shut [] image (kept.each image here)
-
-  pub cut_reads : CutDue images place all → (image : List ℕ) → images image → decode image ≡ Some all
-  cut_reads kept image here = let found = kept.each image here in shut_reads kept.front kept.is_front kept.gate kept.shut found.0 image found.1
-
-  pub staged_reads : (bytes : List ℕ) → Staged images place all bytes → (image : List ℕ) → images image → decode image ≡ Some all
-  staged_reads bytes kept image here = shut_reads kept.front kept.is_front kept.gate kept.shut bytes image (kept.each image here)
+  pub shut_reads : (P : List ℕ → Type 0) → Shut images place all P → (image : List ℕ) → images image → decode image ≡ Some all
+  shut_reads P kept image here = let found = kept.each image here in shut_gives kept.front kept.is_front kept.gate kept.shut found.0 image found.1
 
   -- a gate that may be open gives the records, with the pending ones or without
   gate_gives : (front : List ℕ) → IsFront front place all → (tail : List ℕ) (pending : List (List ℕ)) → records 0 (1 ∷ tail) ≡ pending → (gate : ℕ) (image : List ℕ) → image ≡ front ++ gate ∷ tail → StandsFor all pending image
   gate_gives front is_front tail pending behind gate image is = ⊎_elim (λ (open_gate : gate ≡ 1). inr (reads ∙ ap (λ (more : List (List ℕ)). Some (all ++ more)) (ap (λ (g : ℕ). records 0 (g ∷ tail)) open_gate ∙ behind)))
-      (λ (shut : gate ≢ 1). inl (shut_reads front is_front gate shut tail image is))
+      (λ (shut : gate ≢ 1). inl (shut_gives front is_front gate shut tail image is))
       (cases_eq gate 1)
     where
       reads : decode image ≡ Some (all ++ records 0 (gate ∷ tail))
@@ -88,17 +83,12 @@ module _ (images : List ℕ → Type 0) (place : ℕ) (all : List (List ℕ)) wh
       (λ (found : (gate : ℕ) × (image ≡ kept.front ++ gate ∷ kept.tail)). gate_gives kept.front kept.is_front kept.tail pending kept.behind found.0 image found.1)
       (kept.each image here)
 
-  pub settled_is_cut : Settled images place all → CutDue images place all
-  settled_is_cut kept = record { front = kept.front; is_front = kept.is_front; gate = kept.gate; shut = kept.shut; each = λ image here. ([], kept.each image here) }
+  -- whatever stands behind the gate
+  pub shut_is_cut : (P : List ℕ → Type 0) → Shut images place all P → CutDue images place all
+  shut_is_cut P kept = record { front = kept.front; is_front = kept.is_front; gate = kept.gate; shut = kept.shut; each = λ image here. let found = kept.each image here in (found.0, found.1, tt) }
 
-  pub settled_reaches : Settled images place all → ReachesTo (place + 1) images
-  settled_reaches kept image here = reaches_gate kept.front place kept.is_front.size kept.gate [] image (kept.each image here)
-
-  pub cut_reaches : CutDue images place all → ReachesTo (place + 1) images
-  cut_reaches kept image here = let found = kept.each image here in reaches_gate kept.front place kept.is_front.size kept.gate found.0 image found.1
-
-  pub staged_reaches : (bytes : List ℕ) → Staged images place all bytes → ReachesTo place images
-  staged_reaches bytes kept image here = let long = reaches_gate kept.front place kept.is_front.size kept.gate bytes image (kept.each image here) in omega (arith, long)
+  pub shut_reaches : (P : List ℕ → Type 0) → Shut images place all P → ReachesTo (place + 1) images
+  shut_reaches P kept image here = let found = kept.each image here in reaches_gate kept.front place kept.is_front.size kept.gate found.0 image found.1
 
   pub gate_reaches : (pending : List (List ℕ)) → GateDue images place all pending → ReachesTo place images
   gate_reaches pending kept image here = ⊎_elim
@@ -108,9 +98,11 @@ module _ (images : List ℕ → Type 0) (place : ℕ) (all : List (List ℕ)) wh
 
 -- From images to those after a step.
 module _ (images after : List ℕ → Type 0) (place : ℕ) (all : List (List ℕ)) where
-  -- what leaves the bytes up to the gate
-  gate_kept : CutDue images place all → ((image : List ℕ) → after image → (earlier : List ℕ) × images earlier × (take (place + 1) image ≡ take (place + 1) earlier)) → CutDue after place all
-  gate_kept kept follows = record {
+  -- what leaves the records and the gate: a step on what stands behind it
+  shut_on : (P Q : List ℕ → Type 0) (step : List ℕ → List ℕ → Type 0) (kept : Shut images place all P)
+      → ((behind earlier image : List ℕ) → P behind → earlier ≡ kept.front ++ kept.gate ∷ behind → step earlier image → (now : List ℕ) × (image ≡ kept.front ++ kept.gate ∷ now) × Q now)
+      → Follows step images after → Shut after place all Q
+  shut_on P Q step kept makes follows = record {
     front = kept.front;
     is_front = kept.is_front;
     gate = kept.gate;
@@ -118,37 +110,32 @@ module _ (images after : List ℕ → Type 0) (place : ℕ) (all : List (List �
     each = λ image here.
         let from = follows image here in
         let was = kept.each from.0 from.1 in
-        (drop (place + 1) image, gate_stays kept.front place kept.is_front.size kept.gate was.0 image (from.2 ∙ ap (λ (bytes : List ℕ). take (place + 1) bytes) was.1));
+        makes was.0 from.0 image was.2 was.1 from.2;
   }
+
+  -- what leaves the bytes up to the gate
+  gate_left : (kept : CutDue images place all) (behind earlier image : List ℕ) → earlier ≡ kept.front ++ kept.gate ∷ behind → take (place + 1) image ≡ take (place + 1) earlier
+      → (now : List ℕ) × (image ≡ kept.front ++ kept.gate ∷ now) × Unit {0}
+  gate_left kept behind earlier image was same =
+      (drop (place + 1) image, gate_stays kept.front place kept.is_front.size kept.gate behind image (same ∙ ap (λ (bytes : List ℕ). take (place + 1) bytes) was), tt)
 
   pub torn_behind : (count : ℕ) → CutDue images place all → Follows (Torn (place + 1) count) images after → CutDue after place all
-  torn_behind count kept follows = gate_kept kept (λ image here. let from = follows image here in (from.0, from.1, from.2.before))
+  torn_behind count kept = shut_on _ _ (Torn (place + 1) count) kept (λ behind earlier image any was torn. gate_left kept behind earlier image was torn.before)
 
   pub cut_behind : CutDue images place all → Follows (CutShort (place + 1)) images after → CutDue after place all
-  cut_behind kept follows = gate_kept kept (λ image here. let from = follows image here in (from.0, from.1, from.2.before))
+  cut_behind kept = shut_on _ _ (CutShort (place + 1)) kept (λ behind earlier image any was short. gate_left kept behind earlier image was short.before)
 
   pub trimmed : CutDue images place all → Follows (λ earlier image. image ≡ take (place + 1) earlier) images after → Settled after place all
-  trimmed kept follows = record {
-    front = kept.front;
-    is_front = kept.is_front;
-    gate = kept.gate;
-    shut = kept.shut;
-    each = λ image here.
-        let from = follows image here in
-        let was = kept.each from.0 from.1 in
-        from.2 ∙ ap (λ (bytes : List ℕ). take (place + 1) bytes) was.1 ∙ up_to_gate kept.front place kept.is_front.size kept.gate was.0;
-  }
+  trimmed kept = shut_on _ _ (λ earlier image. image ≡ take (place + 1) earlier) kept
+      (λ behind earlier image any was is. ([], is ∙ ap (λ (bytes : List ℕ). take (place + 1) bytes) was ∙ up_to_gate kept.front place kept.is_front.size kept.gate behind, refl))
 
   pub staged : (bytes : List ℕ) → Settled images place all → Follows (λ earlier image. image ≡ written (place + 1) bytes earlier) images after → Staged after place all bytes
-  staged bytes kept follows = record {
-    front = kept.front;
-    is_front = kept.is_front;
-    gate = kept.gate;
-    shut = kept.shut;
-    each = λ image here.
-        let from = follows image here in
-        from.2 ∙ ap (λ (earlier : List ℕ). written (place + 1) bytes earlier) (kept.each from.0 from.1) ∙ written_behind kept.front place kept.is_front.size kept.gate bytes;
-  }
+  staged bytes kept = shut_on _ _ (λ earlier image. image ≡ written (place + 1) bytes earlier) kept
+      (λ behind earlier image none was is. (
+        bytes,
+        is ∙ ap (λ (e : List ℕ). written (place + 1) bytes e) (was ∙ ap (λ (b : List ℕ). kept.front ++ kept.gate ∷ b) none) ∙ written_behind kept.front place kept.is_front.size kept.gate bytes,
+        refl,
+      ))
 
   -- a torn write of the gate leaves the same bytes behind it
   torn_gate : (front : List ℕ) → length front ≡ place → (gate : ℕ) (tail earlier image : List ℕ) → earlier ≡ front ++ gate ∷ tail → Torn place 1 earlier image → image ≡ front ++ get_or image place 0 ∷ tail
@@ -156,6 +143,9 @@ module _ (images after : List ℕ → Type 0) (place : ℕ) (all : List (List �
       (torn.before ∙ ap (λ (bytes : List ℕ). take place bytes) was ∙ before_gate front place size (gate ∷ tail))
       (torn.after ∙ ap (λ (bytes : List ℕ). drop (place + 1) bytes) was ∙ behind_gate front place size gate tail)
       (let long = reaches_gate front place size gate tail earlier was in let more = torn.no_shorter in omega (arith, long, more))
+
+  staged_is : (bytes : List ℕ) (kept : Staged images place all bytes) (image : List ℕ) → images image → image ≡ kept.front ++ kept.gate ∷ bytes
+  staged_is bytes kept image here = let found = kept.each image here in found.1 ∙ ap (λ (behind : List ℕ). kept.front ++ kept.gate ∷ behind) found.2
 
   pub staged_torn : (bytes : List ℕ) → IsFrame bytes → Staged images place all bytes → Follows (Torn place 1) images after → GateDue after place all (payload_behind bytes ∷ [])
   staged_torn bytes frame kept follows = record {
@@ -165,7 +155,7 @@ module _ (images after : List ℕ → Type 0) (place : ℕ) (all : List (List �
     behind = frame_gives bytes frame;
     each = λ image here.
         let from = follows image here in
-        inr (get_or image place 0, torn_gate kept.front kept.is_front.size kept.gate bytes from.0 image (kept.each from.0 from.1) from.2);
+        inr (get_or image place 0, torn_gate kept.front kept.is_front.size kept.gate bytes from.0 image (staged_is bytes kept from.0 from.1) from.2);
   }
 
   pub opened : (bytes : List ℕ) → IsFrame bytes → Staged images place all bytes → Follows (λ earlier image. image ≡ written place (1 ∷ []) earlier) images after → Settled after (place + length bytes) (all ++ payload_behind bytes ∷ [])
@@ -175,11 +165,14 @@ module _ (images after : List ℕ → Type 0) (place : ℕ) (all : List (List �
     gate = 0;
     shut = λ is. omega (arith, is);
     each = λ image here.
-        let from = follows image here in
-        from.2 ∙ ap (λ (earlier : List ℕ). written place (1 ∷ []) earlier) (kept.each from.0 from.1)
-        ∙ written_at_gate kept.front place kept.is_front.size 1 (kept.gate ∷ bytes)
-        ∙ ap (λ (rest : List ℕ). kept.front ++ 1 ∷ rest) (behind_gate kept.front place kept.is_front.size kept.gate bytes ∙ frame.ended)
-        ∙ sym (append_assoc kept.front (1 ∷ body bytes frame) (0 ∷ []));
+        let from = follows image here in (
+          [],
+          from.2 ∙ ap (λ (earlier : List ℕ). written place (1 ∷ []) earlier) (staged_is bytes kept from.0 from.1)
+              ∙ written_at_gate kept.front place kept.is_front.size 1 (kept.gate ∷ bytes)
+              ∙ ap (λ (rest : List ℕ). kept.front ++ 1 ∷ rest) (behind_gate kept.front place kept.is_front.size kept.gate bytes ∙ frame.ended)
+              ∙ sym (append_assoc kept.front (1 ∷ body bytes frame) (0 ∷ [])),
+          refl,
+        );
   }
 
   pub gate_torn : (pending : List (List ℕ)) → GateDue images place all pending → Follows (Torn place 1) images after → GateDue after place all pending
@@ -213,13 +206,16 @@ module _ (images after : List ℕ → Type 0) (place : ℕ) (all : List (List �
         (kept.each from.0 from.1);
   }
     where
-      closed_front : (image earlier rest : List ℕ) → image ≡ written place (0 ∷ []) earlier → earlier ≡ kept.front ++ rest → (behind : List ℕ) × (image ≡ kept.front ++ 0 ∷ behind)
+      closed_front : (image earlier rest : List ℕ) → image ≡ written place (0 ∷ []) earlier → earlier ≡ kept.front ++ rest → (behind : List ℕ) × (image ≡ kept.front ++ 0 ∷ behind) × Unit {0}
       closed_front image earlier rest is was = (
         drop (place + 1) (kept.front ++ rest),
         is ∙ ap (λ (bytes : List ℕ). written place (0 ∷ []) bytes) was ∙ written_at_gate kept.front place kept.is_front.size 0 rest,
+        tt,
       )
 
--- What holds of the images, and of those after a step, holds of each moment.
-pub with_step : (step : List ℕ → List ℕ → Type 0) (images : List ℕ → Type 0) (P : List ℕ → Type 0) → ((image : List ℕ) → images image → P image)
-    → ((after : List ℕ → Type 0) → Follows step images after → (image : List ℕ) → after image → P image) → (image : List ℕ) → WithStep step images image → P image
-with_step step images P now later image here = ⊎_elim (λ was. now image was) (λ made. later (λ new. (earlier : List ℕ) × images earlier × step earlier new) (λ new from. from) image made) here
+-- What holds of the images, and of those after a step, holds of each moment of the step.
+pub moments_of : {D : Type 0} (clock : D → ℕ) (since : D → ℕ → List ℕ → Type 0) (old new : D) (step : List ℕ → List ℕ → Type 0) (images P : List ℕ → Type 0)
+    → ((image : List ℕ) → images image → P image) → ((after : List ℕ → Type 0) → Follows step images after → (image : List ℕ) → after image → P image)
+    → EachMoment clock since old new (WithStep step images) → EachMoment clock since old new P
+moments_of clock since old new step images P now later = weaker clock since old new (WithStep step images) P
+    (λ image here. ⊎_elim (λ was. now image was) (λ made. later (λ new. (earlier : List ℕ) × images earlier × step earlier new) (λ new from. from) image made) here)

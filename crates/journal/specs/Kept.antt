@@ -17,29 +17,25 @@ pub record IsRecord (bytes : List ℕ) (place count : ℕ) : Type 0 where
   pub told : told_length (drop (place + 1) bytes) ≡ count
   pub whole : place + 5 + count ≤ length bytes
 
--- each image is the records and a closed gate
-pub record Settled (images : List ℕ → Type 0) (place : ℕ) (all : List (List ℕ)) : Type 0 where
+-- each image is the records, a closed gate, and behind it bytes of which P holds
+pub record Shut (images : List ℕ → Type 0) (place : ℕ) (all : List (List ℕ)) (P : List ℕ → Type 0) : Type 0 where
   pub front : List ℕ
   pub is_front : IsFront front place all
   pub gate : ℕ
   pub shut : gate ≢ 1
-  pub each : (image : List ℕ) → images image → image ≡ front ++ gate ∷ []
-
--- each image is the records and a closed gate, behind which anything may stand
-pub record CutDue (images : List ℕ → Type 0) (place : ℕ) (all : List (List ℕ)) : Type 0 where
-  pub front : List ℕ
-  pub is_front : IsFront front place all
-  pub gate : ℕ
-  pub shut : gate ≢ 1
-  pub each : (image : List ℕ) → images image → (rest : List ℕ) × (image ≡ front ++ gate ∷ rest)
+  pub each : (image : List ℕ) → images image → (behind : List ℕ) × (image ≡ front ++ gate ∷ behind) × P behind
 
 -- each image is the records, a closed gate and these bytes
-pub record Staged (images : List ℕ → Type 0) (place : ℕ) (all : List (List ℕ)) (bytes : List ℕ) : Type 0 where
-  pub front : List ℕ
-  pub is_front : IsFront front place all
-  pub gate : ℕ
-  pub shut : gate ≢ 1
-  pub each : (image : List ℕ) → images image → image ≡ front ++ gate ∷ bytes
+abbrev pub Staged : (List ℕ → Type 0) → ℕ → List (List ℕ) → List ℕ → Type 0
+Staged images place all bytes = Shut images place all (λ behind. behind ≡ bytes)
+
+-- each image is the records and a closed gate
+abbrev pub Settled : (List ℕ → Type 0) → ℕ → List (List ℕ) → Type 0
+Settled images place all = Staged images place all []
+
+-- each image is the records and a closed gate, behind which anything may stand
+abbrev pub CutDue : (List ℕ → Type 0) → ℕ → List (List ℕ) → Type 0
+CutDue images place all = Shut images place all (λ behind. Unit {0})
 
 -- Each image is the records, some gate, and the same bytes behind it; or there is no gate, and nothing behind.
 pub record GateDue (images : List ℕ → Type 0) (place : ℕ) (all pending : List (List ℕ)) : Type 0 where
@@ -90,6 +86,3 @@ HasSettled images place = (all : List (List ℕ)) × Settled images place all
 
 abbrev pub HasCutDue : (List ℕ → Type 0) → ℕ → Type 0
 HasCutDue images place = (all : List (List ℕ)) × CutDue images place all
-
-abbrev pub HasGateDue : (List ℕ → Type 0) → ℕ → Type 0
-HasGateDue images place = (all : List (List ℕ)) × (pending : List (List ℕ)) × GateDue images place all pending

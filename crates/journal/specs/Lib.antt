@@ -4,3 +4,4 @@ pub mod Frames
 pub mod Journals
 pub mod Kept
 pub mod Moments
+pub mod Mends

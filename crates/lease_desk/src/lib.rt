@@ -9,6 +9,3 @@ mod walks;
 
 pub use desk::Desk;
 pub use leases::{Lease, LeaseEnd};
-
-#[cfg(test)]
-mod tests;

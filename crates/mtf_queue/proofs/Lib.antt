@@ -1,5 +1,4 @@
 pub mod Comparing
 pub mod Grouping
 pub mod Keeping
-pub mod TestTopicSteps
 pub mod First

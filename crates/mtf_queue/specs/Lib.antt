@@ -1,3 +1,2 @@
-pub mod TestTopics
 pub mod QueueView
 pub mod Rule

@@ -12,8 +12,3 @@ mod rule;
 pub use laws::{first_that_passes, order_outlasts_other_runs, rule_is_total_order};
 pub use queues::Queue;
 pub use rule::Judged;
-
-#[cfg(test)]
-mod test_topics;
-#[cfg(test)]
-mod tests;

@@ -1,9 +1,8 @@
 -- What the parts of an entry with a spelling may be written as.
-use Rattle.std.proofs.Common.{◌≡◌, ◌^◌, ◌<◌, ◌&&◌, Bool, true, List, length}
+use Rattle.std.proofs.Common.{◌≡◌, ◌^◌, ◌<◌, ◌&&◌, Bool, true, List, [], ◌∷◌, length, refl}
 use Rattle.std.specs.Prelude.{IsTrue, nat_le, nat_lt}
-use Rattle.std.specs.List.{All, list_all}
-use Rattle.std.proofs.lemmas.Bool.{and_parts}
-use Rattle.std.proofs.lemmas.List.Sums.{AllPass-from_list_all}
+use Rattle.std.specs.List.{list_all}
+use Rattle.std.proofs.lemmas.Bool.{and_from, and_parts, lt-ltb}
 use Rattle.trec_formats.specs.declared.TopicList.{TopicList}
 use Rattle.trec_formats.specs.Names.{is_docno, is_name}
 use Rattle.rulebook.specs.declared.limits.TheConstants.{MAX_MOMENT}
@@ -11,15 +10,19 @@ use Rattle.rulebook.specs.declared.rules.Rules.{Rules}
 use Rattle.rulebook.specs.declared.entry.EntryCore.{EntryCore}
 use Rattle.rulebook.specs.Spelling.{are_rules, differ, has_spelling, is_ascending, is_number, is_plain, is_plain_list}
 use Rattle.rulebook.specs.Words.{Text}
+use Rattle.record_codec.specs.Items.{is_short}
 use Rattle.record_codec.specs.Readings.{are_in_range, few_doubles, is_length}
 use Rattle.record_codec.proofs.ShortTexts.{docno_short, name_short}
 
 abbrev pub AreShort : List Text → Type 0
-AreShort texts = All (λ text. length text < 256) texts
+AreShort texts = IsTrue (list_all is_short texts)
 
 all_short : (test : Text → Bool) → ((text : Text) → test text ≡ true → length text < 256) → (texts : List Text)
     → list_all test texts ≡ true → AreShort texts
-all_short test short texts all = λ k d within. short _ (AllPass-from_list_all test texts all k d within)
+all_short test short [] all = refl
+all_short test short (text ∷ texts) all =
+    let parts = and_parts (test text) (list_all test texts) all in
+    and_from (is_short text) (list_all is_short texts) (lt-ltb (length text) 256 (short text parts.0)) (all_short test short texts parts.1)
 
 pub doubles_short : (r : Rules) → IsTrue (are_rules r) → AreShort r.doubles
 doubles_short r is =

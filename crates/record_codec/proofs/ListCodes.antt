@@ -1,5 +1,5 @@
 -- The laws of the lists of an entry.
-use Rattle.std.proofs.Common.{◌-◌, ◌^◌, ◌<◌, ◌&&◌, Bool, List, [], ◌∷◌, length, refl, sym, append_assoc, arith}
+use Rattle.std.proofs.Common.{ℕ, ◌-◌, ◌^◌, ◌<◌, ◌&&◌, Bool, List, [], ◌∷◌, length, refl, sym, append_assoc, arith}
 use Rattle.std.specs.Prelude.{IsTrue, nat_le, nat_lt}
 use Rattle.std.specs.List.{AllByRecursion, list_all}
 use Rattle.std.specs.Int.{w16, w32, w64, to_le_bytes}
@@ -10,7 +10,7 @@ use Rattle.trec_formats.specs.Names.{is_between, is_docno, is_name}
 use Rattle.rulebook.specs.declared.rules.Rules.{Rules}
 use Rattle.rulebook.specs.Spelling.{are_rules, differ, is_ascending, is_plain_list, is_plain_topic, is_printable, list_bytes, listed, long, rules_bytes, short, topic_bytes}
 use Rattle.rulebook.specs.Words.{Text}
-use Rattle.record_codec.specs.Readings.{any_count, are_in_range, docs_at, doubles_at, few_doubles, ids_differ, is_length, is_some_count, list_at, list_of, lists_at, rules_at, rules_of, settings_at, topic_at, topic_of, topics_ascend, topics_at}
+use Rattle.record_codec.specs.Readings.{Read, any_count, are_in_range, counted_at, docs_at, doubles_at, few_doubles, ids_differ, is_length, is_some_count, kept, list_at, list_of, lists_at, rules_at, rules_of, settings_at, topic_at, topic_of, topics_ascend, topics_at}
 use Rattle.record_codec.proofs.Codes.{Codes, both, byte_codes, changed, four_texts, like, listed_codes, number_codes, tested, wide16, wide32, wide64}
 use Rattle.record_codec.proofs.TextCodes.{docno_codes, name_codes, printable_codes}
 use Rattle.record_codec.proofs.ShortTexts.{between_most}
@@ -28,6 +28,24 @@ passes_each test [] all = tt
 passes_each test (x ∷ xs) all =
     let parts = and_parts (test x) (list_all test xs) all in (parts.0, passes_each test xs parts.1)
 
+-- Items that are counted, each of which passes a test, as the list of all of them does: the count's own test is another than the one that is spelled.
+module _ {X : Type 0} {spell : X → Text} {plain : X → Bool} {at : Text → Read X} (c : Codes spell (λ x. IsTrue (plain x)) at)
+    (counts : ℕ → Bool) (told : ℕ → Bool) (ordered : List X → Bool)
+    (from : (n : ℕ) → n < 2 ^ 32 → IsTrue (counts n) → IsTrue (told n)) (to : (n : ℕ) → IsTrue (told n) → (n < 2 ^ 32) × IsTrue (counts n)) where
+  abbrev pub are_ordered : List X → Bool
+  are_ordered xs = told (length xs) && list_all plain xs && ordered xs
+
+  pub ordered_codes : Codes (listed spell) (λ xs. IsTrue (are_ordered xs)) (λ bytes. kept ordered (counted_at counts at bytes))
+  ordered_codes =
+      like (tested (listed_codes c counts) ordered) (listed spell) (λ xs. IsTrue (are_ordered xs)) (λ xs. refl)
+      (λ xs fits.
+      and_from (told (length xs) && list_all plain xs) (ordered xs)
+      (and_from (told (length xs)) (list_all plain xs) (from (length xs) fits.0.0.0 fits.0.0.1) (each_passes plain xs fits.0.1)) fits.1)
+      (λ xs is.
+      let a = and_parts (told (length xs) && list_all plain xs) (ordered xs) is in
+      let b = and_parts (told (length xs)) (list_all plain xs) a.0 in
+      ((to (length xs) b.0, passes_each plain xs b.1), a.1))
+
 -- The topics that need two labels, and the rules
 
 abbrev pub are_doubles : List Text → Bool
@@ -35,18 +53,8 @@ are_doubles texts = few_doubles (length texts) && list_all is_name texts && is_a
 
 pub doubles_codes : Codes (listed short) (λ texts. IsTrue (are_doubles texts)) doubles_at
 unfolding doubles_at
-doubles_codes =
-    like (tested (listed_codes name_codes few_doubles) is_ascending) (listed short)
-    (λ texts. IsTrue (are_doubles texts)) (λ texts. refl)
-    (λ texts fits.
-    and_from (few_doubles (length texts) && list_all is_name texts) (is_ascending texts)
-    (and_from (few_doubles (length texts)) (list_all is_name texts) fits.0.0.1
-    (each_passes is_name texts fits.0.1)) fits.1)
-    (λ texts is.
-    let a = and_parts (few_doubles (length texts) && list_all is_name texts) (is_ascending texts) is in
-    let b = and_parts (few_doubles (length texts)) (list_all is_name texts) a.0 in
-    let few = leb-true (length texts) 250 b.0 in
-    (((omega arith, b.0), passes_each is_name texts b.1), a.1))
+doubles_codes = ordered_codes name_codes few_doubles few_doubles is_ascending (λ n small few. few)
+    (λ n few. let most = leb-true n 250 few in (omega arith, few))
 
 -- a number of each field's width, and doubles
 abbrev AreSettings : Rules → Type 0
@@ -126,17 +134,7 @@ are_topics topics = nat_lt (length topics) (2 ^ 32) && list_all is_plain_topic t
 
 pub topics_codes : Codes (listed topic_bytes) (λ topics. IsTrue (are_topics topics)) topics_at
 unfolding topics_at
-topics_codes =
-    like (tested (listed_codes topic_codes any_count) ids_differ) (listed topic_bytes)
-    (λ topics. IsTrue (are_topics topics)) (λ topics. refl)
-    (λ topics fits.
-    and_from (nat_lt (length topics) (2 ^ 32) && list_all is_plain_topic topics) (ids_differ topics)
-    (and_from (nat_lt (length topics) (2 ^ 32)) (list_all is_plain_topic topics) (lt-ltb _ _ fits.0.0.0)
-    (each_passes is_plain_topic topics fits.0.1)) fits.1)
-    (λ topics is.
-    let a = and_parts (nat_lt (length topics) (2 ^ 32) && list_all is_plain_topic topics) (ids_differ topics) is in
-    let b = and_parts (nat_lt (length topics) (2 ^ 32)) (list_all is_plain_topic topics) a.0 in
-    (((ltb-true _ _ b.0, refl), passes_each is_plain_topic topics b.1), a.1))
+topics_codes = ordered_codes topic_codes any_count (λ n. nat_lt n (2 ^ 32)) ids_differ (λ n small any. lt-ltb _ _ small) (λ n small. (ltb-true _ _ small, refl))
 
 -- The lists of a run
 
@@ -145,18 +143,8 @@ are_docs docs = is_length (length docs) && list_all is_docno docs && differ docs
 
 pub docs_codes : Codes (listed short) (λ docs. IsTrue (are_docs docs)) docs_at
 unfolding docs_at
-docs_codes =
-    like (tested (listed_codes docno_codes is_length) differ) (listed short) (λ docs. IsTrue (are_docs docs))
-    (λ docs. refl)
-    (λ docs fits.
-    and_from (is_length (length docs) && list_all is_docno docs) (differ docs)
-    (and_from (is_length (length docs)) (list_all is_docno docs) fits.0.0.1
-    (each_passes is_docno docs fits.0.1)) fits.1)
-    (λ docs is.
-    let a = and_parts (is_length (length docs) && list_all is_docno docs) (differ docs) is in
-    let b = and_parts (is_length (length docs)) (list_all is_docno docs) a.0 in
-    let few = between_most 1 1000 (length docs) b.0 in
-    (((omega arith, b.0), passes_each is_docno docs b.1), a.1))
+docs_codes = ordered_codes docno_codes is_length is_length differ (λ n small few. few)
+    (λ n few. let most = between_most 1 1000 n few in (omega arith, few))
 
 pub list_codes : Codes list_bytes (λ l. IsTrue (is_plain_list l)) list_at
 unfolding list_at
@@ -187,24 +175,18 @@ list_codes =
 abbrev pub are_lists : List TopicList → Bool
 are_lists lists = is_between 1 (2 ^ 32 - 1) (length lists) && list_all is_plain_list lists && topics_ascend lists
 
+some_lists : (n : ℕ) → n < 2 ^ 32 → IsTrue (is_some_count n) → IsTrue (is_between 1 (2 ^ 32 - 1) n)
+some_lists n small some =
+    let least = ltb-true 0 n some in
+    and_from (nat_le 1 n) (nat_le n (2 ^ 32 - 1)) (le-leb _ _ (omega arith)) (le-leb _ _ (omega arith))
+
+lists_counted : (n : ℕ) → IsTrue (is_between 1 (2 ^ 32 - 1) n) → (n < 2 ^ 32) × IsTrue (is_some_count n)
+lists_counted n is =
+    let parts = and_parts (nat_le 1 n) (nat_le n (2 ^ 32 - 1)) is in
+    let least = leb-true 1 n parts.0 in
+    let most = leb-true n (2 ^ 32 - 1) parts.1 in
+    (omega arith, lt-ltb 0 n (omega arith))
+
 pub lists_codes : Codes (listed list_bytes) (λ lists. IsTrue (are_lists lists)) lists_at
 unfolding lists_at
-lists_codes =
-    like (tested (listed_codes list_codes is_some_count) topics_ascend) (listed list_bytes)
-    (λ lists. IsTrue (are_lists lists)) (λ lists. refl)
-    (λ lists fits.
-    let some = ltb-true 0 (length lists) fits.0.0.1 in
-    let few : length lists < 2 ^ 32 = fits.0.0.0 in
-    let counts = and_from (nat_le 1 (length lists)) (nat_le (length lists) (2 ^ 32 - 1)) (le-leb _ _ (omega arith))
-    (le-leb _ _ (omega arith)) in
-    and_from (is_between 1 (2 ^ 32 - 1) (length lists) && list_all is_plain_list lists) (topics_ascend lists)
-    (and_from (is_between 1 (2 ^ 32 - 1) (length lists)) (list_all is_plain_list lists) counts
-    (each_passes is_plain_list lists fits.0.1)) fits.1)
-    (λ lists is.
-    let a = and_parts (is_between 1 (2 ^ 32 - 1) (length lists) && list_all is_plain_list lists)
-    (topics_ascend lists) is in
-    let b = and_parts (is_between 1 (2 ^ 32 - 1) (length lists)) (list_all is_plain_list lists) a.0 in
-    let c = and_parts (nat_le 1 (length lists)) (nat_le (length lists) (2 ^ 32 - 1)) b.0 in
-    let least = leb-true 1 (length lists) c.0 in
-    let most = leb-true (length lists) (2 ^ 32 - 1) c.1 in
-    (((omega arith, lt-ltb 0 (length lists) (omega arith)), passes_each is_plain_list lists b.1), a.1))
+lists_codes = ordered_codes list_codes is_some_count (is_between 1 (2 ^ 32 - 1)) topics_ascend some_lists lists_counted

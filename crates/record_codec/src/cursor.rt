@@ -49,41 +49,36 @@ impl<'a> Cursor<'a> {
         Ok(run)
     }
 
-    #[tactic(auto, unfolding(crate::specs::Readings::number_at))]
+    /// Bytes of a fixed number.
+    #[tactic(auto, unfolding(crate::specs::Readings::bytes_at))]
+    fn front<const N: usize>(&mut self) -> Result<[u8; N], CodecFault>
+        ensures { Gives result self.new.bytes.now (bytes_at N self.old.bytes.now) }
+    {
+        let Some((front, rest)) = self.bytes.split_first_chunk::<N>() else {
+            return Err(CodecFault::NoEntry);
+        };
+        self.bytes = rest;
+        Ok(*front)
+    }
+
+    #[tactic(auto, unfolding(crate::specs::Readings::number_at, crate::specs::Readings::bytes_at))]
     pub(crate) fn number16(&mut self) -> Result<u16, CodecFault>
         ensures { Gives result self.new.bytes.now (number_at w16 self.old.bytes.now) }
     {
-        if self.bytes.len() < 2 {
-            return Err(CodecFault::NoEntry);
-        }
-        let (front, rest) = self.bytes.split_at(2);
-        self.bytes = rest;
-        Ok(u16::from_le_bytes([front[0], front[1]]))
+        Ok(u16::from_le_bytes(self.front()?))
     }
 
-    #[tactic(auto, unfolding(crate::specs::Readings::number_at))]
+    #[tactic(auto, unfolding(crate::specs::Readings::number_at, crate::specs::Readings::bytes_at))]
     pub(crate) fn number32(&mut self) -> Result<u32, CodecFault>
         ensures { Gives result self.new.bytes.now (number_at w32 self.old.bytes.now) }
     {
-        if self.bytes.len() < 4 {
-            return Err(CodecFault::NoEntry);
-        }
-        let (front, rest) = self.bytes.split_at(4);
-        self.bytes = rest;
-        Ok(u32::from_le_bytes([front[0], front[1], front[2], front[3]]))
+        Ok(u32::from_le_bytes(self.front()?))
     }
 
-    #[tactic(auto, unfolding(crate::specs::Readings::number_at))]
+    #[tactic(auto, unfolding(crate::specs::Readings::number_at, crate::specs::Readings::bytes_at))]
     pub(crate) fn number64(&mut self) -> Result<u64, CodecFault>
         ensures { Gives result self.new.bytes.now (number_at w64 self.old.bytes.now) }
     {
-        if self.bytes.len() < 8 {
-            return Err(CodecFault::NoEntry);
-        }
-        let (front, rest) = self.bytes.split_at(8);
-        self.bytes = rest;
-        Ok(u64::from_le_bytes([
-            front[0], front[1], front[2], front[3], front[4], front[5], front[6], front[7],
-        ]))
+        Ok(u64::from_le_bytes(self.front()?))
     }
 }

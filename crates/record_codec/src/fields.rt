@@ -1,9 +1,9 @@
 //! The fields of an entry: texts, the caller, the number and the moment.
-ghost use Rattle.std.specs.Prelude.{◌≡◌};
+ghost use Rattle.std.specs.Prelude.{◌≡◌, false, true, MatchResult};
 ghost use Rattle.std.specs.List.{list_all};
 ghost use Rattle.rulebook.specs.Spelling.{is_printable};
 ghost use Rattle.trec_formats.specs.Names.{is_between};
-ghost use Rattle.record_codec.specs.Outcomes.{Gives, GivesBy};
+ghost use Rattle.record_codec.specs.Outcomes.{Gives, GivesBy, OnNoEntry};
 ghost use Rattle.record_codec.specs.Readings.{caller_at, docno_at, long_at, moment_at, name_at, printable_at, request_at, role_at, short_at};
 
 use crate::cursor::Cursor;
@@ -34,15 +34,22 @@ fn long<'a>(left: &mut Cursor<'a>) -> Result<&'a [u8], CodecFault>
     left.run(len as usize)
 }
 
+/// A text that passed its test.
+fn kept(alloc: Global, text: &[u8], passed: bool) -> Result<Text, CodecFault>
+    ensures { MatchResult result (λ kept. (passed ≡ true) × (kept ≡ text.now)) (λ fault. OnNoEntry fault (passed ≡ false)) }
+{
+    if !passed {
+        return Err(CodecFault::NoEntry);
+    }
+    Ok(Text::from_slice(alloc, text)?)
+}
+
 #[tactic(auto, unfolding(crate::specs::Readings::name_at))]
 pub(crate) fn name(alloc: Global, left: &mut Cursor) -> Result<Text, CodecFault>
     ensures { Gives result left.new.bytes.now (name_at left.old.bytes.now) }
 {
     let text = short(left)?;
-    if !is_name(text) {
-        return Err(CodecFault::NoEntry);
-    }
-    Ok(Text::from_slice(alloc, text)?)
+    kept(alloc, text, is_name(text))
 }
 
 #[tactic(auto, unfolding(crate::specs::Readings::docno_at))]
@@ -50,10 +57,7 @@ pub(crate) fn docno(alloc: Global, left: &mut Cursor) -> Result<Text, CodecFault
     ensures { Gives result left.new.bytes.now (docno_at left.old.bytes.now) }
 {
     let text = short(left)?;
-    if !is_docno(text) {
-        return Err(CodecFault::NoEntry);
-    }
-    Ok(Text::from_slice(alloc, text)?)
+    kept(alloc, text, is_docno(text))
 }
 
 /// Whether each byte is printable ASCII, the space included.
@@ -76,10 +80,7 @@ pub(crate) fn printable(alloc: Global, left: &mut Cursor, most: usize) -> Result
     ensures { Gives result left.new.bytes.now (printable_at most left.old.bytes.now) }
 {
     let text = long(left)?;
-    if !is_printable(most, text) {
-        return Err(CodecFault::NoEntry);
-    }
-    Ok(Text::from_slice(alloc, text)?)
+    kept(alloc, text, is_printable(most, text))
 }
 
 #[tactic(auto, unfolding(crate::specs::Readings::role_at, crate::specs::Readings::role_of))]

@@ -1,7 +1,7 @@
 //! The lists of an entry: a count of four bytes and the items.
-ghost use Rattle.std.specs.Prelude.{◌≡◌};
+ghost use Rattle.std.specs.Prelude.{◌≡◌, ℕ, List};
 ghost use Rattle.record_codec.specs.Outcomes.{Gives, GivesBy};
-ghost use Rattle.record_codec.specs.Readings.{docno_at, docs_at, doubles_at, items_at, list_at, lists_at, name_at, topic_at, topics_at};
+ghost use Rattle.record_codec.specs.Readings.{Read, docno_at, docs_at, doubles_at, items_at, list_at, lists_at, name_at, topic_at, topics_at};
 
 use crate::cursor::Cursor;
 use crate::faults::CodecFault;
@@ -12,28 +12,90 @@ use decimal_rank::{Rows, Text};
 use std::alloc::Global;
 use trec_formats::{Topic, TopicList};
 
-/// So many names.
-fn names_of(alloc: Global, left: &mut Cursor, count: u32) -> Result<Vec<Text>, CodecFault>
-    ensures { GivesBy (λ names. names.items) result left.new.bytes.now (items_at name_at count left.old.bytes.now) }
-{
-    let mut names = Vec::with_capacity(alloc, count as usize)?;
-    for _ in 0..count {
-        let text = name(alloc, left)?;
-        names.push(text)?;
-    }
-    Ok(names)
+/// What lists are made of.
+trait Item {
+    type Value: Drop;
+
+    // what bytes give
+    ghost at: { List ℕ → Read Self.Value };
+
+    fn read(alloc: Global, left: &mut Cursor) -> Result<Self::Value, CodecFault>
+        ensures { Gives result left.new.bytes.now (at left.old.bytes.now) };
 }
 
-/// So many docnos.
-fn docnos_of(alloc: Global, left: &mut Cursor, count: u32) -> Result<Vec<Text>, CodecFault>
-    ensures { GivesBy (λ docs. docs.items) result left.new.bytes.now (items_at docno_at count left.old.bytes.now) }
-{
-    let mut docs = Vec::with_capacity(alloc, count as usize)?;
-    for _ in 0..count {
-        let doc = docno(alloc, left)?;
-        docs.push(doc)?;
+struct Name;
+
+impl Item for Name {
+    type Value = Text;
+
+    ghost at = { name_at };
+
+    fn read(alloc: Global, left: &mut Cursor) -> Result<Text, CodecFault> {
+        name(alloc, left)
     }
-    Ok(docs)
+}
+
+struct Docno;
+
+impl Item for Docno {
+    type Value = Text;
+
+    ghost at = { docno_at };
+
+    fn read(alloc: Global, left: &mut Cursor) -> Result<Text, CodecFault> {
+        docno(alloc, left)
+    }
+}
+
+impl Item for Topic {
+    type Value = Topic;
+
+    ghost at = { topic_at };
+
+    #[tactic(auto, unfolding(crate::specs::Readings::topic_at))]
+    fn read(alloc: Global, left: &mut Cursor) -> Result<Topic, CodecFault> {
+        let id = name(alloc, left)?;
+        let title = printable(alloc, left, MOST_TITLE)?;
+        let desc = printable(alloc, left, MOST_DESC)?;
+        let narr = printable(alloc, left, MOST_NARR)?;
+        Ok(Topic {
+            id,
+            title,
+            desc,
+            narr,
+        })
+    }
+}
+
+impl Item for TopicList {
+    type Value = TopicList;
+
+    ghost at = { list_at };
+
+    #[tactic(auto, unfolding(crate::specs::Readings::list_at))]
+    fn read(alloc: Global, left: &mut Cursor) -> Result<TopicList, CodecFault> {
+        let topic = name(alloc, left)?;
+        let line = left.number32()?;
+        let docs = docs(alloc, left)?;
+        Ok(TopicList { topic, line, docs })
+    }
+}
+
+/// So many items, one behind the other.
+fn items_of<I: Item>(
+    alloc: Global,
+    left: &mut Cursor,
+    count: u32,
+) -> Result<Vec<I::Value>, CodecFault>
+    ensures { GivesBy (λ items. items.items) result left.new.bytes.now (items_at I.at count left.old.bytes.now) }
+{
+    // the count is only told: room for so many at most
+    let mut items = Vec::with_capacity(alloc, count.min(MOST_DOCS) as usize)?;
+    for _ in 0..count {
+        let item = I::read(alloc, left)?;
+        items.push(item)?;
+    }
+    Ok(items)
 }
 
 /// The topics that need two labels, in ascending order.
@@ -45,7 +107,7 @@ pub(crate) fn doubles(alloc: Global, left: &mut Cursor) -> Result<Rows<Text>, Co
     if count > MOST_DOUBLES {
         return Err(CodecFault::NoEntry);
     }
-    let names = names_of(alloc, left, count)?;
+    let names = items_of::<Name>(alloc, left, count)?;
     if !are_ascending(lent(alloc, names.as_slice())?.as_slice()) {
         return Err(CodecFault::NoEntry);
     }
@@ -61,39 +123,11 @@ fn docs(alloc: Global, left: &mut Cursor) -> Result<Rows<Text>, CodecFault>
     if count < 1 || count > MOST_DOCS {
         return Err(CodecFault::NoEntry);
     }
-    let docs = docnos_of(alloc, left, count)?;
+    let docs = items_of::<Docno>(alloc, left, count)?;
     if !are_distinct(alloc, lent(alloc, docs.as_slice())?.as_slice())? {
         return Err(CodecFault::NoEntry);
     }
     Ok(Rows::new(docs))
-}
-
-#[tactic(auto, unfolding(crate::specs::Readings::topic_at))]
-fn topic(alloc: Global, left: &mut Cursor) -> Result<Topic, CodecFault>
-    ensures { Gives result left.new.bytes.now (topic_at left.old.bytes.now) }
-{
-    let id = name(alloc, left)?;
-    let title = printable(alloc, left, MOST_TITLE)?;
-    let desc = printable(alloc, left, MOST_DESC)?;
-    let narr = printable(alloc, left, MOST_NARR)?;
-    Ok(Topic {
-        id,
-        title,
-        desc,
-        narr,
-    })
-}
-
-/// So many topics.
-fn topics_of(alloc: Global, left: &mut Cursor, count: u32) -> Result<Vec<Topic>, CodecFault>
-    ensures { GivesBy (λ topics. topics.items) result left.new.bytes.now (items_at topic_at count left.old.bytes.now) }
-{
-    let mut topics = Vec::new(alloc);
-    for _ in 0..count {
-        let topic = topic(alloc, left)?;
-        topics.push(topic)?;
-    }
-    Ok(topics)
 }
 
 /// The topics of a campaign, whose ids differ.
@@ -102,33 +136,11 @@ pub(crate) fn campaign_topics(alloc: Global, left: &mut Cursor) -> Result<Rows<T
     ensures { Gives result left.new.bytes.now (topics_at left.old.bytes.now) }
 {
     let count = left.number32()?;
-    let topics = topics_of(alloc, left, count)?;
+    let topics = items_of::<Topic>(alloc, left, count)?;
     if !are_distinct(alloc, ids(alloc, topics.as_slice())?.as_slice())? {
         return Err(CodecFault::NoEntry);
     }
     Ok(Rows::new(topics))
-}
-
-#[tactic(auto, unfolding(crate::specs::Readings::list_at))]
-fn list(alloc: Global, left: &mut Cursor) -> Result<TopicList, CodecFault>
-    ensures { Gives result left.new.bytes.now (list_at left.old.bytes.now) }
-{
-    let topic = name(alloc, left)?;
-    let line = left.number32()?;
-    let docs = docs(alloc, left)?;
-    Ok(TopicList { topic, line, docs })
-}
-
-/// So many lists.
-fn lists_of(alloc: Global, left: &mut Cursor, count: u32) -> Result<Vec<TopicList>, CodecFault>
-    ensures { GivesBy (λ lists. lists.items) result left.new.bytes.now (items_at list_at count left.old.bytes.now) }
-{
-    let mut lists = Vec::new(alloc);
-    for _ in 0..count {
-        let list = list(alloc, left)?;
-        lists.push(list)?;
-    }
-    Ok(lists)
 }
 
 /// The lists of a run, by ascending topic.
@@ -140,7 +152,7 @@ pub(crate) fn run_lists(alloc: Global, left: &mut Cursor) -> Result<Rows<TopicLi
     if count < 1 {
         return Err(CodecFault::NoEntry);
     }
-    let lists = lists_of(alloc, left, count)?;
+    let lists = items_of::<TopicList>(alloc, left, count)?;
     if !are_ascending(topics(alloc, lists.as_slice())?.as_slice()) {
         return Err(CodecFault::NoEntry);
     }

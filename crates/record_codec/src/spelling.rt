@@ -1,9 +1,10 @@
 //! Entries to bytes.
-ghost use Rattle.std.specs.Prelude.{◌≡◌, ◌++◌, ◌∷◌, ◌≤◌, ◌<◌, ◌^◌, IsTrue, OnOk, OnErr, [], length, true};
-ghost use Rattle.std.specs.List.{All, list_all};
+ghost use Rattle.std.specs.Prelude.{◌≡◌, ℕ, ◌++◌, ◌∷◌, ◌≤◌, ◌<◌, ◌^◌, Bool, IsTrue, List, OnOk, OnErr, [], length, true};
+ghost use Rattle.std.specs.List.{list_all};
 ghost use Rattle.std.specs.Int.{to_le_bytes, w16, w32, w64};
 ghost use Rattle.rulebook.specs.Spelling.{command_bytes, entry_bytes, has_spelling, is_plain, is_plain_list, is_plain_topic, are_rules, list_bytes, listed, long, number_bytes, role_byte, rules_bytes, short, topic_bytes};
 ghost use Rattle.trec_formats.specs.Names.{is_docno, is_name};
+ghost use Rattle.record_codec.specs.Items.{is_short};
 
 use crate::layout::{
     AMEND, ASSESSOR, FOUND, GRADE, GROUP, LEASE, NUMBERED, OPEN, ORGANISER, PUBLISH, RELEASE, RULE,
@@ -31,15 +32,65 @@ fn put_long(text: &Text, out: &mut Vec<u8>) -> Result<(), Memory>
     append(out, text.bytes())
 }
 
-/// A list of short texts.
-fn put_texts(texts: &Rows<Text>, out: &mut Vec<u8>) -> Result<(), Memory>
-    requires few { length texts.now < 2 ^ 32 }
-    requires short { All (λ text. length text < 256) texts.now }
-    ensures { OnOk result (out.new.items ≡ out.old.items ++ listed short texts.now) }
+/// What lists are made of.
+trait Spelled {
+    // its bytes
+    ghost spelling: { Self → List ℕ };
+
+    // the condition on an item
+    ghost is_spelled: { Self → Bool };
+
+    fn put(&self, out: &mut Vec<u8>) -> Result<(), Memory>
+        requires { IsTrue (is_spelled self.now) }
+        ensures { OnOk result (out.new.items ≡ out.old.items ++ spelling self.now) };
+}
+
+impl Spelled for Text {
+    ghost spelling = { short };
+
+    ghost is_spelled = { is_short };
+
+    fn put(&self, out: &mut Vec<u8>) -> Result<(), Memory> {
+        put_short(self, out)
+    }
+}
+
+impl Spelled for Topic {
+    ghost spelling = { topic_bytes };
+
+    ghost is_spelled = { is_plain_topic };
+
+    #[tactic(auto, using(crate::proofs::ShortTexts::name_short))]
+    fn put(&self, out: &mut Vec<u8>) -> Result<(), Memory> {
+        put_short(&self.id, out)?;
+        put_long(&self.title, out)?;
+        put_long(&self.desc, out)?;
+        put_long(&self.narr, out)
+    }
+}
+
+impl Spelled for TopicList {
+    ghost spelling = { list_bytes };
+
+    ghost is_spelled = { is_plain_list };
+
+    #[tactic(auto, using(crate::proofs::ShortTexts::name_short))]
+    fn put(&self, out: &mut Vec<u8>) -> Result<(), Memory> {
+        put_short(&self.topic, out)?;
+        append(out, &self.line.to_le_bytes())?;
+        put_items(&self.docs, out)
+    }
+}
+
+/// A count of four bytes, and the items.
+fn put_items<T: Spelled>(items: &Rows<T>, out: &mut Vec<u8>) -> Result<(), Memory>
+    requires few { length items.now < 2 ^ 32 }
+    requires plain { IsTrue (list_all T.is_spelled items.now) }
+    ensures { OnOk result (out.new.items ≡ out.old.items ++ listed T.spelling items.now) }
 {
-    append(out, &(texts.items().len() as u32).to_le_bytes())?;
-    for text in texts.items() {
-        put_short(text, out)?;
+    append(out, &(items.items().len() as u32).to_le_bytes())?;
+    for item in items.items() {
+        item.put(out)?;
     }
     Ok(())
 }
@@ -77,52 +128,7 @@ fn put_rules(rules: &Rules, out: &mut Vec<u8>) -> Result<(), Memory>
     append(out, &rules.depth.to_le_bytes())?;
     append(out, &rules.term.to_le_bytes())?;
     append(out, &[rules.hold, rules.level, rules.top_grade])?;
-    put_texts(&rules.doubles, out)
-}
-
-#[tactic(auto, using(crate::proofs::ShortTexts::name_short))]
-fn put_topic(topic: &Topic, out: &mut Vec<u8>) -> Result<(), Memory>
-    requires { IsTrue (is_plain_topic topic.now) }
-    ensures { OnOk result (out.new.items ≡ out.old.items ++ topic_bytes topic.now) }
-{
-    put_short(&topic.id, out)?;
-    put_long(&topic.title, out)?;
-    put_long(&topic.desc, out)?;
-    put_long(&topic.narr, out)
-}
-
-fn put_topics(topics: &Rows<Topic>, out: &mut Vec<u8>) -> Result<(), Memory>
-    requires few { length topics.now < 2 ^ 32 }
-    requires plain { IsTrue (list_all is_plain_topic topics.now) }
-    ensures { OnOk result (out.new.items ≡ out.old.items ++ listed topic_bytes topics.now) }
-{
-    append(out, &(topics.items().len() as u32).to_le_bytes())?;
-    for topic in topics.items() {
-        put_topic(topic, out)?;
-    }
-    Ok(())
-}
-
-#[tactic(auto, using(crate::proofs::ShortTexts::name_short))]
-fn put_list(list: &TopicList, out: &mut Vec<u8>) -> Result<(), Memory>
-    requires { IsTrue (is_plain_list list.now) }
-    ensures { OnOk result (out.new.items ≡ out.old.items ++ list_bytes list.now) }
-{
-    put_short(&list.topic, out)?;
-    append(out, &list.line.to_le_bytes())?;
-    put_texts(&list.docs, out)
-}
-
-fn put_lists(lists: &Rows<TopicList>, out: &mut Vec<u8>) -> Result<(), Memory>
-    requires few { length lists.now < 2 ^ 32 }
-    requires plain { IsTrue (list_all is_plain_list lists.now) }
-    ensures { OnOk result (out.new.items ≡ out.old.items ++ listed list_bytes lists.now) }
-{
-    append(out, &(lists.items().len() as u32).to_le_bytes())?;
-    for list in lists.items() {
-        put_list(list, out)?;
-    }
-    Ok(())
+    put_items(&rules.doubles, out)
 }
 
 /// A kind, a topic, a document and its grade.
@@ -156,12 +162,12 @@ fn put_command(command: &Command, out: &mut Vec<u8>) -> Result<(), Memory>
         }
         Command::Topics { topics } => {
             out.push(TOPICS)?;
-            put_topics(topics, out)
+            put_items(topics, out)
         }
         Command::Submit { run, lists } => {
             out.push(SUBMIT)?;
             put_short(run, out)?;
-            put_lists(lists, out)
+            put_items(lists, out)
         }
         Command::Open => Ok(out.push(OPEN)?),
         Command::Lease { topic } => {

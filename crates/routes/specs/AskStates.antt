@@ -90,11 +90,6 @@ IsAt opening path body (Reads opened) = (found : Opening) × (opening ≡ Ok fou
 IsAt opening path body (Faulty cause) = opening ≡ Err cause
 IsAt opening path body Failed = ⊥
 
-abbrev pub OrFailed : Progress → Type 0 → Type 0
-OrFailed (Reads opened) P = P
-OrFailed (Faulty cause) P = P
-OrFailed Failed P = Unit {0}
-
 -- a request may go on with so many bytes
 abbrev pub MayGo : Progress → ℕ → Type 0
 MayGo (Reads opened) more = HasRoom opened.body more

@@ -1,10 +1,10 @@
 //! A request read as its body comes. Who asks and where is read of the head alone; a run's body goes to its
 //! reader, the body of a query is passed over, and another one is gathered.
-ghost use Rattle.std.specs.Prelude.{◌≡◌, ◌≢◌, ◌≤◌, ◌+◌, ◌++◌, ℕ, List, [], IsTrue, IfOk, OnOk, OnErr, IsErr, MatchBool, Ok, Err, Result, length};
+ghost use Rattle.std.specs.Prelude.{◌≡◌, ◌≤◌, ◌+◌, ◌++◌, ℕ, List, [], IsTrue, IfOk, OnOk, OnErr, IsErr, Ok, Err, Result, length};
 ghost use Rattle.http_wire.specs.Messages.{request_with};
 ghost use Rattle.routes.specs.declared.keys.KeyRow.{KeyRow};
 ghost use Rattle.routes.specs.declared.places.Question.TheVariants as question;
-ghost use Rattle.routes.specs.AskStates.{BeginsBody, HasFailed, HasRoom, IsAddressable, IsAsking, IsAt, IsFew, IsHeld, IsOpened, KeepsBody, MayGo, OrFailed, SuitsBody};
+ghost use Rattle.routes.specs.AskStates.{BeginsBody, HasFailed, HasRoom, IsAddressable, IsAsking, IsAt, IsFew, IsHeld, IsOpened, KeepsBody, MayGo, SuitsBody};
 ghost use Rattle.routes.specs.Asks.{Asks, HasSoundTopics, Reads, ReadsBehind};
 ghost use Rattle.routes.specs.Faults.{IsRead};
 ghost use Rattle.routes.specs.FoundOpenings.{opening_shown};
@@ -26,7 +26,6 @@ use http_wire::{HttpField, HttpHead};
 use rulebook::{Ask, Caller};
 use std::alloc::Global;
 use std::marker::Model;
-use std::mem::replace;
 use trec_formats::RunReader;
 
 /// What is kept of a body.
@@ -152,76 +151,41 @@ fn begin<'a>(
 }
 
 // Keeps a piece of a body.
-fn keep(body: Body, piece: &[u8]) -> Result<Body, Memory>
-    requires { HasRoom body (length piece.now) }
-    ensures kept { IfOk result (λ after. (told : List ℕ) → KeepsBody told body → KeepsBody (told ++ piece.now) after) }
-    ensures suits { IfOk result (λ after. (asked : Question) → SuitsBody asked body → SuitsBody asked after) }
-    ensures few { IfOk result (λ after. (fed : ℕ) → IsFew fed body → IsFew (fed + length piece.now) after) }
+fn keep(body: &mut Body, piece: &[u8]) -> Result<(), Memory>
+    requires { HasRoom body.old (length piece.now) }
+    ensures kept { OnOk result ((told : List ℕ) → KeepsBody told body.old → KeepsBody (told ++ piece.now) body.new) }
+    ensures suits { OnOk result ((asked : Question) → SuitsBody asked body.old → SuitsBody asked body.new) }
+    ensures few { OnOk result ((fed : ℕ) → IsFew fed body.old → IsFew (fed + length piece.now) body.new) }
 {
     match body {
-        Body::Passed => Ok(Body::Passed),
-        Body::Run(mut reader) => {
-            reader.feed(piece)?;
-            Ok(Body::Run(reader))
-        }
-        Body::Gathered(mut bytes) => {
+        Body::Passed => Ok(()),
+        Body::Run(reader) => reader.feed(piece),
+        Body::Gathered(bytes) => {
             bytes.extend_from_slice(piece)?;
-            Ok(Body::Gathered(bytes))
+            Ok(())
         }
     }
 }
 
-// A request behind a piece of its body.
-fn read_on(opened: Opened, piece: &[u8]) -> Result<Opened, Memory>
-    requires { HasRoom opened.body (length piece.now) }
-    ensures ok { IfOk result (λ after. (opening : SeenOpening) (path body : List ℕ) → IsOpened opening path body opened
-        → IsOpened opening path (body ++ piece.now) after) }
-    ensures addressable { IfOk result (λ after. IsAddressable opened → IsAddressable after) }
-    ensures few { IfOk result (λ after. (fed : ℕ) → IsFew fed opened.body → IsFew (fed + length piece.now) after.body) }
-{
-    let Opened {
-        who,
-        number,
-        place,
-        text,
-        body,
-    } = opened;
-    match keep(body, piece) {
-        Ok(body) => Ok(Opened {
-            who,
-            number,
-            place,
-            text,
-            body,
-        }),
-        Err(memory) => Err(memory),
-    }
-}
-
-// How far a request was read behind a piece.
-fn after_piece(progress: Progress, piece: &[u8]) -> Progress
-    requires { MayGo progress (length piece.now) }
-    ensures ok { OrFailed result ((opening : Result SeenOpening RouteFault) (path body : List ℕ) → IsAt opening path body progress
-        → IsAt opening path (body ++ piece.now) result) }
-    ensures failed { progress ≡ Progress.Failed → result ≡ Progress.Failed }
-    ensures held { (fed : ℕ) → IsHeld fed progress → IsHeld (fed + length piece.now) result }
+// Reads a piece of the body, where the head has no fault.
+fn read_on(progress: &mut Progress, piece: &[u8]) -> Result<(), Memory>
+    requires { MayGo progress.old (length piece.now) }
+    ensures ok { OnOk result ((opening : Result SeenOpening RouteFault) (path body : List ℕ) → IsAt opening path body progress.old
+        → IsAt opening path (body ++ piece.now) progress.new) }
+    ensures err { OnErr result (progress.new ≡ Progress.Failed) }
+    ensures stays { progress.old ≡ Progress.Failed → IsErr result }
+    ensures held { (fed : ℕ) → IsHeld fed progress.old → IsHeld (fed + length piece.now) progress.new }
 {
     match progress {
-        Progress::Reads(opened) => match read_on(opened, piece) {
-            Ok(opened) => Progress::Reads(opened),
-            Err(Memory) => Progress::Failed,
+        Progress::Reads(opened) => match keep(&mut opened.body, piece) {
+            Ok(()) => Ok(()),
+            Err(Memory) => {
+                *progress = Progress::Failed;
+                Err(Memory)
+            }
         },
-        Progress::Faulty(fault) => Progress::Faulty(fault),
-        Progress::Failed => Progress::Failed,
-    }
-}
-
-fn has_failed(progress: &Progress) -> bool
-    ensures { MatchBool result (progress.now ≡ Progress.Failed) (progress.now ≢ Progress.Failed) }
-{
-    match progress {
-        Progress::Failed => true,
-        Progress::Reads(_) | Progress::Faulty(_) => false,
+        Progress::Faulty(_) => Ok(()),
+        Progress::Failed => Err(Memory),
     }
 }
 
@@ -307,13 +271,8 @@ impl AskReader {
         ensures stays { HasFailed self.old → IsErr result }
         ensures fed { self.new.fed ≡ self.old.fed + length piece.now }
     {
-        let progress = replace(&mut self.progress, Progress::Failed);
-        self.progress = after_piece(progress, piece);
         self.fed += piece.len();
-        if has_failed(&self.progress) {
-            return Err(Memory);
-        }
-        Ok(())
+        read_on(&mut self.progress, piece)
     }
 
     /// What is read of the request of the head and the pieces.

@@ -247,18 +247,6 @@ fn tell_reading(
     }
 }
 
-fn tell_read(
-    alloc: Global,
-    request: &HttpRequest,
-    keys: &Keys,
-    told: &mut Vec<u8>,
-) -> Result<(), Fail> {
-    if request.body.bytes().len() > 16_777_216 {
-        return Err(Fail::from("too long"));
-    }
-    tell_reading(told, read_ask(alloc, request, keys))
-}
-
 fn feed_bytes(reader: &mut AskReader, bytes: &[u8]) -> Result<(), Memory>
     requires { reader.old.fed + length bytes.now ≤ 16777216 }
 {
@@ -295,16 +283,20 @@ fn read_in_bytes(
     reader.finish()
 }
 
-fn tell_read_in_bytes(
+// What a request is read as, whole and in pieces of one byte.
+fn tell_readings(
     alloc: Global,
     request: HttpRequest,
     keys: &Keys,
-    told: &mut Vec<u8>,
-) -> Result<(), Fail> {
+) -> Result<(Vec<u8>, Vec<u8>), Fail> {
     if request.body.bytes().len() > 16_777_216 {
         return Err(Fail::from("too long"));
     }
-    tell_reading(told, read_in_bytes(alloc, request, keys))
+    let mut whole = Vec::new(alloc);
+    tell_reading(&mut whole, read_ask(alloc, &request, keys))?;
+    let mut pieces = Vec::new(alloc);
+    tell_reading(&mut pieces, read_in_bytes(alloc, request, keys))?;
+    Ok((whole, pieces))
 }
 
 // Method, path, keys, number and body; and behind `=>` what is asked, or how the answer ends.
@@ -388,29 +380,12 @@ fn each_request_is_read_by_its_row(rt: HostRuntime) -> Result<(), Fail> {
     let keys = keys(rt.alloc())?;
     for row in REQUESTS.lines() {
         let (columns, want) = row.split_once(" => ").ok_or("no row")?;
-        let mut told = Vec::new(rt.alloc());
-        let request = request(rt.alloc(), columns)?;
-        tell_read(rt.alloc(), &request, &keys, &mut told)?;
+        let (whole, pieces) = tell_readings(rt.alloc(), request(rt.alloc(), columns)?, &keys)?;
         assert!(rt;
-            told.trim_ascii_end().ends_with(want.as_bytes()),
+            whole.trim_ascii_end().ends_with(want.as_bytes()),
             "at {row}"
         );
-    }
-    Ok(())
-}
-
-#[test]
-fn each_request_is_read_the_same_in_pieces_of_one_byte(rt: HostRuntime) -> Result<(), Fail> {
-    let keys = keys(rt.alloc())?;
-    for row in REQUESTS.lines() {
-        let (columns, want) = row.split_once(" => ").ok_or("no row")?;
-        let mut told = Vec::new(rt.alloc());
-        let request = request(rt.alloc(), columns)?;
-        tell_read_in_bytes(rt.alloc(), request, &keys, &mut told)?;
-        assert!(rt;
-            told.trim_ascii_end().ends_with(want.as_bytes()),
-            "at {row}"
-        );
+        assert_eq!(rt; pieces, whole, "at {row}");
     }
     Ok(())
 }
@@ -429,11 +404,11 @@ fn long_run(alloc: Global, count: usize) -> Result<Text, Memory> {
 #[test]
 fn a_field_of_a_run_may_be_long_that_is_not_looked_at(rt: HostRuntime) -> Result<(), Fail> {
     let keys = keys(rt.alloc())?;
-    let mut told = Vec::new(rt.alloc());
     let mut request = request(rt.alloc(), "POST /runs/X g - -")?;
     request.body = long_run(rt.alloc(), 100_000)?;
-    tell_read_in_bytes(rt.alloc(), request, &keys, &mut told)?;
-    assert_eq!(rt; told.as_slice(), b"grp submit X 1 1 a".as_slice());
+    let (whole, pieces) = tell_readings(rt.alloc(), request, &keys)?;
+    assert_eq!(rt; pieces.as_slice(), b"grp submit X 1 1 a".as_slice());
+    assert_eq!(rt; whole, pieces);
     Ok(())
 }
 

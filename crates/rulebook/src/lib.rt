@@ -5,6 +5,7 @@
 mod answer;
 mod ask;
 mod entry;
+mod founding;
 mod laws;
 mod limits;
 mod reply;
@@ -13,6 +14,7 @@ mod rules;
 pub use answer::Answer;
 pub use ask::{Addressed, Ask, Command, Query};
 pub use entry::{Entry, EntryCore};
+pub use founding::{founding_core, rules_founded};
 pub use laws::{
     added_are_accepted, commands_are_answered_short, entries_are_few, entries_are_plain,
     founding_fits, graded_are_on_trail, graded_are_there, grades_tell_their_leases,

@@ -1,6 +1,5 @@
 pub mod Kept
 pub mod KeptSums
 pub mod Places
-pub mod Scored
 pub mod Scores
 pub mod Standing

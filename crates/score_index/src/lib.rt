@@ -13,10 +13,3 @@ mod trees;
 
 pub use board::Board;
 pub use laws::each_topic_stands;
-
-#[cfg(test)]
-mod course;
-#[cfg(test)]
-mod scored;
-#[cfg(test)]
-mod tests;

@@ -2,7 +2,7 @@
 //! judged lower, or no longer is, and the cap of the topic, which moves by one at a time.
 ghost use Rattle.std.specs.Prelude.{◌≡◌, ℕ, ◌+◌, ◌-◌, ◌*◌, ◌<◌, ◌≤◌, ◌&&◌, Some, false, true, if◌then◌else◌, length, map, min, nat_le, nat_eq, not, slice_index, slice_set};
 ghost use Rattle.decimal_rank.specs.Places.{levels};
-ghost use Rattle.measures.specs.Cells.{bpref_den as bpref_den_of, cutoffs};
+ghost use Rattle.measures.specs.Cells.{cutoffs};
 ghost use Rattle.qrels_view.specs.Grades.{as_number};
 ghost use Rattle.score_index.specs.KeptSums.{AreNear, AreSums, HasMark, IsAt, is_lower_mark, is_relevant_mark, with_lower, with_relevant};
 ghost use Rattle.score_index.specs.Kept.{IsRoom, put_at};
@@ -12,7 +12,7 @@ ghost use Rattle.score_index.specs.declared.marks.Mark.TheVariants.{Unjudged};
 use crate::marks::Mark;
 use crate::trees::Trees;
 use decimal_rank::Steps;
-use measures::{CUTOFFS, Cell};
+use measures::{CUTOFFS, Cell, bpref_den};
 use std::sync::ledger::Ledger;
 
 // How many places are relevant, in all and within each cutoff; the sum of precisions; and the sum of
@@ -306,18 +306,4 @@ fn bpref_num(sums: &Sums, relevant: u32, lower: u32) -> u64
         return u64::from(sums.rel_ret);
     }
     sums.preferences
-}
-
-fn bpref_den(relevant: u32, lower: u32) -> u64
-    requires few { relevant ≤ 268435456 }
-    requires few_lower { lower ≤ 268435456 }
-    ensures { result ≡ bpref_den_of relevant lower }
-{
-    if relevant == 0 {
-        return 1;
-    }
-    match relevant.min(lower) {
-        0 => u64::from(relevant),
-        cap => u64::from(relevant) * u64::from(cap),
-    }
 }

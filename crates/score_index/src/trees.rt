@@ -5,14 +5,11 @@ ghost use Rattle.decimal_rank.specs.Places.{levels};
 ghost use Rattle.rank_trees.specs.Marks.{count_on};
 ghost use Rattle.score_index.specs.Places.{first_from, precision_gain, reached};
 
-use decimal_rank::{Memory, Steps};
+use decimal_rank::{Memory, Steps, weight};
 use rank_trees::{CountTree, WeightTree};
 use std::alloc::Global;
 use std::marker::Model;
 use std::sync::ledger::Ledger;
-
-// 1 in the unit of values, 10^-15.
-const ONE: u64 = 1_000_000_000_000_000;
 
 // The places of a list. Contracts see which are relevant and which are judged lower.
 #[derive(Drop)]
@@ -89,7 +86,7 @@ impl Trees {
         ensures cost { steps.new ≤ steps.old + 2 * (levels (length self.now.relevant) + 1) }
     {
         let found = u64::from(self.relevant.below(place, steps)) + 1;
-        found * (ONE / u64::from(place)) + self.weights.above(place, steps)
+        found * weight(place) + self.weights.above(place, steps)
     }
 
     // What the places judged lower above a place leave of the cap.

@@ -78,11 +78,6 @@ IsAt text (Reads reading) = IsRead text reading
 IsAt text (Faulty fault) = IsFaulty text fault
 IsAt text Failed = ⊥
 
-abbrev pub OrFailed : Progress → Type 0 → Type 0
-OrFailed (Reads reading) P = P
-OrFailed (Faulty fault) P = P
-OrFailed Failed P = Unit {0}
-
 -- what is kept of so many bytes
 abbrev pub IsHeld : ℕ → Progress → Type 0
 IsHeld fed (Reads reading) = IsWithin reading × (reading.ended.number ≤ fed) × ((text : List ℕ) × IsRead text reading)

@@ -1,13 +1,13 @@
 //! A run read as it comes. Of the line that isn't whole its ended fields are kept as far as they are looked at,
 //! and of the present field at most 401 bytes. A line is judged where it ends, since a seventh field makes
 //! another fault of it.
-ghost use Rattle.std.specs.Prelude.{◌≡◌, ◌≢◌, ◌≤◌, ◌<◌, ◌+◌, ◌^◌, ◌++◌, ℕ, List, [], ◌∷◌, map, length, take, position, Ok, Err, IfOk, OnOk, OnErr, IsErr, MatchBool};
+ghost use Rattle.std.specs.Prelude.{◌≡◌, ◌≤◌, ◌<◌, ◌+◌, ◌^◌, ◌++◌, ℕ, List, [], ◌∷◌, map, length, take, position, Ok, Err, IfOk, OnOk, OnErr, IsErr};
 ghost use Rattle.std.specs.List.Sorted.{IsStrictlyIncreasing};
 ghost use Rattle.trec_formats.specs.Faults.{IfFault};
 ghost use Rattle.trec_formats.specs.Lines.{Row};
 ghost use Rattle.trec_formats.specs.Counts.{IsTally};
 ghost use Rattle.trec_formats.specs.RunFields.{kept_fields};
-ghost use Rattle.trec_formats.specs.RunStates.{is_break, row_if, AreEnded, AreWithin, HasRoom, IsFaultBehind, IsRead, IsFaulty, IsHeld, IsWithin, OrFailed, IsAt, IsAfter, HasFailed, held_by};
+ghost use Rattle.trec_formats.specs.RunStates.{is_break, row_if, AreEnded, AreWithin, HasRoom, IsFaultBehind, IsRead, IsFaulty, IsHeld, IsWithin, IsAt, IsAfter, HasFailed, held_by};
 ghost use Rattle.trec_formats.specs.Runs.{run_of, count_on, IsRun, IsRunFault};
 
 use crate::faults::{FormatEnd, FormatFault, Kind};
@@ -156,30 +156,28 @@ fn read_piece(alloc: Global, reading: &mut Reading, piece: &[u8]) -> Result<(), 
     Ok(())
 }
 
-/// What a reading comes to behind a piece.
-fn after_piece(alloc: Global, progress: Progress, piece: &[u8]) -> Progress
-    requires room { HasRoom progress (length piece.now) }
-    ensures ok { OrFailed result ((text : List ℕ) → IsAt text progress → IsAt (text ++ piece.now) result) }
-    ensures failed { progress ≡ Progress.Failed → result ≡ Progress.Failed }
-    ensures held { (fed : ℕ) → IsHeld fed progress → IsHeld (fed + length piece.now) result }
+/// Reads a piece, where no fault was met before.
+fn read_on(alloc: Global, progress: &mut Progress, piece: &[u8]) -> Result<(), Memory>
+    requires room { HasRoom progress.old (length piece.now) }
+    ensures ok { OnOk result ((text : List ℕ) → IsAt text progress.old → IsAt (text ++ piece.now) progress.new) }
+    ensures err { OnErr result (progress.new ≡ Progress.Failed) }
+    ensures stays { progress.old ≡ Progress.Failed → IsErr result }
+    ensures held { (fed : ℕ) → IsHeld fed progress.old → IsHeld (fed + length piece.now) progress.new }
 {
     match progress {
-        Progress::Reads(mut reading) => match read_piece(alloc, &mut reading, piece) {
-            Ok(()) => Progress::Reads(reading),
-            Err(FormatEnd::Fault(fault)) => Progress::Faulty(fault),
-            Err(FormatEnd::Memory) => Progress::Failed,
+        Progress::Reads(reading) => match read_piece(alloc, reading, piece) {
+            Ok(()) => Ok(()),
+            Err(FormatEnd::Fault(fault)) => {
+                *progress = Progress::Faulty(fault);
+                Ok(())
+            }
+            Err(FormatEnd::Memory) => {
+                *progress = Progress::Failed;
+                Err(Memory)
+            }
         },
-        Progress::Faulty(fault) => Progress::Faulty(fault),
-        Progress::Failed => Progress::Failed,
-    }
-}
-
-fn has_failed(progress: &Progress) -> bool
-    ensures { MatchBool result (progress.now ≡ Progress.Failed) (progress.now ≢ Progress.Failed) }
-{
-    match progress {
-        Progress::Failed => true,
-        Progress::Reads(_) | Progress::Faulty(_) => false,
+        Progress::Faulty(_) => Ok(()),
+        Progress::Failed => Err(Memory),
     }
 }
 
@@ -235,13 +233,8 @@ impl RunReader {
         ensures fed { self.new.fed ≡ self.old.fed + length piece.now }
         ensures held { held_by self.new ≤ 401 }
     {
-        let progress = replace(&mut self.progress, Progress::Failed);
-        self.progress = after_piece(self.alloc, progress, piece);
         self.fed += piece.len();
-        if has_failed(&self.progress) {
-            return Err(Memory);
-        }
-        Ok(())
+        read_on(self.alloc, &mut self.progress, piece)
     }
 
     /// The lines of the run, or its first fault.

@@ -2,7 +2,11 @@
 #![tactic(auto)]
 
 #[cfg(test)]
+mod faults;
+#[cfg(test)]
 mod pieces;
+#[cfg(test)]
+mod readings;
 #[cfg(test)]
 mod runs_and_qrels;
 #[cfg(test)]

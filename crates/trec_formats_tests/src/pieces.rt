@@ -1,15 +1,14 @@
 //! Tried are runs that are fed byte by byte: they are read as at once, with the same lines and faults.
 ghost use Rattle.std.specs.Prelude.{◌+◌, ◌≤◌, length};
 
+use crate::faults::is_fault;
+use crate::readings::{run_of, short};
 use decimal_rank::Memory;
 use std::alloc::Global;
 use std::cmp::Ordering;
 use std::fmt::Write;
 use std::test::Fail;
-use trec_formats::{FormatEnd, FormatFault, Kind, RunLine, RunReader, read_run};
-
-/// The most bytes of a text here.
-const MOST_BYTES: usize = 1_000_000;
+use trec_formats::{FormatEnd, Kind, RunLine, RunReader};
 
 fn feed_bytes(reader: &mut RunReader, text: &[u8]) -> Result<(), Memory>
     requires { reader.old.fed + length text.now ≤ 268435456 }
@@ -22,19 +21,10 @@ fn feed_bytes(reader: &mut RunReader, text: &[u8]) -> Result<(), Memory>
 
 /// What a run is read as that is fed in pieces of one byte.
 fn byte_by_byte(alloc: Global, text: &str) -> Result<Vec<RunLine>, FormatEnd> {
-    if text.len() > MOST_BYTES {
-        return Err(FormatEnd::Memory);
-    }
+    let text = short(text.as_bytes())?;
     let mut reader = RunReader::new(alloc);
-    feed_bytes(&mut reader, text.as_bytes())?;
+    feed_bytes(&mut reader, text)?;
     reader.finish()
-}
-
-fn at_once(alloc: Global, text: &str) -> Result<Vec<RunLine>, FormatEnd> {
-    if text.len() > MOST_BYTES {
-        return Err(FormatEnd::Memory);
-    }
-    read_run(alloc, text.as_bytes())
 }
 
 fn are_same(a: &RunLine, b: &RunLine) -> bool {
@@ -49,7 +39,7 @@ fn a_run_in_pieces_of_one_byte(rt: HostRuntime) -> Result<(), Fail> {
     let text =
         "\n \t\n401\x0bQ0\tFR940-1~\x0c 7  010 x \r\nb.c_D-9 ? ! ? 999 ?\r\n\r\n401 0 a 0 0 0";
     let pieces = byte_by_byte(rt.alloc(), text)?;
-    let whole = at_once(rt.alloc(), text)?;
+    let whole = run_of(rt.alloc(), text)?;
     assert_eq!(rt; pieces.len(), 3);
     assert_eq!(rt; whole.len(), 3);
     assert!(rt; pieces.iter().zip(&whole).all(|(a, b)| are_same(a, b)));
@@ -72,18 +62,14 @@ fn faults_in_pieces_of_one_byte(rt: HostRuntime) {
     for text in texts {
         let end = byte_by_byte(rt.alloc(), text).err();
         assert!(rt; end.is_some(), "{text}");
-        assert!(rt; end == at_once(rt.alloc(), text).err(), "{text}");
+        assert!(rt; end == run_of(rt.alloc(), text).err(), "{text}");
     }
 }
 
 #[test]
 fn a_line_cut_inside_it(rt: HostRuntime) {
     let end = byte_by_byte(rt.alloc(), "1 Q0 A 1 3 t\n1 Q0 B 2 2\n").err();
-    let wanted = FormatFault {
-        line: 2,
-        kind: Kind::Fields,
-    };
-    assert!(rt; end == Some(FormatEnd::Fault(wanted)));
+    assert!(rt; is_fault(end, 2, Kind::Fields));
 }
 
 #[test]

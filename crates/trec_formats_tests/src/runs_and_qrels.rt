@@ -1,34 +1,12 @@
 //! Runs and qrels, read and ranked.
-use decimal_rank::{Decimal, DecimalFault, Memory, Text};
+use crate::faults::is_fault;
+use crate::readings::{qrels_of, run_of, short, table_of};
+use decimal_rank::{Decimal, Memory, Text};
 use std::alloc::Global;
 use std::cmp::Ordering;
 use std::fmt::Write;
 use std::test::Fail;
-use trec_formats::{
-    FormatEnd, FormatFault, Kind, QrelLine, QrelTable, RunLine, TopicList, rank_run,
-    read_qrel_table, read_qrels, read_run,
-};
-
-fn run_of(alloc: Global, text: &str) -> Result<Vec<RunLine>, FormatEnd> {
-    if text.len() > 1_000_000 {
-        return Err(FormatEnd::Memory);
-    }
-    read_run(alloc, text.as_bytes())
-}
-
-fn qrels_of(alloc: Global, text: &str) -> Result<Vec<QrelLine>, FormatEnd> {
-    if text.len() > 1_000_000 {
-        return Err(FormatEnd::Memory);
-    }
-    read_qrels(alloc, text.as_bytes())
-}
-
-fn table_of(alloc: Global, text: &str) -> Result<QrelTable, FormatEnd> {
-    if text.len() > 1_000_000 {
-        return Err(FormatEnd::Memory);
-    }
-    read_qrel_table(alloc, text.as_bytes())
-}
+use trec_formats::{FormatEnd, Kind, QrelLine, QrelTable, RunLine, TopicList, rank_run, read_run};
 
 /// The grades of three documents on a topic.
 fn grades_on(alloc: Global, table: &QrelTable, topic: &str) -> Result<Vec<Option<u8>>, Memory> {
@@ -41,10 +19,7 @@ fn grades_on(alloc: Global, table: &QrelTable, topic: &str) -> Result<Vec<Option
 }
 
 fn lists_of(alloc: Global, text: &str) -> Result<Vec<TopicList>, FormatEnd> {
-    if text.len() > 1_000_000 {
-        return Err(FormatEnd::Memory);
-    }
-    let lines = read_run(alloc, text.as_bytes())?;
+    let lines = read_run(alloc, short(text.as_bytes())?)?;
     rank_run(alloc, lines.as_slice())
 }
 
@@ -60,6 +35,14 @@ fn is_run_line(line: &RunLine, wanted: &(u32, &str, &str, &str)) -> bool {
         && line.topic.bytes() == wanted.1.as_bytes()
         && line.doc.bytes() == wanted.2.as_bytes()
         && is_score(&line.score, wanted.3)
+}
+
+fn are_run_lines(lines: &[RunLine], wanted: &[(u32, &str, &str, &str)]) -> bool {
+    lines.len() == wanted.len()
+        && lines
+            .iter()
+            .zip(wanted)
+            .all(|(line, wanted)| is_run_line(line, wanted))
 }
 
 fn is_qrel_line(line: &QrelLine, wanted: &(u32, &str, &str, u8)) -> bool {
@@ -85,13 +68,7 @@ fn is_list(list: &TopicList, topic: &str, line: u32, docs: &[&str]) -> bool {
 fn runs_are_read(rt: HostRuntime) -> Result<(), Fail> {
     let lines = run_of(rt.alloc(), "1 Q0 A 1 3 t\n1 Q0 B 2 2 t\n1 Q0 C 3 1 t\n")?;
     let wanted = [(1, "1", "A", "3"), (2, "1", "B", "2"), (3, "1", "C", "1")];
-    assert_eq!(rt; lines.len(), wanted.len());
-    assert!(rt;
-        lines
-            .iter()
-            .zip(&wanted)
-            .all(|(line, wanted)| is_run_line(line, wanted))
-    );
+    assert!(rt; are_run_lines(&lines, &wanted));
 
     // white space of every kind, lines of it alone, lines of a topic apart, and no line feed at the end
     let lines = run_of(
@@ -103,68 +80,8 @@ fn runs_are_read(rt: HostRuntime) -> Result<(), Fail> {
         (4, "b.c_D-9", "!", "999999999999999999"),
         (6, "401", "a", "0"),
     ];
-    assert_eq!(rt; lines.len(), wanted.len());
-    assert!(rt;
-        lines
-            .iter()
-            .zip(&wanted)
-            .all(|(line, wanted)| is_run_line(line, wanted))
-    );
+    assert!(rt; are_run_lines(&lines, &wanted));
     Ok(())
-}
-
-fn is_fault(end: Option<FormatEnd>, line: u32, kind: Kind) -> bool {
-    end == Some(FormatEnd::Fault(FormatFault { line, kind }))
-}
-
-#[test]
-fn faults_of_runs(rt: HostRuntime) {
-    let cases = [
-        // no line with a field
-        ("", 0, Kind::Empty),
-        ("\n", 0, Kind::Empty),
-        (" \t\x0b\x0c\r\n\r\n", 0, Kind::Empty),
-        // five fields, and seven
-        ("1 Q0 A 1 3 t\n1 Q0 B 2 2\n", 2, Kind::Fields),
-        ("1 Q0 A 1 3 t u\n", 1, Kind::Fields),
-        // topics that are no names
-        ("a/b Q0 A 1 3 t\n", 1, Kind::Topic),
-        (
-            "\n\n123456789012345678901234567890123 Q0 A 1 3 t\n",
-            3,
-            Kind::Topic,
-        ),
-        // docnos of other bytes, or of 65
-        ("1 Q0 \x7f 1 3 t\n", 1, Kind::Docno),
-        ("1 Q0 \u{e9} 1 3 t\n", 1, Kind::Docno),
-        (
-            "1 Q0 12345678901234567890123456789012345678901234567890123456789012345 1 3 t\n",
-            1,
-            Kind::Docno,
-        ),
-        // a good line before, and one behind
-        (
-            "1 Q0 A 1 3 t\n1 Q0 B 2 x t\n1 Q0 C 3 1 t\n",
-            2,
-            Kind::Score(DecimalFault::Shape),
-        ),
-        // of two faults on a line the one that stands first
-        ("a/b Q0 \x7f 1 x t\n", 1, Kind::Topic),
-        ("1 Q0 \x7f 1 x t\n", 1, Kind::Docno),
-        // of two lines the first, and a fault before a repeat
-        (
-            "1 Q0 A 1 x t\n1 Q0 B\n",
-            1,
-            Kind::Score(DecimalFault::Shape),
-        ),
-        ("1 Q0 A 1 3 t\n1 Q0 A 1 3 t\n1 Q0 B\n", 3, Kind::Fields),
-    ];
-    for (text, line, kind) in cases {
-        assert!(rt;
-            is_fault(run_of(rt.alloc(), text).err(), line, kind),
-            "{text}"
-        );
-    }
 }
 
 #[test]
@@ -205,40 +122,6 @@ fn qrels_are_read(rt: HostRuntime) -> Result<(), Fail> {
             .all(|(line, wanted)| is_qrel_line(line, wanted))
     );
     Ok(())
-}
-
-#[test]
-fn faults_of_qrels(rt: HostRuntime) {
-    let cases = [
-        ("", 0, Kind::Empty),
-        ("\r\n\x0b", 0, Kind::Empty),
-        // three fields, and five
-        ("1 0 A\n", 1, Kind::Fields),
-        ("1 0 A 1 1\n", 1, Kind::Fields),
-        // a topic that is no name, a docno of other bytes
-        ("\na*b 0 A 1\n", 2, Kind::Topic),
-        ("1 0 \u{e9} 1\n", 1, Kind::Docno),
-        // grades that aren't digits alone, or above 255
-        ("1 0 A -1\n", 1, Kind::Grade),
-        ("1 0 A +1\n", 1, Kind::Grade),
-        ("1 0 A 1.0\n", 1, Kind::Grade),
-        ("1 0 A 256\n", 1, Kind::Grade),
-        ("1 0 A 99999999999999999999999999\n", 1, Kind::Grade),
-        // a document twice in a topic, told where there is no other fault
-        (
-            "1 0 A 1\n1 0 B 0\n2 0 B 0\n\n1 0 B 1\n1 0 A 1\n",
-            5,
-            Kind::Twice { first: 2 },
-        ),
-        ("1 0 A 1\n1 0 A 1\n", 2, Kind::Twice { first: 1 }),
-        ("1 0 A 1\n1 0 A 1\n1 0 A x\n", 3, Kind::Grade),
-    ];
-    for (text, line, kind) in cases {
-        assert!(rt;
-            is_fault(qrels_of(rt.alloc(), text).err(), line, kind),
-            "{text}"
-        );
-    }
 }
 
 #[test]

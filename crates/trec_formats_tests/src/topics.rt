@@ -1,8 +1,10 @@
-//! Tried are topics texts, their faults and limits, and the text of qrels.
+//! Tried are topics texts and their limits, and the text of qrels.
+use crate::faults::is_fault;
+use crate::readings::topics_of;
 use decimal_rank::Text;
 use std::alloc::Global;
 use std::test::Fail;
-use trec_formats::{FormatEnd, FormatFault, Kind, QrelLine, Topic, read_topics, write_qrels};
+use trec_formats::{Kind, QrelLine, Topic, write_qrels};
 
 /// A file of one topic.
 const EXAMPLE: &str = "<top>
@@ -14,13 +16,6 @@ What language and cultural differences
 impede integration?
 </top>
 ";
-
-fn topics_of(alloc: Global, text: &[u8]) -> Result<Vec<Topic>, FormatEnd> {
-    if text.len() > 1_000_000 {
-        return Err(FormatEnd::Memory);
-    }
-    read_topics(alloc, text)
-}
 
 fn is_topic(topic: &Topic, wanted: &(&str, &str, &str, &str)) -> bool {
     topic.id.bytes() == wanted.0.as_bytes()
@@ -82,61 +77,6 @@ too
             .all(|(topic, wanted)| is_topic(topic, wanted))
     );
     Ok(())
-}
-
-fn is_fault(end: Option<FormatEnd>, line: u32, kind: Kind) -> bool {
-    end == Some(FormatEnd::Fault(FormatFault { line, kind }))
-}
-
-#[test]
-fn faults_of_topics(rt: HostRuntime) {
-    let cases = [
-        ("", 0, Kind::Empty),
-        (" \n\t\r\n", 0, Kind::Empty),
-        // outside a block only its begin may stand
-        ("\n<num> 1\n", 2, Kind::Tag),
-        ("</top>\n", 1, Kind::Tag),
-        ("<top> 1\n", 1, Kind::Tag),
-        ("<top>\n<num>1\n<title>t\n</top>\nx\n", 5, Kind::Tag),
-        // a block in a block, also in a stretch that is skipped
-        ("<top>\n<num>1\n<top>\n", 3, Kind::Tag),
-        ("<top>\n<dom>\n<top>\n", 3, Kind::Tag),
-        // a field twice
-        ("<top>\n<num>1\n<title>t\n<num>1\n</top>\n", 4, Kind::Tag),
-        ("<top>\n<title>\n<title>t\n", 3, Kind::Tag),
-        ("<top>\n<desc>a\n<narr>b\n<desc>c\n", 4, Kind::Tag),
-        ("<top>\n<narr>a\n<narr>b\n", 3, Kind::Tag),
-        // a block without a number, and one without a title
-        ("<top>\n<title>t\n</top>\n", 3, Kind::Tag),
-        ("<top>\n<num>1\n<desc>d\n</top>\n", 4, Kind::Tag),
-        // numbers that are no names
-        (
-            "<top>\n<title>t\n<num> Number: a/b\n</top>\n",
-            3,
-            Kind::Topic,
-        ),
-        ("<top>\n<num> Number:\n1\n</top>\n", 2, Kind::Topic),
-        // a text that ends inside a block
-        ("<top>\n\n", 3, Kind::Tag),
-        ("<top>\n<num>1\n<title>t", 4, Kind::Tag),
-        // an id twice, told where there is no other fault
-        (
-            "<top>\n<title>a\n<num>1\n</top>\n<top>\n<num>2\n<title>b\n</top>\n<top>\n\n<num>1\n<title>c\n</top>\n",
-            11,
-            Kind::Twice { first: 3 },
-        ),
-        (
-            "<top>\n<num>1\n<title>a\n</top>\n<top>\n<num>1\n<title>b\n</top>\nx\n",
-            9,
-            Kind::Tag,
-        ),
-    ];
-    for (text, line, kind) in cases {
-        assert!(rt;
-            is_fault(topics_of(rt.alloc(), text.as_bytes()).err(), line, kind),
-            "{text}"
-        );
-    }
 }
 
 #[test]

@@ -55,7 +55,8 @@ use Rattle.campaign_core.proofs.Entries.HistoryGrowth.{submitted_docnos-push, su
 use Rattle.campaign_core.proofs.Entries.LabelSteps.{GivenFollow, GivenStay, RulingsFollow, RulingsStay, few-here, few-more, few-ruled, labelled-elsewhere, labelled-here, marked-there, ruled-elsewhere, ruled-here}
 use Rattle.campaign_core.proofs.Entries.LeaseSteps.{leased-ended, leased-granted}
 use Rattle.campaign_core.proofs.Entries.Legality.{IsLegal-push, moment_after-push}
-use Rattle.campaign_core.proofs.Lists.Elements.{both_true, each_cons, get-map, map-at_place, map-at_same}
+use Rattle.assessment.proofs.ListFacts.{each_cons}
+use Rattle.campaign_core.proofs.Lists.Elements.{both_true, get-map, map-at_place, map-at_same}
 use Rattle.campaign_core.proofs.Entries.FittingChanges.{as-many, some-topic, topic-at, within-topics}
 use Rattle.campaign_core.proofs.Entries.ListSteps.{lists-without, none-listed, run-lists}
 use Rattle.campaign_core.proofs.Entries.LiveRuns.{known-fewer, known-more, known-stays, none-withdrawn, not-withdrawn, number-place, numbered-fewer, numbered-more, numbered-stays, run-at-stays, withdrawn-push}

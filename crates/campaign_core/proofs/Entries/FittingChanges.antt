@@ -29,7 +29,8 @@ use Rattle.campaign_core.specs.Topics.{KeptTopic, kept, kept_of, labelled_of, po
 use Rattle.campaign_core.proofs.Rulings.AcceptedCommands.{numbered-all, rule-told, withdraw-told}
 use Rattle.campaign_core.proofs.Entries.LabelSteps.{marked-there}
 use Rattle.campaign_core.proofs.Entries.LeaseSteps.{desk-long}
-use Rattle.campaign_core.proofs.Lists.Elements.{at-some, both_true, each_cons, get-map, slice-past}
+use Rattle.assessment.proofs.ListFacts.{at-some, each_cons}
+use Rattle.campaign_core.proofs.Lists.Elements.{both_true, get-map, slice-past}
 use Rattle.campaign_core.proofs.Numbers.DocNumbers.{docno-back, number-within}
 use Rattle.campaign_core.proofs.Numbers.TopicIds.{same-names}
 use Rattle.campaign_core.proofs.Entries.ListSteps.{none-listed}

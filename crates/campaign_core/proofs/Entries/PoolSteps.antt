@@ -17,7 +17,8 @@ use Rattle.campaign_core.specs.Numbers.{are_named, doc_in, docs_in, names_of}
 use Rattle.campaign_core.specs.Topics.{KeptTopic, empty_topic, held_of, kept, kept_of, pool_of}
 use Rattle.assessment.specs.RunLists.{each_with_list}
 use Rattle.assessment.specs.TopicFacts.{TopicFacts, with_list, without_list}
-use Rattle.campaign_core.proofs.Lists.Elements.{Each, each_cons, filter-map}
+use Rattle.assessment.proofs.ListFacts.{each_cons}
+use Rattle.campaign_core.proofs.Lists.Elements.{Each, filter-map}
 use Rattle.campaign_core.proofs.Entries.LiveRuns.{live-there, numbered-below, numbered-named}
 use Rattle.campaign_core.proofs.Numbers.DocNumbers.{docs-kept}
 use Rattle.campaign_core.proofs.Printed.PoolTexts.{held-named}

@@ -7,10 +7,9 @@ use Rattle.rulebook.specs.declared.entry.Entry.{Entry}
 use Rattle.rulebook.specs.declared.entry.EntryCore.{EntryCore}
 use Rattle.rulebook.specs.declared.limits.TheConstants.{MAX_DOCNOS, MAX_ENTRIES, MAX_LINES}
 use Rattle.rulebook.specs.declared.reply.Reply.{Reply}
-use Rattle.rulebook.specs.declared.rules.Phase.TheVariants.{Collecting}
 use Rattle.rulebook.specs.declared.rules.Rules.{Rules}
 use Rattle.rulebook.specs.Answers.{ruled}
-use Rattle.rulebook.specs.Campaign.{History, phase, submitted_lines}
+use Rattle.rulebook.specs.Campaign.{History, submitted_lines}
 use Rattle.rulebook.specs.Legal.{IsAccepted, IsLegal, founding}
 use Rattle.rulebook.specs.Refusals.{Ruling}
 use Rattle.rulebook.specs.Spelling.{are_rules}
@@ -18,7 +17,7 @@ use Rattle.rulebook.specs.Words.{Text, each_once}
 use Rattle.campaign_core.specs.Changes.{CarriesOut}
 use Rattle.campaign_core.specs.Decisions.{IsDecision, IsNew, IsWithinLimits}
 use Rattle.campaign_core.specs.Growth.{BeginsWith}
-use Rattle.campaign_core.specs.Kept.{AwaitsChange, IsAssessmentOf, IsKnown, IsPrepared, IsUnchanged, IsUnjudged}
+use Rattle.campaign_core.specs.Kept.{AwaitsChange, IsAssessmentOf, IsPrepared, IsUnchanged, IsUnjudged}
 use Rattle.campaign_core.specs.NumberedRequests.{Numbered, number_in, numbers_of}
 use Rattle.campaign_core.specs.Numbers.{names_of}
 use Rattle.campaign_core.specs.Submissions.{AreSubmissions, RunsAreKnown}
@@ -30,27 +29,6 @@ use Rattle.campaign_core.proofs.Entries.HistoryGrowth.{submitted_docnos-core, su
 use Rattle.campaign_core.proofs.Entries.Legality.{accepted-by}
 use Rattle.campaign_core.proofs.Numbers.UsedNumbers.{numbers-push}
 use Rattle.campaign_core.proofs.Rulings.AcceptedEntries.{moment-of}
-
--- the history and all that is known of it stay
-pub still-known : (old new : Campaign) → IsUnchanged old new → IsKnown old → IsKnown new
-still-known old new same known =
-    let H = old.history.items in
-    record {
-      legal = rw same.history_is known.legal;
-      phase_is = same.phase_is ∙ known.phase_is ∙ ap phase (sym same.history_is);
-      moment_fits = rw same.history_is known.moment_fits;
-      entries_fit = rw same.history_is known.entries_fit;
-      lines_fit = rw same.history_is known.lines_fit;
-      docnos_fit = rw same.history_is known.docnos_fit;
-      runs_fit = rw same.history_is known.runs_fit;
-      topics_first = rw same.history_is known.topics_first;
-      submissions_are = subst (λ (H : History). AreSubmissions H new.submissions.items) (sym same.history_is) (subst (AreSubmissions H) (sym same.submissions_are) known.submissions_are);
-      runs_known = rw same.history_is known.runs_known;
-      lines_are = same.lines_are ∙ known.lines_are ∙ ap submitted_lines (sym same.history_is);
-      assessed = subst (λ (H : History). IsAssessmentOf H (facts new.assessment)) (sym same.history_is) (subst (IsAssessmentOf H) (sym same.facts_are) known.assessed);
-      unjudged = subst (λ (H : History). phase H ≡ Collecting → IsUnjudged H (map labelled_of (facts new.assessment).topics.topics)) (sym same.history_is)
-          (subst (λ (known : Facts). phase H ≡ Collecting → IsUnjudged H (map labelled_of known.topics.topics)) (sym same.facts_are) known.unjudged);
-    }
 
 -- an entry is ready once its change waits
 pub prepared-entry : (old new : Campaign) (before names : List Text) (counted numbers : List Numbered) (core : EntryCore) (told answer : Reply) (change : Change)

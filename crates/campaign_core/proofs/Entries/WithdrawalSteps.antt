@@ -2,7 +2,6 @@
 use Rattle.std.proofs.Common.{◌≡◌, ◌||◌, ◌<◌, ℕ, Bool, true, false, List, [], ◌∷◌, ◌++◌, Option, None, Some, is_some, length, map, get_or, set, refl, sym, ap, subst, arith, ◌∙◌}
 use Rattle.std.specs.Prelude.{if◌then◌else◌}
 use Rattle.std.specs.List.{position}
-use Rattle.std.specs.Option.{option_map_or}
 use Rattle.std.specs.Str.{bytes_eq}
 use Rattle.std.proofs.lemmas.List.{map-append}
 use Rattle.assessment.specs.TopicsFacts.{at_place}
@@ -12,63 +11,16 @@ use Rattle.rulebook.specs.declared.entry.Entry.{Entry}
 use Rattle.rulebook.specs.Campaign.{History, Run, is_taken, is_withdrawn, run_in, runs, withdraws}
 use Rattle.rulebook.specs.Legal.{IsAccepted}
 use Rattle.rulebook.specs.Words.{Text}
-use Rattle.campaign_core.specs.Submissions.{ArePlaces, AreSubmissions, RunsAreKnown, entry_place, submissions_with, withdrawn, withdrawn_in}
+use Rattle.campaign_core.specs.Submissions.{ArePlaces, AreSubmissions, RunsAreKnown, entry_place, withdrawn}
 use Rattle.campaign_core.specs.declared.submissions.Submission.{Submission}
 use Rattle.campaign_core.proofs.Rulings.AcceptedCommands.{WithdrawTold, withdraw-told}
-use Rattle.campaign_core.proofs.Lists.Elements.{get-map, get_or-of, map-at_place, map-at_same, map-each}
+use Rattle.assessment.proofs.ListFacts.{get_or-map}
+use Rattle.campaign_core.proofs.Lists.Elements.{get-map, map-at_place, map-at_same, map-each}
 use Rattle.campaign_core.proofs.Entries.LiveRuns.{none-withdrawn, not-withdrawn, number-place, withdrawals-set, withdrawn-push}
 use Rattle.campaign_core.proofs.Rulings.RunRulings.{place-named, run-found, taken-named}
 use Rattle.campaign_core.proofs.Entries.PhaseSteps.{no-run, one-run}
 use Rattle.campaign_core.proofs.Numbers.RunPlaces.{no_run, places-grow, places-stay, runs-many}
-use Rattle.campaign_core.proofs.Rulings.AcceptedEntries.{ruled_ok, submit-told}
-
--- Commands by what they submit or withdraw.
-
-withdraws-by : (name : Text) (c : Command)
-    → withdraws name c ≡ option_map_or (λ run. bytes_eq run name) (withdrawn_in c) false
-withdraws-by name (command.Withdraw run) = refl
-withdraws-by name (command.Found rules) = refl
-withdraws-by name (command.Topics topics) = refl
-withdraws-by name (command.Submit run lists) = refl
-withdraws-by name command.Open = refl
-withdraws-by name (command.Lease topic) = refl
-withdraws-by name (command.Grade lease grade) = refl
-withdraws-by name (command.Release lease) = refl
-withdraws-by name (command.Amend topic doc grade) = refl
-withdraws-by name (command.Rule topic doc grade) = refl
-withdraws-by name command.Publish = refl
-
-withdraws-none : (c : Command) → withdrawn_in c ≡ None → (name : Text) → withdraws name c ≡ false
-withdraws-none c none name = withdraws-by name c
-    ∙ ap (λ (o : Option Text). option_map_or (λ run. bytes_eq run name) o false) none
-
-withdraw-by : (c : Command) (name : Text) → withdrawn_in c ≡ Some name → c ≡ command.Withdraw name
-withdraw-by (command.Withdraw run) name is = let same : run ≡ name = cc is in ap command.Withdraw same
-withdraw-by (command.Found rules) name is = cc is
-withdraw-by (command.Topics topics) name is = cc is
-withdraw-by (command.Submit run lists) name is = cc is
-withdraw-by command.Open name is = cc is
-withdraw-by (command.Lease topic) name is = cc is
-withdraw-by (command.Grade lease grade) name is = cc is
-withdraw-by (command.Release lease) name is = cc is
-withdraw-by (command.Amend topic doc grade) name is = cc is
-withdraw-by (command.Rule topic doc grade) name is = cc is
-withdraw-by command.Publish name is = cc is
-
-submit-by : (c : Command) (run : Run) → run_in c ≡ Some run → c ≡ command.Submit run.name run.lists
-submit-by (command.Submit name lists) run is =
-    let same : (let r : Run = record { name = name; lists = lists } in r) ≡ run = cc is in
-    ap (λ (r : Run). command.Submit r.name r.lists) same
-submit-by (command.Withdraw name) run is = cc is
-submit-by (command.Found rules) run is = cc is
-submit-by (command.Topics topics) run is = cc is
-submit-by command.Open run is = cc is
-submit-by (command.Lease topic) run is = cc is
-submit-by (command.Grade lease grade) run is = cc is
-submit-by (command.Release lease) run is = cc is
-submit-by (command.Amend topic doc grade) run is = cc is
-submit-by (command.Rule topic doc grade) run is = cc is
-submit-by command.Publish run is = cc is
+use Rattle.campaign_core.proofs.Rulings.AcceptedEntries.{ruled_ok, submit-by, submit-told}
 
 abbrev flag : Submission → Bool
 flag one = one.is_withdrawn
@@ -77,16 +29,20 @@ same-flags : (H J : History) (rs : List Run) → ((name : Text) → is_withdrawn
     → map (λ (run : Run). is_withdrawn J run.name) rs ≡ map (λ (run : Run). is_withdrawn H run.name) rs
 same-flags H J rs withdrawn_are = map-each (λ (run : Run). is_withdrawn J run.name) (λ (run : Run). is_withdrawn H run.name) rs (λ run. withdrawn_are run.name)
 
+-- the entries that submit runs, after one more entry with a command that withdraws none
+abbrev pub submissions_with : Command → ℕ → List Submission → List Submission
+submissions_with command place all = if is_some (run_in command) then all ++ record { place = place; is_withdrawn = false } ∷ [] else all
+
 module _ (H : History) (e : Entry) (known : RunsAreKnown H) (accepted : IsAccepted H e) (all : List Submission) (are : AreSubmissions H all) where
   abbrev J : History
   J = H ++ e ∷ []
 
   -- an entry that withdraws none
-  pub noted : withdrawn_in e.core.command ≡ None → AreSubmissions J (submissions_with e.core.command (length H) all)
+  pub noted : ((name : Text) → withdraws name e.core.command ≡ false) → AreSubmissions J (submissions_with e.core.command (length H) all)
   noted none = step (run_in e.core.command) refl
     where
       withdrawn_are : (name : Text) → is_withdrawn J name ≡ is_withdrawn H name
-      withdrawn_are = none-withdrawn H e (withdraws-none e.core.command none)
+      withdrawn_are = none-withdrawn H e none
 
       step : (o : Option Run) → run_in e.core.command ≡ o
           → AreSubmissions J (if is_some (run_in e.core.command) then all ++ record { place = length H; is_withdrawn = false } ∷ [] else all)
@@ -110,10 +66,7 @@ module _ (H : History) (e : Entry) (known : RunsAreKnown H) (accepted : IsAccept
                 ∙ ap (map (λ (run : Run). is_withdrawn J run.name)) (sym (one-run H e run is));
           })
 
-  module _ (name : Text) (is : withdrawn_in e.core.command ≡ Some name) where
-    command_is : e.core.command ≡ command.Withdraw name
-    command_is = withdraw-by e.core.command name is
-
+  module _ (name : Text) (command_is : e.core.command ≡ command.Withdraw name) where
     abbrev told : WithdrawTold H name e.reply
     told = withdraw-told H e.core.caller name e.reply (rw command_is at (ruled_ok H e accepted))
 
@@ -147,7 +100,7 @@ flag-at H all name number d are is =
     let found = run-found H name number is in
     sym (get-map flag all number d)
     ∙ ap (λ bs. get_or bs number (flag d)) are.withdrawn_are
-    ∙ get_or-of (λ (run : Run). is_withdrawn H run.name) (runs H) number no_run (flag d) found.within
+    ∙ get_or-map (λ (run : Run). is_withdrawn H run.name) (runs H) number no_run (flag d) found.within
     ∙ ap (is_withdrawn H) found.name_is
 
 -- whether the run of a number was withdrawn
@@ -156,4 +109,4 @@ pub flag-there : (H : History) (all : List Submission) (number : ℕ) (d : Submi
 flag-there H all number d are within =
     sym (get-map flag all number d)
     ∙ ap (λ bs. get_or bs number (flag d)) are.withdrawn_are
-    ∙ get_or-of (λ (run : Run). is_withdrawn H run.name) (runs H) number no_run (flag d) (omega (arith, within, runs-many H all are))
+    ∙ get_or-map (λ (run : Run). is_withdrawn H run.name) (runs H) number no_run (flag d) (omega (arith, within, runs-many H all are))

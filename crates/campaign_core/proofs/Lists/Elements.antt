@@ -2,7 +2,7 @@
 use Rattle.std.proofs.Common.{◌≡◌, ◌&&◌, ◌||◌, ◌<◌, ◌+◌, ℕ, cond, not, ltb, suc, zero, ◌≢◌, ◌≤◌, Bool, true, false, List, [], ◌∷◌, ◌++◌, None, Some, filter, length, map, take, set, get_or, refl, sym, subst, ap, ◌∙◌, arith}
 use Rattle.std.specs.Prelude.{All, AllPairs, find, slice_get}
 use Rattle.std.specs.List.{enumerate_from, list_all, list_any, flat_map, position, position_or_len}
-use Rattle.std.specs.Option.{IsSomeAnd, option_map}
+use Rattle.std.specs.Option.{option_map}
 use Rattle.std.proofs.lemmas.List.{length-map}
 use Rattle.assessment.specs.TopicsFacts.{at_place}
 use Rattle.std.proofs.lemmas.List.Folds.{list_all-append, list_any-append}
@@ -49,10 +49,6 @@ pairs_cons R x xs first rest zero (suc j) d less within = first j d (omega arith
 pairs_cons R x xs first rest (suc i) zero d less within = absurd (omega arith)
 pairs_cons R x xs first rest (suc i) (suc j) d less within = rest i j d (omega arith) (omega arith)
 
-pub each_cons : {X : Type 0} (P : X → Type 0) (x : X) (xs : List X) → P x → All P xs → All P (x ∷ xs)
-each_cons P x xs head tail zero d within = head
-each_cons P x xs head tail (suc k) d within = tail k d (omega (arith, within))
-
 pub any_flat : {X Y : Type 0} (p : Y → Bool) (f : X → List Y) (xs : List X) → list_any p (flat_map f xs) ≡ list_any (λ x. list_any p (f x)) xs
 any_flat p f [] = refl
 any_flat p f (x ∷ xs) = list_any-append p (f x) (flat_map f xs) ∙ ap (λ t. list_any p (f x) || t) (any_flat p f xs)
@@ -60,33 +56,6 @@ any_flat p f (x ∷ xs) = list_any-append p (f x) (flat_map f xs) ∙ ap (λ t. 
 pub any_map : {X Y : Type 0} (p : Y → Bool) (f : X → Y) (xs : List X) → list_any p (map f xs) ≡ list_any (λ x. p (f x)) xs
 any_map p f [] = refl
 any_map p f (x ∷ xs) = ap (λ t. p (f x) || t) (any_map p f xs)
-
--- within a list no default is read
-pub get_or_default : {X : Type 0} (xs : List X) (i : ℕ) (d e : X) → i < length xs → get_or xs i d ≡ get_or xs i e
-get_or_default [] i d e within = absurd (omega (arith, within))
-get_or_default (x ∷ xs) zero d e within = refl
-get_or_default (x ∷ xs) (suc i) d e within = get_or_default xs i d e (omega (arith, within))
-
--- an element written in place of another that f sees alike
-pub map-set_same : {X Y : Type 0} (f : X → Y) (xs : List X) (i : ℕ) (y d : X) → i < length xs → f y ≡ f (get_or xs i d) → map f (set xs i y) ≡ map f xs
-map-set_same f [] i y d within same = absurd (omega (arith, within))
-map-set_same f (x ∷ xs) zero y d within same = ap (λ z. z ∷ map f xs) same
-map-set_same f (x ∷ xs) (suc i) y d within same = ap (λ zs. f x ∷ zs) (map-set_same f xs i y d (omega (arith, within)) same)
-
--- two lists that two functions see alike
-pub map_alike : {X Y Z : Type 0} (f : X → Z) (g : Y → Z) (xs : List X) (ys : List Y) → length xs ≡ length ys → ((k : ℕ) (d : X) (e : Y) → k < length xs → f (get_or xs k d) ≡ g (get_or ys k e)) → map f xs ≡ map g ys
-map_alike f g [] [] long alike = refl
-map_alike f g [] (y ∷ ys) long alike = cc long
-map_alike f g (x ∷ xs) [] long alike = cc long
-map_alike f g (x ∷ xs) (y ∷ ys) long alike =
-    let head : f x ≡ g y = alike 0 x y (omega arith) in
-    let rest : map f xs ≡ map g ys = map_alike f g xs ys (omega (arith, long)) (λ k d e within. alike (suc k) d e (omega (arith, within))) in
-    ap (λ z. z ∷ map f xs) head ∙ ap (λ zs. g y ∷ zs) rest
-
-pub map-set : {X Y : Type 0} (f : X → Y) (xs : List X) (i : ℕ) (y : X) → map f (set xs i y) ≡ set (map f xs) i (f y)
-map-set f [] i y = refl
-map-set f (x ∷ xs) zero y = refl
-map-set f (x ∷ xs) (suc i) y = ap (λ ys. f x ∷ ys) (map-set f xs i y)
 
 -- Elements by their places.
 
@@ -115,31 +84,16 @@ get-past [] i d past = refl
 get-past (x ∷ xs) zero d past = absurd (omega (arith, past))
 get-past (x ∷ xs) (suc i) d past = get-past xs i d (omega (arith, past))
 
--- an element that is there, and what holds of it
-pub at-some : {X : Type 0} (P : X → Type 0) (xs : List X) (i : ℕ) (d : X) → i < length xs → P (get_or xs i d) → IsSomeAnd (slice_get xs i) P
-at-some P [] i d within here = absurd (omega (arith, within))
-at-some P (x ∷ xs) zero d within here = here
-at-some P (x ∷ xs) (suc i) d within here = at-some P xs i d (omega (arith, within)) here
-
 -- an element changed in its place
 pub map-at_place : {X Y : Type 0} (f : X → Y) (change : X → X) (xs : List X) (i : ℕ) (d : X) → map f (at_place i change xs) ≡ set (map f xs) i (f (change (get_or xs i d)))
 map-at_place f change [] i d = refl
 map-at_place f change (x ∷ xs) zero d = refl
 map-at_place f change (x ∷ xs) (suc i) d = ap (λ ys. f x ∷ ys) (map-at_place f change xs i d)
 
-pub set-at_place : {X : Type 0} (change : X → X) (xs : List X) (i : ℕ) (d : X) → set xs i (change (get_or xs i d)) ≡ at_place i change xs
-set-at_place change [] i d = refl
-set-at_place change (x ∷ xs) zero d = refl
-set-at_place change (x ∷ xs) (suc i) d = ap (λ ys. x ∷ ys) (set-at_place change xs i d)
-
 pub map-at_same : {X Y : Type 0} (f : X → Y) (change : X → X) (xs : List X) (i : ℕ) → ((x : X) → f (change x) ≡ f x) → map f (at_place i change xs) ≡ map f xs
 map-at_same f change [] i same = refl
 map-at_same f change (x ∷ xs) zero same = ap (λ y. y ∷ map f xs) (same x)
 map-at_same f change (x ∷ xs) (suc i) same = ap (λ ys. f x ∷ ys) (map-at_same f change xs i same)
-
-pub map-map : {X Y Z : Type 0} (g : Y → Z) (f : X → Y) (xs : List X) → map g (map f xs) ≡ map (λ x. g (f x)) xs
-map-map g f [] = refl
-map-map g f (x ∷ xs) = ap (λ zs. g (f x) ∷ zs) (map-map g f xs)
 
 pub position-map : {X Y : Type 0} (p : Y → Bool) (f : X → Y) (xs : List X) → position (λ x. p (f x)) xs ≡ position p (map f xs)
 position-map {X} {Y} p f xs =
@@ -157,11 +111,6 @@ find-map p f (x ∷ xs) = step (p (f x)) (find-map p f xs)
     step : (t : Bool) → option_map f (find (λ x. p (f x)) xs) ≡ find p (map f xs) → option_map f (cond t (Some x) (find (λ x. p (f x)) xs)) ≡ cond t (Some (f x)) (find p (map f xs))
     step true rest = refl
     step false rest = rest
-
-pub get_or-of : {X Y : Type 0} (f : X → Y) (xs : List X) (i : ℕ) (d : X) (e : Y) → i < length xs → get_or (map f xs) i e ≡ f (get_or xs i d)
-get_or-of f [] i d e within = absurd (omega (arith, within))
-get_or-of f (x ∷ xs) zero d e within = refl
-get_or-of f (x ∷ xs) (suc i) d e within = get_or-of f xs i d e (omega (arith, within))
 
 -- One more element behind a list.
 

@@ -16,7 +16,8 @@ use Rattle.rulebook.specs.Spelling.{differ}
 use Rattle.rulebook.specs.Words.{Text, contains_text, each_once}
 use Rattle.campaign_core.specs.Growth.{BeginsWith}
 use Rattle.campaign_core.specs.Numbers.{are_named, doc_in, docs_in}
-use Rattle.campaign_core.proofs.Lists.Elements.{all_head, all_tail, all_cons, both_true, each_cons, pairs_cons}
+use Rattle.assessment.proofs.ListFacts.{each_cons}
+use Rattle.campaign_core.proofs.Lists.Elements.{all_head, all_tail, all_cons, both_true, pairs_cons}
 
 module _ {X : Type 0} (p : X → Bool) where
   first_within : (xs : List X) → list_any p xs ≡ true → position_or_len p xs < length xs

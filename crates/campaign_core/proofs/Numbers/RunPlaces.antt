@@ -87,10 +87,6 @@ no_run = record { name = []; lists = [] }
 abbrev some_entry : Entry
 some_entry = record { core = record { caller = record { name = []; role = Organiser }; number = None; moment = 0; command = command.Open }; reply = reply.Done }
 
--- the places are within the history
-pub place-within : (H : History) (places : List ℕ) (number : ℕ) → ArePlaces H places → number < length places → get_or places number 0 < length H
-place-within H places number are within = (submission-at H places number 0 some_entry no_run are within).within
-
 -- Tests of entries.
 
 any-submissions : (f : Entry → Bool) (H : History) → ((e : Entry) → f e ≡ true → is_submission e ≡ true) → list_any f (submissions H) ≡ list_any f H

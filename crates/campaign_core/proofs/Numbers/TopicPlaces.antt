@@ -1,5 +1,5 @@
 -- The topics that are kept are those of the rules, place by place.
-use Rattle.std.proofs.Common.{◌≡◌, ◌<◌, ◌≤◌, ◌+◌, ℕ, true, Option, Some, length, get_or, take, take_all, List, [], refl, sym, ap, ◌∙◌, arith}
+use Rattle.std.proofs.Common.{◌≡◌, ◌<◌, ◌≤◌, ◌+◌, ℕ, true, Option, Some, length, get_or, map, take, take_all, List, [], refl, sym, ap, ◌∙◌, arith}
 use Rattle.std.specs.List.{position, sum_by}
 use Rattle.std.specs.Str.{bytes_eq}
 use Rattle.std.proofs.lemmas.List.{take_more}
@@ -7,7 +7,7 @@ use Rattle.std.proofs.lemmas.List.Sums.{sum_by_push}
 use Rattle.lease_desk.specs.declared.leases.Lease.{Lease}
 use Rattle.rulebook.specs.Campaign.{History}
 use Rattle.rulebook.specs.Words.{Text, contains_text}
-use Rattle.assessment.specs.TopicFacts.{TopicFacts}
+use Rattle.assessment.specs.TopicFacts.{TopicFacts, TopicView, facts_of}
 use Rattle.campaign_core.specs.Kept.{KnowsAll}
 use Rattle.campaign_core.specs.Numbers.{names_of}
 use Rattle.campaign_core.specs.Topics.{topic_ids}
@@ -19,11 +19,6 @@ use Rattle.campaign_core.proofs.Numbers.TopicNumbers.{topic-found}
 module _ (H : History) (topics : List TopicFacts) (desk : List Lease) (knows : KnowsAll H topics desk) where
   pub as-long : length topics ≡ length (topic_ids H)
   as-long = states-long H topics (topic_ids H) knows.topics_are
-
-  pub few-topics : length topics ≤ 250
-  few-topics =
-      let fit = knows.topics_fit in
-      omega (arith, fit, as-long)
 
   pub topic-at : (k : ℕ) (s : TopicFacts) → k < length topics → s ≡ get_or topics k s → PageTopic H (names_of H) s desk (get_or (topic_ids H) k []) k
   topic-at k s within is =
@@ -45,3 +40,11 @@ sum-more f ids i sum one within sum_is one_is =
 
 pub sum-all : (f : Text → ℕ) (ids : List Text) (i sum : ℕ) → length ids ≤ i → sum ≡ sum_by f (take i ids) → sum ≡ sum_by f ids
 sum-all f ids i sum past sum_is = sum_is ∙ ap (sum_by f) (take_all i ids past)
+
+-- what the topics that are known tell of an id
+pub known-place : (all topics : List TopicView) (place : Option ℕ) (id topic : Text) → topics ≡ all → id ≡ topic → place ≡ position (λ (s : TopicFacts). bytes_eq s.id id) (map facts_of topics)
+    → place ≡ position (λ (s : TopicFacts). bytes_eq s.id topic) (map facts_of all)
+known-place all topics place id topic all_are id_is found =
+    found
+    ∙ ap (λ (id : Text). position (λ (s : TopicFacts). bytes_eq s.id id) (map facts_of topics)) id_is
+    ∙ ap (λ (topics : List TopicView). position (λ (s : TopicFacts). bytes_eq s.id topic) (map facts_of topics)) all_are

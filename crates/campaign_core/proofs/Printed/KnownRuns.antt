@@ -18,7 +18,7 @@ use Rattle.campaign_core.specs.Numbers.{names_of}
 use Rattle.campaign_core.specs.Scoring.{AreListed, graded_of, list_in, ranked_on, run_at}
 use Rattle.campaign_core.specs.Topics.{topic_ids}
 use Rattle.campaign_core.specs.declared.campaign.Campaign.{Campaign}
-use Rattle.campaign_core.proofs.Lists.Elements.{map-map}
+use Rattle.assessment.proofs.ListFacts.{map-map}
 
 pub knows-run : (H : History) (all : TopicsView) (items : List TopicView) (board : Scores) (desk : List Lease) (number : RunId) (run : Run) → IsLegal H → KnowsAll H (told all).topics desk
     → (told all).level ≡ (rules_of H).level → AreListed H (names_of H) (told all).lists → items ≡ all.topics → board ≡ all.board → StandsFor board (map graded_in all.topics)

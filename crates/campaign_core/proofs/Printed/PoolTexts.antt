@@ -24,7 +24,8 @@ use Rattle.assessment.specs.TopicFacts.{TopicFacts}
 use Rattle.campaign_core.proofs.Entries.LiveRuns.{numbered-named}
 use Rattle.campaign_core.proofs.Numbers.DocNumbers.{docno-back, docnos-back, numbers-within}
 use Rattle.campaign_core.proofs.Lists.ByteOrder.{Rises, below, in_order-all, in_order-any, in_order-rises}
-use Rattle.campaign_core.proofs.Lists.Elements.{Each, all_back, all_front, all_head, all_tail, all_take, and_true, any_map, each_cons, pairs_cons}
+use Rattle.assessment.proofs.ListFacts.{each_cons}
+use Rattle.campaign_core.proofs.Lists.Elements.{Each, all_back, all_front, all_head, all_tail, all_take, and_true, any_map, pairs_cons}
 
 -- What a run holds is named.
 

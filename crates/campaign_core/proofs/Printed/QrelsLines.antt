@@ -22,7 +22,8 @@ use Rattle.campaign_core.specs.Numbers.{are_named, doc_in}
 use Rattle.campaign_core.specs.Printed.{IsTopicOf}
 use Rattle.assessment.specs.TopicFacts.{TopicFacts}
 use Rattle.campaign_core.proofs.Entries.LabelSteps.{trail-differs}
-use Rattle.campaign_core.proofs.Lists.Elements.{all_cons, all_head, all_tail, both_true, each_cons}
+use Rattle.assessment.proofs.ListFacts.{each_cons}
+use Rattle.campaign_core.proofs.Lists.Elements.{all_cons, all_head, all_tail, both_true}
 use Rattle.campaign_core.proofs.Numbers.DocNumbers.{docno-back, number-within}
 use Rattle.campaign_core.proofs.Numbers.NumberedDocs.{passing}
 use Rattle.campaign_core.proofs.Lists.ByteOrder.{Rises, all_insert, any_insert, below, in_order-is, rises_insert, same_text, text_cmp}

@@ -26,7 +26,7 @@ use Rattle.campaign_core.specs.Topics.{KeptTopic, topic_ids}
 use Rattle.assessment.specs.TopicFacts.{TopicFacts}
 use Rattle.campaign_core.proofs.Printed.TopicCells.{cell-same, judged-count, run-named}
 use Rattle.campaign_core.proofs.Rulings.LeaseRulings.{known-topic, states-long, topic-back}
-use Rattle.campaign_core.proofs.Lists.Elements.{get_or-of, get_or_default}
+use Rattle.assessment.proofs.ListFacts.{get_or-map, get_or_default}
 use Rattle.campaign_core.proofs.Entries.LiveRuns.{live-at}
 use Rattle.campaign_core.proofs.Numbers.DocNumbers.{each_named, number-within}
 use Rattle.campaign_core.proofs.Numbers.NumberedDocs.{docno-there, first-place}
@@ -88,7 +88,7 @@ module _ (H : History) (topics : List TopicFacts) (board : Scores) (number : Run
         let inside : at < length (topic_ids H) = omega (arith, placed.number_is, number-within (topic_ids H) id placed.listed) in
         let back : get_or (topic_ids H) at [] ≡ id = ap (λ n. get_or (topic_ids H) n []) placed.number_is ∙ topic-back (topic_ids H) id [] placed.listed in
         let docs : listed_in number (topic_at board at) ≡ list_on names s.id run = listed at inside ∙ ap (λ (topic : Text). list_on names topic run) (back ∙ sym page.id_is) in
-        let grades : grades_at (map graded topics) at ≡ s.graded = get_or-of graded topics at s [] placed.within ∙ ap graded (sym is) in
+        let grades : grades_at (map graded topics) at ≡ s.graded = get_or-map graded topics at s [] placed.within ∙ ap graded (sym is) in
         let level : board.level ≡ s.level = knows.scored.level_is ∙ sym (ap (λ (k : KeptTopic). k.level) page.is_topic.kept_is) in
         ap (λ l. cell_from l (grades_at (map graded topics) at) (listed_in number (topic_at board at))) level
         ∙ ap (λ gs. cell_from s.level gs (listed_in number (topic_at board at))) grades
@@ -121,7 +121,7 @@ module _ (H : History) (topics : List TopicFacts) (board : Scores) (number : Run
         ∙ ap (λ n. nat_lt 0 (relevant_count H s.id + n)) (non_relevant-count H names s page.is_topic on_trail)
         ∙ ap (nat_lt 0) (judged-count H s.id) ∙ ap (is_counted H) page.id_is in
         let cell : cell_from board.level s.graded (listed_in number (get_or board.topics k x)) ≡ cell_on H run id =
-        ap (λ g. cell_from board.level g (listed_in number (get_or board.topics k x))) (sym (get_or-of graded topics k t [] inside))
+        ap (λ g. cell_from board.level g (listed_in number (get_or board.topics k x))) (sym (get_or-map graded topics k t [] inside))
         ∙ ap (λ (x : TopicScores). cell_from board.level (grades_at (map graded topics) k) (listed_in number x)) (get_or_default board.topics k x new_topic (omega (arith, inside, as-many)))
         ∙ cell-at id k s found is in
         (counts ∙ ap (is_counted H) same_id, cell ∙ ap (cell_on H run) same_id))

@@ -1,5 +1,5 @@
 -- What is so where the rules accept a command.
-use Rattle.std.proofs.Common.{◌≡◌, ◌||◌, ◌<◌, ◌≤◌, ◌==◌, ℕ, Bool, true, false, not, cond, List, [], ◌∷◌, ◌++◌, length, length-append, map, find, refl, ap, arith, Option, None, Some, Ok, Err, leb-true, subst}
+use Rattle.std.proofs.Common.{◌≡◌, ◌||◌, ◌<◌, ◌≤◌, ◌==◌, ℕ, Bool, true, false, not, cond, List, [], ◌∷◌, ◌++◌, length, length-append, map, find, refl, ap, arith, Option, None, Some, Ok, Err, leb-true, subst, sym, ◌∙◌}
 use Rattle.std.proofs.lemmas.Bool.{leb-false}
 use Rattle.std.specs.Prelude.{◌&&◌, ◌-◌, ◌^◌, if◌then◌else◌, nat_le, nat_lt, min, slice_get, unwrap_or}
 use Rattle.std.specs.List.{filter_map, list_all, list_any, filter, reduce}
@@ -23,7 +23,7 @@ use Rattle.trec_formats.specs.declared.TopicList.{TopicList}
 use Rattle.rulebook.specs.Words.{Text}
 use Rattle.rulebook.specs.Refusals.{Ruling, ◌when◌, unless, is_phase}
 use Rattle.rulebook.specs.Answers.{acted, acting, adding_nothing, moment_after, open_ruling, repeated, ruled, submit_ruling, topics_ruling, unknown_line}
-use Rattle.rulebook.specs.Campaign.{History, docnos_with, docs_on, has_topics, is_taken, line_count, lines_with, phase, rules_of, runs, topics, topics_in}
+use Rattle.rulebook.specs.Campaign.{History, Run, docnos_with, docs_on, has_topics, is_taken, line_count, lines_with, phase, rules_of, run_in, runs, topics, topics_in, withdraws}
 use Rattle.rulebook.specs.declared.rules.Rules.{Rules}
 use Rattle.rulebook.specs.Legal.{IsAccepted, IsLegal, core_of, is_well_addressed}
 use Rattle.rulebook.specs.Numbers.{used}
@@ -193,22 +193,49 @@ plain_docs (l ∷ lists) topic all = step (bytes_eq l.topic topic) (plain_docs l
     step true rest = here
     step false rest = rest
 
+-- a command that isn't a withdrawal
+pub withdraws-none : (c : Command) → ((run : Text) → c ≡ command.Withdraw run → ⊥) → (name : Text) → withdraws name c ≡ false
+withdraws-none (command.Found rules) other name = refl
+withdraws-none (command.Topics given) other name = refl
+withdraws-none (command.Submit run lists) other name = refl
+withdraws-none command.Open other name = refl
+withdraws-none (command.Lease topic) other name = refl
+withdraws-none (command.Grade lease grade) other name = refl
+withdraws-none (command.Release lease) other name = refl
+withdraws-none (command.Amend topic doc grade) other name = refl
+withdraws-none (command.Rule topic doc grade) other name = refl
+withdraws-none (command.Withdraw run) other name = absurd (other run refl)
+withdraws-none command.Publish other name = refl
+
+-- a command that submits a run
+pub submit-by : (c : Command) (run : Run) → run_in c ≡ Some run → c ≡ command.Submit run.name run.lists
+submit-by (command.Submit name lists) run is =
+    let same : (let r : Run = record { name = name; lists = lists } in r) ≡ run = cc is in
+    ap (λ (r : Run). command.Submit r.name r.lists) same
+submit-by (command.Withdraw name) run is = cc is
+submit-by (command.Found rules) run is = cc is
+submit-by (command.Topics topics) run is = cc is
+submit-by command.Open run is = cc is
+submit-by (command.Lease topic) run is = cc is
+submit-by (command.Grade lease grade) run is = cc is
+submit-by (command.Release lease) run is = cc is
+submit-by (command.Amend topic doc grade) run is = cc is
+submit-by (command.Rule topic doc grade) run is = cc is
+submit-by command.Publish run is = cc is
+
 -- the documents of each list of a command are few, and differ
 pub docs-plain : (c : Command) (topic : Text) → is_plain c ≡ true → (length (docs_on (lists_in c) topic) ≤ 1000) × (differ (docs_on (lists_in c) topic) ≡ true)
-docs-plain (command.Submit name lists) topic is =
-    let a = both_true (plain_run name lists) (is_ascending (map (λ l. l.topic) lists)) is in
-    let b = both_true (is_name name && some_few lists) (list_all is_plain_list lists) a.0 in
-    plain_docs lists topic b.1
-docs-plain (command.Found rules) topic is = (omega arith, refl)
-docs-plain (command.Topics topics) topic is = (omega arith, refl)
-docs-plain command.Open topic is = (omega arith, refl)
-docs-plain (command.Lease t) topic is = (omega arith, refl)
-docs-plain (command.Grade lease grade) topic is = (omega arith, refl)
-docs-plain (command.Release lease) topic is = (omega arith, refl)
-docs-plain (command.Amend t doc grade) topic is = (omega arith, refl)
-docs-plain (command.Rule t doc grade) topic is = (omega arith, refl)
-docs-plain (command.Withdraw run) topic is = (omega arith, refl)
-docs-plain command.Publish topic is = (omega arith, refl)
+docs-plain c topic is = step (run_in c) refl
+  where
+    of-lists : (lists : List TopicList) → Type 0
+    of-lists lists = (length (docs_on lists topic) ≤ 1000) × (differ (docs_on lists topic) ≡ true)
+
+    step : (o : Option Run) → run_in c ≡ o → of-lists (lists_in c)
+    step None none = subst of-lists (sym (ap (λ (o : Option Run). option_map_or (λ run. run.lists) o []) none)) (omega arith, refl)
+    step (Some run) some =
+        let a = both_true (plain_run run.name run.lists) (is_ascending (map (λ l. l.topic) run.lists)) (ap is_plain (sym (submit-by c run some)) ∙ is) in
+        let b = both_true (is_name run.name && some_few run.lists) (list_all is_plain_list run.lists) a.0 in
+        subst of-lists (sym (ap (λ (o : Option Run). option_map_or (λ run. run.lists) o []) some)) (plain_docs run.lists topic b.1)
 
 -- the term of the rules is short
 pub term-fits : (H : History) → IsLegal H → (rules_of H).term ≤ 2 ^ 40

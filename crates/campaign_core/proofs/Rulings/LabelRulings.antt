@@ -11,11 +11,11 @@ use Rattle.rulebook.specs.declared.rules.Phase.TheVariants.{Judging}
 use Rattle.rulebook.specs.declared.reply.Refusal.TheVariants as refusal
 use Rattle.rulebook.specs.declared.reply.Reply.TheVariants as reply
 use Rattle.rulebook.specs.Answers.{grade_range}
-use Rattle.rulebook.specs.Refusals.{Ruling, ◌when◌, is_phase, unless, wrong_phase_unless}
+use Rattle.rulebook.specs.Refusals.{◌when◌, is_phase, unless}
 use Rattle.rulebook.specs.Words.{Text, contains_text}
 use Rattle.rulebook.specs.Campaign.{History, is_topic, phase, rules_of, topics}
 use Rattle.rulebook.specs.Grades.{labels_on}
-use Rattle.campaign_core.specs.Labelling.{IsLabelled}
+use Rattle.campaign_core.specs.Labelling.{IsLabelled, doc_ruling}
 use Rattle.campaign_core.specs.Numbers.{IsNumberOf, names_of}
 use Rattle.campaign_core.specs.Topics.{KeptTopic, LabelledTopic, kept, kept_of, labelled_of}
 use Rattle.assessment.specs.TopicFacts.{TopicFacts}
@@ -58,32 +58,28 @@ number-of-found names doc at is =
 
 -- What an amendment or a ruling comes to, test by test.
 
-abbrev ruled_doc : History → Text → Bool → ℕ → Ruling
-ruled_doc H topic labelled grade =
-    unless (wrong_phase_unless Judging H ∷ (refusal.UnknownTopic when not (is_topic H topic)) ∷ (refusal.NotLabelled when not labelled) ∷ grade_range H grade ∷ []) (Ok reply.Done)
-
 module _ (H : History) (topic : Text) (labelled : Bool) (grade : ℕ) (p : Phase) (phase_is : p ≡ phase H) (judging : true ≡ is_phase Judging p) where
-  past-phase : ruled_doc H topic labelled grade ≡ unless ((refusal.UnknownTopic when not (is_topic H topic)) ∷ (refusal.NotLabelled when not labelled) ∷ grade_range H grade ∷ []) (Ok reply.Done)
+  past-phase : doc_ruling H topic labelled grade ≡ unless ((refusal.UnknownTopic when not (is_topic H topic)) ∷ (refusal.NotLabelled when not labelled) ∷ grade_range H grade ∷ []) (Ok reply.Done)
   past-phase = in-phase H p ((refusal.UnknownTopic when not (is_topic H topic)) ∷ (refusal.NotLabelled when not labelled) ∷ grade_range H grade ∷ []) (Ok reply.Done) phase_is judging
 
-  pub doc-unknown : is_topic H topic ≡ false → Err refusal.UnknownTopic ≡ ruled_doc H topic labelled grade
+  pub doc-unknown : is_topic H topic ≡ false → Err refusal.UnknownTopic ≡ doc_ruling H topic labelled grade
   doc-unknown unknown = sym (past-phase ∙ ap (λ t. unless ((refusal.UnknownTopic when not t) ∷ (refusal.NotLabelled when not labelled) ∷ grade_range H grade ∷ []) (Ok reply.Done)) unknown)
 
   module _ (listed : is_topic H topic ≡ true) where
-    past-topic : ruled_doc H topic labelled grade ≡ unless ((refusal.NotLabelled when not labelled) ∷ grade_range H grade ∷ []) (Ok reply.Done)
+    past-topic : doc_ruling H topic labelled grade ≡ unless ((refusal.NotLabelled when not labelled) ∷ grade_range H grade ∷ []) (Ok reply.Done)
     past-topic = past-phase ∙ ap (λ t. unless ((refusal.UnknownTopic when not t) ∷ (refusal.NotLabelled when not labelled) ∷ grade_range H grade ∷ []) (Ok reply.Done)) listed
 
-    pub doc-unlabelled : labelled ≡ false → Err refusal.NotLabelled ≡ ruled_doc H topic labelled grade
+    pub doc-unlabelled : labelled ≡ false → Err refusal.NotLabelled ≡ doc_ruling H topic labelled grade
     doc-unlabelled none = sym (past-topic ∙ ap (λ t. unless ((refusal.NotLabelled when not t) ∷ grade_range H grade ∷ []) (Ok reply.Done)) none)
 
     module _ (some : labelled ≡ true) where
-      past-label : ruled_doc H topic labelled grade ≡ unless (grade_range H grade ∷ []) (Ok reply.Done)
+      past-label : doc_ruling H topic labelled grade ≡ unless (grade_range H grade ∷ []) (Ok reply.Done)
       past-label = past-topic ∙ ap (λ t. unless ((refusal.NotLabelled when not t) ∷ grade_range H grade ∷ []) (Ok reply.Done)) some
 
-      pub doc-outside : (rules_of H).top_grade < grade → Err refusal.GradeRange ≡ ruled_doc H topic labelled grade
+      pub doc-outside : (rules_of H).top_grade < grade → Err refusal.GradeRange ≡ doc_ruling H topic labelled grade
       doc-outside above = sym (past-label ∙ ap (λ t. unless ((refusal.GradeRange when t) ∷ []) (Ok reply.Done)) (lt-ltb (rules_of H).top_grade grade above))
 
-      pub doc-given : grade ≤ (rules_of H).top_grade → Ok reply.Done ≡ ruled_doc H topic labelled grade
+      pub doc-given : grade ≤ (rules_of H).top_grade → Ok reply.Done ≡ doc_ruling H topic labelled grade
       doc-given within = sym (past-label ∙ ap (λ t. unless ((refusal.GradeRange when t) ∷ []) (Ok reply.Done)) (le-ltb (rules_of H).top_grade grade within))
 
 -- the state of a topic that was found

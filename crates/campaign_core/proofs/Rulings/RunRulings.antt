@@ -1,5 +1,5 @@
--- What a caller is told of the scores of a run.
-use Rattle.std.proofs.Common.{◌≡◌, ◌<◌, ℕ, Bool, true, false, cond, List, [], ◌∷◌, Option, None, Some, Ok, Err, is_some, length, get_or, ltb, refl, sym, ap, ◌∙◌, arith}
+-- The run that a caller names, and what the rules say of it.
+use Rattle.std.proofs.Common.{◌≡◌, ◌<◌, ℕ, Bool, true, false, cond, [], ◌∷◌, Option, None, Some, Ok, Err, is_some, length, get_or, ltb, refl, sym, ap, ◌∙◌, arith}
 use Rattle.std.specs.Prelude.{◌&&◌, not, slice_get}
 use Rattle.std.specs.List.{position, position_or_len}
 use Rattle.std.specs.Str.{bytes_eq}
@@ -7,19 +7,18 @@ use Rattle.std.proofs.lemmas.Bool.{ltb-false, ltb-true}
 use Rattle.std.proofs.lemmas.List.Folds.{find_at}
 use Rattle.std.proofs.lemmas.List.Sums.{passes_at_first}
 use Rattle.std.proofs.lemmas.Slice.Eq.{bytes_eq-Decides}
-use Rattle.rulebook.specs.declared.reply.Refusal.{Refusal}
 use Rattle.rulebook.specs.declared.reply.Refusal.TheVariants as refusal
 use Rattle.rulebook.specs.declared.reply.Reply.TheVariants as reply
 use Rattle.rulebook.specs.declared.rules.Caller.{Caller}
 use Rattle.rulebook.specs.declared.rules.Phase.{Phase}
 use Rattle.rulebook.specs.declared.rules.Phase.TheVariants.{Published}
-use Rattle.rulebook.specs.Answers.{paged, reply_of, run_refusals, scores_ruling, withdraw_ruling}
+use Rattle.rulebook.specs.Answers.{run_refusals, withdraw_ruling}
 use Rattle.rulebook.specs.Campaign.{History, Run, is_taken, is_withdrawn, phase, runs}
-use Rattle.rulebook.specs.Refusals.{Ruling, ◌when◌, given, is_phase, unless, wrong_phase_where}
+use Rattle.rulebook.specs.Refusals.{Ruling, ◌when◌, given, is_phase, unless}
 use Rattle.rulebook.specs.Roles.{is_group}
-use Rattle.rulebook.specs.Scores.{is_submitter, run_named, scores_page}
+use Rattle.rulebook.specs.Scores.{is_submitter, run_named}
 use Rattle.rulebook.specs.Words.{Text}
-use Rattle.campaign_core.specs.Leasing.{first_refusal}
+use Rattle.campaign_core.specs.Submissions.{IsRunAsked, asked_run}
 use Rattle.campaign_core.proofs.Lists.FirstPlaces.{is-there}
 use Rattle.campaign_core.proofs.Lists.Elements.{get-there, slice-past}
 use Rattle.campaign_core.proofs.Numbers.RunPlaces.{no_run}
@@ -72,64 +71,41 @@ place-named H name run found = step (position (is_named name) (runs H)) refl
 pub taken-named : (H : History) (name : Text) (run : Run) → run_named H name ≡ Some run → is_taken H name ≡ true
 taken-named H name run found = sym (is-there (is_named name) (runs H)) ∙ place-named H name run found
 
--- The replies.
+-- What a caller is told of a run that is named.
 
-pub told-unknown : (H : History) (who : Caller) (name : Text) → run_named H name ≡ None → reply.Refused refusal.UnknownRun ≡ reply_of (scores_ruling H who name)
-told-unknown H who name none = rw none refl
+pub asked-unknown : (H : History) (who : Caller) (name : Text) → None ≡ position (is_named name) (runs H) → IsRunAsked H who name (Err refusal.UnknownRun)
+asked-unknown H who name none on = ap (λ (o : Option Run). given o refusal.UnknownRun (λ run. unless (run_refusals H who name) (on run))) (no-run-found H name none)
 
--- what follows the refusals about a run
-pub run-passed : (H : History) (who : Caller) (name : Text) (ruling : Ruling) → None ≡ first_refusal (run_refusals H who name) → unless (run_refusals H who name) ruling ≡ ruling
-run-passed H who name ruling none = passes (run_refusals H who name) none
-  where
-    passes : (tests : List (Option Refusal)) → None ≡ first_refusal tests → unless tests ruling ≡ ruling
-    passes [] none = refl
-    passes (None ∷ tests) none = passes tests none
-    passes (Some r ∷ tests) none = cc none
+module _ (H : History) (who : Caller) (name : Text) (number : ℕ) (first : Some number ≡ position (is_named name) (runs H)) where
+  abbrev run : Run
+  run = get_or (runs H) number no_run
 
-pub run-refused : (H : History) (who : Caller) (name : Text) (r : Refusal) (ruling : Ruling) → Some r ≡ first_refusal (run_refusals H who name) → unless (run_refusals H who name) ruling ≡ Err r
-run-refused H who name r ruling some = refused (run_refusals H who name) some
-  where
-    refused : (tests : List (Option Refusal)) → Some r ≡ first_refusal tests → unless tests ruling ≡ Err r
-    refused [] some = cc some
-    refused (None ∷ tests) some = refused tests some
-    refused (Some s ∷ tests) some = let same : s ≡ r = cc some in ap (λ (r : Refusal). let told : Ruling = Err r in told) same
+  asked-named : (on : Run → Ruling) → asked_run H who name on ≡ unless (run_refusals H who name) (on run)
+  asked-named on = ap (λ (o : Option Run). given o refusal.UnknownRun (λ run. unless (run_refusals H who name) (on run))) (run-found H name number first).named
 
-pub told-refused : (H : History) (who : Caller) (name : Text) (number : ℕ) (run : Run) (r : Refusal) → IsRun H name number run → Some r ≡ first_refusal (run_refusals H who name)
-    → reply.Refused r ≡ reply_of (scores_ruling H who name)
-told-refused H who name number run r is some =
-    sym (ap (λ (o : Option Run). reply_of (given o refusal.UnknownRun (λ run. unless (run_refusals H who name) (paged (scores_page H run))))) is.named
-    ∙ ap reply_of (run-refused H who name r (paged (scores_page H run)) some))
+  pub asked-another : true ≡ (is_group who.role && not (is_submitter H who.name name)) → IsRunAsked H who name (Err refusal.NotYours)
+  asked-another another on = asked-named on ∙ ap (λ t. unless ((refusal.NotYours when t) ∷ (refusal.Withdrawn when is_withdrawn H name) ∷ []) (on run)) (sym another)
 
-pub told-scores : (H : History) (who : Caller) (name : Text) (number : ℕ) (run : Run) → IsRun H name number run → None ≡ first_refusal (run_refusals H who name) → reply.Page (scores_page H run) ≡ reply_of (scores_ruling H who name)
-told-scores H who name number run is none =
-    sym (ap (λ (o : Option Run). reply_of (given o refusal.UnknownRun (λ run. unless (run_refusals H who name) (paged (scores_page H run))))) is.named
-    ∙ ap reply_of (run-passed H who name (paged (scores_page H run)) none))
+  module _ (mine : false ≡ (is_group who.role && not (is_submitter H who.name name))) where
+    asked-mine : (on : Run → Ruling) → asked_run H who name on ≡ unless ((refusal.Withdrawn when is_withdrawn H name) ∷ []) (on run)
+    asked-mine on = asked-named on ∙ ap (λ t. unless ((refusal.NotYours when t) ∷ (refusal.Withdrawn when is_withdrawn H name) ∷ []) (on run)) (sym mine)
 
--- a run of which nothing is refused is live
-pub passed-live : (H : History) (who : Caller) (name : Text) → None ≡ first_refusal (run_refusals H who name) → is_withdrawn H name ≡ false
-passed-live H who name none = step (is_group who.role && not (is_submitter H who.name name)) (is_withdrawn H name) none
-  where
-    step : (s t : Bool) → None ≡ first_refusal ((refusal.NotYours when s) ∷ (refusal.Withdrawn when t) ∷ []) → t ≡ false
-    step true t none = cc none
-    step false true none = cc none
-    step false false none = refl
+    pub asked-withdrawn : true ≡ is_withdrawn H name → IsRunAsked H who name (Err refusal.Withdrawn)
+    asked-withdrawn away on = asked-mine on ∙ ap (λ t. unless ((refusal.Withdrawn when t) ∷ []) (on run)) (sym away)
 
--- What the withdrawal of a run comes to.
+    pub asked-live : false ≡ is_withdrawn H name → IsRunAsked H who name (Ok number)
+    asked-live stays =
+        let is = run-found H name number first in
+        record {
+          run = run;
+          there = is.there;
+          name_is = is.name_is;
+          first = first;
+          live = sym stays;
+          asked = λ on. asked-mine on ∙ ap (λ t. unless ((refusal.Withdrawn when t) ∷ []) (on run)) (sym stays);
+        }
 
-pub unpublished : (H : History) (p : Phase) (ruling : Ruling) → p ≡ phase H → false ≡ is_phase Published p → unless (wrong_phase_where Published H ∷ []) ruling ≡ ruling
-unpublished H p ruling phase_is before = ap (λ t. unless ((refusal.WrongPhase (phase H) when t) ∷ []) ruling) (ap (is_phase Published) (sym phase_is) ∙ sym before)
-
-module _ (H : History) (who : Caller) (name : Text) (p : Phase) (phase_is : p ≡ phase H) (before : false ≡ is_phase Published p) where
-  on-run : withdraw_ruling H who name ≡ given (run_named H name) refusal.UnknownRun (λ run. unless (run_refusals H who name) (Ok reply.Done))
-  on-run = unpublished H p (given (run_named H name) refusal.UnknownRun (λ run. unless (run_refusals H who name) (Ok reply.Done))) phase_is before
-
-  pub withdraw-unknown : run_named H name ≡ None → Err refusal.UnknownRun ≡ withdraw_ruling H who name
-  withdraw-unknown none = sym (on-run ∙ ap (λ (o : Option Run). given o refusal.UnknownRun (λ run. unless (run_refusals H who name) (Ok reply.Done))) none)
-
-  pub withdraw-refused : (number : ℕ) (run : Run) (r : Refusal) → IsRun H name number run → Some r ≡ first_refusal (run_refusals H who name) → Err r ≡ withdraw_ruling H who name
-  withdraw-refused number run r is some =
-      sym (on-run ∙ ap (λ (o : Option Run). given o refusal.UnknownRun (λ run. unless (run_refusals H who name) (Ok reply.Done))) is.named ∙ run-refused H who name r (Ok reply.Done) some)
-
-  pub withdraw-done : (number : ℕ) (run : Run) → IsRun H name number run → None ≡ first_refusal (run_refusals H who name) → Ok reply.Done ≡ withdraw_ruling H who name
-  withdraw-done number run is none =
-      sym (on-run ∙ ap (λ (o : Option Run). given o refusal.UnknownRun (λ run. unless (run_refusals H who name) (Ok reply.Done))) is.named ∙ run-passed H who name (Ok reply.Done) none)
+-- what is ruled of a withdrawal before the publication
+pub withdraw-asked : (H : History) (who : Caller) (name : Text) (p : Phase) → p ≡ phase H → false ≡ is_phase Published p → withdraw_ruling H who name ≡ asked_run H who name (λ run. Ok reply.Done)
+withdraw-asked H who name p phase_is before =
+    ap (λ t. unless ((refusal.WrongPhase (phase H) when t) ∷ []) (asked_run H who name (λ run. Ok reply.Done))) (ap (is_phase Published) (sym phase_is) ∙ sym before)

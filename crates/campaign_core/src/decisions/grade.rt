@@ -4,11 +4,11 @@ ghost use Rattle.rulebook.specs.declared.ask.Command.TheVariants as command;
 ghost use Rattle.campaign_core.specs.Decisions.{IsAskedWith, IsDecision};
 
 use super::leases::{docno, lease_refusal};
-use super::{Decision, is_judging, wrong_phase};
+use super::{Decision, is_in, wrong_phase};
 use crate::campaign::Campaign;
 use assessment::{Change, Label};
 use decimal_rank::{Memory, Names, Text};
-use rulebook::{EntryCore, Refusal, Reply};
+use rulebook::{EntryCore, Phase, Refusal, Reply};
 use std::alloc::Global;
 
 pub(crate) fn grade_decision(
@@ -22,7 +22,7 @@ pub(crate) fn grade_decision(
     requires { IsAskedWith campaign.now docnos.now core.now (command.Grade number grade) }
     ensures { IfOk result (IsDecision campaign.now docnos.now core.now) }
 {
-    if !is_judging(campaign.phase) {
+    if !is_in(campaign, Phase::Judging) {
         return Ok(wrong_phase(campaign));
     }
     let Some(lease) = campaign.assessment.desk().find(number) else {

@@ -4,13 +4,14 @@ ghost use Rattle.rulebook.specs.declared.ask.Command.TheVariants as command;
 ghost use Rattle.campaign_core.specs.Decisions.{IsAskedWith, IsDecision};
 
 use super::leases::docno;
-use super::{Decision, is_judging, wrong_phase};
+use super::{Decision, is_in, wrong_phase};
 use crate::campaign::Campaign;
 use crate::selection::named;
+use crate::topics::topic_number;
 use assessment::{Change, Grant};
 use decimal_rank::{Memory, Names, Text};
 use mtf_queue::first_that_passes;
-use rulebook::{EntryCore, Refusal, Reply};
+use rulebook::{EntryCore, Phase, Refusal, Reply};
 use std::alloc::Global;
 
 pub(crate) fn lease_decision(
@@ -23,10 +24,11 @@ pub(crate) fn lease_decision(
     requires { IsAskedWith campaign.now docnos.now core.now (command.Lease topic.now) }
     ensures { IfOk result (IsDecision campaign.now docnos.now core.now) }
 {
-    if !is_judging(campaign.phase) {
+    if !is_in(campaign, Phase::Judging) {
         return Ok(wrong_phase(campaign));
     }
-    let Some(number) = campaign.topic_number(topic.bytes()) else {
+    let topics = campaign.topics();
+    let Some(number) = topic_number(topics, topic.bytes()) else {
         return Ok(Decision::Refused(Refusal::UnknownTopic));
     };
     let desk = campaign.assessment.desk();
@@ -38,7 +40,6 @@ pub(crate) fn lease_decision(
     }
     // the first run of the order that holds an open document is the first by the judging rule
     first_that_passes();
-    let topics = campaign.topics();
     let Some(doc) = named(&topics[number], number as u16, desk, assessor, core.moment) else {
         return Ok(Decision::Refused(Refusal::NothingLeft));
     };

@@ -3,16 +3,16 @@ ghost use Rattle.rulebook.specs.declared.ask.Command.TheVariants as command;
 ghost use Rattle.campaign_core.specs.Decisions.{IsAskedFor, IsDecision};
 ghost use Rattle.campaign_core.specs.Numbers.{names_of};
 
-use super::{Decision, is_collecting, is_judging, wrong_phase};
+use super::{Decision, is_in, wrong_phase};
 use crate::campaign::Campaign;
 use assessment::Change;
-use rulebook::{EntryCore, Reply};
+use rulebook::{EntryCore, Phase, Reply};
 
 pub(crate) fn open_decision(campaign: &Campaign, core: &EntryCore) -> Decision
     requires { IsAskedFor campaign.now core.now command.Open }
     ensures { IsDecision campaign.now (names_of campaign.now.history.items) core.now result }
 {
-    if is_collecting(campaign.phase) {
+    if is_in(campaign, Phase::Collecting) {
         Decision::Accepted(Reply::Done, Change::Nothing)
     } else {
         wrong_phase(campaign)
@@ -23,7 +23,7 @@ pub(crate) fn publish_decision(campaign: &Campaign, core: &EntryCore) -> Decisio
     requires { IsAskedFor campaign.now core.now command.Publish }
     ensures { IsDecision campaign.now (names_of campaign.now.history.items) core.now result }
 {
-    if is_judging(campaign.phase) {
+    if is_in(campaign, Phase::Judging) {
         Decision::Accepted(Reply::Done, Change::Nothing)
     } else {
         wrong_phase(campaign)

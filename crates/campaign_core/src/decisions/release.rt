@@ -4,16 +4,16 @@ ghost use Rattle.campaign_core.specs.Decisions.{IsAskedFor, IsDecision};
 ghost use Rattle.campaign_core.specs.Numbers.{names_of};
 
 use super::leases::lease_refusal;
-use super::{Decision, is_judging, wrong_phase};
+use super::{Decision, is_in, wrong_phase};
 use crate::campaign::Campaign;
 use assessment::Change;
-use rulebook::{EntryCore, Refusal, Reply};
+use rulebook::{EntryCore, Phase, Refusal, Reply};
 
 pub(crate) fn release_decision(campaign: &Campaign, core: &EntryCore, number: u32) -> Decision
     requires { IsAskedFor campaign.now core.now (command.Release number) }
     ensures { IsDecision campaign.now (names_of campaign.now.history.items) core.now result }
 {
-    if !is_judging(campaign.phase) {
+    if !is_in(campaign, Phase::Judging) {
         return wrong_phase(campaign);
     }
     let Some(lease) = campaign.assessment.desk().find(number) else {

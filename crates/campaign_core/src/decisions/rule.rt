@@ -2,12 +2,12 @@
 ghost use Rattle.rulebook.specs.declared.ask.Command.TheVariants as command;
 ghost use Rattle.campaign_core.specs.Decisions.{IsAskedWith, IsDecision};
 
-use super::documents::labelled;
-use super::{Decision, is_judging, wrong_phase};
+use super::Decision;
+use super::documents::graded_place;
 use crate::campaign::Campaign;
 use assessment::{Change, Ruling};
 use decimal_rank::{Names, Text};
-use rulebook::{EntryCore, Refusal, Reply};
+use rulebook::{EntryCore, Reply};
 
 pub(crate) fn rule_decision(
     campaign: &Campaign,
@@ -20,23 +20,11 @@ pub(crate) fn rule_decision(
     requires { IsAskedWith campaign.now docnos.now core.now (command.Rule topic.now doc.now grade) }
     ensures { IsDecision campaign.now docnos.now core.now result }
 {
-    if !is_judging(campaign.phase) {
-        return wrong_phase(campaign);
+    match graded_place(campaign, docnos, None, topic, doc, grade) {
+        Ok((topic, doc)) => {
+            let ruling = Ruling { topic, doc, grade };
+            Decision::Accepted(Reply::Done, Change::Rule(ruling))
+        }
+        Err(refusal) => Decision::Refused(refusal),
     }
-    let Some(number) = campaign.topic_number(topic.bytes()) else {
-        return Decision::Refused(Refusal::UnknownTopic);
-    };
-    let topics = campaign.topics();
-    let Some(doc) = labelled(&topics[number], docnos, doc.bytes()) else {
-        return Decision::Refused(Refusal::NotLabelled);
-    };
-    if grade > campaign.rules().top_grade {
-        return Decision::Refused(Refusal::GradeRange);
-    }
-    let ruling = Ruling {
-        topic: number as u16,
-        doc,
-        grade,
-    };
-    Decision::Accepted(Reply::Done, Change::Rule(ruling))
 }

@@ -1,18 +1,18 @@
 //! Submit: a group hands in a run.
-ghost use Rattle.std.specs.Prelude.{◌≡◌, ◌≤◌, ◌<◌, ◌^◌, ◌+◌, IfOk, nat_lt};
+ghost use Rattle.std.specs.Prelude.{◌≡◌, IfOk};
 ghost use Rattle.rulebook.specs.declared.ask.Command.TheVariants as command;
 ghost use Rattle.campaign_core.specs.Decisions.{IsAskedWith, IsDecision, KeepsLimits};
 ghost use Rattle.campaign_core.specs.Growth.{BeginsWith};
 
-use super::{Decision, is_collecting, wrong_phase};
+use super::{Decision, is_in, wrong_phase};
 use crate::campaign::Campaign;
 use crate::docnos::add_docnos;
-use crate::submissions::{is_taken, line_count};
+use crate::submissions::{line_count, run_number};
 use crate::topics::rankings_of;
 use assessment::Change;
 use decimal_rank::{Memory, Names, Text};
 use depth_pool::RunId;
-use rulebook::{EntryCore, MAX_DOCNOS, MAX_LINES, MAX_RUNS, Quantity, Refusal, Reply};
+use rulebook::{EntryCore, MAX_DOCNOS, MAX_LINES, MAX_RUNS, Phase, Quantity, Refusal, Reply};
 use std::alloc::Global;
 use trec_formats::TopicList;
 
@@ -30,10 +30,10 @@ pub(crate) fn submit_decision(
     ensures limits { IfOk result (KeepsLimits campaign.now.history.items docnos.new core.now.command) }
     ensures grown { BeginsWith docnos.old docnos.new }
 {
-    if !is_collecting(campaign.phase) {
+    if !is_in(campaign, Phase::Collecting) {
         return Ok(wrong_phase(campaign));
     }
-    if is_taken(&campaign.history, &campaign.submissions, run.bytes()) {
+    if run_number(&campaign.history, &campaign.submissions, run.bytes()).is_some() {
         return Ok(Decision::Refused(Refusal::TagTaken));
     }
     if let Some(line) = campaign.unknown_line(lists) {
@@ -43,7 +43,7 @@ pub(crate) fn submit_decision(
         return Ok(limit(Quantity::Runs));
     }
     let lines = line_count(lists);
-    if exceeds(MAX_LINES, campaign.lines, lines) {
+    if campaign.lines + lines > u64::from(MAX_LINES) {
         return Ok(limit(Quantity::Lines));
     }
     add_docnos(docnos, lists)?;
@@ -64,12 +64,4 @@ fn limit(which: Quantity) -> Decision
     ensures { result ≡ Decision.Refused (Refusal.Limit which) }
 {
     Decision::Refused(Refusal::Limit { which })
-}
-
-/// Whether so many more pass the limit.
-fn exceeds(limit: u32, before: u64, added: u64) -> bool
-    requires { before + added < 2 ^ 64 }
-    ensures { result ≡ nat_lt limit (before + added) }
-{
-    before + added > limit as u64
 }

@@ -4,12 +4,12 @@ ghost use Rattle.rulebook.specs.declared.ask.Command.TheVariants as command;
 ghost use Rattle.campaign_core.specs.Decisions.{IsAskedFor, IsDecision};
 ghost use Rattle.campaign_core.specs.Numbers.{names_of};
 
-use super::{Decision, is_collecting, wrong_phase};
+use super::{Decision, is_in, wrong_phase};
 use crate::campaign::Campaign;
 use crate::topics::topic_rules;
 use assessment::{Change, Topics};
 use decimal_rank::Memory;
-use rulebook::{EntryCore, MAX_TOPICS, Quantity, Refusal, Reply};
+use rulebook::{EntryCore, MAX_TOPICS, Phase, Quantity, Refusal, Reply};
 use std::alloc::Global;
 use trec_formats::Topic;
 
@@ -22,7 +22,7 @@ pub(crate) fn topics_decision(
     requires { IsAskedFor campaign.now core.now (command.Topics topics.now) }
     ensures { IfOk result (IsDecision campaign.now (names_of campaign.now.history.items) core.now) }
 {
-    if !is_collecting(campaign.phase) {
+    if !is_in(campaign, Phase::Collecting) {
         return Ok(wrong_phase(campaign));
     }
     if campaign.has_topics() {

@@ -7,13 +7,13 @@ use Rattle.http_wire.specs.declared.messages.Step.{Step}
 use Rattle.http_wire.specs.declared.messages.Step.TheVariants as steps
 use Rattle.http_wire.specs.Heads.{passed}
 use Rattle.http_wire.specs.Messages.{IsFront, Faulty, Waits, request_with}
-use Rattle.http_wire.specs.Pieces.{WireState, Steps, StepsAt, PiecesGoOn, fed, size}
+use Rattle.http_wire.specs.Pieces.{WireState, Steps, StepsAt, PiecesGoOn, fed}
 use Rattle.routes.specs.declared.keys.KeyRow.{KeyRow}
 use Rattle.campaign_server.specs.declared.asks.AskStep.{AskStep}
 use Rattle.campaign_server.specs.declared.asks.AskStep.TheVariants as ask
 use Rattle.campaign_server.specs.declared.asks.Present.{Present}
 use Rattle.campaign_server.specs.declared.asks.Present.TheVariants.{Nothing, Reads, Starved}
-use Rattle.campaign_server.specs.Asking.{AsksAt, Begins, EndsWith, Fits, IsBegun, IsShorter, PieceFits, PieceOn, Stands, StreamState, stream_at}
+use Rattle.campaign_server.specs.Asking.{AsksAt, Begins, EndsWith, Fits, IsBegun, PieceFits, PieceOn, Stands, stream_at}
 
 abbrev Laws : Type 0
 Laws = (at more : List ℕ) (old new : WireState) → PiecesGoOn at more old new
@@ -169,10 +169,3 @@ module _ (laws : Laws) (keys : List KeyRow) (old new : WireState) where
   refused_fits cause (Reads reader close) step (left, is, room) =
       absurd (inside (Some left) old (steps.Refused cause) new is step)
   refused_fits cause (Starved close) step (left, is) = absurd (inside (Some left) old (steps.Refused cause) new is step)
-
--- a step that is shorter than one behind which fewer bytes are left
-pub shorter_from : (old mid new : StreamState) (told : AskStep) → size mid.wire ≤ size old.wire
-    → IsShorter mid told new → IsShorter old told new
-shorter_from old mid new (ask.Whole reading close) less shorter = omega (arith, less, shorter)
-shorter_from old mid new (ask.Need clean) less shorter = tt
-shorter_from old mid new (ask.Refused cause) less shorter = tt

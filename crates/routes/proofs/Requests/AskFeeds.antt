@@ -1,5 +1,5 @@
 -- A request read piece by piece.
-use Rattle.std.proofs.Common.{◌≡◌, ◌≢◌, ◌≤◌, ◌+◌, ◌∙◌, ℕ, List, [], length, refl, sym, subst, arith, true, Ok, Err, Result}
+use Rattle.std.proofs.Common.{◌≡◌, ◌≤◌, ◌+◌, ◌∙◌, ℕ, List, [], length, refl, sym, subst, arith, true, Ok, Err, Result}
 use Rattle.std.specs.Prelude.{IsTrue}
 use Rattle.http_wire.specs.declared.messages.HttpHead.{HttpHead}
 use Rattle.http_wire.specs.Messages.{request_with}
@@ -21,18 +21,13 @@ use Rattle.routes.specs.declared.faults.RouteFault.TheVariants as faults
 use Rattle.routes.specs.declared.keys.KeyRow.{KeyRow}
 use Rattle.routes.specs.declared.places.Question.{Question}
 use Rattle.routes.specs.declared.places.Question.TheVariants as question
-use Rattle.routes.specs.AskStates.{HasRoom, IsAddressable, IsFew, IsHeld, IsOpened, KeepsBody, MayGo, OrFailed, is_query}
+use Rattle.routes.specs.AskStates.{HasRoom, IsAddressable, IsFew, IsHeld, IsOpened, KeepsBody, MayGo, is_query}
 use Rattle.routes.specs.Asks.{Asked, Asks, HasSoundTopics, Reads, ReadsBehind, fault_of}
 use Rattle.routes.specs.Faults.{IsRead, OfFault}
 use Rattle.routes.specs.Openings.{Opening, opening_of}
 use Rattle.routes.specs.Places.{parameter}
 use Rattle.routes.proofs.Requests.Addressed.{addressed_at}
 use Rattle.routes.proofs.PathTable.TableRows.{parameter_is, role_is}
-
-pub or_failed : (progress : Progress) (P : Type 0) → progress ≢ Failed → OrFailed progress P → P
-or_failed (Going opened) P other w = w
-or_failed (Faulty cause) P other w = w
-or_failed Failed P other w = absurd (other refl)
 
 few_more : (a b : ℕ) (body : Body) → a ≤ b → IsFew a body → IsFew b body
 few_more a b Passed most few = tt

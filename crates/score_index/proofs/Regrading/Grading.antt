@@ -10,6 +10,7 @@ use Rattle.decimal_rank.specs.Places.{AreDistinct, place_in}
 use Rattle.decimal_rank.specs.declared.naming.DocId.{DocId}
 use Rattle.qrels_view.specs.Grades.{as_number, effective_in, with_grade}
 use Rattle.qrels_view.specs.declared.grades.Graded.{Graded}
+use Rattle.qrels_view.proofs.Grading.{recounted}
 use Rattle.score_index.specs.Kept.{put_at}
 
 -- ---- the grade of each document
@@ -138,31 +139,11 @@ module _ (p : Option ℕ → Bool) (none : p None ≡ false) where
   abbrev counted : Graded → Bool
   counted one = p one.grade
 
-  -- a new grade takes the old one out of the count and comes in itself
-  recounted : (doc : DocId) (new : Option ℕ) (graded : List Graded)
-      → count_by counted (with_grade doc new graded) + as_number (p (effective_in graded doc)) ≡ count_by counted graded + as_number (p new)
-  recounted doc None [] = refl
-  recounted doc (Some grade) [] =
-      let one : Graded = record { doc = doc; grade = Some grade } in
-      let first = count-cons counted one [] in
-      let zero_then = ap as_number none in
-      let nothing : count_by counted [] ≡ 0 = refl in
-      omega (arith, first, zero_then, nothing)
-  recounted doc new (one ∷ later) = step (eqb doc.0 one.doc.0) (recounted doc new later)
-    where
-      changed : Graded
-      changed = record { doc = one.doc; grade = new }
-
-      step : (t : Bool) → count_by counted (with_grade doc new later) + as_number (p (effective_in later doc)) ≡ count_by counted later + as_number (p new)
-          → count_by counted (cond t (changed ∷ later) (one ∷ with_grade doc new later)) + as_number (p (cond t one.grade (effective_in later doc))) ≡ count_by counted (one ∷ later) + as_number (p new)
-      step true rest = omega (arith, count-cons counted changed later, count-cons counted one later)
-      step false rest = omega (arith, count-cons counted one (with_grade doc new later), count-cons counted one later)
-
   pub count-with_grade : (doc : DocId) (old new : Option ℕ) (graded : List Graded) → effective_in graded doc ≡ old
       → count_by counted graded + as_number (p new) - as_number (p old) ≡ count_by counted (with_grade doc new graded)
   count-with_grade doc old new graded is =
       let before : as_number (p (effective_in graded doc)) ≡ as_number (p old) = ap (λ grade. as_number (p grade)) is in
-      omega (arith, recounted doc new graded, before)
+      omega (arith, recounted p none doc new graded, before)
 
   -- a document that counts is among what is counted
   pub counts_least : (doc : DocId) (old : Option ℕ) (graded : List Graded) → effective_in graded doc ≡ old → as_number (p old) ≤ count_by counted graded

@@ -1,11 +1,11 @@
 -- A run read piece by piece.
-use Rattle.std.proofs.Common.{◌≡◌, ◌≢◌, ◌≤◌, ◌+◌, ◌-◌, ℕ, List, ◌++◌, length, take, drop, refl, sym, ◌∙◌, ap, arith, Ok, Err, Result, append_assoc}
+use Rattle.std.proofs.Common.{◌≡◌, ◌≤◌, ◌+◌, ◌-◌, ℕ, List, ◌++◌, length, take, drop, sym, ◌∙◌, ap, arith, Ok, Err, Result, append_assoc}
 use Rattle.std.specs.Prelude.{IfOk}
 use Rattle.std.proofs.Math.Seq.{take-add}
 use Rattle.std.proofs.lemmas.List.{length-drop, take_all, take-append-drop}
 use Rattle.trec_formats.specs.declared.run_reader.Progress.{Progress}
 use Rattle.trec_formats.specs.declared.run_reader.Progress.TheVariants.{Reads, Faulty, Failed}
-use Rattle.trec_formats.specs.RunStates.{held_at, IsHeld, OrFailed}
+use Rattle.trec_formats.specs.RunStates.{held_at, IsHeld}
 
 -- what is left of a piece
 rest_is : (at : ℕ) (piece : List ℕ) → take (length piece - at) (drop at piece) ≡ drop at piece
@@ -20,11 +20,6 @@ piece_more text piece at taken =
 pub piece_whole : (text piece : List ℕ) (at : ℕ) → (text ++ take at piece) ++ take (length piece - at) (drop at piece) ≡ text ++ piece
 piece_whole text piece at =
     append_assoc text (take at piece) _ ∙ ap (λ rest. text ++ (take at piece ++ rest)) (rest_is at piece) ∙ ap (λ part. text ++ part) (take-append-drop at piece)
-
-pub or_failed : (progress : Progress) (P : Type 0) → progress ≢ Failed → OrFailed progress P → P
-or_failed (Reads reading) P other w = w
-or_failed (Faulty fault) P other w = w
-or_failed Failed P other w = absurd (other refl)
 
 pub held_few : (fed : ℕ) (progress : Progress) → IsHeld fed progress → held_at progress ≤ 401
 held_few fed (Reads reading) w = w.0.held

@@ -1,8 +1,13 @@
 -- What a mend leaves, done or failed, or where none is due.
 use Rattle.std.proofs.Common.{Option, subst, sym}
+use Rattle.disk_model.specs.Disks.{EachMoment}
 use Rattle.rulebook.specs.declared.entry.Entry.{Entry}
+use Rattle.rulebook.specs.Campaign.{History}
+use Rattle.book.specs.Images.{HoldsWith}
 use Rattle.book.specs.Journaling.{KeepsBook}
 use Rattle.book.proofs.Keeping.{book_holds, mend_moments, nothing_due, still_keeps, still_moments}
+use Rattle.book.proofs.journaling.mend_first.Given.{Over}
+use Rattle.book.proofs.journaling.mend_first.Goals.{After-mend}
 use Rattle.book.proofs.journaling.mend_first.Goals as goal
 
 pub returns-then-not-is_due-clause-keeps : goal.returns-then-not-is_due-clause-keeps
@@ -16,10 +21,13 @@ returns-then-not-is_due-clause-any_moment g c H keeps =
     still_moments g.D.Disk.images g.D.Disk.clock g.D.Disk.images_since c.args.journal.now H c.args.pending.now keeps
     (book_holds g.D.Disk.images g.D.Disk.clock g.D.Disk.images_since c.args.journal.now H c.args.pending.now keeps c.stands.ensures.stands) (g.met.D.Disk.only_now c.args.journal.now.disk)
 
-pub returns-in-Ok-clause-any_moment : goal.returns-in-Ok-clause-any_moment
-returns-in-Ok-clause-any_moment g c H keeps =
+moments : (g : Over) (c : After-mend g) (H : History) → KeepsBook g.D.Disk.images c.args.journal.now H c.args.pending.now
+    → EachMoment g.D.Disk.clock g.D.Disk.images_since c.args.journal.now.disk c.mend.new.self.disk (HoldsWith H c.args.pending.now)
+moments g c H keeps =
     mend_moments g.D.Disk.images g.D.Disk.clock g.D.Disk.images_since c.args.journal.now H c.args.pending.now keeps c.mend.new.self c.mend.ensures.any_moment
 
+pub returns-in-Ok-clause-any_moment : goal.returns-in-Ok-clause-any_moment
+returns-in-Ok-clause-any_moment g c = moments g (goal.at.returns-in-Ok-clause-any_moment g c).After-mend
+
 pub returns-in-Err-clause-any_moment : goal.returns-in-Err-clause-any_moment
-returns-in-Err-clause-any_moment g c H keeps =
-    mend_moments g.D.Disk.images g.D.Disk.clock g.D.Disk.images_since c.args.journal.now H c.args.pending.now keeps c.mend.new.self c.mend.ensures.any_moment
+returns-in-Err-clause-any_moment g c = moments g (goal.at.returns-in-Err-clause-any_moment g c).After-mend

@@ -1,32 +1,40 @@
 -- The founding entry is added to a journal without records.
-use Rattle.std.proofs.Common.{List, ℕ, [], subst}
-use Rattle.journal.specs.Kept.{Settled, StandsForOneOf}
+use Rattle.std.proofs.Common.{◌≡◌, List, ℕ, [], ◌∷◌, subst}
+use Rattle.disk_model.specs.Disks.{EachMoment}
+use Rattle.journal.specs.Kept.{Keeps, Settled, StandsForOneOf}
 use Rattle.journal.specs.Moments.{weaker}
+use Rattle.rulebook.specs.declared.rules.Rules.{Rules}
+use Rattle.rulebook.specs.Legal.{founding}
 use Rattle.book.specs.Openings.{Establishes}
 use Rattle.book.proofs.Keeping.{keeps_settled}
 use Rattle.book.proofs.OpenJournals.{established, establishes, not_established}
+use Rattle.book.proofs.opening.establish.Given.{Over}
+use Rattle.book.proofs.opening.establish.Goals.{After-append}
 use Rattle.book.proofs.opening.establish.Goals as goal
+
+-- nothing was kept before
+keeps : (g : Over) (c : After-append g) → Keeps (g.D.Disk.images c.args.journal.disk) c.args.journal.place c.args.journal.due [] []
+keeps g c = let j = c.args.journal in keeps_settled (g.D.Disk.images j.disk) j.place j.due [] c.requires.nothing_due c.requires.settled
+
+moments : (g : Over) (c : After-append g) (rules : Rules) → c.args.state.history ≡ founding rules ∷ []
+    → EachMoment g.D.Disk.clock g.D.Disk.images_since c.args.journal.disk c.append.new.self.disk (Establishes rules [])
+moments g c rules founded =
+    weaker g.D.Disk.clock g.D.Disk.images_since c.args.journal.disk c.append.new.self.disk (StandsForOneOf [] [] c.args.frame.now) (Establishes rules [])
+    (establishes rules c.args.frame.now c.args.state.history c.requires.founded founded) (c.append.ensures.any_moment [] [] (keeps g c))
 
 pub reopen-requires-clause-settled : goal.reopen-requires-clause-settled
 reopen-requires-clause-settled g c =
-    let j = c.args.journal in
-    let keeps = keeps_settled (g.D.Disk.images j.disk) j.place j.due [] c.requires.nothing_due c.requires.settled in
-    subst (λ (all : List (List ℕ)). Settled (g.D.Disk.images c.append.new.self.disk) c.append.new.self.place all) c.requires.founded (c.in-Ok.ensures.added [] [] keeps)
+    subst (λ (all : List (List ℕ)). Settled (g.D.Disk.images c.append.new.self.disk) c.append.new.self.place all) c.requires.founded
+    (c.in-Ok.ensures.added [] [] (keeps g (goal.at.reopen-requires-clause-settled g c).After-append))
 
 pub returns-in-Ok : goal.returns-in-Ok
 returns-in-Ok g c rules founded =
-    let j = c.args.journal in
     let D = g.D.Disk in
-    let new = c.append.new.self.disk in
-    let keeps = keeps_settled (D.images j.disk) j.place j.due [] c.requires.nothing_due c.requires.settled in
-    let moments = weaker D.clock D.images_since j.disk new (StandsForOneOf [] [] c.args.frame.now) (Establishes rules []) (establishes rules c.args.frame.now c.args.state.history c.requires.founded founded) (c.append.ensures.any_moment [] [] keeps) in
-    established D.images D.clock D.images_since D.fault_count rules c.args.opening j.disk new moments c.append.ensures.cause.later c.reopen.result c.args.state.history c.reopen.ensures.view c.reopen.ensures.sound founded
+    established D.images D.clock D.images_since D.fault_count rules c.args.opening c.args.journal.disk c.append.new.self.disk (moments g (goal.at.returns-in-Ok g c).After-append rules founded)
+    c.append.ensures.cause.later c.reopen.result c.args.state.history c.reopen.ensures.view c.reopen.ensures.sound founded
 
 pub returns-in-Err : goal.returns-in-Err
 returns-in-Err g c rules founded =
-    let j = c.args.journal in
     let D = g.D.Disk in
-    let new = c.append.new.self.disk in
-    let keeps = keeps_settled (D.images j.disk) j.place j.due [] c.requires.nothing_due c.requires.settled in
-    let moments = weaker D.clock D.images_since j.disk new (StandsForOneOf [] [] c.args.frame.now) (Establishes rules []) (establishes rules c.args.frame.now c.args.state.history c.requires.founded founded) (c.append.ensures.any_moment [] [] keeps) in
-    rw c.close.ensures (not_established D.images D.clock D.images_since D.fault_count rules c.args.opening j.disk new moments c.append.ensures.cause.later c.give_up.result c.give_up.ensures c.in-Err.ensures.cause.failed)
+    rw c.close.ensures (not_established D.images D.clock D.images_since D.fault_count rules c.args.opening c.args.journal.disk c.append.new.self.disk (moments g (goal.at.returns-in-Err g c).After-append rules founded)
+    c.append.ensures.cause.later c.give_up.result c.give_up.ensures c.in-Err.ensures.cause.failed)

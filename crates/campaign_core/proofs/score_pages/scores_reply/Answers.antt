@@ -1,68 +1,52 @@
-use Rattle.std.proofs.Common.{◌≡◌, ◌++◌, ◌∙◌, ap, arith, get_or, map, sym, Some, None}
-use Rattle.std.specs.List.{position}
-use Rattle.std.specs.Str.{bytes_eq}
+use Rattle.std.proofs.Common.{◌≡◌, ◌++◌, ◌∙◌, Err, Ok, ap, arith, map, subst, sym}
 use Rattle.rulebook.specs.declared.reply.Reply.TheVariants as reply
-use Rattle.rulebook.specs.Answers.{run_refusals}
-use Rattle.rulebook.specs.Campaign.{History, Run, is_withdrawn, runs}
+use Rattle.rulebook.specs.Answers.{paged, reply_of}
+use Rattle.rulebook.specs.Campaign.{History, Run, is_withdrawn}
 use Rattle.rulebook.specs.Scores.{scores_page}
 use Rattle.rulebook.specs.Words.{Text}
 use Rattle.campaign_core.specs.Kept.{KnowsRun}
+use Rattle.campaign_core.specs.Submissions.{IsRunAsked, IsRunOf}
 use Rattle.assessment.specs.TopicFacts.{facts_of}
-use Rattle.campaign_core.specs.Leasing.{first_refusal}
 use Rattle.campaign_core.proofs.Printed.KnownRuns.{known-run}
 use Rattle.campaign_core.proofs.Entries.LiveRuns.{at-live}
-use Rattle.campaign_core.proofs.Numbers.RunPlaces.{no_run}
-use Rattle.campaign_core.proofs.Rulings.RunRulings.{no-run-found, passed-live, run-found, told-refused, told-scores, told-unknown}
+use Rattle.campaign_core.proofs.Rulings.RunRulings.{run-found}
+use Rattle.campaign_core.proofs.score_pages.scores_reply.Goals.{After-board-board, In-Ok}
 use Rattle.campaign_core.proofs.score_pages.scores_reply.Goals as goal
 
-pub returns-in_default : goal.returns-in_default
-returns-in_default c =
-    let H = c.args.campaign.now.history.items in
-    let name = c.args.name.now in
-    let none : None ≡ position (λ (run : Run). bytes_eq run.name name) (runs H) = sym c.in_default.is ∙ c.run_number.ensures ∙ ap (λ (H : History). position (λ (run : Run). bytes_eq run.name c.bytes.result.now) (runs H)) c.as_slice-history.ensures.value ∙ ap (λ (name : Text). position (λ (run : Run). bytes_eq run.name name) (runs H)) c.bytes.ensures in
-    told-unknown H c.args.who.now name (no-run-found H name none)
+-- the run that is asked for
+asked : (c : In-Ok) → IsRunOf c.args.campaign.now.history.items c.args.who.now c.args.name.now c.in-Ok.number
+asked c = subst (λ (H : History). IsRunAsked H c.args.who.now c.args.name.now (Ok c.in-Ok.number)) c.deref.ensures.value c.in-Ok.ensures
 
-pub returns-in-Some-run_refusal : goal.returns-in-Some-run_refusal
-returns-in-Some-run_refusal c =
+-- the board has its scores
+scored : (c : After-board-board) (run : IsRunOf c.args.campaign.now.history.items c.args.who.now c.args.name.now c.in-Ok.number)
+    → KnowsRun c.args.campaign.now.history.items (map facts_of c.items-items.result.now) c.board-board.result.now (record { 0 = c.in-Ok.number }) run.run
+scored c run =
+    known-run c.args.campaign.now c.topics-topics.result.now c.items-items.result.now c.board-board.result.now (record { 0 = c.in-Ok.number }) run.run c.requires c.topics-topics.ensures.topics c.items-items.ensures.topics c.board-board.ensures.board c.board-board.ensures.stands
+    (at-live c.args.campaign.now.history.items (record { 0 = c.in-Ok.number }) run.run run.there (ap (is_withdrawn c.args.campaign.now.history.items) run.name_is ∙ run.live))
+
+pub returns-in-Err : goal.returns-in-Err
+returns-in-Err c =
     let H = c.args.campaign.now.history.items in
-    let name = c.args.name.now in
-    let some : Some c.in-Some.number ≡ position (λ (run : Run). bytes_eq run.name name) (runs H) = c.in-Some.ensures ∙ ap (λ (H : History). position (λ (run : Run). bytes_eq run.name c.bytes.result.now) (runs H)) c.as_slice-history.ensures.value ∙ ap (λ (name : Text). position (λ (run : Run). bytes_eq run.name name) (runs H)) c.bytes.ensures in
-    let told : Some c.in-Some-run_refusal.refusal ≡ first_refusal (run_refusals H c.args.who.now name) =
-    sym c.in-Some-run_refusal.is ∙ c.run_refusal.ensures ∙ ap (λ (H : History). first_refusal (run_refusals H c.args.who.now c.bytes-2.result.now)) c.as_slice-history.ensures.value ∙ ap (λ (name : Text). first_refusal (run_refusals H c.args.who.now name)) c.bytes-2.ensures in
-    told-refused H c.args.who.now name c.in-Some.number _ c.in-Some-run_refusal.refusal (run-found H name c.in-Some.number some) told
+    let asked = subst (λ (H : History). IsRunAsked H c.args.who.now c.args.name.now (Err c.in-Err.refusal)) c.deref.ensures.value c.in-Err.ensures in
+    sym (ap reply_of (asked (λ (run : Run). paged (scores_page H run))))
 
 pub overflow_cast-run : goal.overflow_cast-run
 overflow_cast-run c =
-    let H = c.args.campaign.now.history.items in
-    let name = c.args.name.now in
-    let some : Some c.in-Some.number ≡ position (λ (run : Run). bytes_eq run.name name) (runs H) = c.in-Some.ensures ∙ ap (λ (H : History). position (λ (run : Run). bytes_eq run.name c.bytes.result.now) (runs H)) c.as_slice-history.ensures.value ∙ ap (λ (name : Text). position (λ (run : Run). bytes_eq run.name name) (runs H)) c.bytes.ensures in
-    let is = run-found H name c.in-Some.number some in
-    omega (arith, is.within, c.requires.runs_fit)
+    let run = asked (goal.at.overflow_cast-run c).In-Ok in
+    let found = run-found c.args.campaign.now.history.items c.args.name.now c.in-Ok.number run.first in
+    omega (arith, found.within, c.requires.runs_fit)
 
 pub write_scores-requires : goal.write_scores-requires
 write_scores-requires c =
-    let H = c.args.campaign.now.history.items in
-    let name = c.args.name.now in
-    let some : Some c.in-Some.number ≡ position (λ (run : Run). bytes_eq run.name name) (runs H) = c.in-Some.ensures ∙ ap (λ (H : History). position (λ (run : Run). bytes_eq run.name c.bytes.result.now) (runs H)) c.as_slice-history.ensures.value ∙ ap (λ (name : Text). position (λ (run : Run). bytes_eq run.name name) (runs H)) c.bytes.ensures in
-    let is = run-found H name c.in-Some.number some in
-    let run : Run = get_or (runs H) c.in-Some.number no_run in
-    let told : None ≡ first_refusal (run_refusals H c.args.who.now name) = sym c.in_default-run_refusal.is ∙ c.run_refusal.ensures ∙ ap (λ (H : History). first_refusal (run_refusals H c.args.who.now c.bytes-2.result.now)) c.as_slice-history.ensures.value ∙ ap (λ (name : Text). first_refusal (run_refusals H c.args.who.now name)) c.bytes-2.ensures in
-    let knows : KnowsRun H (map facts_of c.items-items.result.now) c.board-board.result.now (record { 0 = c.in-Some.number }) run =
-    known-run c.args.campaign.now c.topics-topics.result.now c.items-items.result.now c.board-board.result.now (record { 0 = c.in-Some.number }) run c.requires c.topics-topics.ensures.topics c.items-items.ensures.topics c.board-board.ensures.board c.board-board.ensures.stands
-    (at-live H (record { 0 = c.in-Some.number }) run is.there (ap (is_withdrawn H) is.name_is ∙ passed-live H c.args.who.now name told)) in
-    record { knows = (H, run, knows) }
+    let at = goal.at.write_scores-requires c in
+    let run = asked at.In-Ok in
+    record { knows = (c.args.campaign.now.history.items, run.run, scored at.After-board-board run) }
 
 pub returns : goal.returns
 returns c =
+    let at = goal.at.returns c in
     let H = c.args.campaign.now.history.items in
-    let name = c.args.name.now in
-    let some : Some c.in-Some.number ≡ position (λ (run : Run). bytes_eq run.name name) (runs H) = c.in-Some.ensures ∙ ap (λ (H : History). position (λ (run : Run). bytes_eq run.name c.bytes.result.now) (runs H)) c.as_slice-history.ensures.value ∙ ap (λ (name : Text). position (λ (run : Run). bytes_eq run.name name) (runs H)) c.bytes.ensures in
-    let is = run-found H name c.in-Some.number some in
-    let run : Run = get_or (runs H) c.in-Some.number no_run in
-    let told : None ≡ first_refusal (run_refusals H c.args.who.now name) = sym c.in_default-run_refusal.is ∙ c.run_refusal.ensures ∙ ap (λ (H : History). first_refusal (run_refusals H c.args.who.now c.bytes-2.result.now)) c.as_slice-history.ensures.value ∙ ap (λ (name : Text). first_refusal (run_refusals H c.args.who.now name)) c.bytes-2.ensures in
-    let knows : KnowsRun H (map facts_of c.items-items.result.now) c.board-board.result.now (record { 0 = c.in-Some.number }) run =
-    known-run c.args.campaign.now c.topics-topics.result.now c.items-items.result.now c.board-board.result.now (record { 0 = c.in-Some.number }) run c.requires c.topics-topics.ensures.topics c.items-items.ensures.topics c.board-board.ensures.board c.board-board.ensures.stands
-    (at-live H (record { 0 = c.in-Some.number }) run is.there (ap (is_withdrawn H) is.name_is ∙ passed-live H c.args.who.now name told)) in
-    let name_is : c.bytes-3.result.now ≡ run.name = c.bytes-3.ensures ∙ sym is.name_is in
-    ap reply.Page (c.new.ensures ∙ c.in_ok-write_scores.ensures H run knows name_is ∙ ap (λ (text : Text). text ++ scores_page H run) c.new-out.ensures.items)
-    ∙ told-scores H c.args.who.now name c.in-Some.number run is told
+    let run = asked at.In-Ok in
+    let name_is : c.bytes.result.now ≡ run.run.name = c.bytes.ensures ∙ sym run.name_is in
+    ap reply.Page (c.new.ensures ∙ c.in_ok-write_scores.ensures H run.run (scored at.After-board-board run) name_is ∙ ap (λ (text : Text). text ++ scores_page H run.run) c.new-out.ensures.items)
+    ∙ sym (ap reply_of (run.asked (λ (run : Run). paged (scores_page H run))))

@@ -5,7 +5,7 @@ use Rattle.rulebook.specs.Campaign.{Run, runs}
 use Rattle.campaign_core.specs.Submissions.{withdrawn}
 use Rattle.campaign_core.proofs.Rulings.AcceptedCommands.{some-same}
 use Rattle.campaign_core.proofs.Lists.FirstPlaces.{is-there}
-use Rattle.campaign_core.proofs.Lists.Elements.{set-at_place}
+use Rattle.assessment.proofs.ListFacts.{set-at_place}
 use Rattle.campaign_core.proofs.submissions.mark_withdrawn.Goals as goal
 
 pub unwrap-number-requires : goal.unwrap-number-requires

@@ -1,30 +1,28 @@
-use Rattle.std.proofs.Common.{subst, sym}
-use Rattle.campaign_server.specs.Asking.{AsksAt, EndsWith, PieceOn, stream_at}
+use Rattle.std.proofs.Common.{subst}
+use Rattle.campaign_server.specs.Asking.{PieceOn}
 use Rattle.campaign_server.proofs.ReadPieces.StreamSteps.{head_fits, head_stands, need_asks, piece_stands, refused_asks, whole_asks}
 use Rattle.campaign_server.proofs.asks.take_step.Goals as goal
 
 pub returns-in-Ok-Head-clause-goes : goal.returns-in-Ok-Head-clause-goes
 returns-in-Ok-Head-clause-goes c = λ rest stands.
-    head_stands c.pieces_go_on.ensures c.args.keys.now c.args.wire.now c.next.new.self c.in-Ok-Head.head c.args.present.now c.begin.result
+    head_stands c.pieces_go_on.ensures c.args.keys.now c.args.wire.now c.next.new.self c.in-Ok-Head.head c.args.present.now c.begin.new.present
     (rw c.in-Ok-Head.field-0-is at c.in-Ok-Head.ensures.ok) c.begin.ensures rest stands
 
 pub returns-in-Ok-Head-clause-fits : goal.returns-in-Ok-Head-clause-fits
 returns-in-Ok-Head-clause-fits c =
-    head_fits c.pieces_go_on.ensures c.args.keys.now c.args.wire.now c.next.new.self c.in-Ok-Head.head c.begin.result c.args.wire.now.left c.args.wire.now.bytes
+    head_fits c.pieces_go_on.ensures c.args.keys.now c.args.wire.now c.next.new.self c.in-Ok-Head.head c.begin.new.present c.args.wire.now.left c.args.wire.now.bytes
     (rw c.in-Ok-Head.field-0-is at c.in-Ok-Head.ensures.ok) (rw c.in-Ok-Head.field-0-is at c.in-Ok-Head.ensures.body) c.begin.ensures
 
 pub returns-in-Ok-Piece-clause-goes : goal.returns-in-Ok-Piece-clause-goes
 returns-in-Ok-Piece-clause-goes c = λ rest stands.
-    let text_fed = subst (λ text. PieceOn c.replace-before.result text c.take_piece.result) c.bytes.ensures c.take_piece.ensures in
-    let goes = subst (λ present. PieceOn present c.in-Ok-Piece.text c.take_piece.result) c.replace-before.ensures.value text_fed in
-    piece_stands c.pieces_go_on.ensures c.args.keys.now c.args.wire.now c.next.new.self c.in-Ok-Piece.text c.args.present.now c.take_piece.result
-    (rw c.in-Ok-Piece.field-0-is at c.in-Ok-Piece.ensures.ok) goes rest stands
+    piece_stands c.pieces_go_on.ensures c.args.keys.now c.args.wire.now c.next.new.self c.in-Ok-Piece.text c.args.present.now c.take_piece.new.present
+    (rw c.in-Ok-Piece.field-0-is at c.in-Ok-Piece.ensures.ok)
+    (subst (λ text. PieceOn c.args.present.now text c.take_piece.new.present) c.bytes.ensures c.take_piece.ensures) rest stands
 
 pub returns-in-Ok-Whole-clause-goes : goal.returns-in-Ok-Whole-clause-goes
-returns-in-Ok-Whole-clause-goes c = λ rest stands.
-    subst (λ present. AsksAt c.args.keys.now rest c.end.result (stream_at c.next.new.self present)) (sym c.replace-ended.ensures.after)
-    (whole_asks c.pieces_go_on.ensures c.args.keys.now c.args.wire.now c.next.new.self c.args.present.now c.end.result
-    (rw c.in-Ok-Whole.field-0-is at c.in-Ok-Whole.ensures.ok) (subst (λ present. EndsWith present c.end.result) c.replace-ended.ensures.value c.end.ensures.reading) rest stands)
+returns-in-Ok-Whole-clause-goes c = λ told ends rest stands.
+    whole_asks c.pieces_go_on.ensures c.args.keys.now c.args.wire.now c.next.new.self c.args.present.now told
+    (rw c.in-Ok-Whole.field-0-is at c.in-Ok-Whole.ensures.ok) ends rest stands
 
 pub returns-in-Ok-Need-clause-goes : goal.returns-in-Ok-Need-clause-goes
 returns-in-Ok-Need-clause-goes c = λ rest stands.

@@ -1,32 +1,34 @@
--- Where nothing is due, the gate is closed too.
-use Rattle.std.proofs.Common.{inl}
-use Rattle.journal.proofs.Keeping.{cut_where_cut, cut_where_nothing}
+-- What is cut off behind a closed gate, and behind one that is closed first.
+use Rattle.std.proofs.Common.{ℕ, List, inl, rules}
+use Rattle.std.proofs.lemmas.Result.{on_ok_weaker}
+use Rattle.journal.specs.Kept.{Keeps, StandsFor}
+use Rattle.journal.specs.Moments.{joined}
+use Rattle.journal.proofs.Keeping.{cut_where_shut, gate_where_gate}
 use Rattle.journal.proofs.mends.mend_due.Goals as goal
 
-pub returns-in_err-mend_cut-in-Nothing-clause-kept : goal.returns-in_err-mend_cut-in-Nothing-clause-kept
-returns-in_err-mend_cut-in-Nothing-clause-kept g c all pending keeps =
-    inl (c.mend_cut.ensures.kept all (cut_where_nothing _ c.args.place c.args.due.now all pending keeps c.in-Nothing.is))
+pub returns-in-Nothing : goal.returns-in-Nothing
+returns-in-Nothing g c =
+    let shut = cut_where_shut (g.D.Disk.images c.args.disk.now) c.args.place c.args.due.now c.in-Nothing.is in
+    let cut = c.mend_cut.ensures in
+    record {
+      mended = on_ok_weaker c.mend_cut.result (λ settles all pending keeps. settles all (shut all pending keeps)) cut.mended;
+      nothing_due = cut.nothing_due;
+      kept = λ all pending keeps. inl (cut.kept all (shut all pending keeps));
+      any_moment = λ all pending keeps. cut.any_moment all pending (shut all pending keeps);
+      cause = cut.cause;
+    }
 
-pub returns-in_err-mend_cut-in-Nothing-clause-any_moment : goal.returns-in_err-mend_cut-in-Nothing-clause-any_moment
-returns-in_err-mend_cut-in-Nothing-clause-any_moment g c all pending keeps =
-    c.mend_cut.ensures.any_moment all pending (cut_where_nothing _ c.args.place c.args.due.now all pending keeps c.in-Nothing.is)
-
-pub returns-in_ok-mend_cut-in-Nothing-clause-kept : goal.returns-in_ok-mend_cut-in-Nothing-clause-kept
-returns-in_ok-mend_cut-in-Nothing-clause-kept g c all pending keeps =
-    inl (c.mend_cut.ensures.kept all (cut_where_nothing _ c.args.place c.args.due.now all pending keeps c.in-Nothing.is))
-
-pub returns-in_ok-mend_cut-in-Nothing-clause-any_moment : goal.returns-in_ok-mend_cut-in-Nothing-clause-any_moment
-returns-in_ok-mend_cut-in-Nothing-clause-any_moment g c all pending keeps =
-    c.mend_cut.ensures.any_moment all pending (cut_where_nothing _ c.args.place c.args.due.now all pending keeps c.in-Nothing.is)
-
-pub returns-in_ok-mend_cut-in-Nothing-clause-mended : goal.returns-in_ok-mend_cut-in-Nothing-clause-mended
-returns-in_ok-mend_cut-in-Nothing-clause-mended g c all pending keeps =
-    c.in_ok-mend_cut-in-Nothing.ensures.mended all (cut_where_nothing _ c.args.place c.args.due.now all pending keeps c.in-Nothing.is)
-
-pub returns-in_err-mend_cut-in-Cut-clause-any_moment : goal.returns-in_err-mend_cut-in-Cut-clause-any_moment
-returns-in_err-mend_cut-in-Cut-clause-any_moment g c all pending keeps =
-    c.mend_cut-in-Cut.ensures.any_moment all pending (cut_where_cut _ c.args.place c.args.due.now all pending keeps c.in-Cut.is)
-
-pub returns-in_ok-mend_cut-in-Cut-clause-any_moment : goal.returns-in_ok-mend_cut-in-Cut-clause-any_moment
-returns-in_ok-mend_cut-in-Cut-clause-any_moment g c all pending keeps =
-    c.mend_cut-in-Cut.ensures.any_moment all pending (cut_where_cut _ c.args.place c.args.due.now all pending keeps c.in-Cut.is)
+pub returns-in_ok-close_gate-in-Gate : goal.returns-in_ok-close_gate-in-Gate
+returns-in_ok-close_gate-in-Gate g c =
+    let images = g.D.Disk.images c.args.disk.now in
+    let gate = gate_where_gate images c.args.place c.args.due.now c.in-Gate.is in
+    let shut = λ (all pending : List (List ℕ)) (keeps : Keeps images c.args.place c.args.due.now all pending). c.in_ok-close_gate-in-Gate.ensures.done all pending (gate all pending keeps) in
+    let cut = c.mend_cut-in-Gate.ensures in
+    record {
+      mended = on_ok_weaker c.mend_cut-in-Gate.result (λ settles all pending keeps. settles all (shut all pending keeps)) cut.mended;
+      nothing_due = cut.nothing_due;
+      kept = λ all pending keeps. inl (cut.kept all (shut all pending keeps));
+      any_moment = λ all pending keeps. joined g.D.Disk.clock g.D.Disk.images_since c.args.disk.now c.close_gate.new.disk c.mend_cut-in-Gate.new.disk (StandsFor all pending)
+          (c.close_gate.ensures.any_moment all pending (gate all pending keeps)) (cut.any_moment all pending (shut all pending keeps));
+      cause = search rules;
+    }

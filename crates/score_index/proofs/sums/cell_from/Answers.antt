@@ -12,4 +12,4 @@ returns-clause-cell g c =
     c.len.ensures.len c.requires.sums.rel_ret c.requires.sums.at c.relevant_to.ensures.count c.first_relevant.ensures.first c.requires.sums.ap_sum
     (c.bpref_num.ensures ∙ ap (λ (count : ℕ). if nat_eq r 0 then 0 else (if nat_eq (min r n) 0 then count else c.args.sums.preferences)) c.requires.sums.rel_ret
     ∙ ap (λ (sum : ℕ). if nat_eq r 0 then 0 else (if nat_eq (min r n) 0 then count_on c.args.trees.now.relevant else sum)) c.requires.sums.preferences)
-    c.bpref_den.ensures
+    c.bpref_den.ensures.den

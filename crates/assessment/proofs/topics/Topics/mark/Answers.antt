@@ -1,4 +1,5 @@
-use Rattle.std.proofs.Common.{◌≤◌, ◌+◌, ◌∙◌, ap, map, subst, sym}
+use Rattle.std.proofs.Common.{◌≤◌, ◌+◌, ◌∙◌, ℕ, ap, map, subst, sym}
+use Rattle.decimal_rank.specs.declared.naming.DocId.{DocId}
 use Rattle.score_index.specs.Scores.{topic_at}
 use Rattle.score_index.specs.Standing.{TopicStandsFor, grades_at}
 use Rattle.assessment.specs.Costs.{HaveLists, grade_steps}
@@ -12,7 +13,7 @@ use Rattle.assessment.proofs.topics.Topics.mark.Goals as goal
 marked : (g : Over) (c : After-effective-new g)
     → IsMarked c.self.inside.board c.self.inside.topics.items c.args.mark c.place-number.result.0 c.place-number.result.1 c.index_mut-topic.result.now c.mark.new.self c.effective-old.result
 marked g c =
-    is-marked c.self.view_is c.place-number.ensures.topic c.place-number.ensures.doc c.index_mut-topic.ensures.value c.self.invariant c.mark.ensures.facts c.grades.ensures.graded c.effective-old.ensures
+    is-marked c.self.view_is (ap (λ (p : ℕ × DocId). p.0) c.place-number.ensures) (ap (λ (p : ℕ × DocId). p.1) c.place-number.ensures) c.index_mut-topic.ensures.value c.self.invariant c.mark.ensures.facts c.grades.ensures.graded c.effective-old.ensures
     c.requires.room c.requires.may_mark
 
 -- the board stands for the grades before

@@ -1,4 +1,4 @@
-use Rattle.std.proofs.Common.{◌≡◌, [], arith, length, subst}
+use Rattle.std.proofs.Common.{◌≡◌, [], arith, length, rules, subst}
 use Rattle.std.specs.Prelude.{replicate}
 use Rattle.score_index.specs.Standing.{StandsFor}
 use Rattle.assessment.proofs.RoomCounts.{no-rooms}
@@ -13,5 +13,5 @@ invariant_of-result c =
     new-standing c.in_ok-topics.topics.items rules.items board c.in_ok-topics.ensures (omega (arith, c.requires, rules.ok.0))
     (subst (λ n. StandsFor board (replicate n [])) long c.in_ok-board.ensures.stands)
 
-pub returns-clause-unreserved : goal.returns-clause-unreserved
-returns-clause-unreserved c = no-rooms c.in_ok-board.board.rooms c.in_ok-board.ensures.rooms
+pub returns : goal.returns
+returns c = record { facts = search rules; none = no-rooms c.in_ok-board.board.rooms c.in_ok-board.ensures.rooms }

@@ -6,23 +6,25 @@ use Rattle.rulebook.specs.Words.{Text}
 use Rattle.book.specs.Openings.{Refused}
 use Rattle.book.specs.OpenJournals.{TakesUp}
 use Rattle.book.proofs.OpenJournals.{not_opened, opened_result, refused_result}
+use Rattle.book.proofs.books.Book.open.Given.{Over}
+use Rattle.book.proofs.books.Book.open.Goals.{After-take_up}
 use Rattle.book.proofs.books.Book.open.Goals as goal
+
+takes : (g : Over) (c : After-take_up g) → TakesUp g.D.Disk.images g.D.Disk.clock g.D.Disk.images_since g.D.Disk.fault_count c.args.rules (payloads_of c.in-Ok.records.items) c.faults-opening.result c.in-Ok.journal.disk c.take_up.result
+takes g c = subst (λ (records : List (Vec ℕ Global)). TakesUp g.D.Disk.images g.D.Disk.clock g.D.Disk.images_since g.D.Disk.fault_count c.args.rules (payloads_of records) c.faults-opening.result c.in-Ok.journal.disk c.take_up.result)
+    c.deref.ensures.value c.take_up.ensures
 
 pub returns-in-Ok-clause-opened : goal.returns-in-Ok-clause-opened
 returns-in-Ok-clause-opened g c =
     let D = g.D.Disk in
-    let mid = c.in-Ok.journal.disk in
-    let payloads = payloads_of c.in-Ok.records.items in
-    let takes = subst (λ (records : List (Vec ℕ Global)). TakesUp D.images D.clock D.images_since D.fault_count c.args.rules (payloads_of records) c.faults-opening.result mid c.take_up.result) c.deref.ensures.value c.take_up.ensures in
-    opened_result D.content D.images D.clock D.images_since D.fault_count c.args.rules c.args.disk mid payloads c.faults-opening.result c.faults-opening.ensures c.in-Ok.ensures.later c.in-Ok.ensures.read c.in-Ok.ensures.any_moment c.take_up.result takes
+    opened_result D.content D.images D.clock D.images_since D.fault_count c.args.rules c.args.disk c.in-Ok.journal.disk (payloads_of c.in-Ok.records.items) c.faults-opening.result c.faults-opening.ensures c.in-Ok.ensures.later
+    c.in-Ok.ensures.read c.in-Ok.ensures.any_moment c.take_up.result (takes g (goal.at.returns-in-Ok-clause-opened g c).After-take_up)
 
 pub returns-in-Ok-clause-refused : goal.returns-in-Ok-clause-refused
 returns-in-Ok-clause-refused g c =
     let D = g.D.Disk in
-    let mid = c.in-Ok.journal.disk in
-    let payloads = payloads_of c.in-Ok.records.items in
-    let takes = subst (λ (records : List (Vec ℕ Global)). TakesUp D.images D.clock D.images_since D.fault_count c.args.rules (payloads_of records) c.faults-opening.result mid c.take_up.result) c.deref.ensures.value c.take_up.ensures in
-    refused_result D.content D.images D.clock D.images_since D.fault_count c.args.rules c.args.disk mid payloads c.faults-opening.result c.in-Ok.ensures.later c.in-Ok.ensures.read c.in-Ok.ensures.any_moment c.take_up.result takes
+    refused_result D.content D.images D.clock D.images_since D.fault_count c.args.rules c.args.disk c.in-Ok.journal.disk (payloads_of c.in-Ok.records.items) c.faults-opening.result c.in-Ok.ensures.later c.in-Ok.ensures.read
+    c.in-Ok.ensures.any_moment c.take_up.result (takes g (goal.at.returns-in-Ok-clause-refused g c).After-take_up)
 
 pub returns-in-Err-clause-refused : goal.returns-in-Err-clause-refused
 returns-in-Err-clause-refused g c =

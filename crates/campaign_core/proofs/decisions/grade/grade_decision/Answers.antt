@@ -28,7 +28,7 @@ returns-in-Some-lease_refusal c =
     let desk = c.desk.result.now.leases in
     let knows : KnowsAll H ts desk = subst (KnowsAll H ts) (sym c.desk.ensures) known.assessed.knows in
     ap (ruled H who now) c.requires.asked.command_is
-    ∙ sym (grade-refused H (names_of H) desk who now c.args.number campaign.phase known.phase_is c.if-not-is_judging.ensures knows.leased c.in-Some.lease.now (sym c.in-Some.ensures.lease) c.args.grade c.in-Some-lease_refusal.refusal
+    ∙ sym (grade-refused H (names_of H) desk who now c.args.number campaign.phase known.phase_is c.if-not-is_in.ensures knows.leased c.in-Some.lease.now (sym c.in-Some.ensures.lease) c.args.grade c.in-Some-lease_refusal.refusal
     (sym c.lease_refusal.ensures ∙ c.in-Some-lease_refusal.is))
 
 pub returns-then-grade-rules : goal.returns-then-grade-rules
@@ -42,7 +42,7 @@ returns-then-grade-rules c =
     let desk = c.desk.result.now.leases in
     let knows : KnowsAll H ts desk = subst (KnowsAll H ts) (sym c.desk.ensures) known.assessed.knows in
     ap (ruled H who now) c.requires.asked.command_is
-    ∙ sym (grade-outside H (names_of H) desk who now c.args.number campaign.phase known.phase_is c.if-not-is_judging.ensures knows.leased c.in-Some.lease.now (sym c.in-Some.ensures.lease) c.args.grade
+    ∙ sym (grade-outside H (names_of H) desk who now c.args.number campaign.phase known.phase_is c.if-not-is_in.ensures knows.leased c.in-Some.lease.now (sym c.in-Some.ensures.lease) c.args.grade
     (sym c.lease_refusal.ensures ∙ c.in_default-lease_refusal.is)
     (subst (λ (r : Rules). r.top_grade < c.args.grade) c.rules.ensures c.if-grade-rules.true))
 
@@ -86,7 +86,7 @@ returns c =
     ap (λ (t : Text). let r : Reply = reply.Graded t c.in_ok-docno.field-0 c.args.grade in r) topic
     ∙ ap (λ (d : Text). let r : Reply = reply.Graded w.lease.topic d c.args.grade in r) doc in
     let none = sym c.lease_refusal.ensures ∙ c.in_default-lease_refusal.is in
-    let given = grade-given H (names_of H) desk who now c.args.number campaign.phase known.phase_is c.if-not-is_judging.ensures knows.leased lease (sym c.in-Some.ensures.lease) c.args.grade none
+    let given = grade-given H (names_of H) desk who now c.args.number campaign.phase known.phase_is c.if-not-is_in.ensures knows.leased lease (sym c.in-Some.ensures.lease) c.args.grade none
     (subst (λ (r : Rules). c.args.grade ≤ r.top_grade) c.rules.ensures c.if-grade-rules.false) in (
       ap (ruled H who now) c.requires.asked.command_is ∙ sym given ∙ ap Ok (sym reply_is),
       record {

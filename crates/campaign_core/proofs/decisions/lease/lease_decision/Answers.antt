@@ -13,42 +13,71 @@ use Rattle.campaign_core.specs.Kept.{KnowsAll}
 use Rattle.campaign_core.specs.Leasing.{first_open, is_open_in}
 use Rattle.campaign_core.specs.Numbers.{doc_in, names_of}
 use Rattle.campaign_core.proofs.Judging.LiveLeases.{live-of-same}
-use Rattle.campaign_core.proofs.Rulings.LeaseRulings.{doc-told, few-leases, known-topic, lease-granted, lease-many, lease-nothing, lease-unknown, none-named, stands-at, unknown-topic}
+use Rattle.campaign_core.proofs.Rulings.LeaseRulings.{Placed, Standing, doc-told, few-leases, known-topic, lease-granted, lease-many, lease-nothing, lease-unknown, none-named, stands-at, unknown-topic}
 use Rattle.campaign_core.proofs.Entries.LeaseSteps.{desk-long}
 use Rattle.campaign_core.proofs.Lists.Elements.{get-map}
 use Rattle.campaign_core.proofs.Numbers.DocNumbers.{docno-back}
+use Rattle.campaign_core.proofs.Numbers.TopicPlaces.{known-place}
 use Rattle.campaign_core.proofs.Rulings.AcceptedEntries.{moment-of, term-fits}
+use Rattle.campaign_core.proofs.decisions.lease.lease_decision.Goals.{After-from, After-named}
 use Rattle.campaign_core.proofs.decisions.lease.lease_decision.Goals as goal
+
+knows : (c : After-from) → KnowsAll c.args.campaign.now.history.items (map facts_of c.args.campaign.now.assessment.topics.topics) c.desk-desk.result.now.leases
+knows c = subst (KnowsAll c.args.campaign.now.history.items (map facts_of c.args.campaign.now.assessment.topics.topics)) (sym c.desk-desk.ensures) c.requires.asked.asked.known.assessed.knows
+
+-- the number of the topic
+at : (c : After-from) → Placed c.args.campaign.now.history.items (map facts_of c.args.campaign.now.assessment.topics.topics) c.args.topic.now c.in-Some.number
+at c =
+    let all = c.args.campaign.now.assessment.topics.topics in
+    known-topic c.args.campaign.now.history.items (map facts_of all) c.args.topic.now c.in-Some.number (knows c).topics_are
+    (known-place all c.topics-topics.result.now (Some c.in-Some.number) c.bytes.result.now c.args.topic.now c.topics-topics.ensures c.bytes.ensures c.in-Some.ensures)
+
+-- how many live leases the assessor has
+live_is : (c : After-from) → c.live_of-live.result ≡ length (live_leases_of c.args.campaign.now.history.items c.args.core.now.moment c.args.core.now.caller.name)
+live_is c =
+    let H = c.args.campaign.now.history.items in
+    let now = c.args.core.now.moment in
+    c.live_of-live.ensures ∙ live-of-same H (names_of H) c.desk-desk.result.now.leases now c.bytes-assessor.result.now (knows c).leased
+    ∙ ap (λ (name : Text). length (live_leases_of H now name)) c.bytes-assessor.ensures
+
+hold_is : (c : After-from) → c.from.result ≡ (rules_of c.args.campaign.now.history.items).hold
+hold_is c = c.from.ensures ∙ ap (λ (r : Rules). r.hold) c.rules-rules.ensures
+
+-- the topic that was looked up
+stands : (c : After-named) → Standing c.args.campaign.now.history.items c.index-topics-number.result.facts c.args.topic.now
+stands c =
+    let H = c.args.campaign.now.history.items in
+    let all = c.args.campaign.now.assessment.topics.topics in
+    let known = c.requires.asked.asked.known in
+    let topic = c.index-topics-number.result in
+    let topic_is = ap facts_of (c.index-topics-number.is ∙ ap (λ (items : List TopicView). get_or items c.in-Some.number topic) c.topics-topics.ensures) ∙ sym (get-map facts_of all c.in-Some.number topic) in
+    let found = known-place all c.topics-topics.result.now (Some c.in-Some.number) c.bytes.result.now c.args.topic.now c.topics-topics.ensures c.bytes.ensures c.in-Some.ensures in
+    let placed = known-topic H (map facts_of all) c.args.topic.now c.in-Some.number known.assessed.knows.topics_are found in
+    stands-at H (map facts_of all) c.args.campaign.now.assessment.leases known.assessed.knows c.args.topic.now c.in-Some.number placed.number_is placed.listed topic.facts topic_is
 
 pub returns-in_default : goal.returns-in_default
 returns-in_default c =
     let campaign = c.args.campaign.now in
     let H = campaign.history.items in
+    let all = campaign.assessment.topics.topics in
     let who = c.args.core.now.caller in
     let now = c.args.core.now.moment in
     let known = c.requires.asked.asked.known in
     ap (ruled H who now) c.requires.asked.command_is
-    ∙ sym (lease-unknown H who now c.args.topic.now campaign.phase known.phase_is c.if-not-is_judging.ensures
-    (unknown-topic H (map facts_of campaign.assessment.topics.topics) c.args.topic.now known.assessed.knows.topics_are (rw (← c.bytes.ensures) c.in_default.ensures)))
+    ∙ sym (lease-unknown H who now c.args.topic.now campaign.phase known.phase_is c.if-not-is_in.ensures
+    (unknown-topic H (map facts_of all) c.args.topic.now known.assessed.knows.topics_are
+    (known-place all c.topics-topics.result.now None c.bytes.result.now c.args.topic.now c.topics-topics.ensures c.bytes.ensures c.in_default.ensures)))
 
 pub returns-then-live-from : goal.returns-then-live-from
 returns-then-live-from c =
+    let before = (goal.at.returns-then-live-from c).After-from in
     let campaign = c.args.campaign.now in
     let H = campaign.history.items in
-    let ts = map facts_of campaign.assessment.topics.topics in
     let who = c.args.core.now.caller in
     let now = c.args.core.now.moment in
-    let known = c.requires.asked.asked.known in
-    let desk = c.desk-desk.result.now.leases in
-    let knows : KnowsAll H ts desk = subst (KnowsAll H ts) (sym c.desk-desk.ensures) known.assessed.knows in
-    let at = known-topic H ts c.args.topic.now c.in-Some.number knows.topics_are (rw (← c.bytes.ensures) c.in-Some.ensures) in
-    let live_is : c.live_of-live.result ≡ length (live_leases_of H now who.name) =
-    c.live_of-live.ensures ∙ live-of-same H (names_of H) desk now c.bytes-assessor.result.now knows.leased
-    ∙ ap (λ (name : Text). length (live_leases_of H now name)) c.bytes-assessor.ensures in
-    let hold_is : c.from.result ≡ (rules_of H).hold = c.from.ensures ∙ ap (λ (r : Rules). r.hold) c.rules-rules.ensures in
     ap (ruled H who now) c.requires.asked.command_is
-    ∙ sym (lease-many H who now c.args.topic.now campaign.phase known.phase_is c.if-not-is_judging.ensures at.listed c.live_of-live.result live_is
-    (omega (arith, hold_is, c.if-live-from.true)))
+    ∙ sym (lease-many H who now c.args.topic.now campaign.phase c.requires.asked.asked.known.phase_is c.if-not-is_in.ensures (at before).listed c.live_of-live.result (live_is before)
+    (omega (arith, hold_is before, c.if-live-from.true)))
 
 pub overflow_add-reply : goal.overflow_add-reply
 overflow_add-reply c =
@@ -72,19 +101,14 @@ returns c =
     let now = c.args.core.now.moment in
     let topic = c.args.topic.now in
     let known = c.requires.asked.asked.known in
+    let before = goal.at.returns c in
     let desk = c.desk-desk.result.now.leases in
-    let knows : KnowsAll H ts desk = subst (KnowsAll H ts) (sym c.desk-desk.ensures) known.assessed.knows in
+    let knows = knows before.After-from in
     let number = c.in-Some.number in
-    let at = known-topic H ts topic number knows.topics_are (rw (← c.bytes.ensures) c.in-Some.ensures) in
-    let live_is : c.live_of-live.result ≡ length (live_leases_of H now who.name) =
-    c.live_of-live.ensures ∙ live-of-same H (names_of H) desk now c.bytes-assessor.result.now knows.leased
-    ∙ ap (λ (name : Text). length (live_leases_of H now name)) c.bytes-assessor.ensures in
-    let hold_is : c.from.result ≡ (rules_of H).hold = c.from.ensures ∙ ap (λ (r : Rules). r.hold) c.rules-rules.ensures in
-    let few : length (live_leases_of H now who.name) < (rules_of H).hold = omega (arith, live_is, hold_is, c.if-live-from.false) in
-    let kept = c.index-topics-number.result in
-    let s = kept.facts in
-    let s_is : s ≡ get_or ts number s = ap facts_of (c.index-topics-number.is ∙ ap (λ (items : List TopicView). get_or items number kept) c.topics-topics.ensures) ∙ sym (get-map facts_of all number kept) in
-    let stands = stands-at H ts desk knows topic number at.number_is at.listed s s_is in
+    let at = at before.After-from in
+    let few : length (live_leases_of H now who.name) < (rules_of H).hold = omega (arith, live_is before.After-from, hold_is before.After-from, c.if-live-from.false) in
+    let s = c.index-topics-number.result.facts in
+    let stands = stands before.After-named in
     let doc = c.in-Some-named.doc in
     let queue = c.in-Some-named.ensures.0 in
     let is : Some doc ≡ first_open (is_open_in s.need s.marked desk number now who.name) s.pool queue.order =
@@ -106,7 +130,7 @@ returns c =
     ∙ ap (λ d. leased (length (leases H) + 1) topic d last c.in_ok-from_slice.field-0) docno
     ∙ ap (λ u. leased (length (leases H) + 1) topic told.text u c.in_ok-from_slice.field-0) until
     ∙ ap (λ title. leased (length (leases H) + 1) topic told.text (now + (rules_of H).term) title) titled in
-    let granted = lease-granted H who now topic campaign.phase known.phase_is c.if-not-is_judging.ensures at.listed few told.text told.named_is in
+    let granted = lease-granted H who now topic campaign.phase known.phase_is c.if-not-is_in.ensures at.listed few told.text told.named_is in
     let lease : Lease = record { number = length (leases H) + 1; assessor = who.name; topic = topic; doc = told.text; until = now + (rules_of H).term } in (
       ap (ruled H who now) c.requires.asked.command_is ∙ sym granted ∙ ap Ok (sym reply_is),
       record {
@@ -131,22 +155,17 @@ returns-in_default-named c =
     let now = c.args.core.now.moment in
     let topic = c.args.topic.now in
     let known = c.requires.asked.asked.known in
+    let before = goal.at.returns-in_default-named c in
     let desk = c.desk-desk.result.now.leases in
-    let knows : KnowsAll H ts desk = subst (KnowsAll H ts) (sym c.desk-desk.ensures) known.assessed.knows in
+    let knows = knows before.After-from in
     let number = c.in-Some.number in
-    let at = known-topic H ts topic number knows.topics_are (rw (← c.bytes.ensures) c.in-Some.ensures) in
-    let live_is : c.live_of-live.result ≡ length (live_leases_of H now who.name) =
-    c.live_of-live.ensures ∙ live-of-same H (names_of H) desk now c.bytes-assessor.result.now knows.leased
-    ∙ ap (λ (name : Text). length (live_leases_of H now name)) c.bytes-assessor.ensures in
-    let hold_is : c.from.result ≡ (rules_of H).hold = c.from.ensures ∙ ap (λ (r : Rules). r.hold) c.rules-rules.ensures in
-    let few : length (live_leases_of H now who.name) < (rules_of H).hold = omega (arith, live_is, hold_is, c.if-live-from.false) in
-    let kept = c.index-topics-number.result in
-    let s = kept.facts in
-    let s_is : s ≡ get_or ts number s = ap facts_of (c.index-topics-number.is ∙ ap (λ (items : List TopicView). get_or items number kept) c.topics-topics.ensures) ∙ sym (get-map facts_of all number kept) in
-    let stands = stands-at H ts desk knows topic number at.number_is at.listed s s_is in
+    let at = at before.After-from in
+    let few : length (live_leases_of H now who.name) < (rules_of H).hold = omega (arith, live_is before.After-from, hold_is before.After-from, c.if-live-from.false) in
+    let s = c.index-topics-number.result.facts in
+    let stands = stands before.After-named in
     let queue = c.in_default-named.ensures.0 in
     let is : None ≡ first_open (is_open_in s.need s.marked desk number now who.name) s.pool queue.order =
     c.in_default-named.ensures.2 ∙ ap (λ (name : Text). first_open (is_open_in s.need s.marked desk number now name) s.pool queue.order) c.bytes-assessor.ensures in
     ap (ruled H who now) c.requires.asked.command_is
-    ∙ sym (lease-nothing H who now topic campaign.phase known.phase_is c.if-not-is_judging.ensures at.listed few
+    ∙ sym (lease-nothing H who now topic campaign.phase known.phase_is c.if-not-is_in.ensures at.listed few
     (none-named H ts desk knows topic number at.number_is at.listed s stands queue c.in_default-named.ensures.1 now who.name c.first_that_passes.ensures is))

@@ -16,7 +16,7 @@ returns-in-Some-lease_refusal c =
     let desk = c.desk.result.now.leases in
     let leased : IsLeased H (names_of H) desk = subst (IsLeased H (names_of H)) (sym c.desk.ensures) known.assessed.knows.leased in
     ap (ruled H who now) c.requires.command_is
-    ∙ sym (release-refused H (names_of H) desk who now c.args.number campaign.phase known.phase_is c.if-not-is_judging.ensures leased c.in-Some.lease.now (sym c.in-Some.ensures.lease) c.in-Some-lease_refusal.refusal
+    ∙ sym (release-refused H (names_of H) desk who now c.args.number campaign.phase known.phase_is c.if-not-is_in.ensures leased c.in-Some.lease.now (sym c.in-Some.ensures.lease) c.in-Some-lease_refusal.refusal
     (sym c.lease_refusal.ensures ∙ c.in-Some-lease_refusal.is))
 
 pub returns : goal.returns
@@ -30,6 +30,6 @@ returns c =
     let leased : IsLeased H (names_of H) desk = subst (IsLeased H (names_of H)) (sym c.desk.ensures) known.assessed.knows.leased in
     let none = sym c.lease_refusal.ensures ∙ c.in_default-lease_refusal.is in (
       ap (ruled H who now) c.requires.command_is
-          ∙ sym (release-done H (names_of H) desk who now c.args.number campaign.phase known.phase_is c.if-not-is_judging.ensures leased c.in-Some.lease.now (sym c.in-Some.ensures.lease) none),
+          ∙ sym (release-done H (names_of H) desk who now c.args.number campaign.phase known.phase_is c.if-not-is_in.ensures leased c.in-Some.lease.now (sym c.in-Some.ensures.lease) none),
       (c.requires.command_is, subst (IsUnended c.args.number) c.desk.ensures (unended desk c.args.number c.in-Some.lease.now who.name now (sym c.in-Some.ensures.lease) none)),
     )

@@ -1,85 +1,133 @@
-use Rattle.std.proofs.Common.{◌≡◌, ◌+◌, ◌<◌, ◌≤◌, ◌++◌, ◌∙◌, List, None, Ok, ap, arith, false, length, map, refl, rules, subst, sym, true, vec_len}
+use Rattle.std.proofs.Common.{◌≡◌, ◌+◌, ◌<◌, ◌≤◌, ◌++◌, ◌∙◌, List, Ok, ap, arith, false, is_some, length, map, refl, rules, subst, sym, true, vec_len}
 use Rattle.std.specs.Prelude.{nat_lt}
 use Rattle.std.specs.List.{fold}
-use Rattle.std.proofs.lemmas.Bool.{ltb-false}
+use Rattle.std.specs.Str.{bytes_eq}
+use Rattle.std.proofs.lemmas.Bool.{le-ltb, lt-ltb}
+use Rattle.std.proofs.lemmas.Int.{ints}
 use Rattle.assessment.specs.TopicFacts.{TopicFacts, TopicView, facts_of}
 use Rattle.decimal_rank.specs.Names.{with_name}
 use Rattle.rulebook.specs.declared.ask.Command.TheVariants as command
-use Rattle.rulebook.specs.declared.limits.TheConstants.{MAX_DOCNOS, MAX_LINES, MAX_RUNS}
+use Rattle.rulebook.specs.declared.limits.TheConstants.{MAX_DOCNOS, MAX_ENTRY_BYTES, MAX_LINES}
 use Rattle.rulebook.specs.declared.reply.Reply.{Reply}
 use Rattle.rulebook.specs.declared.reply.Reply.TheVariants as reply
 use Rattle.rulebook.specs.declared.rules.Phase.TheVariants.{Collecting}
-use Rattle.rulebook.specs.Answers.{ruled, unknown_line}
-use Rattle.rulebook.specs.Campaign.{History, docnos, docs_on, is_taken, line_count, phase, runs, submitted_docnos, submitted_lines}
+use Rattle.rulebook.specs.Answers.{ruled}
+use Rattle.rulebook.specs.Campaign.{History, Run, docnos, docs_on, is_taken, line_count, phase, runs, submitted_docnos, submitted_lines}
 use Rattle.rulebook.specs.Refusals.{Ruling}
 use Rattle.rulebook.specs.Spelling.{is_plain}
 use Rattle.rulebook.specs.Words.{Text, contains_text, each_once}
 use Rattle.campaign_core.specs.Decisions.{IsDecision}
 use Rattle.campaign_core.specs.Numbers.{are_named, docs_in}
-use Rattle.campaign_core.proofs.Rulings.CollectingRulings.{collecting-from, each_once-submitted, submit-accepted, submit-fits, submit-too-many-docnos, submit-too-many-lines}
+use Rattle.campaign_core.proofs.Rulings.CollectingRulings.{Passes, collecting-from, each_once-submitted, submit-accepted, submit-fits, submit-taken, submit-too-many-docnos, submit-too-many-lines, submit-too-many-runs, submit-unlisted}
 use Rattle.campaign_core.proofs.Lists.Elements.{all_back}
+use Rattle.campaign_core.proofs.Lists.FirstPlaces.{is-there}
 use Rattle.campaign_core.proofs.Numbers.DocNumbers.{each_named}
 use Rattle.campaign_core.proofs.Printed.PoolTexts.{lists-named}
 use Rattle.campaign_core.proofs.Numbers.RunPlaces.{runs-many}
 use Rattle.campaign_core.proofs.Rulings.AcceptedEntries.{command-short, docs-plain, plain-of}
+use Rattle.campaign_core.proofs.decisions.submit.submit_decision.Goals.{After-add_docnos, After-from, After-is_some, After-len}
 use Rattle.campaign_core.proofs.decisions.submit.submit_decision.Goals as goal
 
-pub line_count-lines-requires : goal.line_count-lines-requires
-line_count-lines-requires c =
-    let core = c.args.core.now in
-    let lists = c.args.lists.now in
-    omega (arith, submit-fits core.command c.args.run.now lists lists c.requires.asked.command_is (command-short core.caller core.number core.command core.moment c.requires.asked.asked.addressed) refl)
+collecting : (c : After-is_some) → phase c.args.campaign.now.history.items ≡ Collecting
+collecting c = sym c.requires.asked.asked.known.phase_is ∙ collecting-from c.args.campaign.now.phase (sym c.if-not-is_in.ensures)
 
-pub exceeds-requires : goal.exceeds-requires
-exceeds-requires c =
-    let core = c.args.core.now in
-    let lists = c.args.lists.now in
-    let known = c.requires.asked.asked.known in
-    omega (arith, known.lines_are, known.lines_fit, c.line_count-lines.ensures, submit-fits core.command c.args.run.now lists lists c.requires.asked.command_is (command-short core.caller core.number core.command core.moment c.requires.asked.asked.addressed) refl)
+-- whether the name is taken, by what was looked up
+taken-is : (c : After-is_some) → c.is_some.result ≡ is_taken c.args.campaign.now.history.items c.args.run.now
+taken-is c =
+    c.is_some.ensures
+    ∙ ap is_some c.run_number.ensures
+    ∙ is-there (λ (run : Run). bytes_eq run.name c.bytes.result.now) (runs c.deref.result.now)
+    ∙ ap (λ (H : History). is_taken H c.bytes.result.now) c.deref.ensures.value
+    ∙ ap (is_taken c.args.campaign.now.history.items) c.bytes.ensures
 
-pub returns-then-exceeds-clause-decision : goal.returns-then-exceeds-clause-decision
-returns-then-exceeds-clause-decision c =
+-- how many runs there are
+runs-counted : (c : After-len) → c.len.result ≡ length (runs c.args.campaign.now.history.items)
+runs-counted c =
+    let counted : length c.args.campaign.now.submissions.items ≡ vec_len c.args.campaign.now.submissions = search rules in
+    omega (arith, runs-many c.args.campaign.now.history.items c.args.campaign.now.submissions.items c.requires.asked.asked.known.submissions_are, counted, c.len.ensures)
+
+passes : (c : After-from) → phase c.args.campaign.now.history.items ≡ Collecting → c.is_some.result ≡ is_taken c.args.campaign.now.history.items c.args.run.now
+    → c.len.result ≡ length (runs c.args.campaign.now.history.items) → Passes c.args.campaign.now.history.items c.args.run.now c.args.lists.now
+passes c collecting taken counted = record {
+  collecting = collecting;
+  free = sym taken ∙ c.if-is_some.false;
+  listed = sym c.unknown_line.ensures ∙ c.in_default.is;
+  runs_fit = omega (arith, counted, c.if-len.false);
+}
+
+-- the lines with those of the run
+lines-are : (c : After-from) → c.args.campaign.now.lines + c.line_count-lines.result ≡ submitted_lines c.args.campaign.now.history.items + line_count c.args.lists.now
+lines-are c = ap (λ n. n + c.line_count-lines.result) c.requires.asked.asked.known.lines_are ∙ ap (λ n. submitted_lines c.args.campaign.now.history.items + n) c.line_count-lines.ensures
+
+-- a run is no more than its spelling
+run-fits : (c : After-is_some) → length c.args.lists.now + line_count c.args.lists.now ≤ MAX_ENTRY_BYTES
+run-fits c =
+    let core = c.args.core.now in
+    submit-fits core.command c.args.run.now c.args.lists.now c.args.lists.now c.requires.asked.command_is (command-short core.caller core.number core.command core.moment c.requires.asked.asked.addressed) refl
+
+pub returns-then-is_some-clause-decision : goal.returns-then-is_some-clause-decision
+returns-then-is_some-clause-decision c =
+    let core = c.args.core.now in
+    let at = (goal.at.returns-then-is_some-clause-decision c).After-is_some in
+    ap (ruled c.args.campaign.now.history.items core.caller core.moment) c.requires.asked.command_is
+    ∙ submit-taken c.args.campaign.now.history.items c.args.run.now c.args.lists.now (collecting at) (sym (taken-is at) ∙ c.if-is_some.true)
+
+pub returns-in-Some-clause-decision : goal.returns-in-Some-clause-decision
+returns-in-Some-clause-decision c =
+    let core = c.args.core.now in
+    let at = (goal.at.returns-in-Some-clause-decision c).After-is_some in
+    ap (ruled c.args.campaign.now.history.items core.caller core.moment) c.requires.asked.command_is
+    ∙ submit-unlisted c.args.campaign.now.history.items c.args.run.now c.args.lists.now c.in-Some.line (collecting at) (sym (taken-is at) ∙ c.if-is_some.false) (sym c.unknown_line.ensures ∙ c.in-Some.is)
+
+pub returns-then-len-clause-decision : goal.returns-then-len-clause-decision
+returns-then-len-clause-decision c =
     let campaign = c.args.campaign.now in
-    let H = campaign.history.items in
     let core = c.args.core.now in
-    let lists = c.args.lists.now in
+    let at = goal.at.returns-then-len-clause-decision c in
+    subst (IsDecision campaign c.args.docnos.now core) (sym c.limit.ensures)
+    (ap (ruled campaign.history.items core.caller core.moment) c.requires.asked.command_is
+    ∙ submit-too-many-runs campaign.history.items c.args.run.now c.args.lists.now (collecting at.After-is_some) (sym (taken-is at.After-is_some) ∙ c.if-is_some.false) (sym c.unknown_line.ensures ∙ c.in_default.is)
+    (omega (arith, runs-counted at.After-len, c.if-len.true)))
+
+pub line_count-lines-requires : goal.line_count-lines-requires
+line_count-lines-requires c = omega (arith, run-fits (goal.at.line_count-lines-requires c).After-is_some)
+
+pub overflow_add-campaign : goal.overflow_add-campaign
+overflow_add-campaign c =
     let known = c.requires.asked.asked.known in
-    let collecting : phase H ≡ Collecting = sym known.phase_is ∙ collecting-from campaign.phase (sym c.if-not-is_collecting.ensures) in
-    let new : is_taken H c.args.run.now ≡ false = sym (c.is_taken.ensures ∙ ap (λ (H : History). is_taken H c.bytes.result.now) c.deref.ensures.value ∙ ap (is_taken H) c.bytes.ensures) ∙ c.if-is_taken.false in
-    let listed : unknown_line H lists ≡ None = sym c.unknown_line.ensures ∙ c.in_default.is in
-    let counted : length campaign.submissions.items ≡ vec_len campaign.submissions = search rules in
-    let runs_fit : length (runs H) < MAX_RUNS = omega (arith, runs-many H campaign.submissions.items known.submissions_are, counted, c.len.ensures, c.if-len.false) in
-    let full : nat_lt MAX_LINES (submitted_lines H + line_count lists) ≡ true =
-    sym (c.if-exceeds.ensures ∙ ap (λ n. nat_lt MAX_LINES (n + c.line_count-lines.result)) known.lines_are ∙ ap (λ n. nat_lt MAX_LINES (submitted_lines H + n)) c.line_count-lines.ensures) in
-    subst (IsDecision campaign c.args.docnos.now core) (sym c.limit-then-exceeds.ensures)
-    (ap (ruled H core.caller core.moment) c.requires.asked.command_is ∙ submit-too-many-lines H c.args.run.now lists collecting new listed runs_fit full)
+    omega (arith, ints, known.lines_are, known.lines_fit, c.line_count-lines.ensures, run-fits (goal.at.overflow_add-campaign c).After-is_some)
+
+pub returns-then-campaign-lines-clause-decision : goal.returns-then-campaign-lines-clause-decision
+returns-then-campaign-lines-clause-decision c =
+    let campaign = c.args.campaign.now in
+    let core = c.args.core.now in
+    let at = goal.at.returns-then-campaign-lines-clause-decision c in
+    let many : MAX_LINES < submitted_lines campaign.history.items + line_count c.args.lists.now = omega (arith, lines-are at.After-from, c.from.ensures, c.if-campaign-lines.true) in
+    subst (IsDecision campaign c.args.docnos.now core) (sym c.limit-then-campaign-lines.ensures)
+    (ap (ruled campaign.history.items core.caller core.moment) c.requires.asked.command_is
+    ∙ submit-too-many-lines campaign.history.items c.args.run.now c.args.lists.now (passes at.After-from (collecting at.After-is_some) (taken-is at.After-is_some) (runs-counted at.After-len)) (lt-ltb MAX_LINES (submitted_lines campaign.history.items + line_count c.args.lists.now) many))
+
+-- the lines are few
+lines-few : (c : After-add_docnos) → nat_lt MAX_LINES (submitted_lines c.args.campaign.now.history.items + line_count c.args.lists.now) ≡ false
+lines-few c =
+    le-ltb MAX_LINES (submitted_lines c.args.campaign.now.history.items + line_count c.args.lists.now)
+    (omega (arith, c.requires.asked.asked.known.lines_are, c.line_count-lines.ensures, c.from.ensures, c.if-campaign-lines.false))
 
 pub returns-then-len-gt-MAX_DOCNOS-clause-decision : goal.returns-then-len-gt-MAX_DOCNOS-clause-decision
 returns-then-len-gt-MAX_DOCNOS-clause-decision c =
     let campaign = c.args.campaign.now in
-    let H = campaign.history.items in
     let core = c.args.core.now in
     let lists = c.args.lists.now in
-    let known = c.requires.asked.asked.known in
-    let collecting : phase H ≡ Collecting = sym known.phase_is ∙ collecting-from campaign.phase (sym c.if-not-is_collecting.ensures) in
-    let new : is_taken H c.args.run.now ≡ false = sym (c.is_taken.ensures ∙ ap (λ (H : History). is_taken H c.bytes.result.now) c.deref.ensures.value ∙ ap (is_taken H) c.bytes.ensures) ∙ c.if-is_taken.false in
-    let listed : unknown_line H lists ≡ None = sym c.unknown_line.ensures ∙ c.in_default.is in
-    let counted : length campaign.submissions.items ≡ vec_len campaign.submissions = search rules in
-    let runs_fit : length (runs H) < MAX_RUNS = omega (arith, runs-many H campaign.submissions.items known.submissions_are, counted, c.len.ensures, c.if-len.false) in
-    let lines : nat_lt MAX_LINES (submitted_lines H + line_count lists) ≡ false =
-    sym (c.if-exceeds.ensures ∙ ap (λ n. nat_lt MAX_LINES (n + c.line_count-lines.result)) known.lines_are ∙ ap (λ n. nat_lt MAX_LINES (submitted_lines H + n)) c.line_count-lines.ensures) in
-    let docnos_are : c.add_docnos.new.docnos ≡ each_once (submitted_docnos H ++ docnos lists) =
-    c.in_ok-add_docnos.ensures.ok ∙ ap (λ texts. fold with_name texts (docnos lists)) c.requires.names ∙ sym (each_once-submitted H lists) in
+    let at = goal.at.returns-then-len-gt-MAX_DOCNOS-clause-decision c in
+    let docnos_are : c.add_docnos.new.docnos ≡ each_once (submitted_docnos campaign.history.items ++ docnos lists) =
+    c.in_ok-add_docnos.ensures.ok ∙ ap (λ texts. fold with_name texts (docnos lists)) c.requires.names ∙ sym (each_once-submitted campaign.history.items lists) in
     let many : MAX_DOCNOS < length c.add_docnos.new.docnos = omega (arith, c.len-2.ensures.len, c.if-len-gt-MAX_DOCNOS.true) in
     subst (IsDecision campaign c.add_docnos.new.docnos core) (sym c.limit-then-len-gt-MAX_DOCNOS.ensures)
-    (ap (ruled H core.caller core.moment) c.requires.asked.command_is
-    ∙ submit-too-many-docnos H c.args.run.now lists collecting new listed runs_fit (ltb-false MAX_LINES (submitted_lines H + line_count lists) lines) (subst (λ (names : List Text). MAX_DOCNOS < length names) docnos_are many))
+    (ap (ruled campaign.history.items core.caller core.moment) c.requires.asked.command_is
+    ∙ submit-too-many-docnos campaign.history.items c.args.run.now lists (passes at.After-from (collecting at.After-is_some) (taken-is at.After-is_some) (runs-counted at.After-len)) (lines-few at.After-add_docnos) (subst (λ (names : List Text). MAX_DOCNOS < length names) docnos_are many))
 
 pub overflow_cast-reply : goal.overflow_cast-reply
-overflow_cast-reply c =
-    let core = c.args.core.now in
-    let lists = c.args.lists.now in
-    omega (arith, submit-fits core.command c.args.run.now lists lists c.requires.asked.command_is (command-short core.caller core.number core.command core.moment c.requires.asked.asked.addressed) refl)
+overflow_cast-reply c = omega (arith, ints, run-fits (goal.at.overflow_cast-reply c).After-is_some)
 
 pub rankings_of-requires : goal.rankings_of-requires
 rankings_of-requires c = λ topic.
@@ -101,17 +149,12 @@ returns-clause-decision c =
     let run = c.args.run.now in
     let lists = c.args.lists.now in
     let known = c.requires.asked.asked.known in
-    let collecting : phase H ≡ Collecting = sym known.phase_is ∙ collecting-from campaign.phase (sym c.if-not-is_collecting.ensures) in
-    let new : is_taken H run ≡ false = sym (c.is_taken.ensures ∙ ap (λ (H : History). is_taken H c.bytes.result.now) c.deref.ensures.value ∙ ap (is_taken H) c.bytes.ensures) ∙ c.if-is_taken.false in
-    let listed : unknown_line H lists ≡ None = sym c.unknown_line.ensures ∙ c.in_default.is in
+    let at = goal.at.returns-clause-decision c in
     let counted : length campaign.submissions.items ≡ vec_len campaign.submissions = search rules in
-    let runs_fit : length (runs H) < MAX_RUNS = omega (arith, runs-many H campaign.submissions.items known.submissions_are, counted, c.len.ensures, c.if-len.false) in
-    let lines : nat_lt MAX_LINES (submitted_lines H + line_count lists) ≡ false =
-    sym (c.if-exceeds.ensures ∙ ap (λ n. nat_lt MAX_LINES (n + c.line_count-lines.result)) known.lines_are ∙ ap (λ n. nat_lt MAX_LINES (submitted_lines H + n)) c.line_count-lines.ensures) in
     let docnos_are : c.add_docnos.new.docnos ≡ each_once (submitted_docnos H ++ docnos lists) =
     c.in_ok-add_docnos.ensures.ok ∙ ap (λ texts. fold with_name texts (docnos lists)) c.requires.names ∙ sym (each_once-submitted H lists) in
     let few : length c.add_docnos.new.docnos ≤ MAX_DOCNOS = omega (arith, c.len-2.ensures.len, c.if-len-gt-MAX_DOCNOS.false) in
-    let accepted = submit-accepted H run lists collecting new listed runs_fit (ltb-false MAX_LINES (submitted_lines H + line_count lists) lines) (subst (λ (names : List Text). length names ≤ MAX_DOCNOS) docnos_are few) in
+    let accepted = submit-accepted H run lists (passes at.After-from (collecting at.After-is_some) (taken-is at.After-is_some) (runs-counted at.After-len)) (lines-few at.After-add_docnos) (subst (λ (names : List Text). length names ≤ MAX_DOCNOS) docnos_are few) in
     let reply_is : reply.Submitted c.in_ok-copy.field-0 (length lists) c.line_count-lines.result ≡ reply.Submitted run (length lists) (line_count lists) =
     ap (λ (name : Text). let r : Reply = reply.Submitted name (length lists) c.line_count-lines.result in r) c.in_ok-copy.ensures.copy
     ∙ ap (λ lines. let r : Reply = reply.Submitted run (length lists) lines in r) c.line_count-lines.ensures in

@@ -15,7 +15,7 @@ returns c =
     let H = campaign.history.items in
     let given = c.args.topics.now in
     let known = c.requires.asked.known in
-    let collecting : phase H ≡ Collecting = sym known.phase_is ∙ collecting-from campaign.phase (sym c.if-not-is_collecting.ensures) in
+    let collecting : phase H ≡ Collecting = sym known.phase_is ∙ collecting-from campaign.phase (sym c.if-not-is_in.ensures) in
     let none : has_topics H ≡ false = sym c.has_topics.ensures ∙ c.if-has_topics.false in (
       ap (ruled H c.args.core.now.caller c.args.core.now.moment) c.requires.command_is ∙ topics-accepted H given collecting none c.if-topics.false,
       (
@@ -26,7 +26,7 @@ returns c =
         record {
           level_is = ap (λ (all : TopicsFacts). all.level) c.in_ok-new.ensures.facts ∙ ap (λ (r : Rules). r.level) c.rules-rules.ensures;
           empty = ap (λ (all : TopicsFacts). all.lists) c.in_ok-new.ensures.facts;
-          no_room = c.in_ok-new.ensures.unreserved;
+          no_room = c.in_ok-new.ensures.none;
         },
       ),
     )

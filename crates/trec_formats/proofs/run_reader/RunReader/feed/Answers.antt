@@ -1,19 +1,15 @@
 use Rattle.std.proofs.Common.{subst, ◌+◌, sym, length}
-use Rattle.trec_formats.specs.RunStates.{IsAt, IsHeld, RunFed}
-use Rattle.trec_formats.proofs.RunTexts.RunFeeds.{or_failed, held_few}
+use Rattle.trec_formats.specs.RunStates.{IsAt, RunFed}
+use Rattle.trec_formats.proofs.RunTexts.RunFeeds.{held_few}
+use Rattle.std.proofs.lemmas.Result.{on_ok_weaker}
 use Rattle.trec_formats.proofs.run_reader.RunReader.feed.Goals as goal
 
-pub invariant_of-self-2 : goal.invariant_of-self-2
-invariant_of-self-2 c =
-    let held : IsHeld c.self.inside.fed c.replace-progress.result = subst (IsHeld c.self.inside.fed) (sym c.replace-progress.ensures.value) c.self.invariant.held in
-    record { few = rw (← c.self.view_is) at c.requires; held = c.after_piece.ensures.held c.self.inside.fed held }
+pub invariant_of-self : goal.invariant_of-self
+invariant_of-self c = record { few = rw (← c.self.view_is) at c.requires; held = c.read_on.ensures.held c.self.inside.fed c.self.invariant.held }
 
 pub returns-clause-ok : goal.returns-clause-ok
-returns-clause-ok c = λ text after.
-    let was : IsAt text c.replace-progress.result = subst (IsAt text) (sym c.replace-progress.ensures.value) (subst (λ (r : RunFed). IsAt text r.progress) (sym c.self.view_is) after) in
-    or_failed c.after_piece.result _ c.if-has_failed.ensures c.after_piece.ensures.ok text was
+returns-clause-ok c =
+    on_ok_weaker c.read_on.result (λ fed text after. fed text (subst (λ (r : RunFed). IsAt text r.progress) (sym c.self.view_is) after)) c.read_on.ensures.ok
 
 pub returns-clause-held : goal.returns-clause-held
-returns-clause-held c =
-    let held : IsHeld c.self.inside.fed c.replace-progress.result = subst (IsHeld c.self.inside.fed) (sym c.replace-progress.ensures.value) c.self.invariant.held in
-    held_few (c.self.inside.fed + length c.args.piece.now) c.after_piece.result (c.after_piece.ensures.held c.self.inside.fed held)
+returns-clause-held c = held_few (c.self.inside.fed + length c.args.piece.now) c.read_on.new.progress (c.read_on.ensures.held c.self.inside.fed c.self.invariant.held)

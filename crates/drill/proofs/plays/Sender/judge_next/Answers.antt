@@ -1,0 +1,24 @@
+use Rattle.std.proofs.Common.{◌+◌, ◌∙◌, ap, refl, sym}
+use Rattle.drill.specs.Figures.{grade_of}
+use Rattle.drill.specs.Messages.{grade_message, lease_message, message_text}
+use Rattle.drill.proofs.Sending.{answered-as, sent-as}
+use Rattle.drill.proofs.plays.Sender.judge_next.Goals as goal
+
+pub returns-in_ok-send-in-Some-clause-judged : goal.returns-in_ok-send-in-Some-clause-judged
+returns-in_ok-send-in-Some-clause-judged g c =
+    let number = c.args.sent.now.number in
+    let leases = c.args.sent.now.leases in
+    let lease = answered-as c.args.book.now.history c.send.new.book.history _ (lease_message c.args.t (number + 1)) _ c.in_ok-lease.ensures c.in_ok-doc.ensures in
+    record {
+      answers = lease.0;
+      leased = c.send.new.book.history;
+      doc = c.in-Some.doc;
+      lease = lease.1;
+      doc_is = sym lease.2 ∙ c.in-Some.is;
+      grade =
+          sent-as c.send.new.book.history c.send-in-Some.new.book.history _ (grade_message (leases + 1) (number + 2) (grade_of c.args.self.now.numbers.now c.args.t c.in-Some.doc)) _
+          (c.in_ok-text-in-Some.ensures ∙ ap (λ grade. message_text (grade_message (leases + 1) (number + 2) grade)) c.grade_of-grade.ensures)
+          c.in_ok-send-in-Some.ensures;
+      number_is = refl;
+      leases_are = refl;
+    }

@@ -1,0 +1,23 @@
+use Rattle.std.proofs.Common.{◌+◌, arith, refl, subst}
+use Rattle.drill.specs.Exchanges.{IsSent}
+use Rattle.drill.specs.Messages.{run_message}
+use Rattle.drill.specs.Plays.{After}
+use Rattle.drill.proofs.Counts.{after-more}
+use Rattle.drill.proofs.Sending.{filled, sent-as}
+use Rattle.drill.proofs.plays.Sender.submit_runs.Goals as goal
+
+pub loop-before-init : goal.loop-before-init
+loop-before-init g c = refl
+
+pub send-requires-clause-some : goal.send-requires-clause-some
+send-requires-clause-some g c = filled (run_message c.args.self.now.numbers.now (c.loop-before.before + 1)) _ c.in_ok-run_message.ensures
+
+pub loop-before-preserved : goal.loop-before-preserved
+loop-before-preserved g c =
+    after-more (λ r old new. IsSent old (run_message c.args.self.now.numbers.now r) new) c.loop-before.before c.args.book.now.history c.loop-before.book.history c.send.new.book.history c.loop-before.invariant
+    (sent-as c.loop-before.book.history c.send.new.book.history _ (run_message c.args.self.now.numbers.now (c.loop-before.before + 1)) _ c.in_ok-run_message.ensures c.in_ok-send.ensures)
+
+pub returns : goal.returns
+returns g c =
+    subst (λ n. After (λ r old new. IsSent old (run_message c.args.self.now.numbers.now r) new) n c.args.book.now.history c.loop-before.book.history)
+    (omega (arith, c.loop-before-test.false, c.loop-before.auto.before-end)) c.loop-before.invariant

@@ -1,0 +1,2 @@
+pub mod QueuedTopics
+pub mod ScoredBoard

@@ -1,0 +1,22 @@
+//! Tests of the board of scores, the desk of leases and the judging order, each also along random courses against what
+//! is worked out from nothing.
+#![tactic(auto)]
+
+mod plain_cells;
+
+pub use plain_cells::plain_cell;
+
+#[cfg(test)]
+mod board_courses;
+#[cfg(test)]
+mod boards;
+#[cfg(test)]
+mod desks;
+#[cfg(test)]
+mod letters;
+#[cfg(test)]
+mod queued_topics;
+#[cfg(test)]
+mod queues;
+#[cfg(test)]
+mod scored_board;

@@ -1,9 +1,0 @@
--- The names so far, in front of those that the bytes left give, are what all the bytes give.
-use Rattle.std.proofs.Common.{◌≡◌, ◌-◌}
-use Rattle.record_codec.specs.Readings.{items_at, name_at}
-use Rattle.record_codec.proofs.Loops.{with_front}
-use Rattle.record_codec.proofs.lists.names_of.Given as goal
-
-abbrev pub invariant-loop : goal.invariant-loop
-invariant-loop l = with_front l.names.items
-    (items_at name_at (l.count - l.counter) l.left.bytes.now) ≡ items_at name_at l.count l.fn.left.bytes.now

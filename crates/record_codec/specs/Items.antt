@@ -1,0 +1,7 @@
+-- What lists of an entry are made of.
+use Rattle.std.specs.Prelude.{Bool, length, nat_lt}
+use Rattle.rulebook.specs.Words.{Text}
+
+-- its length is a byte
+abbrev pub is_short : Text → Bool
+is_short text = nat_lt (length text) 256
