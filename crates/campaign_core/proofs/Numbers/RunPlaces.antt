@@ -84,6 +84,9 @@ submission-at H places number d e r are within =
 abbrev pub no_run : Run
 no_run = record { name = []; lists = [] }
 
+abbrev no_submission : Submission
+no_submission = record { place = 0; is_withdrawn = false }
+
 abbrev some_entry : Entry
 some_entry = record { core = record { caller = record { name = []; role = Organiser }; number = None; moment = 0; command = command.Open }; reply = reply.Done }
 
@@ -178,3 +181,14 @@ entry-at H all number d e r are within =
 
 pub entry-within : (H : History) (all : List Submission) (number : ℕ) (d : Submission) → AreSubmissions H all → number < length all → (get_or all number d).place < length H
 entry-within H all number d are within = (entry-at H all number d some_entry no_run are within).within
+
+-- a test of the entries from one of them on, by what it says of that one
+pub any-onwards : (f : Entry → Bool) (H : History) (all : List Submission) (number : ℕ) (e : Entry) (passes : Bool) → AreSubmissions H all → number < length all
+    → e ≡ get_or H (get_or all number no_submission).place e → f e ≡ passes
+    → any_at f H (drop number (map entry_place all)) ≡ (passes || any_at f H (drop (number + 1) (map entry_place all)))
+any-onwards f H all number e passes are within is test =
+    let rest : Bool = any_at f H (drop (number + 1) (map entry_place all)) in
+    any-from f H (map entry_place all) number e are.places_are (omega (arith, within, length-map all entry_place))
+    ∙ ap (λ (place : ℕ). f (get_or H place e) || rest) (get-map entry_place all number no_submission)
+    ∙ ap (λ (e : Entry). f e || rest) (sym is)
+    ∙ ap (λ (b : Bool). b || rest) test
