@@ -2,10 +2,6 @@
 //! is worked out from nothing.
 #![tactic(auto)]
 
-mod plain_cells;
-
-pub use plain_cells::plain_cell;
-
 #[cfg(test)]
 mod board_courses;
 #[cfg(test)]
@@ -14,6 +10,8 @@ mod boards;
 mod desks;
 #[cfg(test)]
 mod letters;
+#[cfg(test)]
+mod plain_cells;
 #[cfg(test)]
 mod queued_topics;
 #[cfg(test)]

@@ -8,7 +8,7 @@ use measures::{Cell, scratch};
 
 /// The cell of these grades by rank, where the topic's documents have the other grades. None where the
 /// topic has fewer that are relevant or judged lower than the list.
-pub fn plain_cell(by_rank: &[Option<u8>], topic: &[Option<u8>]) -> Option<Cell>
+pub(crate) fn plain_cell(by_rank: &[Option<u8>], topic: &[Option<u8>]) -> Option<Cell>
     ensures { IfSome result IsSound }
 {
     let relevant = relevant_in(topic);

@@ -1,6 +1,6 @@
 use Rattle.std.proofs.Common.{rules}
 use Rattle.trec_formats.specs.Names.{is_name}
-use Rattle.campaign_core_tests.proofs.campaigns.founded_by.Goals as goal
+use Rattle.campaign_cases.proofs.campaigns.founded_by.Goals as goal
 
 pub found-requires : goal.found-requires
 unfolding is_name

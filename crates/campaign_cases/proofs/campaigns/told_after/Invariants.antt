@@ -1,4 +1,4 @@
-use Rattle.campaign_core_tests.proofs.requests.told_after.Given as goal
+use Rattle.campaign_cases.proofs.campaigns.told_after.Given as goal
 
 -- the ledger is the blank's
 abbrev pub ghosts-committed : goal.ghosts-committed

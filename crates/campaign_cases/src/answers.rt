@@ -1,0 +1,67 @@
+//! What a campaign tells, as words.
+use decimal_rank::Text;
+use rulebook::Reply;
+use std::alloc::Global;
+
+/// What a reply says, of whose entry this is the moment. The topic 1 and its title aren't said.
+pub(crate) fn words_of(alloc: Global, reply: &Reply, moment: u64) -> Option<String> {
+    match reply {
+        Reply::Done => format!(in alloc; "done {moment}").ok(),
+        Reply::Topics { topics } => format!(in alloc; "topics {topics}").ok(),
+        Reply::Submitted { run, topics, lines } => {
+            let run = word(run)?;
+            format!(in alloc; "submitted {run} {topics} {lines}").ok()
+        }
+        Reply::Leased {
+            lease,
+            topic,
+            doc,
+            until,
+            title,
+        } => {
+            if word(title)? != "pooling" {
+                return None;
+            }
+            let doc = of_topic_one(topic, doc)?;
+            format!(in alloc; "leased {lease} {doc} {until}").ok()
+        }
+        Reply::Graded { topic, doc, grade } => {
+            let doc = of_topic_one(topic, doc)?;
+            format!(in alloc; "graded {doc} {grade}").ok()
+        }
+        Reply::Pool { docs, .. } => pool_words(alloc, docs.items()),
+        Reply::Page { text } => page(alloc, word(text)?),
+        Reply::Refused(refusal) => format!(in alloc; "refused {refusal:?}").ok(),
+    }
+}
+
+fn word(text: &Text) -> Option<&str> {
+    str::from_utf8(text.bytes()).ok()
+}
+
+// The document, of the topic 1.
+fn of_topic_one<'x>(topic: &'x Text, doc: &'x Text) -> Option<&'x str> {
+    if word(topic)? != "1" {
+        return None;
+    }
+    word(doc)
+}
+
+fn pool_words(alloc: Global, docs: &[Text]) -> Option<String> {
+    let mut words = String::from_str(alloc, "pool").ok()?;
+    for doc in docs {
+        words.push_str(" ").ok()?;
+        words.push_str(word(doc)?).ok()?;
+    }
+    Some(words)
+}
+
+// A page, whose lines end with a mark of their own.
+fn page(alloc: Global, text: &str) -> Option<String> {
+    let start = if text.is_empty() { "page" } else { "page " };
+    let mut words = String::from_str(alloc, start).ok()?;
+    for letter in text.chars() {
+        words.push(if letter == '\n' { '|' } else { letter }).ok()?;
+    }
+    Some(words)
+}

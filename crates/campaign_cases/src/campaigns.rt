@@ -1,0 +1,118 @@
+//! The campaign of a case, and what it tells a line.
+ghost use Rattle.std.specs.Prelude.{◌≡◌, ◌<◌, ◌≤◌, ◌∷◌, [], IfOk, Some, codes};
+
+use crate::answers::words_of;
+use crate::requests::{Asked, Door, ask_of, asked_of, cut};
+use campaign_core::{Prepared, State, Verdict};
+use decimal_rank::{Memory, Rows, Steps, Text};
+use rulebook::{MAX_MOMENT, Reply, Rules};
+use std::alloc::Global;
+use std::marker::Brand;
+use std::sync::ledger::{Blank, Ledger};
+
+/// A new campaign, by its depth, its hold and the labels that a document of the topic 1 needs.
+pub(crate) fn founded(alloc: Global, words: &str) -> Option<State> {
+    let (depth, rest) = cut(words);
+    let (hold, labels) = cut(rest);
+    let depth = depth.parse::<u16>().ok()?;
+    let hold = hold.parse::<u8>().ok()?;
+    if depth < 1 || depth > 1000 || hold < 1 || hold > 50 {
+        return None;
+    }
+    founded_by(alloc, depth, hold, labels == "2").ok()
+}
+
+fn founded_by(alloc: Global, depth: u16, hold: u8, is_doubled: bool) -> Result<State, Memory>
+    requires low_depth { 1 ≤ depth }
+    requires high_depth { depth ≤ 1000 }
+    requires low_hold { 1 ≤ hold }
+    requires high_hold { hold ≤ 50 }
+{
+    let doubles = if is_doubled {
+        first_topic(alloc)?
+    } else {
+        Rows::new(Vec::new(alloc))
+    };
+    let rules = Rules {
+        depth,
+        term: 600,
+        hold,
+        level: 1,
+        top_grade: 3,
+        doubles,
+    };
+    State::found(alloc, rules)
+}
+
+// The list of the topic 1.
+fn first_topic(alloc: Global) -> Result<Rows<Text>, Memory>
+    ensures { IfOk result (λ topics. topics ≡ (codes "1" ∷ [])) }
+{
+    let mut topics = Vec::new(alloc);
+    topics.push(Text::from_slice(alloc, b"1")?)?;
+    Ok(Rows::new(topics))
+}
+
+/// What a line is told. The campaign itself tells how many entries it has, its phase, and the runs of its first topic in
+/// the judging order, each with its mean of precisions.
+pub(crate) fn answer(alloc: Global, door: &Door, state: &mut State, words: &str) -> Option<String> {
+    if words == "entries" {
+        let entries = state.entries();
+        return format!(in alloc; "{entries}").ok();
+    }
+    if words == "phase" {
+        let phase = state.phase();
+        return format!(in alloc; "{phase:?}").ok();
+    }
+    if words == "order" {
+        return order(alloc, state);
+    }
+    told(alloc, door, state, &asked_of(words)?)
+}
+
+fn order(alloc: Global, state: &State) -> Option<String> {
+    let mut words = String::new(alloc);
+    if state.topic_count() > 0 {
+        for run in state.queue(0).order() {
+            let mean = state.board().summary(*run).map;
+            let run = run.0;
+            let line = format!(in alloc; "{run} {mean}|").ok()?;
+            words.push_str(line.as_str()).ok()?;
+        }
+    }
+    Some(words)
+}
+
+// What a request is told. Its entry is committed or cancelled.
+fn told(alloc: Global, door: &Door, state: &mut State, asked: &Asked) -> Option<String> {
+    let (who, number, ask) = ask_of(alloc, door, asked)?;
+    match state
+        .prepare(&who, number, ask, asked.moment.min(MAX_MOMENT))
+        .ok()?
+    {
+        Verdict::Told(reply) => words_of(alloc, &reply, 0),
+        Verdict::Ready(prepared) => told_after(alloc, state, prepared, asked.is_kept),
+    }
+}
+
+fn told_after(alloc: Global, state: &mut State, prepared: Prepared, is_kept: bool) -> Option<String>
+    requires { state.old.prepared ≡ Some prepared }
+{
+    let moment = prepared.core().moment;
+    if !is_kept {
+        state.cancel(prepared);
+        return format!(in alloc; "cancelled {moment}").ok();
+    }
+    let reply = committed::<Brand>(state, prepared, Blank::new(1));
+    words_of(alloc, &reply, moment)
+}
+
+fn committed<L: Ledger>(state: &mut State, prepared: Prepared, blank: Blank) -> Reply
+    requires prepared { state.old.prepared ≡ Some prepared }
+    requires name { blank.name ≡ L.name }
+    requires parts { blank.parts ≡ L.parts }
+    requires some { 0 < L.parts }
+{
+    let mut steps = Steps::<L>::new(blank);
+    state.commit(prepared, &mut steps)
+}

@@ -1,0 +1,111 @@
+//! Plays cases of a campaign: requests at moments of their own, each with what it has to be told. It reads them from
+//! standard input and prints each line that is told something else, and how many there were.
+//!
+//!     # a lease ends at its moment
+//!     campaign 3 2 1
+//!     org 1000 topics -> topics 1
+//!     grp 1000 submit X abe -> submitted X 1 3
+//!     org 1000 open -> done 1000
+//!     p 1000 lease 1 -> leased 1 b 1600
+//!     p 1600 grade 1 0 -> refused Expired { until: 1600 }
+//!     entries -> 5
+//!
+//! `campaign` founds one of this depth, this hold, and so many labels that a document of the topic 1 needs. Its term is
+//! 600, its level 1 and its greatest grade 3. In a page `|` ends a line. A line that can't be played is told `?`.
+#![tactic(auto)]
+
+mod answers;
+mod campaigns;
+mod requests;
+
+use campaign_core::State;
+use campaigns::{answer, founded};
+use requests::Door;
+use std::io;
+use std::process::ExitCode;
+
+/// How many cases and lines were played, and how many of the lines are told something else.
+#[derive(Drop)]
+struct Counts {
+    cases: u64,
+    lines: u64,
+    differing: u64,
+}
+
+// Plays a line, and prints it where it isn't told what stands behind its arrow.
+fn play(
+    rt: &HostRuntime,
+    door: &Door,
+    state: &mut State,
+    line: &str,
+    counts: &mut Counts,
+) -> io::Result<()> {
+    let (words, wanted) = line.split_once(" ->").unwrap_or((line, ""));
+    let told = answer(rt.alloc(), door, state, words);
+    let told = told.as_ref().map_or("?", String::as_str);
+    counts.lines = counts.lines.saturating_add(1);
+    if told != wanted.trim_start() {
+        counts.differing = counts.differing.saturating_add(1);
+        println!(rt; "{words} -> {told}")?;
+    }
+    Ok(())
+}
+
+fn play_lines(
+    rt: &HostRuntime,
+    door: &Door,
+    state: &mut State,
+    lines: &str,
+    counts: &mut Counts,
+) -> io::Result<()> {
+    for line in lines.lines() {
+        if !line.is_empty() && !line.starts_with('#') {
+            play(rt, door, state, line, counts)?;
+        }
+    }
+    Ok(())
+}
+
+// Plays the lines of a case in its campaign, which ends with them.
+fn play_in(
+    rt: &HostRuntime,
+    door: &Door,
+    mut state: State,
+    lines: &str,
+    counts: &mut Counts,
+) -> io::Result<()> {
+    counts.cases = counts.cases.saturating_add(1);
+    play_lines(rt, door, &mut state, lines, counts)
+}
+
+// Plays the lines of a case in a campaign of the rules that its first line tells.
+fn play_case(rt: &HostRuntime, door: &Door, case: &str, counts: &mut Counts) -> io::Result<()> {
+    let (rules, lines) = case.split_once('\n').unwrap_or((case, ""));
+    let Some(state) = founded(rt.alloc(), rules) else {
+        counts.differing = counts.differing.saturating_add(1);
+        return Ok(println!(rt; "campaign {rules} -> ?")?);
+    };
+    play_in(rt, door, state, lines, counts)
+}
+
+fn main(rt: HostRuntime) -> io::Result<ExitCode> {
+    let Some(door) = Door::new(rt.alloc()) else {
+        return Ok(ExitCode::from(7));
+    };
+    let text = io::read_to_string(rt.alloc(), rt.reader())?;
+    let mut counts = Counts {
+        cases: 0,
+        lines: 0,
+        differing: 0,
+    };
+    for case in text.as_str().split("\ncampaign ").skip(1) {
+        play_case(&rt, &door, case, &mut counts)?;
+    }
+    let Counts {
+        cases,
+        lines,
+        differing,
+    } = counts;
+    println!(rt; "cases {cases}, lines {lines}, of which told something else {differing}")?;
+    Ok(ExitCode::from(u8::from(differing > 0)))
+}
