@@ -1,29 +1,20 @@
 //! `drill` through the top call.
-use crate::journals::ended_with;
-use crate::links::idle_link;
-use campaign_cli::{MemoryShelf, MemorySink, USAGE_LINE};
+use crate::calls::printed;
+use campaign_cli::{MemoryShelf, USAGE_LINE};
 use std::process::Abort;
 use std::sync::Wait;
 use std::test::Fail;
 use std::thread::Threads;
 
-// The status of the program with these words, apart from one another by blanks, without files, and what it prints.
-// The words need no link, and take nothing from the one that they are given.
-fn printed<W: Threads + Wait + Sync + AllocGlobal + Abort>(
+// The status of the program with these words, without files, and what it prints.
+fn drilled<W: Threads + Wait + Sync + AllocGlobal + Abort>(
     rt: &W,
     words: &str,
 ) -> Result<(u8, Vec<u8>), Fail> {
     let alloc = rt.alloc();
-    let mut all = Vec::new(alloc);
-    for word in words.split(' ') {
-        all.push(String::from_str(alloc, word)?)?;
-    }
-    let mut shelf = MemoryShelf::new(Vec::new(alloc), Vec::new(alloc));
-    let mut out = MemorySink::new(Vec::new(alloc));
-    let mut own = idle_link(alloc);
-    let status = ended_with(rt, alloc, &all, &mut shelf, &mut out, &mut own);
-    assert!(rt; own.written().is_empty());
-    Ok((status.0, Vec::from_slice(alloc, out.written())?))
+    let shelf = MemoryShelf::new(Vec::new(alloc), Vec::new(alloc));
+    let (status, out) = printed(rt, words, shelf, Vec::new(alloc))?;
+    Ok((status, Vec::from_slice(alloc, out.written())?))
 }
 
 const SMALL: &[u8] =
@@ -31,7 +22,7 @@ const SMALL: &[u8] =
 
 #[test]
 fn a_small_campaign_is_played(rt: HostRuntime) -> Result<(), Fail> {
-    let (status, text) = printed(&rt, "drill 1 2 1 3")?;
+    let (status, text) = drilled(&rt, "drill 1 2 1 3")?;
     assert_eq!(rt; status, 0);
     assert_eq!(rt; text.as_slice(), SMALL);
     Ok(())
@@ -39,10 +30,10 @@ fn a_small_campaign_is_played(rt: HostRuntime) -> Result<(), Fail> {
 
 #[test]
 fn a_campaign_is_played_alike_each_time(rt: HostRuntime) -> Result<(), Fail> {
-    let (status, text) = printed(&rt, "drill 1 20 10 100")?;
+    let (status, text) = drilled(&rt, "drill 1 20 10 100")?;
     assert_eq!(rt; status, 0);
     assert!(rt; text.starts_with(b"runs 20\ntopics 10\nlines 20000\n"));
-    let (again, other) = printed(&rt, "drill 1 20 10 100")?;
+    let (again, other) = drilled(&rt, "drill 1 20 10 100")?;
     assert_eq!(rt; again, 0);
     assert_eq!(rt; text.as_slice(), other.as_slice());
     Ok(())
@@ -66,7 +57,7 @@ fn numbers_of_a_drill_have_ranges(rt: HostRuntime) -> Result<(), Fail> {
         ("drill x 1 1 1", 2),
     ];
     for (words, status) in cases {
-        let (ended, text) = printed(&rt, words)?;
+        let (ended, text) = drilled(&rt, words)?;
         assert_eq!(rt; ended, status);
         assert_eq!(rt; text.as_slice() == USAGE_LINE, status == 2);
     }

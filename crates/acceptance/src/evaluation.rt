@@ -1,9 +1,9 @@
 //! `eval` through the top call.
-use crate::journals::ended_with;
-use crate::links::idle_link;
+use crate::calls::printed;
 use campaign_cli::{MemoryShelf, MemorySink, USAGE_LINE};
 use decimal_rank::Text;
 use std::alloc::Global;
+use std::process::Abort;
 use std::sync::Wait;
 use std::test::Fail;
 use std::thread::Threads;
@@ -25,14 +25,6 @@ fn text(alloc: Global, bytes: &[u8]) -> Result<Text, Fail> {
     Ok(Text::from_slice(alloc, bytes)?)
 }
 
-fn words_of(alloc: Global, row: &[&str]) -> Result<Vec<String>, Fail> {
-    let mut words = Vec::new(alloc);
-    for word in row {
-        words.push(String::from_str(alloc, word)?)?;
-    }
-    Ok(words)
-}
-
 // A shelf of r.txt and q.txt, as far as they are given.
 fn shelf_of(
     alloc: Global,
@@ -51,24 +43,14 @@ fn shelf_of(
 }
 
 // The status and what was printed, where the run is scored against the qrels.
-fn scored<W: Threads + Wait + Sync + AllocGlobal>(
+fn scored<W: Threads + Wait + Sync + AllocGlobal + Abort>(
     rt: &W,
     run: Option<&[u8]>,
     qrels: Option<&[u8]>,
 ) -> Result<(u8, MemorySink), Fail> {
     let alloc = rt.alloc();
-    let words = words_of(alloc, &["eval", "r.txt", "q.txt"])?;
-    let mut shelf = shelf_of(alloc, run, qrels, Vec::new(alloc))?;
-    let mut out = MemorySink::new(Vec::new(alloc));
-    let status = ended_with(
-        rt,
-        alloc,
-        &words,
-        &mut shelf,
-        &mut out,
-        &mut idle_link(alloc),
-    );
-    Ok((status.0, out))
+    let shelf = shelf_of(alloc, run, qrels, Vec::new(alloc))?;
+    printed(rt, "eval r.txt q.txt", shelf, Vec::new(alloc))
 }
 
 // The lines of these values, in the order of the measures.
@@ -246,30 +228,21 @@ fn a_missing_file_is_told_before_a_faulty_one(rt: HostRuntime) -> Result<(), Fai
 #[test]
 fn other_words_get_the_usage_line(rt: HostRuntime) -> Result<(), Fail> {
     let alloc = rt.alloc();
-    let rows: [&[&str]; 8] = [
-        &[],
-        &["eval", "r.txt"],
-        &["eval", "r.txt", "q.txt", "q.txt"],
-        &["score", "r.txt", "q.txt"],
-        &["eval", "--", "r.txt", "q.txt"],
-        &["session", "x"],
-        &["help"],
-        &["-h"],
+    let rows = [
+        "",
+        "eval r.txt",
+        "eval r.txt q.txt q.txt",
+        "score r.txt q.txt",
+        "eval -- r.txt q.txt",
+        "session x",
+        "help",
+        "-h",
     ];
-    for row in rows {
-        let words = words_of(alloc, row)?;
-        let mut shelf = shelf_of(alloc, Some(RUN), Some(QRELS), Vec::new(alloc))?;
-        let mut out = MemorySink::new(Vec::new(alloc));
-        let status = ended_with(
-            &rt,
-            alloc,
-            &words,
-            &mut shelf,
-            &mut out,
-            &mut idle_link(alloc),
-        );
-        assert_eq!(rt; status.0, 2);
-        assert_eq!(rt; out.written(), USAGE_LINE);
+    for words in rows {
+        let shelf = shelf_of(alloc, Some(RUN), Some(QRELS), Vec::new(alloc))?;
+        let (status, out) = printed(&rt, words, shelf, Vec::new(alloc))?;
+        assert_eq!(rt; status, 2, "{words}");
+        assert_eq!(rt; out.written(), USAGE_LINE, "{words}");
     }
     Ok(())
 }
@@ -277,25 +250,16 @@ fn other_words_get_the_usage_line(rt: HostRuntime) -> Result<(), Fail> {
 #[test]
 fn each_failing_read_is_a_file_that_was_not_read(rt: HostRuntime) -> Result<(), Fail> {
     let alloc = rt.alloc();
-    let words = words_of(alloc, &["eval", "r.txt", "q.txt"])?;
     for place in 1..4 {
         let fails = vec![in alloc; place]?;
-        let mut shelf = shelf_of(alloc, Some(RUN), Some(QRELS), fails)?;
-        let mut out = MemorySink::new(Vec::new(alloc));
-        let status = ended_with(
-            &rt,
-            alloc,
-            &words,
-            &mut shelf,
-            &mut out,
-            &mut idle_link(alloc),
-        );
+        let shelf = shelf_of(alloc, Some(RUN), Some(QRELS), fails)?;
+        let (status, out) = printed(&rt, "eval r.txt q.txt", shelf, Vec::new(alloc))?;
         // the program reads twice
         if place < 3 {
-            assert_eq!(rt; status.0, 4);
+            assert_eq!(rt; status, 4);
             assert_eq!(rt; out.written().len(), 0);
         } else {
-            assert_eq!(rt; status.0, 0);
+            assert_eq!(rt; status, 0);
         }
     }
     Ok(())
@@ -304,24 +268,15 @@ fn each_failing_read_is_a_file_that_was_not_read(rt: HostRuntime) -> Result<(), 
 #[test]
 fn a_failing_write_is_told(rt: HostRuntime) -> Result<(), Fail> {
     let alloc = rt.alloc();
-    let rows: [(&[&str], &[u8]); 3] = [
-        (&["eval", "r.txt", "q.txt"], RUN),
-        (&["eval", "r.txt", "q.txt"], b"1"),
-        (&["eval"], RUN),
+    let rows: [(&str, &[u8]); 3] = [
+        ("eval r.txt q.txt", RUN),
+        ("eval r.txt q.txt", b"1"),
+        ("eval", RUN),
     ];
-    for (row, run) in rows {
-        let words = words_of(alloc, row)?;
-        let mut shelf = shelf_of(alloc, Some(run), Some(QRELS), Vec::new(alloc))?;
-        let mut out = MemorySink::new(vec![in alloc; 1]?);
-        let status = ended_with(
-            &rt,
-            alloc,
-            &words,
-            &mut shelf,
-            &mut out,
-            &mut idle_link(alloc),
-        );
-        assert_eq!(rt; status.0, 8);
+    for (words, run) in rows {
+        let shelf = shelf_of(alloc, Some(run), Some(QRELS), Vec::new(alloc))?;
+        let (status, out) = printed(&rt, words, shelf, vec![in alloc; 1]?)?;
+        assert_eq!(rt; status, 8);
         assert_eq!(rt; out.written().len(), 0);
     }
     Ok(())

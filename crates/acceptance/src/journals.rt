@@ -1,40 +1,13 @@
 //! Journals that a session leaves, opened again through the top call.
-ghost use Rattle.campaign_server.specs.Doors.{IsShut};
-ghost use Rattle.campaign_server.specs.MemoryDoors.{told_by};
-
+use crate::calls::ended_under;
 use crate::links::{idle_link, link_of};
-use crate::session::{SUBMIT, SUBMITTED, TOPICS, TOPICS_TAKEN};
-use crate::settings::{SETTINGS, settings_shelf};
-use campaign_cli::{MemoryShelf, MemorySink, Shelf, Sink, Status, campaign};
-use campaign_server::{Link, MemoryDoor, MemoryLink};
+use crate::session::{SUBMIT, SUBMITTED, TOPICS, TOPICS_TAKEN, both};
+use crate::settings::SETTINGS;
 use disk_model::MemoryDisk;
 use std::alloc::Global;
 use std::sync::Wait;
 use std::test::Fail;
 use std::thread::Threads;
-
-// A door without links.
-fn shut_door(alloc: Global) -> MemoryDoor<MemoryLink>
-    ensures { IsShut (told_by result) }
-{
-    MemoryDoor::new(Vec::new(alloc), Vec::new(alloc))
-}
-
-/// The status of the program over a disk that is empty.
-pub(crate) fn ended_with<W: Threads + Wait + Sync, F: Shelf, O: Sink, I: Link>(
-    rt: &W,
-    alloc: Global,
-    words: &[String],
-    shelf: &mut F,
-    out: &mut O,
-    own: &mut I,
-) -> Status {
-    let disk = MemoryDisk::new(Vec::new(alloc), Vec::new(alloc));
-    let mut door = shut_door(alloc);
-    let (status, disk) = campaign(rt, alloc, words, shelf, out, own, disk, &mut door);
-    drop(disk);
-    status
-}
 
 const TABLE: &[u8] = b"GET /table HTTP/1.1\r\nX-Campaign-Key: ORGANISERORGAN01\r\n\r\n";
 
@@ -58,30 +31,6 @@ pub(crate) fn content_of(alloc: Global, disk: MemoryDisk) -> Result<Vec<u8>, Fai
     Ok(Vec::from_slice(alloc, disk.content())?)
 }
 
-// The status of the program over a disk with these bytes, of which the call at this place fails, and what
-// the disk has then.
-fn left_by<W: Threads + Wait + Sync + AllocGlobal>(
-    rt: &W,
-    words: &[String],
-    shelf: &mut MemoryShelf,
-    out: &mut MemorySink,
-    own: &mut MemoryLink,
-    bytes: &[u8],
-    fail: u64,
-) -> Result<(u8, Vec<u8>), Fail> {
-    let alloc = rt.alloc();
-    let disk = disk_of(alloc, bytes, fail)?;
-    let mut door = shut_door(alloc);
-    let (status, disk) = campaign(rt, alloc, words, shelf, out, own, disk, &mut door);
-    Ok((status.0, content_of(alloc, disk)?))
-}
-
-fn word_alone(alloc: Global, word: &str) -> Result<Vec<String>, Fail> {
-    let mut words = Vec::new(alloc);
-    words.push(String::from_str(alloc, word)?)?;
-    Ok(words)
-}
-
 // What is written where these requests are answered by the campaign of these bytes, of which the call at
 // this place fails, and what the disk has then.
 fn answered<W: Threads + Wait + Sync + AllocGlobal>(
@@ -91,12 +40,13 @@ fn answered<W: Threads + Wait + Sync + AllocGlobal>(
     requests: &[u8],
 ) -> Result<(Vec<u8>, Vec<u8>), Fail> {
     let alloc = rt.alloc();
-    let words = word_alone(alloc, "session")?;
-    let mut shelf = settings_shelf(alloc, SETTINGS)?;
-    let mut out = MemorySink::new(Vec::new(alloc));
     let mut link = link_of(alloc, requests, b"", Vec::new(alloc), Vec::new(alloc))?;
-    let (_, content) = left_by(rt, &words, &mut shelf, &mut out, &mut link, bytes, fail)?;
-    Ok((Vec::from_slice(alloc, link.written())?, content))
+    let disk = disk_of(alloc, bytes, fail)?;
+    let (_, _, disk) = ended_under(rt, "session", SETTINGS, &mut link, disk)?;
+    Ok((
+        Vec::from_slice(alloc, link.written())?,
+        content_of(alloc, disk)?,
+    ))
 }
 
 // The status of `check` under these settings on a disk with these bytes, of which the call at this place
@@ -108,11 +58,9 @@ pub(crate) fn checked<W: Threads + Wait + Sync + AllocGlobal>(
     fail: u64,
 ) -> Result<(u8, Vec<u8>), Fail> {
     let alloc = rt.alloc();
-    let words = word_alone(alloc, "check")?;
-    let mut shelf = settings_shelf(alloc, settings)?;
-    let mut out = MemorySink::new(Vec::new(alloc));
     let mut link = idle_link(alloc);
-    let (status, _) = left_by(rt, &words, &mut shelf, &mut out, &mut link, bytes, fail)?;
+    let disk = disk_of(alloc, bytes, fail)?;
+    let (status, out, _) = ended_under(rt, "check", settings, &mut link, disk)?;
     Ok((status, Vec::from_slice(alloc, out.written())?))
 }
 
@@ -188,10 +136,8 @@ fn a_command_that_a_fault_kept_out_is_taken_when_it_is_sent_again(
     rt: HostRuntime,
 ) -> Result<(), Fail> {
     let alloc = rt.alloc();
-    let mut twice = Vec::from_slice(alloc, TOPICS)?;
-    twice.extend_from_slice(TOPICS)?;
-    let mut answers = Vec::from_slice(alloc, FAULT)?;
-    answers.extend_from_slice(TOPICS_TAKEN)?;
+    let twice = both(alloc, TOPICS, TOPICS)?;
+    let answers = both(alloc, FAULT, TOPICS_TAKEN)?;
     let (written, held) = answered(&rt, b"", GATE_SYNC, &twice)?;
     assert_eq!(rt; written.as_slice(), answers.as_slice());
     let (ended, printed) = checked(&rt, SETTINGS, &held, 0)?;
@@ -206,16 +152,12 @@ fn a_command_that_a_fault_kept_out_is_taken_when_it_is_sent_again(
 #[test]
 fn a_campaign_is_there_when_its_disk_is_opened_again(rt: HostRuntime) -> Result<(), Fail> {
     let alloc = rt.alloc();
-    let mut requests = Vec::from_slice(alloc, TOPICS)?;
-    requests.extend_from_slice(SUBMIT)?;
-    let mut with_table = Vec::from_slice(alloc, &requests)?;
-    with_table.extend_from_slice(TABLE)?;
+    let requests = both(alloc, TOPICS, SUBMIT)?;
+    let with_table = both(alloc, &requests, TABLE)?;
     let (at_once, _) = answered(&rt, b"", 0, &with_table)?;
     let (first, held) = answered(&rt, b"", 0, &requests)?;
     let (then, after) = answered(&rt, &held, 0, TABLE)?;
-    let mut joined = Vec::from_slice(alloc, &first)?;
-    joined.extend_from_slice(&then)?;
-    assert_eq!(rt; at_once.as_slice(), joined.as_slice());
+    assert_eq!(rt; at_once, both(alloc, &first, &then)?);
     assert_eq!(rt; first.len(), TOPICS_TAKEN.len() + SUBMITTED.len());
     assert_eq!(rt; after, held);
     Ok(())

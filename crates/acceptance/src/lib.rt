@@ -4,6 +4,8 @@
 #[cfg(test)]
 mod adapters;
 #[cfg(test)]
+mod calls;
+#[cfg(test)]
 mod drills;
 #[cfg(test)]
 mod evaluation;

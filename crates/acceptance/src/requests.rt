@@ -1,8 +1,6 @@
 //! Tables of requests with their answers, through `campaign session`.
-use crate::journals::ended_with;
+use crate::calls::session_over;
 use crate::links::link_of;
-use crate::settings::{SETTINGS, settings_shelf};
-use campaign_cli::MemorySink;
 use std::alloc::Global;
 use std::test::Fail;
 
@@ -49,15 +47,18 @@ POST /topics/1/lease;ASSESSORASSESS01 #8; => 201 Created;{\"doc\":\"b\",\"lease\
 POST /topics/1/lease;ASSESSORASSESS01 #8; => 201 Created;{\"doc\":\"b\",\"lease\":2,\"title\":\"pooling\",\"topic\":\"1\",\"until\":600}|
 POST /topics/1/lease;ASSESSORASSESS02 #7; => 201 Created;{\"doc\":\"e\",\"lease\":3,\"title\":\"pooling\",\"topic\":\"1\",\"until\":600}|";
 
-// A withdrawn run has no part any more; what its documents were given stays.
-const WITHDRAWN: &str = "\
+// Two runs, a judged document and a second lease.
+const BEGUN: &str = "\
 POST /topics;ORGANISERORGAN01;<top>|<num> 1|<title> pooling|</top>| => 201 Created;{\"topics\":1}|
 POST /runs/X;GROUPGROUPGROUP1 #1;1 Q0 a 1 3 X|1 Q0 b 2 2 X|1 Q0 e 3 1 X| => 201 Created;{\"lines\":3,\"run\":\"X\",\"topics\":1}|
 POST /runs/Y;GROUPGROUPGROUP1 #2;1 Q0 c 1 3 Y|1 Q0 d 2 2 Y|1 Q0 f 3 1 Y| => 201 Created;{\"lines\":3,\"run\":\"Y\",\"topics\":1}|
 POST /open;ORGANISERORGAN01; => 201 Created;{\"done\":true}|
 POST /topics/1/lease;ASSESSORASSESS01; => 201 Created;{\"doc\":\"a\",\"lease\":1,\"title\":\"pooling\",\"topic\":\"1\",\"until\":600}|
 POST /leases/1/grade;ASSESSORASSESS01;{\"grade\":0} => 201 Created;{\"doc\":\"a\",\"grade\":0,\"topic\":\"1\"}|
-POST /topics/1/lease;ASSESSORASSESS01; => 201 Created;{\"doc\":\"c\",\"lease\":2,\"title\":\"pooling\",\"topic\":\"1\",\"until\":600}|
+POST /topics/1/lease;ASSESSORASSESS01; => 201 Created;{\"doc\":\"c\",\"lease\":2,\"title\":\"pooling\",\"topic\":\"1\",\"until\":600}|";
+
+// A withdrawn run has no part any more; what its documents were given stays.
+const WITHDRAWN: &str = "\
 POST /topics/1/lease;ASSESSORASSESS02; => 201 Created;{\"doc\":\"d\",\"lease\":3,\"title\":\"pooling\",\"topic\":\"1\",\"until\":600}|
 POST /runs/Z/withdraw;GROUPGROUPGROUP1; => 404 Not Found;{\"refusal\":\"unknown-run\"}|
 POST /runs/Y/withdraw;GROUPGROUPGROUP1 #3; => 201 Created;{\"done\":true}|
@@ -69,15 +70,8 @@ POST /runs/Y/withdraw;GROUPGROUPGROUP1; => 409 Conflict;{\"refusal\":\"withdrawn
 GET /runs/Y/scores;GROUPGROUPGROUP1; => 409 Conflict;{\"refusal\":\"withdrawn\"}|
 GET /topics/1/pool;ORGANISERORGAN01; => 200 OK;{\"docs\":[\"a\",\"b\",\"e\"],\"topic\":\"1\"}|";
 
-// A campaign from its topics to its release.
+// A campaign to its release.
 const ENDED: &str = "\
-POST /topics;ORGANISERORGAN01;<top>|<num> 1|<title> pooling|</top>| => 201 Created;{\"topics\":1}|
-POST /runs/X;GROUPGROUPGROUP1 #1;1 Q0 a 1 3 X|1 Q0 b 2 2 X|1 Q0 e 3 1 X| => 201 Created;{\"lines\":3,\"run\":\"X\",\"topics\":1}|
-POST /runs/Y;GROUPGROUPGROUP1 #2;1 Q0 c 1 3 Y|1 Q0 d 2 2 Y|1 Q0 f 3 1 Y| => 201 Created;{\"lines\":3,\"run\":\"Y\",\"topics\":1}|
-POST /open;ORGANISERORGAN01; => 201 Created;{\"done\":true}|
-POST /topics/1/lease;ASSESSORASSESS01; => 201 Created;{\"doc\":\"a\",\"lease\":1,\"title\":\"pooling\",\"topic\":\"1\",\"until\":600}|
-POST /leases/1/grade;ASSESSORASSESS01;{\"grade\":0} => 201 Created;{\"doc\":\"a\",\"grade\":0,\"topic\":\"1\"}|
-POST /topics/1/lease;ASSESSORASSESS01; => 201 Created;{\"doc\":\"c\",\"lease\":2,\"title\":\"pooling\",\"topic\":\"1\",\"until\":600}|
 POST /leases/2/grade;ASSESSORASSESS01;{\"grade\":1} => 201 Created;{\"doc\":\"c\",\"grade\":1,\"topic\":\"1\"}|
 POST /topics/1/lease;ASSESSORASSESS01; => 201 Created;{\"doc\":\"d\",\"lease\":3,\"title\":\"pooling\",\"topic\":\"1\",\"until\":600}|
 POST /leases/3/grade;ASSESSORASSESS01;{\"grade\":0} => 201 Created;{\"doc\":\"d\",\"grade\":0,\"topic\":\"1\"}|
@@ -142,25 +136,28 @@ fn add_answer(alloc: Global, text: &mut Vec<u8>, answer: &str) -> Result<(), Fai
     add_lines(text, body)
 }
 
-// Each of the tables is a session of its own.
+// Each row of tables is a session of its own.
 #[test]
 fn requests_are_answered_in_their_order(rt: HostRuntime) -> Result<(), Fail> {
     let alloc = rt.alloc();
-    for table in [REQUESTS, NUMBERED, WITHDRAWN, ENDED] {
+    for tables in [
+        [REQUESTS, ""],
+        [NUMBERED, ""],
+        [BEGUN, WITHDRAWN],
+        [BEGUN, ENDED],
+    ] {
         let mut requests = Vec::new(alloc);
         let mut answers = Vec::new(alloc);
-        for row in table.lines() {
-            let (request, answer) = row.split_once(" => ").ok_or("no row")?;
-            add_request(alloc, &mut requests, request)?;
-            add_answer(alloc, &mut answers, answer)?;
+        for table in tables {
+            for row in table.lines() {
+                let (request, answer) = row.split_once(" => ").ok_or("no row")?;
+                add_request(alloc, &mut requests, request)?;
+                add_answer(alloc, &mut answers, answer)?;
+            }
         }
-        let mut words = Vec::new(alloc);
-        words.push(String::from_str(alloc, "session")?)?;
-        let mut shelf = settings_shelf(alloc, SETTINGS)?;
-        let mut out = MemorySink::new(Vec::new(alloc));
         let mut link = link_of(alloc, &requests, b"", Vec::new(alloc), Vec::new(alloc))?;
-        let status = ended_with(&rt, alloc, &words, &mut shelf, &mut out, &mut link);
-        assert_eq!(rt; status.0, 0);
+        let (status, _) = session_over(&rt, &mut link)?;
+        assert_eq!(rt; status, 0);
         assert_eq!(rt; link.written(), answers.as_slice());
     }
     Ok(())

@@ -3,15 +3,15 @@ ghost use Rattle.std.specs.Prelude.{◌≡◌, ◌≤◌, All, IfOk};
 ghost use Rattle.campaign_server.specs.Doors.{IsNew, IsShut};
 ghost use Rattle.campaign_server.specs.MemoryLinks.{told_by};
 
+use crate::calls::{empty_disk, ended_at};
 use crate::journals::{checked, content_of};
 use crate::links::{idle_link, link_of};
-use crate::session::{POOL, POOL_SHOWN, SUBMIT, SUBMITTED, TOPICS, TOPICS_TAKEN};
+use crate::session::{POOL, POOL_SHOWN, SUBMIT, SUBMITTED, TOPICS, TOPICS_TAKEN, both};
 use crate::settings::{SETTINGS, settings_shelf};
 use crate::waiting_link::WaitingLink;
-use campaign_cli::{MemorySink, campaign};
+use campaign_cli::MemorySink;
 use campaign_server::{Door, End, Link, MemoryDoor, MemoryLink};
 use decimal_rank::Memory;
-use disk_model::MemoryDisk;
 use std::alloc::Global;
 use std::process::Abort;
 use std::sync::atomic::AtomicU64;
@@ -19,9 +19,8 @@ use std::sync::{Arc, Wait};
 use std::test::Fail;
 use std::thread::Threads;
 
-// The status of the program with these words, apart from one another by blanks, over a door and an empty disk,
-// and what the disk has then.
-fn ended_with<W: Threads + Wait + Sync + AllocGlobal, R: Door>(
+// The status of the program with these words over a door and an empty disk, and what the disk has then.
+fn served_at<W: Threads + Wait + Sync + AllocGlobal, R: Door>(
     rt: &W,
     words: &str,
     door: &mut R,
@@ -29,22 +28,12 @@ fn ended_with<W: Threads + Wait + Sync + AllocGlobal, R: Door>(
     requires { IsShut (R.seen door.old) }
 {
     let alloc = rt.alloc();
-    let mut all = Vec::new(alloc);
-    for word in words.split(' ') {
-        all.push(String::from_str(alloc, word)?)?;
-    }
     let mut shelf = settings_shelf(alloc, SETTINGS)?;
     let mut out = MemorySink::new(Vec::new(alloc));
     let mut own = idle_link(alloc);
-    let disk = MemoryDisk::new(Vec::new(alloc), Vec::new(alloc));
-    let (status, disk) = campaign(rt, alloc, &all, &mut shelf, &mut out, &mut own, disk, door);
-    Ok((status.0, content_of(alloc, disk)?))
-}
-
-fn joined(alloc: Global, first: &[u8], second: &[u8]) -> Result<Vec<u8>, Fail> {
-    let mut text = Vec::from_slice(alloc, first)?;
-    text.extend_from_slice(second)?;
-    Ok(text)
+    let disk = empty_disk(alloc);
+    let (status, disk) = ended_at(rt, words, &mut shelf, &mut out, &mut own, disk, door)?;
+    Ok((status, content_of(alloc, disk)?))
 }
 
 // A link that gives these bytes. The read and the write at these places fail; none where a place is 0.
@@ -108,7 +97,7 @@ fn a_failing_link_leaves_the_others_answered(rt: HostRuntime) -> Result<(), Fail
         let links = three_links(alloc, TOPICS, read, write)?;
         let mut door = MemoryDoor::new(links, Vec::new(alloc));
         let words = "serve --port 7000 --workers 1 --connections 3";
-        let (status, _) = ended_with(&rt, words, &mut door)?;
+        let (status, _) = served_at(&rt, words, &mut door)?;
         assert_eq!(rt; status, 0);
         assert_eq!(rt; door.opened(), Some(7000));
         let rows: [(End, &[u8]); 3] = [
@@ -142,7 +131,7 @@ fn a_server_ends_with_its_door_or_its_connections(rt: HostRuntime) -> Result<(),
         let words = format!(in alloc;
             "serve --port 65535 --workers 1 --connections {connections}"
         )?;
-        let (ended, held) = ended_with(&rt, words.as_str(), &mut door)?;
+        let (ended, held) = served_at(&rt, words.as_str(), &mut door)?;
         assert_eq!(rt; ended, status);
         assert_eq!(rt; door.served().len(), count);
         assert_eq!(rt; door.opened().is_some(), fail != 1);
@@ -223,28 +212,28 @@ fn assert_waited(rt: &impl Abort, door: &MemoryDoor<WaitingLink>, last: &[u8], c
     assert_eq!(rt; shown.saturating_add(1), count);
 }
 
-#[test]
-fn two_connections_that_wait_are_answered(rt: HostRuntime) -> Result<(), Fail> {
+// As many workers as links take these links, each of which waits for the next but the last.
+fn assert_all_answered<W: Threads + Wait + Sync + AllocGlobal + Abort>(
+    rt: &W,
+    links: Vec<WaitingLink>,
+) -> Result<(), Fail>
+    requires { All (λ link. IsNew (⟦<WaitingLink as Link>⟧.seen link)) links.items }
+{
     let alloc = rt.alloc();
-    let last = joined(alloc, TOPICS_TAKEN, SUBMITTED)?;
-    let mut door = MemoryDoor::new(two_waiting(alloc)?, Vec::new(alloc));
-    let words = "serve --port 7000 --workers 2 --connections 2";
-    let (status, _) = ended_with(&rt, words, &mut door)?;
+    let count = links.len();
+    let last = both(alloc, TOPICS_TAKEN, SUBMITTED)?;
+    let mut door = MemoryDoor::new(links, Vec::new(alloc));
+    let words = format!(in alloc; "serve --port 7000 --workers {count} --connections {count}")?;
+    let (status, _) = served_at(rt, words.as_str(), &mut door)?;
     assert_eq!(rt; status, 0);
-    assert_waited(&rt, &door, &last, 2);
+    assert_waited(rt, &door, &last, count);
     Ok(())
 }
 
 #[test]
-fn four_connections_that_wait_are_answered(rt: HostRuntime) -> Result<(), Fail> {
-    let alloc = rt.alloc();
-    let last = joined(alloc, TOPICS_TAKEN, SUBMITTED)?;
-    let mut door = MemoryDoor::new(four_waiting(alloc)?, Vec::new(alloc));
-    let words = "serve --port 7000 --workers 4 --connections 4";
-    let (status, _) = ended_with(&rt, words, &mut door)?;
-    assert_eq!(rt; status, 0);
-    assert_waited(&rt, &door, &last, 4);
-    Ok(())
+fn connections_that_wait_are_answered(rt: HostRuntime) -> Result<(), Fail> {
+    assert_all_answered(&rt, two_waiting(rt.alloc())?)?;
+    assert_all_answered(&rt, four_waiting(rt.alloc())?)
 }
 
 #[test]
@@ -266,7 +255,7 @@ fn numbers_out_of_their_ranges_are_usage(rt: HostRuntime) -> Result<(), Fail> {
     for (words, status) in cases {
         let links = three_links(alloc, TOPICS, 0, 0)?;
         let mut door = MemoryDoor::new(links, Vec::new(alloc));
-        let (ended, _) = ended_with(&rt, words, &mut door)?;
+        let (ended, _) = served_at(&rt, words, &mut door)?;
         assert_eq!(rt; ended, status);
         assert_eq!(rt; door.opened().is_some(), status == 0);
     }

@@ -1,9 +1,8 @@
 //! `session` through the top call.
-use crate::journals::ended_with;
+use crate::calls::session_over;
 use crate::links::{AnsweredFirst, link_of};
-use crate::settings::{SETTINGS, settings_shelf};
 use campaign_cli::MemorySink;
-use campaign_server::{Link, MemoryLink};
+use campaign_server::MemoryLink;
 use std::alloc::Global;
 use std::sync::Wait;
 use std::test::Fail;
@@ -83,10 +82,6 @@ fn held<W: Threads + Wait + Sync + AllocGlobal>(
     write: u64,
 ) -> Result<(u8, MemorySink, MemoryLink), Fail> {
     let alloc = rt.alloc();
-    let mut words = Vec::new(alloc);
-    words.push(String::from_str(alloc, "session")?)?;
-    let mut shelf = settings_shelf(alloc, SETTINGS)?;
-    let mut out = MemorySink::new(Vec::new(alloc));
     let mut link = link_of(
         alloc,
         &both(alloc, TOPICS, first)?,
@@ -94,24 +89,12 @@ fn held<W: Threads + Wait + Sync + AllocGlobal>(
         places(alloc, read)?,
         places(alloc, write)?,
     )?;
-    let status = ended_with(rt, alloc, &words, &mut shelf, &mut out, &mut link);
-    Ok((status.0, out, link))
+    let (status, out) = session_over(rt, &mut link)?;
+    Ok((status, out, link))
 }
 
-// The status of a session over another link.
-fn end_of<W: Threads + Wait + Sync + AllocGlobal, I: Link>(
-    rt: &W,
-    link: &mut I,
-) -> Result<u8, Fail> {
-    let alloc = rt.alloc();
-    let mut words = Vec::new(alloc);
-    words.push(String::from_str(alloc, "session")?)?;
-    let mut shelf = settings_shelf(alloc, SETTINGS)?;
-    let mut out = MemorySink::new(Vec::new(alloc));
-    Ok(ended_with(rt, alloc, &words, &mut shelf, &mut out, link).0)
-}
-
-fn both(alloc: Global, first: &[u8], second: &[u8]) -> Result<Vec<u8>, Fail> {
+/// One text and another behind it.
+pub(crate) fn both(alloc: Global, first: &[u8], second: &[u8]) -> Result<Vec<u8>, Fail> {
     let mut text = Vec::from_slice(alloc, first)?;
     text.extend_from_slice(second)?;
     Ok(text)
@@ -235,7 +218,7 @@ fn the_longest_body_is_taken(rt: HostRuntime) -> Result<(), Fail> {
 #[test]
 fn an_answer_is_written_before_more_is_read(rt: HostRuntime) -> Result<(), Fail> {
     let mut link = AnsweredFirst::new(TOPICS, POOL);
-    let status = end_of(&rt, &mut link)?;
+    let (status, _) = session_over(&rt, &mut link)?;
     assert_eq!(rt; status, 0);
     Ok(())
 }

@@ -1,12 +1,9 @@
 //! Settings, read and refused.
-use crate::journals::ended_with;
-use crate::links::idle_link;
-use campaign_cli::{MemoryShelf, MemorySink, SettingsEnd, read_settings};
+use crate::calls::printed;
+use campaign_cli::{MemoryShelf, SettingsEnd, read_settings};
 use decimal_rank::Text;
 use std::alloc::Global;
-use std::sync::Wait;
 use std::test::Fail;
-use std::thread::Threads;
 
 /// The settings of the sessions.
 pub const SETTINGS: &str = "\
@@ -170,36 +167,31 @@ fn there_are_at_most_five_hundred_callers(rt: HostRuntime) -> Result<(), Fail> {
     Ok(())
 }
 
-// The status of a session of these settings without a request, and what was printed.
-fn ended<W: Threads + Wait + Sync + AllocGlobal>(
-    rt: &W,
-    mut shelf: MemoryShelf,
-) -> Result<(u8, MemorySink), Fail> {
-    let alloc = rt.alloc();
-    let mut words = Vec::new(alloc);
-    words.push(String::from_str(alloc, "session")?)?;
-    let mut out = MemorySink::new(Vec::new(alloc));
-    let status = ended_with(
-        rt,
-        alloc,
-        &words,
-        &mut shelf,
-        &mut out,
-        &mut idle_link(alloc),
-    );
-    Ok((status.0, out))
-}
-
 #[test]
 fn a_session_needs_its_settings(rt: HostRuntime) -> Result<(), Fail> {
     let alloc = rt.alloc();
-    let (status, out) = ended(&rt, settings_shelf(alloc, SETTINGS)?)?;
+    let (status, out) = printed(
+        &rt,
+        "session",
+        settings_shelf(alloc, SETTINGS)?,
+        Vec::new(alloc),
+    )?;
     assert_eq!(rt; status, 0);
     assert!(rt; out.written().is_empty());
-    let (status, out) = ended(&rt, settings_shelf(alloc, "top_grade = 0\n")?)?;
+    let (status, out) = printed(
+        &rt,
+        "session",
+        settings_shelf(alloc, "top_grade = 0\n")?,
+        Vec::new(alloc),
+    )?;
     assert_eq!(rt; status, 3);
     assert_eq!(rt; out.written(), b"input: campaign.toml\n".as_slice());
-    let (status, out) = ended(&rt, MemoryShelf::new(Vec::new(alloc), Vec::new(alloc)))?;
+    let (status, out) = printed(
+        &rt,
+        "session",
+        MemoryShelf::new(Vec::new(alloc), Vec::new(alloc)),
+        Vec::new(alloc),
+    )?;
     assert_eq!(rt; status, 4);
     assert!(rt; out.written().is_empty());
     Ok(())

@@ -1,0 +1,95 @@
+//! Calls of the program, its words apart by blanks, over files, output, links, disks and doors in memory.
+ghost use Rattle.campaign_server.specs.Doors.{IsShut};
+ghost use Rattle.campaign_server.specs.MemoryDoors.{told_by};
+
+use crate::links::idle_link;
+use crate::settings::{SETTINGS, settings_shelf};
+use campaign_cli::{MemoryShelf, MemorySink, campaign};
+use campaign_server::{Door, Link, MemoryDoor, MemoryLink};
+use disk_model::MemoryDisk;
+use std::alloc::Global;
+use std::process::Abort;
+use std::sync::Wait;
+use std::test::Fail;
+use std::thread::Threads;
+
+fn words_of(alloc: Global, text: &str) -> Result<Vec<String>, Fail> {
+    let mut words = Vec::new(alloc);
+    for word in text.split_whitespace() {
+        words.push(String::from_str(alloc, word)?)?;
+    }
+    Ok(words)
+}
+
+/// The status of the program, and the disk.
+pub(crate) fn ended_at<W: Threads + Wait + Sync + AllocGlobal, I: Link, R: Door>(
+    rt: &W,
+    words: &str,
+    shelf: &mut MemoryShelf,
+    out: &mut MemorySink,
+    own: &mut I,
+    disk: MemoryDisk,
+    door: &mut R,
+) -> Result<(u8, MemoryDisk), Fail>
+    requires { IsShut (R.seen door.old) }
+{
+    let alloc = rt.alloc();
+    let words = words_of(alloc, words)?;
+    let (status, disk) = campaign(rt, alloc, &words, shelf, out, own, disk, door);
+    Ok((status.0, disk))
+}
+
+// A door without links.
+fn shut_door(alloc: Global) -> MemoryDoor<MemoryLink>
+    ensures { IsShut (told_by result) }
+{
+    MemoryDoor::new(Vec::new(alloc), Vec::new(alloc))
+}
+
+/// The status of the program under these settings over a disk and a link, what it prints, and the disk.
+pub(crate) fn ended_under<W: Threads + Wait + Sync + AllocGlobal, I: Link>(
+    rt: &W,
+    words: &str,
+    settings: &str,
+    own: &mut I,
+    disk: MemoryDisk,
+) -> Result<(u8, MemorySink, MemoryDisk), Fail> {
+    let alloc = rt.alloc();
+    let mut shelf = settings_shelf(alloc, settings)?;
+    let mut out = MemorySink::new(Vec::new(alloc));
+    let mut door = shut_door(alloc);
+    let (status, disk) = ended_at(rt, words, &mut shelf, &mut out, own, disk, &mut door)?;
+    Ok((status, out, disk))
+}
+
+pub(crate) fn empty_disk(alloc: Global) -> MemoryDisk {
+    MemoryDisk::new(Vec::new(alloc), Vec::new(alloc))
+}
+
+/// The status of a session over a link on an empty disk, and what it prints.
+pub(crate) fn session_over<W: Threads + Wait + Sync + AllocGlobal, I: Link>(
+    rt: &W,
+    link: &mut I,
+) -> Result<(u8, MemorySink), Fail> {
+    let disk = empty_disk(rt.alloc());
+    let (status, out, _) = ended_under(rt, "session", SETTINGS, link, disk)?;
+    Ok((status, out))
+}
+
+/// The status of the program with these files over an idle link, to which nothing is written, and what it prints.
+/// The writes at these places fail.
+pub(crate) fn printed<W: Threads + Wait + Sync + AllocGlobal + Abort>(
+    rt: &W,
+    words: &str,
+    mut shelf: MemoryShelf,
+    fails: Vec<u64>,
+) -> Result<(u8, MemorySink), Fail> {
+    let alloc = rt.alloc();
+    let mut out = MemorySink::new(fails);
+    let mut own = idle_link(alloc);
+    let mut door = shut_door(alloc);
+    let disk = empty_disk(alloc);
+    let (status, _) = ended_at(rt, words, &mut shelf, &mut out, &mut own, disk, &mut door)?;
+    assert!(rt; own.written().is_empty());
+    Ok((status, out))
+}
