@@ -1,9 +1,8 @@
 //! `session` through the top call.
 use crate::calls::session_over;
 use crate::links::{AnsweredFirst, link_of};
-use campaign_cli::MemorySink;
-use campaign_server::MemoryLink;
 use std::alloc::Global;
+use std::process::Abort;
 use std::sync::Wait;
 use std::test::Fail;
 use std::thread::Threads;
@@ -64,6 +63,22 @@ const LAST_POOL: &[u8] =
 const NO_POOL: &[u8] =
     b"HTTP/1.1 200 OK\r\nContent-Type: application/json\r\nContent-Length: 24\r\nConnection: close\r\n\r\n{\"docs\":[],\"topic\":\"1\"}\n";
 
+/// One text and another behind it.
+pub(crate) fn both(alloc: Global, first: &[u8], second: &[u8]) -> Result<Vec<u8>, Fail> {
+    let mut text = Vec::from_slice(alloc, first)?;
+    text.extend_from_slice(second)?;
+    Ok(text)
+}
+
+// The first of the answers to the topics, a run and a query, and so many in all.
+fn answers(alloc: Global, count: usize) -> Result<Vec<u8>, Fail> {
+    let mut text = Vec::new(alloc);
+    for answer in [TOPICS_TAKEN, SUBMITTED, POOL_SHOWN].iter().take(count) {
+        text.extend_from_slice(answer)?;
+    }
+    Ok(text)
+}
+
 fn places(alloc: Global, place: u64) -> Result<Vec<u64>, Fail> {
     let mut places = Vec::new(alloc);
     if place > 0 {
@@ -72,124 +87,120 @@ fn places(alloc: Global, place: u64) -> Result<Vec<u64>, Fail> {
     Ok(places)
 }
 
-// The status of a session over two pieces, of which the first begins with the topics, the output and the link.
-// One read and one write fail, those at the given places; none where the place is 0.
-fn held<W: Threads + Wait + Sync + AllocGlobal>(
-    rt: &W,
-    first: &[u8],
-    second: &[u8],
+// What a session is given: two pieces, behind the topics, and the read and the write that fail, none where it is 0.
+#[derive(Clone, Copy)]
+struct Given<'x> {
+    first: &'x [u8],
+    second: &'x [u8],
     read: u64,
     write: u64,
-) -> Result<(u8, MemorySink, MemoryLink), Fail> {
+}
+
+// Plays a session, which has to end with this status and to write these answers to its link, and nothing to its output.
+fn assert_ends<W: Threads + Wait + Sync + AllocGlobal + Abort>(
+    rt: &W,
+    given: Given,
+    status: u8,
+    written: &[u8],
+) -> Result<(), Fail> {
     let alloc = rt.alloc();
     let mut link = link_of(
         alloc,
-        &both(alloc, TOPICS, first)?,
-        second,
-        places(alloc, read)?,
-        places(alloc, write)?,
+        &both(alloc, TOPICS, given.first)?,
+        given.second,
+        places(alloc, given.read)?,
+        places(alloc, given.write)?,
     )?;
-    let (status, out) = session_over(rt, &mut link)?;
-    Ok((status, out, link))
+    let (ended, out) = session_over(rt, &mut link)?;
+    assert_eq!(rt; ended, status);
+    assert!(rt; out.written().is_empty());
+    assert_eq!(rt; link.written(), written);
+    Ok(())
 }
 
-/// One text and another behind it.
-pub(crate) fn both(alloc: Global, first: &[u8], second: &[u8]) -> Result<Vec<u8>, Fail> {
-    let mut text = Vec::from_slice(alloc, first)?;
-    text.extend_from_slice(second)?;
-    Ok(text)
-}
-
-// The answer to the topics, and these behind it.
-fn told(alloc: Global, one: &[u8], other: &[u8]) -> Result<Vec<u8>, Fail> {
-    let mut text = both(alloc, TOPICS_TAKEN, one)?;
-    text.extend_from_slice(other)?;
-    Ok(text)
+// A session whose reads and writes don't fail. The answer to the topics is written, and these two behind it.
+fn assert_answers<W: Threads + Wait + Sync + AllocGlobal + Abort>(
+    rt: &W,
+    pieces: (&[u8], &[u8]),
+    status: u8,
+    told: (&[u8], &[u8]),
+) -> Result<(), Fail> {
+    let alloc = rt.alloc();
+    let mut written = both(alloc, TOPICS_TAKEN, told.0)?;
+    written.extend_from_slice(told.1)?;
+    let given = Given {
+        first: pieces.0,
+        second: pieces.1,
+        read: 0,
+        write: 0,
+    };
+    assert_ends(rt, given, status, &written)
 }
 
 #[test]
 fn messages_are_answered_in_order(rt: HostRuntime) -> Result<(), Fail> {
-    let cases: [(&[u8], &[u8], u8, &[u8], &[u8]); 8] = [
+    let cut = &SUBMIT[..SUBMIT.len() - 1];
+    let cases: [(&[u8], &[u8], u8, &[u8], &[u8]); 9] = [
         (b"", b"", 0, b"", b""),
         (SUBMIT, b"", 0, SUBMITTED, b""),
         (SUBMIT, POOL, 0, SUBMITTED, POOL_SHOWN),
         (SUBMIT, SUBMIT, 0, SUBMITTED, TAKEN),
         (OTHER_POOL, b"", 0, UNKNOWN, b""),
         (OTHER_TOPIC, b"", 0, LINE_TOPIC, b""),
-        // the end comes inside the body
-        (&SUBMIT[..SUBMIT.len() - 1], b"", 11, b"", b""),
+        // the end comes inside a body
+        (cut, b"", 11, b"", b""),
+        (SUBMIT, cut, 11, SUBMITTED, b""),
         (SUBMIT, NO_HEAD, 11, SUBMITTED, NO_HEAD_TOLD),
     ];
     for (first, second, status, one, other) in cases {
-        let (ended, out, link) = held(&rt, first, second, 0, 0)?;
-        assert_eq!(rt; ended, status);
-        assert!(rt; out.written().is_empty());
-        assert_eq!(rt; link.written(), told(rt.alloc(), one, other)?.as_slice());
+        assert_answers(&rt, (first, second), status, (one, other))?;
     }
     Ok(())
 }
 
 #[test]
-fn a_failing_read_ends_the_session(rt: HostRuntime) -> Result<(), Fail> {
-    // what was read before it is answered; the third read finds the end
-    let (ended, _, link) = held(&rt, SUBMIT, POOL, 1, 0)?;
-    assert_eq!(rt; ended, 10);
-    assert!(rt; link.written().is_empty());
-    let cases: [(u64, &[u8], &[u8]); 2] = [(2, SUBMITTED, b""), (3, SUBMITTED, POOL_SHOWN)];
-    for (place, one, other) in cases {
-        let (ended, _, link) = held(&rt, SUBMIT, POOL, place, 0)?;
-        assert_eq!(rt; ended, 10);
-        assert_eq!(rt; link.written(), told(rt.alloc(), one, other)?.as_slice());
+fn a_failing_read_or_write_ends_the_session(rt: HostRuntime) -> Result<(), Fail> {
+    // what was read before is answered; the third read finds the end, and each answer is one write
+    for (read, write, status, count) in [
+        (1, 0, 10, 0),
+        (2, 0, 10, 2),
+        (3, 0, 10, 3),
+        (0, 1, 8, 0),
+        (0, 3, 8, 2),
+    ] {
+        let given = Given {
+            first: SUBMIT,
+            second: POOL,
+            read,
+            write,
+        };
+        assert_ends(&rt, given, status, &answers(rt.alloc(), count)?)?;
     }
-    Ok(())
-}
-
-#[test]
-fn a_failing_write_ends_the_session(rt: HostRuntime) -> Result<(), Fail> {
-    let (ended, _, link) = held(&rt, SUBMIT, POOL, 0, 1)?;
-    assert_eq!(rt; ended, 8);
-    assert!(rt; link.written().is_empty());
-    let (ended, _, link) = held(&rt, SUBMIT, POOL, 0, 3)?;
-    assert_eq!(rt; ended, 8);
-    assert_eq!(rt;
-        link.written(),
-        told(rt.alloc(), SUBMITTED, b"")?.as_slice()
-    );
     Ok(())
 }
 
 #[test]
 fn nothing_is_read_behind_a_closing_request(rt: HostRuntime) -> Result<(), Fail> {
     // the second read would fail
-    for (first, status, answer) in [(LAST_POOL, 0u8, NO_POOL), (NO_HEAD, 11, NO_HEAD_TOLD)] {
-        let (ended, _, link) = held(&rt, first, POOL, 2, 0)?;
-        assert_eq!(rt; ended, status);
-        assert_eq!(rt; link.written(), told(rt.alloc(), answer, b"")?.as_slice());
+    for (first, status, answer) in [(LAST_POOL, 0, NO_POOL), (NO_HEAD, 11, NO_HEAD_TOLD)] {
+        let given = Given {
+            first,
+            second: POOL,
+            read: 2,
+            write: 0,
+        };
+        assert_ends(&rt, given, status, &both(rt.alloc(), TOPICS_TAKEN, answer)?)?;
     }
     Ok(())
 }
 
 #[test]
 fn two_requests_are_answered_however_they_are_cut(rt: HostRuntime) -> Result<(), Fail> {
-    let alloc = rt.alloc();
-    let requests = both(alloc, SUBMIT, POOL)?;
-    let answers = told(alloc, SUBMITTED, POOL_SHOWN)?;
+    let requests = both(rt.alloc(), SUBMIT, POOL)?;
     for cut in 0..requests.len() + 1 {
-        let (ended, _, link) = held(&rt, &requests[..cut], &requests[cut..], 0, 0)?;
-        assert_eq!(rt; ended, 0);
-        assert_eq!(rt; link.written(), answers.as_slice());
+        let pieces = (&requests[..cut], &requests[cut..]);
+        assert_answers(&rt, pieces, 0, (SUBMITTED, POOL_SHOWN))?;
     }
-    Ok(())
-}
-
-#[test]
-fn input_may_end_inside_the_second_body(rt: HostRuntime) -> Result<(), Fail> {
-    let (ended, _, link) = held(&rt, SUBMIT, &SUBMIT[..SUBMIT.len() - 1], 0, 0)?;
-    assert_eq!(rt; ended, 11);
-    assert_eq!(rt;
-        link.written(),
-        told(rt.alloc(), SUBMITTED, b"")?.as_slice()
-    );
     Ok(())
 }
 
@@ -200,19 +211,8 @@ const MOST_BODY: usize = 16_777_216;
 fn the_longest_body_is_taken(rt: HostRuntime) -> Result<(), Fail> {
     let mut body = Vec::from_slice(rt.alloc(), RUN)?;
     body.resize(MOST_BODY, b' ')?;
-    let (ended, _, link) = held(&rt, LONGEST, &body, 0, 0)?;
-    assert_eq!(rt; ended, 0);
-    assert_eq!(rt;
-        link.written(),
-        told(rt.alloc(), SUBMITTED, b"")?.as_slice()
-    );
-    let (ended, _, link) = held(&rt, TOO_LONG, b"", 0, 0)?;
-    assert_eq!(rt; ended, 11);
-    assert_eq!(rt;
-        link.written(),
-        told(rt.alloc(), TOO_LONG_TOLD, b"")?.as_slice()
-    );
-    Ok(())
+    assert_answers(&rt, (LONGEST, &body), 0, (SUBMITTED, b""))?;
+    assert_answers(&rt, (TOO_LONG, b""), 11, (TOO_LONG_TOLD, b""))
 }
 
 #[test]
