@@ -1,4 +1,4 @@
-//! Requests to a campaign as lines of words, and the words that they are told.
+//! Requests to a campaign as lines of words.
 //!
 //!     p 1000 lease 1               who asks, at which moment, and what
 //!     p#7 1000 grade 1 0           under the number 7
