@@ -1,5 +1,5 @@
 //! A tree over places that are on or off, which counts those on before a place and finds one by its number.
-ghost use Rattle.std.specs.Prelude.{◌≡◌, ◌+◌, ◌-◌, ◌≤◌, false, IfOk, MatchOption, length, replicate, slice_set};
+ghost use Rattle.std.specs.Prelude.{◌≡◌, ◌+◌, ◌-◌, ◌≤◌, false, IfOk, MatchOption, length, replicate, slice_index_or, slice_set};
 ghost use Rattle.decimal_rank.specs.Places.{levels};
 ghost use Rattle.rank_trees.specs.Marks.{IsSelected, count_below, count_on};
 
@@ -47,6 +47,16 @@ impl CountTree {
         ensures cost { steps.new ≤ steps.old + levels (length self.old) + 1 }
     {
         self.counts.set(place - 1, u64::from(on), steps);
+    }
+
+    /// Whether a place is on, in one step.
+    pub fn is_on<L: Ledger>(&self, place: u32, steps: &mut Steps<L>) -> bool
+        requires from_one { 1 ≤ place }
+        requires within { place ≤ length self.now }
+        ensures on { result ≡ slice_index_or self.now (place - 1) false }
+        ensures cost { steps.new ≡ steps.old + 1 }
+    {
+        self.counts.leaf(place - 1, steps) > 0
     }
 
     /// How many places less than this one are on. It may be one past the last.

@@ -1,6 +1,6 @@
 //! A complete binary tree of sums in one vector: the root is node 1, under node k stand 2k and
 //! 2k + 1, and the leaves begin at 2 to the power of the depth, which is greater than their number.
-ghost use Rattle.std.specs.Prelude.{◌≡◌, ℕ, ◌+◌, ◌*◌, ◌<◌, ◌≤◌, ◌^◌, IfOk, List, MatchOption, drop, length, replicate, slice_set, sum, take};
+ghost use Rattle.std.specs.Prelude.{◌≡◌, ℕ, ◌+◌, ◌*◌, ◌<◌, ◌≤◌, ◌^◌, IfOk, List, MatchOption, drop, length, replicate, slice_index, slice_set, sum, take};
 ghost use Rattle.decimal_rank.specs.Places.{levels};
 ghost use Rattle.rank_trees.specs.SumTrees.{AreSums, IsReached, leaves_of, span};
 
@@ -47,6 +47,16 @@ impl SumTree {
         ensures cost { steps.new ≤ steps.old + levels (length self.old) + 1 }
     {
         set_leaf(&mut self.nodes, self.depth, index, value, steps);
+    }
+
+    // A leaf.
+    pub(crate) fn leaf<L: Ledger>(&self, index: u32, steps: &mut Steps<L>) -> u64
+        requires { index < length self.now }
+        ensures leaf { result ≡ slice_index self.now index }
+        ensures cost { steps.new ≡ steps.old + 1 }
+    {
+        steps.tick();
+        self.nodes[2usize.pow(self.depth) + index as usize]
     }
 
     // The sum of the leaves before an index.

@@ -70,16 +70,24 @@ abbrev pub put_at : {X : Type 0} → Option ℕ → X → List X → List X
 put_at None x xs = xs
 put_at (Some place) x xs = slice_set xs (place - 1) x
 
--- a list after one of its documents became relevant or judged lower, or isn't any more, and its topic has these counts
-abbrev pub remarked : DocId → Bool → Bool → ℕ → ℕ → ScoreList → ScoreList
-remarked doc relevant lower rel low list = record {
+-- a list whose topic has these counts
+abbrev pub recounted : ℕ → ℕ → ScoreList → ScoreList
+recounted rel low list = record { run = list.run; docs = list.docs; relevant = list.relevant; lower = list.lower; rel = rel; low = low }
+
+-- a list after a place became relevant or judged lower, or isn't any more, and its topic has these counts
+abbrev pub remarked_at : Option ℕ → Bool → Bool → ℕ → ℕ → ScoreList → ScoreList
+remarked_at place relevant lower rel low list = record {
   run = list.run;
   docs = list.docs;
-  relevant = put_at (place_in list.docs doc) relevant list.relevant;
-  lower = put_at (place_in list.docs doc) lower list.lower;
+  relevant = put_at place relevant list.relevant;
+  lower = put_at place lower list.lower;
   rel = rel;
   low = low;
 }
+
+-- the same of the place of a document
+abbrev pub remarked : DocId → Bool → Bool → ℕ → ℕ → ScoreList → ScoreList
+remarked doc relevant lower rel low list = remarked_at (place_in list.docs doc) relevant lower rel low list
 
 -- a list with these grades, where its topic has these counts
 abbrev pub listed_with : ℕ → List Graded → RunId → List DocId → ℕ → ℕ → ScoreList

@@ -57,13 +57,21 @@ pub record AreNear (from to : ℕ) : Type 0 where
   pub few : from ≤ 268435456
   pub still_few : to ≤ 268435456
 
--- a document has these marks in a list, and its topic's cap moves by one at most
+-- the places of a list
+abbrev pub list_places : ScoreList → Places
+list_places list = record { relevant = list.relevant; lower = list.lower }
+
+-- the counts of a list's topic move by one at most, and stay small
+pub record CanFollow (rel low : ℕ) (list : ScoreList) : Type 0 where
+  pub relevant_near : AreNear list.rel rel
+  pub cap_near : AreNear (min list.rel list.low) (min rel low)
+  pub few_lower : low ≤ 268435456
+
+-- a document has these marks in a list, whose topic's counts move by one at most
 pub record CanRemark (doc : DocId) (relevant lower : Bool) (rel low : ℕ) (list : ScoreList) : Type 0 where
   pub relevant_at : IsAt (place_in list.docs doc) relevant list.relevant
   pub lower_at : IsAt (place_in list.docs doc) lower list.lower
-  pub up : min rel low ≤ min list.rel list.low + 1
-  pub down : min list.rel list.low ≤ min rel low + 1
-  pub few : list.rel ≤ 268435456
+  pub follows : CanFollow rel low list
 
 -- the sums and the cell of a list are those of its places
 pub record IsScoredList (docs : List DocId) (places : Places) (sums : Sums) (rel low : ℕ) (cell : Cell) : Type 0 where

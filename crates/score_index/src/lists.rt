@@ -1,15 +1,15 @@
 //! A run's ranked list on a topic, whose cell follows each change of a grade.
-ghost use Rattle.std.specs.Prelude.{◌≡◌, ℕ, ◌+◌, ◌-◌, ◌*◌, ◌<◌, ◌≤◌, ◌==◌, if◌then◌else◌, All, count_by, find, length, map, min, position, sum_by, vec_capacity, vec_len};
+ghost use Rattle.std.specs.Prelude.{◌≡◌, ℕ, ◌+◌, ◌-◌, ◌*◌, ◌<◌, ◌≤◌, ◌==◌, if◌then◌else◌, All, Some, count_by, find, length, map, min, position, sum_by, vec_capacity, vec_len};
 ghost use Rattle.std.specs.Option.{option_copied};
 ghost use Rattle.decimal_rank.specs.Places.{levels};
 ghost use Rattle.qrels_view.specs.Grades.{effective_in, is_non_relevant, is_relevant};
-ghost use Rattle.score_index.specs.Kept.{IsRoom, listed_with, remarked, without};
-ghost use Rattle.score_index.specs.KeptSums.{AreSums, CanRemark, is_lower_mark, is_relevant_mark};
+ghost use Rattle.score_index.specs.Kept.{IsRoom, listed_with, recounted, remarked, remarked_at, without};
+ghost use Rattle.score_index.specs.KeptSums.{AreSums, CanFollow, CanRemark, HasMark, is_lower_mark, is_relevant_mark, list_places};
 ghost use Rattle.score_index.specs.Places.{cell_by};
 ghost use Rattle.score_index.specs.Scores.{is_of, list_steps};
 
 use crate::marks::{Mark, mark_of};
-use crate::sums::{Sums, cell_from, no_sums, put_mark, remark};
+use crate::sums::{Sums, cell_from, followed_cell, no_sums, put_mark, remark, with_cap};
 use crate::trees::Trees;
 use decimal_rank::{DocId, Ranking, Steps};
 use depth_pool::RunId;
@@ -107,12 +107,50 @@ impl RunList {
         ensures list { self.new ≡ remarked doc (is_relevant_mark new) (is_lower_mark new) counts.0 counts.1 self.old }
         ensures cost { steps.new ≤ steps.old + 20 * (levels (length self.old.docs) + 1) }
     {
-        let place = self.ranking.place_of(doc, steps);
+        match self.ranking.place_of(doc, steps) {
+            Some(place) => self.remark(place, (old, new), counts, steps),
+            None => self.follow(counts, steps),
+        }
+    }
+
+    // Gives a place another mark, where the topic has these counts then.
+    fn remark<L: Ledger>(
+        &mut self,
+        place: u32,
+        marks: (Mark, Mark),
+        counts: (u32, u32),
+        steps: &mut Steps<L>,
+    )
+        requires mark { HasMark (Some place) marks.0 (list_places self.old) }
+        requires counts { CanFollow counts.0 counts.1 self.old }
+        ensures list { self.new ≡ remarked_at (Some place) (is_relevant_mark marks.1) (is_lower_mark marks.1) counts.0 counts.1 self.old }
+        ensures cost { steps.new ≤ steps.old + 14 * (levels (length self.old.docs) + 1) }
+    {
         let caps = (self.rel.min(self.low), counts.0.min(counts.1));
-        self.sums = remark(&mut self.trees, self.sums, place, old, new, caps, steps);
+        self.sums = remark(&mut self.trees, self.sums, place, marks, caps, steps);
         self.rel = counts.0;
         self.low = counts.1;
         self.cell = cell_from(&self.trees, self.sums, counts.0, counts.1, steps);
+    }
+
+    // Follows the counts of the topic, where another document's mark changed.
+    fn follow<L: Ledger>(&mut self, counts: (u32, u32), steps: &mut Steps<L>)
+        requires counts { CanFollow counts.0 counts.1 self.old }
+        ensures list { self.new ≡ recounted counts.0 counts.1 self.old }
+        ensures cost { steps.new ≤ steps.old + 3 * (levels (length self.old.docs) + 1) }
+    {
+        let caps = (self.rel.min(self.low), counts.0.min(counts.1));
+        self.sums = with_cap(&self.trees, self.sums, caps.0, caps.1, steps);
+        self.rel = counts.0;
+        self.low = counts.1;
+        self.cell = followed_cell(
+            &self.trees,
+            self.sums,
+            &self.cell,
+            counts.0,
+            counts.1,
+            steps,
+        );
     }
 
     pub(crate) fn cell(&self) -> &Cell

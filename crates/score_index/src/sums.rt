@@ -1,12 +1,13 @@
 //! The sums of a list, from which its cell is taken. They follow each place that becomes relevant or
 //! judged lower, or no longer is, and the cap of the topic, which moves by one at a time.
-ghost use Rattle.std.specs.Prelude.{◌≡◌, ℕ, ◌+◌, ◌-◌, ◌*◌, ◌<◌, ◌≤◌, ◌&&◌, Some, false, true, if◌then◌else◌, length, map, min, nat_le, nat_eq, not, slice_index, slice_set};
+ghost use Rattle.std.specs.Prelude.{◌≡◌, ℕ, ◌+◌, ◌-◌, ◌*◌, ◌<◌, ◌≤◌, ◌&&◌, Some, false, true, if◌then◌else◌, length, map, min, nat_le, nat_eq, not, slice_index, slice_set, take};
 ghost use Rattle.decimal_rank.specs.Places.{levels};
 ghost use Rattle.measures.specs.Cells.{cutoffs};
 ghost use Rattle.qrels_view.specs.Grades.{as_number};
 ghost use Rattle.score_index.specs.KeptSums.{AreNear, AreSums, HasMark, IsAt, is_lower_mark, is_relevant_mark, with_lower, with_relevant};
-ghost use Rattle.score_index.specs.Kept.{IsRoom, put_at};
-ghost use Rattle.score_index.specs.Places.{Places, cell_by};
+ghost use Rattle.rank_trees.specs.Marks.{count_on};
+ghost use Rattle.score_index.specs.Kept.{IsRoom};
+ghost use Rattle.score_index.specs.Places.{Places, cell_by, first_from};
 ghost use Rattle.score_index.specs.declared.marks.Mark.TheVariants.{Unjudged};
 
 use crate::marks::Mark;
@@ -219,54 +220,26 @@ pub(crate) fn put_mark<L: Ledger>(
     }
 }
 
-// Gives a place another mark; a document that the list doesn't have has none.
-fn change_mark<L: Ledger>(
-    trees: &mut Trees,
-    sums: Sums,
-    place: Option<u32>,
-    old: Mark,
-    new: Mark,
-    cap: u32,
-    steps: &mut Steps<L>,
-) -> Sums
-    requires mark { HasMark place old trees.old }
-    requires few { cap ≤ 268435456 }
-    requires sums { AreSums cap trees.old sums }
-    ensures relevant { trees.new.relevant ≡ put_at place (is_relevant_mark new) trees.old.relevant }
-    ensures lower { trees.new.lower ≡ put_at place (is_lower_mark new) trees.old.lower }
-    ensures sums { AreSums cap trees.new result }
-    ensures cost { steps.new ≤ steps.old + 10 * (levels (length trees.old.relevant) + 1) }
-{
-    match place {
-        Some(place) => {
-            let taken = take_mark(trees, sums, place, old, cap, steps);
-            put_mark(trees, taken, place, new, cap, steps)
-        }
-        None => sums,
-    }
-}
-
-// Gives a document of the topic another mark, at its place in the list if it has one, while the cap
-// moves by one at most.
+// Gives a place another mark, while the cap moves by one at most.
 pub(crate) fn remark<L: Ledger>(
     trees: &mut Trees,
     sums: Sums,
-    place: Option<u32>,
-    old: Mark,
-    new: Mark,
+    place: u32,
+    marks: (Mark, Mark),
     caps: (u32, u32),
     steps: &mut Steps<L>,
 ) -> Sums
-    requires mark { HasMark place old trees.old }
+    requires mark { HasMark (Some place) marks.0 trees.old }
     requires caps { AreNear caps.0 caps.1 }
     requires sums { AreSums caps.0 trees.old sums }
-    ensures relevant { trees.new.relevant ≡ put_at place (is_relevant_mark new) trees.old.relevant }
-    ensures lower { trees.new.lower ≡ put_at place (is_lower_mark new) trees.old.lower }
+    ensures relevant { trees.new.relevant ≡ slice_set trees.old.relevant (place - 1) (is_relevant_mark marks.1) }
+    ensures lower { trees.new.lower ≡ slice_set trees.old.lower (place - 1) (is_lower_mark marks.1) }
     ensures sums { AreSums caps.1 trees.new result }
     ensures cost { steps.new ≤ steps.old + 12 * (levels (length trees.old.relevant) + 1) }
 {
-    let changed = change_mark(trees, sums, place, old, new, caps.0, steps);
-    with_cap(trees, changed, caps.0, caps.1, steps)
+    let taken = take_mark(trees, sums, place, marks.0, caps.0, steps);
+    let put = put_mark(trees, taken, place, marks.1, caps.0, steps);
+    with_cap(trees, put, caps.0, caps.1, steps)
 }
 
 // The cell of a list whose topic has `relevant` relevant documents and `lower` that are judged lower.
@@ -283,13 +256,71 @@ pub(crate) fn cell_from<L: Ledger>(
     ensures cell { result ≡ cell_by trees.now.relevant trees.now.lower relevant lower }
     ensures cost { steps.new ≤ steps.old + 2 * (levels (length trees.now.relevant) + 1) }
 {
+    let r_prec = trees.relevant_to(relevant, steps);
+    let first = trees.first_relevant(steps);
+    cell_with(trees, sums, r_prec, first, relevant, lower)
+}
+
+// The cell of a list whose places stay, while the topic's count of relevant documents moves by one at
+// most: it goes on from the cell that the list had.
+pub(crate) fn followed_cell<L: Ledger>(
+    trees: &Trees,
+    sums: Sums,
+    cell: &Cell,
+    relevant: u32,
+    lower: u32,
+    steps: &mut Steps<L>,
+) -> Cell
+    requires near { AreNear cell.now.rel relevant }
+    requires few_lower { lower ≤ 268435456 }
+    requires sums { AreSums (min relevant lower) trees.now sums }
+    requires r_prec { cell.now.r_prec ≡ count_on (take cell.now.rel trees.now.relevant) }
+    requires first { cell.now.first ≡ first_from 1 trees.now.relevant }
+    ensures cell { result ≡ cell_by trees.now.relevant trees.now.lower relevant lower }
+    ensures cost { steps.new ≤ steps.old + 1 }
+{
+    let r_prec = moved_r_prec(trees, cell.r_prec, cell.rel, relevant, steps);
+    cell_with(trees, sums, r_prec, cell.first, relevant, lower)
+}
+
+// How many of so many first places are relevant, after that number moved by one at most.
+fn moved_r_prec<L: Ledger>(
+    trees: &Trees,
+    r_prec: u32,
+    from: u32,
+    to: u32,
+    steps: &mut Steps<L>,
+) -> u32
+    requires near { AreNear from to }
+    requires few { length trees.now.relevant ≤ 1000 }
+    requires count { r_prec ≡ count_on (take from trees.now.relevant) }
+    ensures count { result ≡ count_on (take to trees.now.relevant) }
+    ensures cost { steps.new ≤ steps.old + 1 }
+{
+    if from < to {
+        return r_prec + trees.relevant_at(to, steps);
+    }
+    if to < from {
+        return r_prec - trees.relevant_at(from, steps);
+    }
+    r_prec
+}
+
+fn cell_with(trees: &Trees, sums: Sums, r_prec: u32, first: u32, relevant: u32, lower: u32) -> Cell
+    requires few { relevant ≤ 268435456 }
+    requires few_lower { lower ≤ 268435456 }
+    requires sums { AreSums (min relevant lower) trees.now sums }
+    requires r_prec { r_prec ≡ count_on (take relevant trees.now.relevant) }
+    requires first { first ≡ first_from 1 trees.now.relevant }
+    ensures cell { result ≡ cell_by trees.now.relevant trees.now.lower relevant lower }
+{
     Cell {
         ret: trees.len(),
         rel: relevant,
         rel_ret: sums.rel_ret,
         at: sums.at,
-        r_prec: trees.relevant_to(relevant, steps),
-        first: trees.first_relevant(steps),
+        r_prec,
+        first,
         ap_sum: sums.ap_sum,
         bpref_num: bpref_num(&sums, relevant, lower),
         bpref_den: bpref_den(relevant, lower),

@@ -129,6 +129,19 @@ impl Trees {
         self.relevant.below(rank.min(self.len) + 1, steps)
     }
 
+    // How many relevant places have this rank: 1, or none.
+    pub(crate) fn relevant_at<L: Ledger>(&self, rank: u32, steps: &mut Steps<L>) -> u32
+        requires { 1 ≤ rank }
+        ensures more { count_on (take rank self.now.relevant) ≡ count_on (take (rank - 1) self.now.relevant) + result }
+        ensures one { result ≤ 1 }
+        ensures cost { steps.new ≤ steps.old + 1 }
+    {
+        if rank > self.len {
+            return 0;
+        }
+        u32::from(self.relevant.is_on(rank, steps))
+    }
+
     // The first relevant place, or 0.
     pub(crate) fn first_relevant<L: Ledger>(&self, steps: &mut Steps<L>) -> u32
         ensures first { result ≡ first_from 1 self.now.relevant }

@@ -1,5 +1,5 @@
 -- What a topic keeps, through each change.
-use Rattle.std.proofs.Common.{◌≡◌, ◌≢◌, ◌<◌, ℕ, ◌+◌, ◌-◌, ◌≤◌, Bool, true, false, cond, eqb, not, List, [], ◌∷◌, Option, Some, None, count_by, get_or, length, map, min, nat_lt, refl, sym, ap, ◌∙◌, arith, subst, unwrap_or}
+use Rattle.std.proofs.Common.{◌≡◌, ◌≢◌, ◌<◌, ℕ, ◌+◌, ◌-◌, ◌≤◌, Bool, true, false, cond, eqb, not, List, [], ◌∷◌, Option, Some, None, count_by, get_or, length, map, nat_lt, refl, sym, ap, ◌∙◌, arith, subst, unwrap_or}
 use Rattle.std.specs.Prelude.{All, find}
 use Rattle.std.specs.List.{AllZip}
 use Rattle.std.specs.Option.{option_map, option_map_or}
@@ -17,7 +17,7 @@ use Rattle.qrels_view.specs.Grades.{as_number, effective_in, is_non_relevant, is
 use Rattle.qrels_view.specs.declared.grades.Graded.{Graded}
 use Rattle.rank_trees.specs.Marks.{count_on}
 use Rattle.score_index.specs.Kept.{AreOfOtherRuns, IsListKept, IsTopicKept, has_grades, kept_cell, kept_cells, lower_in, put_at, relevant_in, remarked, with_list, with_regrade, without_lists}
-use Rattle.score_index.specs.KeptSums.{CanRemark, IsAt}
+use Rattle.score_index.specs.KeptSums.{CanFollow, CanRemark, IsAt}
 use Rattle.score_index.specs.Places.{cell_by}
 use Rattle.score_index.specs.Scores.{ScoreList, TopicScores, docs_in, is_of}
 use Rattle.score_index.specs.Standing.{ListStandsFor, TopicStandsFor, cell_from, cells_of, grades_by_rank, is_counted, listed_in, non_relevant_of, relevant_of}
@@ -171,26 +171,40 @@ at_most_one true = omega arith
 at_most_one false = omega arith
 
 -- each list can follow the grade of a document
-pub can-remark : (level : ℕ) (doc : DocId) (old new : Option ℕ) (topic : TopicScores) (graded : List Graded) → effective_in graded doc ≡ old → TopicStandsFor level topic graded → IsTopicKept topic
+pub can-remark : (level : ℕ) (doc : DocId) (old new : Option ℕ) (topic : TopicScores) (graded : List Graded) → effective_in graded doc ≡ old
+    → (with_regrade level doc old new topic).relevant ≤ 268435456 → (with_regrade level doc old new topic).non_relevant ≤ 268435456 → TopicStandsFor level topic graded → IsTopicKept topic
     → All (CanRemark doc (is_relevant level old) (is_non_relevant level old) (with_regrade level doc old new topic).relevant (with_regrade level doc old new topic).non_relevant) topic.lists
-can-remark level doc old new topic graded is stands kept = λ k d within. each (get_or topic.lists k d) (stands.lists_are k d within) (kept.lists k d within)
+can-remark level doc old new topic graded is few others stands kept = λ k d within. each (get_or topic.lists k d) (stands.lists_are k d within) (kept.lists k d within)
   where
-    near : (r n a b c e rel low : ℕ) → rel ≡ r → low ≡ n → a ≤ 1 → b ≤ 1 → c ≤ 1 → e ≤ 1 → (min (r + a - b) (n + c - e) ≤ min rel low + 1) × (min rel low ≤ min (r + a - b) (n + c - e) + 1)
-    near r n a b c e rel low one two h1 h2 h3 h4 = (omega (arith, one, two, h1, h2, h3, h4), omega (arith, one, two, h1, h2, h3, h4))
+    follows : (r n a b c e : ℕ) (list : ScoreList) → list.rel ≡ r → list.low ≡ n → r ≤ 268435456 → r + a - b ≤ 268435456 → n + c - e ≤ 268435456
+        → a ≤ 1 → b ≤ 1 → c ≤ 1 → e ≤ 1 → CanFollow (r + a - b) (n + c - e) list
+    follows r n a b c e list one two few still others h1 h2 h3 h4 = record {
+      relevant_near = record {
+        up = omega (arith, one, h1);
+        down = omega (arith, one, h2);
+        few = omega (arith, one, few);
+        still_few = still;
+      };
+      cap_near = record {
+        up = omega (arith, one, two, h1, h2, h3, h4);
+        down = omega (arith, one, two, h1, h2, h3, h4);
+        few = omega (arith, one, few);
+        still_few = omega (arith, still);
+      };
+      few_lower = others;
+    }
 
     each : (list : ScoreList) → ListStandsFor level graded list → IsListKept topic.relevant topic.non_relevant list
         → CanRemark doc (is_relevant level old) (is_non_relevant level old) (with_regrade level doc old new topic).relevant (with_regrade level doc old new topic).non_relevant list
     each list one here =
-        let close = near topic.relevant topic.non_relevant (as_number (is_relevant level new)) (as_number (is_relevant level old)) (as_number (is_non_relevant level new)) (as_number (is_non_relevant level old))
-        list.rel list.low here.rel_is here.low_is (at_most_one (is_relevant level new)) (at_most_one (is_relevant level old)) (at_most_one (is_non_relevant level new)) (at_most_one (is_non_relevant level old)) in
         record {
           relevant_at = subst (IsAt (place_in list.docs doc) (is_relevant level old)) (sym one.relevant_are)
               (mark-at (λ d. is_relevant level (effective_in graded d)) list.docs doc (is_relevant level old) (ap (is_relevant level) is));
           lower_at = subst (IsAt (place_in list.docs doc) (is_non_relevant level old)) (sym one.lower_are)
               (mark-at (λ d. is_non_relevant level (effective_in graded d)) list.docs doc (is_non_relevant level old) (ap (is_non_relevant level) is));
-          up = close.0;
-          down = close.1;
-          few = omega (arith, here.rel_is, kept.few_relevant);
+          follows = follows topic.relevant topic.non_relevant (as_number (is_relevant level new)) (as_number (is_relevant level old)) (as_number (is_non_relevant level new)) (as_number (is_non_relevant level old))
+              list here.rel_is here.low_is kept.few_relevant few others
+              (at_most_one (is_relevant level new)) (at_most_one (is_relevant level old)) (at_most_one (is_non_relevant level new)) (at_most_one (is_non_relevant level old));
         }
 
 -- ---- cells

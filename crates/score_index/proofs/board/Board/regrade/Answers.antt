@@ -42,7 +42,9 @@ regrade-requires-clause-few g c = small g (goal.at.regrade-requires-clause-few g
 pub regrade-requires-clause-lists : goal.regrade-requires-clause-lists
 regrade-requires-clause-lists g c =
     let before = (goal.at.regrade-requires-clause-lists g c).After-index_mut-topic in
-    can-remark c.self.inside.level c.args.doc c.args.old c.args.new (seen c.index_mut-topic.result.now) c.requires.grade_now.graded c.requires.grade_now.grade_is (stands g before) (topic g before).kept
+    let few = small g before in
+    can-remark c.self.inside.level c.args.doc c.args.old c.args.new (seen c.index_mut-topic.result.now) c.requires.grade_now.graded c.requires.grade_now.grade_is few.relevant few.non_relevant
+    (stands g before) (topic g before).kept
 
 pub invariant_of-self : goal.invariant_of-self
 invariant_of-self g c =
