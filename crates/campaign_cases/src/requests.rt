@@ -37,6 +37,9 @@ table GET /table
 release-qrels GET /releases/$/qrels
 release-scores GET /releases/$/scores"#;
 
+// The most bytes of a request's body.
+const MOST_BODY: usize = 16_777_216;
+
 // The method, the path and the body of a verb.
 fn form_of(verb: &str) -> Option<&'static str> {
     for line in FORMS.lines() {
@@ -211,7 +214,7 @@ fn head_of(
         method: filled(alloc, method, asked)?,
         path: filled(alloc, path, asked)?,
         fields: fields(alloc, asked)?,
-        length: length.min(16_777_216) as u32,
+        length: length.min(MOST_BODY) as u32,
         close: false,
     })
 }
@@ -224,7 +227,7 @@ fn read(
 ) -> Option<(Caller, Option<u64>, Ask)>
     ensures { IfSome result (λ read. (moment : ℕ) → moment ≤ MAX_MOMENT → IsTrue (is_well_addressed read.0 read.1 read.2 moment)) }
 {
-    if body.len() > 16_777_216 {
+    if body.len() > MOST_BODY {
         return None;
     }
     let mut reader = AskReader::new_by(alloc, &door.paths, head, &door.keys).ok()?;

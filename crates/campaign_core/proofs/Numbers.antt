@@ -1,4 +1,5 @@
 -- Documents, topics, runs and requests by their numbers.
+pub mod AddedDocs
 pub mod DocNumbers
 pub mod NumberTables
 pub mod NumberedDocs

@@ -181,11 +181,17 @@ fn has_topic(topics: &[GivenTopic], id: &[u8]) -> bool
 fn phase_after(command: &Command, phase: Phase) -> Phase
     ensures { result ≡ phase_after command.now phase }
 {
-    if matches!(command, Command::Publish) {
-        Phase::Published
-    } else if matches!(command, Command::Open) {
-        Phase::Judging
-    } else {
-        phase
+    match command {
+        Command::Open => Phase::Judging,
+        Command::Publish => Phase::Published,
+        Command::Found { .. }
+        | Command::Topics { .. }
+        | Command::Submit { .. }
+        | Command::Lease { .. }
+        | Command::Grade { .. }
+        | Command::Release { .. }
+        | Command::Amend { .. }
+        | Command::Rule { .. }
+        | Command::Withdraw { .. } => phase,
     }
 }

@@ -1,32 +1,57 @@
-//! The docnos of a campaign by number: those of a run join the others.
-ghost use Rattle.std.specs.Prelude.{◌≡◌, ◌+◌, ◌<◌, ◌^◌, length, OnOk};
-ghost use Rattle.std.specs.List.{fold};
-ghost use Rattle.decimal_rank.specs.Names.{with_name};
-ghost use Rattle.rulebook.specs.Campaign.{line_count, docnos as docnos_of};
+//! The docnos of a campaign by number: those of a run join the others, and each of its documents is numbered by that.
+ghost use Rattle.std.specs.Prelude.{◌≡◌, ◌+◌, ◌<◌, ◌^◌, [], List, ℕ, length, IfOk, OnOk};
+ghost use Rattle.rulebook.specs.Campaign.{docs_on, line_count, docnos as docnos_of};
 ghost use Rattle.campaign_core.specs.Growth.{GrowsWithin};
+ghost use Rattle.campaign_core.specs.Numbers.{AreAdded, docs_in};
 
-use decimal_rank::{Memory, Names, Text};
+use decimal_rank::{DocId, Memory, Names, Text};
+use std::alloc::Global;
 use trec_formats::TopicList;
 
-/// Adds the docnos of a run's lines. After want of memory some of them may be added.
-pub(crate) fn add_docnos(docnos: &mut Names, lists: &[TopicList]) -> Result<(), Memory>
+/// Adds the docnos of a run's lines, and gives the numbers of its documents, one list after another. After want of memory
+/// some docnos may be added.
+pub(crate) fn add_docnos(
+    alloc: Global,
+    docnos: &mut Names,
+    lists: &[TopicList],
+) -> Result<Vec<DocId>, Memory>
     requires { length docnos.old + line_count lists.now + 1 < 2 ^ 32 }
-    ensures ok { OnOk result (docnos.new ≡ fold with_name docnos.old (docnos_of lists.now)) }
+    ensures added { IfOk result (λ numbers. AreAdded (docnos_of lists.now) docnos.old docnos.new [] numbers.items) }
     ensures grown { GrowsWithin (line_count lists.now) docnos.old docnos.new }
 {
+    let mut numbers = Vec::new(alloc);
     for list in lists {
-        add_all(docnos, list.docs.items())?;
+        add_all(docnos, list.docs.items(), &mut numbers)?;
+    }
+    Ok(numbers)
+}
+
+// Adds docnos, and their numbers to those before them.
+fn add_all(docnos: &mut Names, docs: &[Text], numbers: &mut Vec<DocId>) -> Result<(), Memory>
+    requires { length docnos.old + length docs.now + 1 < 2 ^ 32 }
+    ensures added { OnOk result (AreAdded docs.now docnos.old docnos.new numbers.old.items numbers.new.items) }
+    ensures grown { GrowsWithin (length docs.now) docnos.old docnos.new }
+{
+    numbers.reserve(docs.len())?;
+    for doc in docs {
+        numbers.push(docnos.add(doc.copy()?)?)?;
     }
     Ok(())
 }
 
-fn add_all(docnos: &mut Names, docs: &[Text]) -> Result<(), Memory>
-    requires { length docnos.old + length docs.now + 1 < 2 ^ 32 }
-    ensures ok { OnOk result (docnos.new ≡ fold with_name docnos.old docs.now) }
-    ensures grown { GrowsWithin (length docs.now) docnos.old docnos.new }
+/// The numbers of a run's documents on a topic, among those of all its lists one after another: none where the run has no
+/// such list.
+pub(crate) fn numbers_on<'a>(lists: &[TopicList], numbers: &'a [DocId], topic: &[u8]) -> &'a [DocId]
+    requires { length numbers.now ≡ line_count lists.now }
+    ensures { (names : List (List ℕ)) → numbers.now ≡ docs_in names (docnos_of lists.now) → result.now ≡ docs_in names (docs_on lists.now topic.now) }
 {
-    for doc in docs {
-        docnos.add(doc.copy()?)?;
+    let mut start = 0;
+    for list in lists {
+        let end = start + list.docs.items().len();
+        if list.topic.bytes() == topic {
+            return &numbers[start..end];
+        }
+        start = end;
     }
-    Ok(())
+    &[]
 }

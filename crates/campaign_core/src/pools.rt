@@ -3,7 +3,7 @@ ghost use Rattle.std.specs.Prelude.{◌≡◌, map, IfOk};
 ghost use Rattle.decimal_rank.specs.Names.{docno_of};
 ghost use Rattle.assessment.specs.TopicFacts.{facts_of};
 ghost use Rattle.rulebook.specs.Answers.{pool_ruling, reply_of};
-ghost use Rattle.rulebook.specs.Campaign.{History, docs_on};
+ghost use Rattle.rulebook.specs.Campaign.{History};
 ghost use Rattle.campaign_core.specs.Kept.{StandsFor};
 
 use crate::topics::topic_of;
@@ -12,7 +12,6 @@ use decimal_rank::{DocId, Memory, Names, Rows, Text};
 use depth_pool::one_list_by_docno;
 use rulebook::{Refusal, Reply};
 use std::alloc::Global;
-use trec_formats::TopicList;
 
 /// The pool of a topic.
 pub(crate) fn pool_reply(
@@ -34,18 +33,6 @@ pub(crate) fn pool_reply(
         topic,
         docs: texts(alloc, docnos, &docs)?,
     })
-}
-
-/// The documents of the list on a topic: none where the run has no such list.
-pub(crate) fn docs_on<'a>(lists: &'a [TopicList], topic: &[u8]) -> &'a [Text]
-    ensures { result.now ≡ docs_on lists.now topic.now }
-{
-    for list in lists {
-        if list.topic.bytes() == topic {
-            return list.docs.items();
-        }
-    }
-    &[]
 }
 
 /// The docnos of documents.

@@ -6,12 +6,12 @@ ghost use Rattle.assessment.specs.TopicFacts.{facts_of};
 ghost use Rattle.assessment.specs.TopicFacts.{new_topic};
 ghost use Rattle.rulebook.specs.Campaign.{docs_on, needed};
 ghost use Rattle.rulebook.specs.Words.{contains_text};
-ghost use Rattle.campaign_core.specs.Numbers.{IsRankable, docs_in};
+ghost use Rattle.campaign_core.specs.Numbers.{AreRankable, docs_in};
 ghost use Rattle.campaign_core.specs.Topics.{empty_topic, kept, labelled_of, unlabelled};
 
-use crate::pools::docs_on;
+use crate::docnos::numbers_on;
 use assessment::{Topic, TopicRules};
-use decimal_rank::{Memory, Names, Ranking, Text};
+use decimal_rank::{DocId, Memory, Ranking, Text};
 use rulebook::Rules;
 use std::alloc::Global;
 use trec_formats::{Topic as GivenTopic, TopicList};
@@ -74,31 +74,21 @@ pub(crate) fn topic_rules(
     Ok(made)
 }
 
-/// The ranking of documents by their numbers.
-fn ranking_of(alloc: Global, docs: &[Text], docnos: &Names) -> Result<Ranking, Memory>
-    requires { IsRankable docnos.now docs.now }
-    ensures { IfOk result (λ ranking. ranking ≡ docs_in docnos.now docs.now) }
-{
-    let mut numbers = Vec::with_capacity(alloc, docs.len())?;
-    for doc in docs {
-        numbers.push(docnos.find(doc.bytes()).unwrap())?;
-    }
-    Ok(Ranking::listed(numbers)?)
-}
-
-/// The rankings of a run of these lists, one for each topic.
+/// The rankings of a run of these lists, one for each topic, by the numbers of its documents one list after another.
 pub(crate) fn rankings_of(
     alloc: Global,
     topics: &[Topic],
     lists: &[TopicList],
-    docnos: &Names,
+    numbers: &[DocId],
 ) -> Result<Vec<Ranking>, Memory>
-    requires { (topic : List ℕ) → IsRankable docnos.now (docs_on lists.now topic) }
-    ensures { IfOk result (λ made. made.items ≡ map (λ topic. docs_in docnos.now (docs_on lists.now topic.id)) (map facts_of topics.now)) }
+    requires { (names : List (List ℕ)) × AreRankable names lists.now numbers.now }
+    ensures { (names : List (List ℕ)) → AreRankable names lists.now numbers.now
+        → IfOk result (λ made. made.items ≡ map (λ topic. docs_in names (docs_on lists.now topic.id)) (map facts_of topics.now)) }
 {
     let mut made = Vec::with_capacity(alloc, topics.len())?;
     for topic in topics {
-        made.push(ranking_of(alloc, docs_on(lists, topic.id()), docnos)?)?;
+        let docs = Vec::from_slice(alloc, numbers_on(lists, numbers, topic.id()))?;
+        made.push(Ranking::listed(docs)?)?;
     }
     Ok(made)
 }

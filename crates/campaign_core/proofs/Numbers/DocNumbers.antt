@@ -90,14 +90,14 @@ new_name_step names name true is = is
 new_name_step names name false is =
     list_any-append (bytes_eq name) names (name ∷ []) ∙ ap (λ t. list_any (bytes_eq name) names || (t || false)) (nat_list_eq_equiv.refl name) ∙ or_true (list_any (bytes_eq name) names)
 
-new_name : (names : List Text) (name : Text) → contains_text (with_name names name) name ≡ true
+pub new_name : (names : List Text) (name : Text) → contains_text (with_name names name) name ≡ true
 new_name names name = new_name_step names name (list_any (bytes_eq name) names) refl
 
 kept_names : (names docs : List Text) (doc : Text) → contains_text names doc ≡ true → contains_text (fold with_name names docs) doc ≡ true
 kept_names names [] doc named = named
 kept_names names (first ∷ docs) doc named = kept_names (with_name names first) docs doc (kept_name names first doc named)
 
-all_named : (names docs : List Text) → are_named (fold with_name names docs) docs ≡ true
+pub all_named : (names docs : List Text) → are_named (fold with_name names docs) docs ≡ true
 all_named names [] = refl
 all_named names (doc ∷ docs) =
     all_cons (contains_text (fold with_name (with_name names doc) docs)) doc docs (kept_names (with_name names doc) docs doc (new_name names doc)) (all_named (with_name names doc) docs)

@@ -46,7 +46,7 @@ pub(crate) fn submit_decision(
     if campaign.lines + lines > u64::from(MAX_LINES) {
         return Ok(limit(Quantity::Lines));
     }
-    add_docnos(docnos, lists)?;
+    let numbers = add_docnos(alloc, docnos, lists)?;
     if docnos.len() > MAX_DOCNOS {
         return Ok(limit(Quantity::Docnos));
     }
@@ -56,7 +56,7 @@ pub(crate) fn submit_decision(
         lines: lines as u32,
     };
     let number = RunId(campaign.submissions.len() as u16);
-    let rankings = rankings_of(alloc, campaign.topics(), lists, docnos)?;
+    let rankings = rankings_of(alloc, campaign.topics(), lists, &numbers)?;
     Ok(Decision::Accepted(reply, Change::Run(number, rankings)))
 }
 

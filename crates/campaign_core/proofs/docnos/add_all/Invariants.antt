@@ -1,12 +1,11 @@
--- The docnos that are left, added to those there are, give what all of them add to the first ones.
-use Rattle.std.proofs.Common.{◌≡◌, ◌+◌, ◌≤◌, drop, length}
-use Rattle.std.specs.List.{fold}
-use Rattle.decimal_rank.specs.Names.{with_name}
+-- The docnos so far, and their numbers, were added.
+use Rattle.std.proofs.Common.{◌+◌, ◌≤◌, length, take}
 use Rattle.campaign_core.specs.Growth.{BeginsWith}
+use Rattle.campaign_core.specs.Numbers.{AreAdded}
 use Rattle.campaign_core.proofs.docnos.add_all.Given as goal
 
 abbrev pub invariant-loop-doc : goal.invariant-loop-doc
 invariant-loop-doc l =
-    (fold with_name l.docnos (drop l.doc-index l.docs) ≡ fold with_name l.fn.docnos l.docs)
+    AreAdded (take l.doc-index l.docs) l.fn.docnos l.docnos l.fn.numbers.items l.numbers.items
     × BeginsWith l.fn.docnos l.docnos
     × (length l.docnos ≤ length l.fn.docnos + l.doc-index)

@@ -1,4 +1,4 @@
-use Rattle.std.proofs.Common.{◌≡◌, ◌||◌, ◌∙◌, ◌≤◌, ℕ, List, Bool, true, false, ap, arith, length, map, sym, drop}
+use Rattle.std.proofs.Common.{◌≡◌, ◌∙◌, ◌≤◌, ℕ, List, Bool, true, false, ap, arith, length, map, sym}
 use Rattle.std.specs.Prelude.{◌&&◌, not}
 use Rattle.std.proofs.lemmas.List.{drop_all, length-map}
 use Rattle.rulebook.specs.declared.entry.Entry.{Entry}

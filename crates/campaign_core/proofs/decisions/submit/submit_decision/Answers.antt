@@ -17,7 +17,7 @@ use Rattle.rulebook.specs.Refusals.{Ruling}
 use Rattle.rulebook.specs.Spelling.{is_plain}
 use Rattle.rulebook.specs.Words.{Text, contains_text, each_once}
 use Rattle.campaign_core.specs.Decisions.{IsDecision}
-use Rattle.campaign_core.specs.Numbers.{are_named, docs_in}
+use Rattle.campaign_core.specs.Numbers.{AreRankable, are_named, docs_in}
 use Rattle.campaign_core.proofs.Rulings.CollectingRulings.{Passes, collecting-from, each_once-submitted, submit-accepted, submit-fits, submit-taken, submit-too-many-docnos, submit-too-many-lines, submit-too-many-runs, submit-unlisted}
 use Rattle.campaign_core.proofs.Lists.Elements.{all_back}
 use Rattle.campaign_core.proofs.Lists.FirstPlaces.{is-there}
@@ -25,7 +25,7 @@ use Rattle.campaign_core.proofs.Numbers.DocNumbers.{each_named}
 use Rattle.campaign_core.proofs.Printed.PoolTexts.{lists-named}
 use Rattle.campaign_core.proofs.Numbers.RunPlaces.{runs-many}
 use Rattle.campaign_core.proofs.Rulings.AcceptedEntries.{command-short, docs-plain, plain-of}
-use Rattle.campaign_core.proofs.decisions.submit.submit_decision.Goals.{After-add_docnos, After-from, After-is_some, After-len}
+use Rattle.campaign_core.proofs.decisions.submit.submit_decision.Goals.{After-add_docnos, After-deref-3, After-from, After-is_some, After-len}
 use Rattle.campaign_core.proofs.decisions.submit.submit_decision.Goals as goal
 
 collecting : (c : After-is_some) → phase c.args.campaign.now.history.items ≡ Collecting
@@ -120,7 +120,7 @@ returns-then-len-gt-MAX_DOCNOS-clause-decision c =
     let lists = c.args.lists.now in
     let at = goal.at.returns-then-len-gt-MAX_DOCNOS-clause-decision c in
     let docnos_are : c.add_docnos.new.docnos ≡ each_once (submitted_docnos campaign.history.items ++ docnos lists) =
-    c.in_ok-add_docnos.ensures.ok ∙ ap (λ texts. fold with_name texts (docnos lists)) c.requires.names ∙ sym (each_once-submitted campaign.history.items lists) in
+    c.in_ok-numbers.ensures.added.names_are ∙ ap (λ texts. fold with_name texts (docnos lists)) c.requires.names ∙ sym (each_once-submitted campaign.history.items lists) in
     let many : MAX_DOCNOS < length c.add_docnos.new.docnos = omega (arith, c.len-2.ensures.len, c.if-len-gt-MAX_DOCNOS.true) in
     subst (IsDecision campaign c.add_docnos.new.docnos core) (sym c.limit-then-len-gt-MAX_DOCNOS.ensures)
     (ap (ruled campaign.history.items core.caller core.moment) c.requires.asked.command_is
@@ -129,17 +129,25 @@ returns-then-len-gt-MAX_DOCNOS-clause-decision c =
 pub overflow_cast-reply : goal.overflow_cast-reply
 overflow_cast-reply c = omega (arith, ints, run-fits (goal.at.overflow_cast-reply c).After-is_some)
 
-pub rankings_of-requires : goal.rankings_of-requires
-rankings_of-requires c = λ topic.
+-- the documents of the run can be ranked on each topic by their numbers
+rankable : (c : After-deref-3) → AreRankable c.add_docnos.new.docnos c.args.lists.now c.deref-3.result.now
+rankable c =
     let core = c.args.core.now in
     let H = c.args.campaign.now.history.items in
     let lists = c.args.lists.now in
-    let plain = docs-plain (command.Submit c.args.run.now lists) topic (ap is_plain (sym c.requires.asked.command_is) ∙ plain-of core.caller core.number core.command core.moment c.requires.asked.asked.addressed) in
     let docnos_are : c.add_docnos.new.docnos ≡ each_once (submitted_docnos H ++ docnos lists) =
-    c.in_ok-add_docnos.ensures.ok ∙ ap (λ texts. fold with_name texts (docnos lists)) c.requires.names ∙ sym (each_once-submitted H lists) in
+    c.in_ok-numbers.ensures.added.names_are ∙ ap (λ texts. fold with_name texts (docnos lists)) c.requires.names ∙ sym (each_once-submitted H lists) in
     let all : are_named c.add_docnos.new.docnos (docnos lists) ≡ true =
     rw docnos_are (all_back (contains_text (each_once (submitted_docnos H ++ docnos lists))) (submitted_docnos H) (docnos lists) (each_named (submitted_docnos H ++ docnos lists))) in
-    record { few = plain.0; distinct = plain.1; named = lists-named c.add_docnos.new.docnos lists all topic }
+    record {
+      numbers_are = c.deref-3.ensures.value ∙ c.in_ok-numbers.ensures.added.numbers_are;
+      rankable = λ topic.
+          let plain = docs-plain (command.Submit c.args.run.now lists) topic (ap is_plain (sym c.requires.asked.command_is) ∙ plain-of core.caller core.number core.command core.moment c.requires.asked.asked.addressed) in
+          record { few = plain.0; distinct = plain.1; named = lists-named c.add_docnos.new.docnos lists all topic };
+    }
+
+pub rankings_of-requires : goal.rankings_of-requires
+rankings_of-requires c = (c.add_docnos.new.docnos, rankable (goal.at.rankings_of-requires c).After-deref-3)
 
 pub returns-clause-decision : goal.returns-clause-decision
 returns-clause-decision c =
@@ -152,7 +160,7 @@ returns-clause-decision c =
     let at = goal.at.returns-clause-decision c in
     let counted : length campaign.submissions.items ≡ vec_len campaign.submissions = search rules in
     let docnos_are : c.add_docnos.new.docnos ≡ each_once (submitted_docnos H ++ docnos lists) =
-    c.in_ok-add_docnos.ensures.ok ∙ ap (λ texts. fold with_name texts (docnos lists)) c.requires.names ∙ sym (each_once-submitted H lists) in
+    c.in_ok-numbers.ensures.added.names_are ∙ ap (λ texts. fold with_name texts (docnos lists)) c.requires.names ∙ sym (each_once-submitted H lists) in
     let few : length c.add_docnos.new.docnos ≤ MAX_DOCNOS = omega (arith, c.len-2.ensures.len, c.if-len-gt-MAX_DOCNOS.false) in
     let accepted = submit-accepted H run lists (passes at.After-from (collecting at.After-is_some) (taken-is at.After-is_some) (runs-counted at.After-len)) (lines-few at.After-add_docnos) (subst (λ (names : List Text). length names ≤ MAX_DOCNOS) docnos_are few) in
     let reply_is : reply.Submitted c.in_ok-copy.field-0 (length lists) c.line_count-lines.result ≡ reply.Submitted run (length lists) (line_count lists) =
@@ -165,6 +173,6 @@ returns-clause-decision c =
         lists,
         c.requires.asked.command_is,
         number,
-        c.in_ok-rankings.ensures ∙ ap (λ (topics : List TopicView). map (λ (t : TopicFacts). docs_in c.add_docnos.new.docnos (docs_on lists t.id)) (map facts_of topics)) c.topics.ensures,
+        c.in_ok-rankings.ensures c.add_docnos.new.docnos (rankable at.After-deref-3) ∙ ap (λ (topics : List TopicView). map (λ (t : TopicFacts). docs_in c.add_docnos.new.docnos (docs_on lists t.id)) (map facts_of topics)) c.topics.ensures,
       ),
     )
