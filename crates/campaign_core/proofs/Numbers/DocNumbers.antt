@@ -1,7 +1,6 @@
 -- Docnos and their numbers.
-use Rattle.std.proofs.Common.{◌≡◌, ◌≢◌, ◌||◌, ◌<◌, ◌+◌, ℕ, suc, Bool, true, false, not, cond, List, [], ◌∷◌, ◌++◌, length, map, drop, refl, sym, ap, ◌∙◌, arith, lt-ltb, Option, None, Some}
+use Rattle.std.proofs.Common.{◌≡◌, ◌≢◌, ◌||◌, ◌<◌, ◌+◌, ℕ, suc, Bool, true, false, not, cond, List, [], ◌∷◌, ◌++◌, length, map, drop, refl, sym, ap, ◌∙◌, arith, lt-ltb, Some}
 use Rattle.std.specs.Prelude.{All, if◌then◌else◌}
-use Rattle.std.specs.Option.{option_map, IsSome}
 use Rattle.std.specs.List.{list_any, position_or_len, fold}
 use Rattle.std.specs.Str.{bytes_eq}
 use Rattle.std.proofs.lemmas.Cmp.{nat_list_eq_equiv}
@@ -140,8 +139,3 @@ pub numbers-within : (names docs : List Text) → are_named names docs ≡ true 
 numbers-within names [] named = λ k d within. absurd (omega (arith, within))
 numbers-within names (doc ∷ docs) named =
     each_cons (λ d. d.0 < length names) (doc_in names doc) (docs_in names docs) (number-within names doc (all_head (contains_text names) doc docs named)) (numbers-within names docs (all_tail (contains_text names) doc docs named))
-
--- a name is found under its number
-pub is_found : (names : List Text) (doc : Text) (found : Option DocId) → contains_text names doc ≡ true → option_map (λ d. d.0) found ≡ number_of names doc → IsSome found
-is_found names doc None named is = let no : ◌≡◌ {A = Option ℕ} None (Some (doc_in names doc).0) = is ∙ number-some names doc named in cc no
-is_found names doc (Some d) named is = refl
