@@ -8,10 +8,7 @@ pub(crate) fn words_of(alloc: Global, reply: &Reply, moment: u64) -> Option<Stri
     match reply {
         Reply::Done => format!(in alloc; "done {moment}").ok(),
         Reply::Topics { topics } => format!(in alloc; "topics {topics}").ok(),
-        Reply::Submitted { run, topics, lines } => {
-            let run = word(run)?;
-            format!(in alloc; "submitted {run} {topics} {lines}").ok()
-        }
+        Reply::Submitted { run, topics, lines } => submitted(alloc, word(run)?, *topics, *lines),
         Reply::Leased {
             lease,
             topic,
@@ -22,17 +19,25 @@ pub(crate) fn words_of(alloc: Global, reply: &Reply, moment: u64) -> Option<Stri
             if word(title)? != "pooling" {
                 return None;
             }
-            let doc = of_topic_one(topic, doc)?;
-            format!(in alloc; "leased {lease} {doc} {until}").ok()
+            leased(alloc, *lease, of_topic_one(topic, doc)?, *until)
         }
-        Reply::Graded { topic, doc, grade } => {
-            let doc = of_topic_one(topic, doc)?;
-            format!(in alloc; "graded {doc} {grade}").ok()
-        }
+        Reply::Graded { topic, doc, grade } => graded(alloc, of_topic_one(topic, doc)?, *grade),
         Reply::Pool { docs, .. } => pool_words(alloc, docs.items()),
         Reply::Page { text } => page(alloc, word(text)?),
         Reply::Refused(refusal) => format!(in alloc; "refused {refusal:?}").ok(),
     }
+}
+
+fn submitted(alloc: Global, run: &str, topics: u32, lines: u32) -> Option<String> {
+    format!(in alloc; "submitted {run} {topics} {lines}").ok()
+}
+
+fn leased(alloc: Global, lease: u32, doc: &str, until: u64) -> Option<String> {
+    format!(in alloc; "leased {lease} {doc} {until}").ok()
+}
+
+fn graded(alloc: Global, doc: &str, grade: u8) -> Option<String> {
+    format!(in alloc; "graded {doc} {grade}").ok()
 }
 
 fn word(text: &Text) -> Option<&str> {

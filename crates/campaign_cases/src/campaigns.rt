@@ -57,17 +57,25 @@ fn first_topic(alloc: Global) -> Result<Rows<Text>, Memory>
 /// the judging order, each with its mean of precisions.
 pub(crate) fn answer(alloc: Global, door: &Door, state: &mut State, words: &str) -> Option<String> {
     if words == "entries" {
-        let entries = state.entries();
-        return format!(in alloc; "{entries}").ok();
+        return entries(alloc, state);
     }
     if words == "phase" {
-        let phase = state.phase();
-        return format!(in alloc; "{phase:?}").ok();
+        return phase(alloc, state);
     }
     if words == "order" {
         return order(alloc, state);
     }
     told(alloc, door, state, &asked_of(words)?)
+}
+
+fn entries(alloc: Global, state: &State) -> Option<String> {
+    let entries = state.entries();
+    format!(in alloc; "{entries}").ok()
+}
+
+fn phase(alloc: Global, state: &State) -> Option<String> {
+    let phase = state.phase();
+    format!(in alloc; "{phase:?}").ok()
 }
 
 fn order(alloc: Global, state: &State) -> Option<String> {

@@ -75,7 +75,10 @@ fn play_in(
     counts: &mut Counts,
 ) -> io::Result<()> {
     counts.cases = counts.cases.saturating_add(1);
-    play_lines(rt, door, &mut state, lines, counts)
+    let played = play_lines(rt, door, &mut state, lines, counts);
+    // by a call, whose proof goes part by part
+    drop(state);
+    played
 }
 
 // Plays the lines of a case in a campaign of the rules that its first line tells.
@@ -88,10 +91,8 @@ fn play_case(rt: &HostRuntime, door: &Door, case: &str, counts: &mut Counts) -> 
     play_in(rt, door, state, lines, counts)
 }
 
-fn main(rt: HostRuntime) -> io::Result<ExitCode> {
-    let Some(door) = Door::new(rt.alloc()) else {
-        return Ok(ExitCode::from(7));
-    };
+// Plays the cases of standard input, and tells how they went.
+fn play_all(rt: &HostRuntime, door: &Door) -> io::Result<ExitCode> {
     let text = io::read_to_string(rt.alloc(), rt.reader())?;
     let mut counts = Counts {
         cases: 0,
@@ -99,7 +100,7 @@ fn main(rt: HostRuntime) -> io::Result<ExitCode> {
         differing: 0,
     };
     for case in text.as_str().split("\ncampaign ").skip(1) {
-        play_case(&rt, &door, case, &mut counts)?;
+        play_case(rt, door, case, &mut counts)?;
     }
     let Counts {
         cases,
@@ -108,4 +109,11 @@ fn main(rt: HostRuntime) -> io::Result<ExitCode> {
     } = counts;
     println!(rt; "cases {cases}, lines {lines}, of which told something else {differing}")?;
     Ok(ExitCode::from(u8::from(differing > 0)))
+}
+
+fn main(rt: HostRuntime) -> io::Result<ExitCode> {
+    match Door::new(rt.alloc()) {
+        Some(door) => play_all(&rt, &door),
+        None => Ok(ExitCode::from(7)),
+    }
 }

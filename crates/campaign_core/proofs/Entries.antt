@@ -1,4 +1,5 @@
 -- What one more entry makes of the history, and of what is known of it.
+pub mod Answered
 pub mod CommitCosts
 pub mod Commits
 pub mod FittingChanges

@@ -47,13 +47,14 @@ impl Campaign {
         ensures history { IfOk result (λ campaign. campaign.history.items ≡ founding rules ∷ []) }
         ensures known { IfOk result IsKnown }
     {
-        let assessment = Assessment::new(alloc, rules.level)?;
+        let level = rules.level;
         let core = founding_core(alloc, rules)?;
         let mut history = Vec::new(alloc);
         history.push(Entry {
             core,
             reply: Reply::Done,
         })?;
+        let assessment = Assessment::new(alloc, level)?;
         Ok(Campaign {
             history,
             phase: Phase::Collecting,
@@ -128,9 +129,9 @@ impl Campaign {
         ensures unchanged { IsUnchanged self.old self.new }
         ensures room { OnOk result (AwaitsChange self.new change) }
     {
+        self.assessment.reserve(change)?;
         self.history.reserve(1)?;
-        self.submissions.reserve(1)?;
-        self.assessment.reserve(change)
+        Ok(self.submissions.reserve(1)?)
     }
 
     /// Adds an entry for which there is room, and makes its change. A step is a node of a tree, an entry of a ranked

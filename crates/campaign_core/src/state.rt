@@ -316,8 +316,8 @@ fn prepared(
             Ok(Err(refusal))
         }
         Decision::Accepted(reply, change) => {
-            add_number(numbers, &core, campaign.history.len() as u32 + 1)?;
             campaign.reserve(change)?;
+            add_number(numbers, &core, campaign.history.len() as u32 + 1)?;
             let told = reply.copy(alloc)?;
             Ok(Ok(Prepared {
                 entry: Entry { core, reply: told },

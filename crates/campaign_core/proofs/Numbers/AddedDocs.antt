@@ -6,7 +6,7 @@ use Rattle.std.specs.Option.{option_map_or}
 use Rattle.std.specs.Str.{bytes_eq}
 use Rattle.std.proofs.lemmas.Grind.{flat_map-append}
 use Rattle.std.proofs.Math.Seq.{drop-append_seam, take-append_seam, take-length}
-use Rattle.std.proofs.lemmas.List.{append-nil, append_assoc, length-append, length-map, length-take, map-append, take-take}
+use Rattle.std.proofs.lemmas.List.{append_assoc, length-append, length-map, length-take, map-append, take-take}
 use Rattle.std.proofs.lemmas.List.Sums.{fold-append, sum_by-cons}
 use Rattle.decimal_rank.specs.Names.{number_of, with_name}
 use Rattle.decimal_rank.specs.declared.naming.DocId.{DocId}
@@ -16,9 +16,6 @@ use Rattle.rulebook.specs.Words.{Text, contains_text}
 use Rattle.campaign_core.specs.Growth.{BeginsWith}
 use Rattle.campaign_core.specs.Numbers.{AreAdded, are_named, doc_in, docs_in}
 use Rattle.campaign_core.proofs.Numbers.DocNumbers.{all_named, docs-kept, new_name, number-some}
-
-pub added-none : (names : List Text) (before : List DocId) → AreAdded [] names names before before
-added-none names before = record { names_are = refl; numbers_are = sym (append-nil before) }
 
 -- those of one list and then those of another
 pub added-all : (docs more names now later : List Text) (before middle after : List DocId) → AreAdded docs names now before middle → BeginsWith now later → AreAdded more now later middle after

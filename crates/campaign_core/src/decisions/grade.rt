@@ -35,6 +35,7 @@ pub(crate) fn grade_decision(
         return Ok(Decision::Refused(Refusal::GradeRange));
     }
     let topics = campaign.topics();
+    let assessor = core.caller.name.copy()?;
     let reply = Reply::Graded {
         topic: Text::from_slice(alloc, topics[lease.topic as usize].id())?,
         doc: docno(alloc, docnos, lease.doc)?,
@@ -43,7 +44,7 @@ pub(crate) fn grade_decision(
     let label = Label {
         topic: lease.topic,
         doc: lease.doc,
-        assessor: core.caller.name.copy()?,
+        assessor,
         grade,
     };
     Ok(Decision::Accepted(reply, Change::Grade(number, label)))

@@ -44,6 +44,7 @@ pub(crate) fn lease_decision(
         return Ok(Decision::Refused(Refusal::NothingLeft));
     };
     let until = core.moment + rules.term;
+    let holder = core.caller.name.copy()?;
     let reply = Reply::Leased {
         lease: desk.len() + 1,
         topic: topic.copy()?,
@@ -54,7 +55,7 @@ pub(crate) fn lease_decision(
     let grant = Grant {
         topic: number as u16,
         doc,
-        assessor: core.caller.name.copy()?,
+        assessor: holder,
         until,
     };
     Ok(Decision::Accepted(reply, Change::Lease(grant)))

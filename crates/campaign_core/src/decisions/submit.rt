@@ -50,13 +50,14 @@ pub(crate) fn submit_decision(
     if docnos.len() > MAX_DOCNOS {
         return Ok(limit(Quantity::Docnos));
     }
+    let name = run.copy()?;
+    let number = RunId(campaign.submissions.len() as u16);
+    let rankings = rankings_of(alloc, campaign.topics(), lists, &numbers)?;
     let reply = Reply::Submitted {
-        run: run.copy()?,
+        run: name,
         topics: lists.len() as u32,
         lines: lines as u32,
     };
-    let number = RunId(campaign.submissions.len() as u16);
-    let rankings = rankings_of(alloc, campaign.topics(), lists, &numbers)?;
     Ok(Decision::Accepted(reply, Change::Run(number, rankings)))
 }
 

@@ -35,10 +35,9 @@ pub(crate) fn topics_decision(
     }
     let rules = campaign.rules();
     let made = topic_rules(alloc, topics, rules)?;
-    Ok(Decision::Accepted(
-        Reply::Topics {
-            topics: topics.len() as u32,
-        },
-        Change::Topics(Topics::new(alloc, made, rules.level)?),
-    ))
+    let numbered = Topics::new(alloc, made, rules.level)?;
+    let reply = Reply::Topics {
+        topics: topics.len() as u32,
+    };
+    Ok(Decision::Accepted(reply, Change::Topics(numbered)))
 }

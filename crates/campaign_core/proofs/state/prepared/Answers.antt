@@ -33,7 +33,7 @@ returns-in_ok-told-in-Accepted-clause-prepared c =
     let names = c.decide.new.docnos in
     let decided : IsDecision campaign names c.args.core (Accepted c.in-Accepted.reply c.in-Accepted.change) = subst (IsDecision campaign names c.args.core) c.in-Accepted.is c.in_ok-refusal.ensures.decision in
     let limits : IsWithinLimits H names c.args.core.command = subst (KeepsLimits H names c.args.core.command) c.in-Accepted.is c.in_ok-refusal.ensures.limits in
-    let place : c.len.result + 1 ≡ length H + 1 = omega (arith, c.len.ensures, campaign.history.ok.0) in
+    let place : c.len.result + 1 ≡ length H + 1 = omega (arith, c.len.ensures, c.reserve.new.self.history.ok.0, ap length c.in_ok-reserve-in-Accepted.ensures.unchanged.history_is) in
     let numbers_are : c.add_number.new.numbers ≡ c.args.numbers.now ++ number_in (length H + 1) c.args.core =
     c.in_ok-add_number-in-Accepted.ensures.ok ∙ ap (λ n. c.args.numbers.now ++ number_in n c.args.core) place in
     prepared-entry campaign c.reserve.new.self c.args.docnos.now names c.args.numbers.now c.add_number.new.numbers c.args.core c.in_ok-told-in-Accepted.told c.in-Accepted.reply c.in-Accepted.change

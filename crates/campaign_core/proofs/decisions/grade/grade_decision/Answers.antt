@@ -95,7 +95,7 @@ returns c =
         found = w.found;
         topic_is = ap (λ (k : KnownLease). k.topic) w.alike;
         doc_is = ap (λ (k : KnownLease). k.doc) w.alike ∙ ap (λ names. doc_in names w.lease.doc) (sym c.requires.names);
-        assessor_is = c.in_ok-copy.ensures.copy;
+        assessor_is = c.in_ok-assessor.ensures.copy;
         unended = subst (IsUnended c.args.number) c.desk.ensures (unended desk c.args.number lease who.name now (sym c.in-Some.ensures.lease) none);
       },
     )

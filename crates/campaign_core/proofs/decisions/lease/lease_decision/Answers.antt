@@ -140,7 +140,7 @@ returns c =
         topic_is = at.number_is;
         doc_is = doc_is;
         until_is = until;
-        assessor_is = c.in_ok-copy-2.ensures.copy;
+        assessor_is = c.in_ok-holder.ensures.copy;
         doc_named = ap (λ names. contains_text names told.text) c.requires.names ∙ told.known;
       },
     )

@@ -163,8 +163,8 @@ returns-clause-decision c =
     c.in_ok-numbers.ensures.added.names_are ∙ ap (λ texts. fold with_name texts (docnos lists)) c.requires.names ∙ sym (each_once-submitted H lists) in
     let few : length c.add_docnos.new.docnos ≤ MAX_DOCNOS = omega (arith, c.len-2.ensures.len, c.if-len-gt-MAX_DOCNOS.false) in
     let accepted = submit-accepted H run lists (passes at.After-from (collecting at.After-is_some) (taken-is at.After-is_some) (runs-counted at.After-len)) (lines-few at.After-add_docnos) (subst (λ (names : List Text). length names ≤ MAX_DOCNOS) docnos_are few) in
-    let reply_is : reply.Submitted c.in_ok-copy.field-0 (length lists) c.line_count-lines.result ≡ reply.Submitted run (length lists) (line_count lists) =
-    ap (λ (name : Text). let r : Reply = reply.Submitted name (length lists) c.line_count-lines.result in r) c.in_ok-copy.ensures.copy
+    let reply_is : reply.Submitted c.in_ok-name.name (length lists) c.line_count-lines.result ≡ reply.Submitted run (length lists) (line_count lists) =
+    ap (λ (name : Text). let r : Reply = reply.Submitted name (length lists) c.line_count-lines.result in r) c.in_ok-name.ensures.copy
     ∙ ap (λ lines. let r : Reply = reply.Submitted run (length lists) lines in r) c.line_count-lines.ensures in
     let number : c.len-3.result ≡ length (runs H) = omega (arith, runs-many H campaign.submissions.items known.submissions_are, counted, c.len-3.ensures) in (
       ap (ruled H core.caller core.moment) c.requires.asked.command_is ∙ accepted ∙ ap (λ (r : Reply). let told : Ruling = Ok r in told) (sym reply_is),

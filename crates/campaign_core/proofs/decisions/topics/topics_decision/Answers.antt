@@ -21,12 +21,12 @@ returns c =
       (
         given,
         c.requires.command_is,
-        ap (λ (all : TopicsFacts). map kept all.topics) c.in_ok-new.ensures.facts ∙ c.in_ok-made.ensures.kept ∙ ap (λ (r : Rules). map (λ (t : Topic). empty_topic r t.id) given) c.rules-rules.ensures,
-        ap (λ (all : TopicsFacts). map labelled_of all.topics) c.in_ok-new.ensures.facts ∙ c.in_ok-made.ensures.labelled,
+        ap (λ (all : TopicsFacts). map kept all.topics) c.in_ok-numbered.ensures.facts ∙ c.in_ok-made.ensures.kept ∙ ap (λ (r : Rules). map (λ (t : Topic). empty_topic r t.id) given) c.rules-rules.ensures,
+        ap (λ (all : TopicsFacts). map labelled_of all.topics) c.in_ok-numbered.ensures.facts ∙ c.in_ok-made.ensures.labelled,
         record {
-          level_is = ap (λ (all : TopicsFacts). all.level) c.in_ok-new.ensures.facts ∙ ap (λ (r : Rules). r.level) c.rules-rules.ensures;
-          empty = ap (λ (all : TopicsFacts). all.lists) c.in_ok-new.ensures.facts;
-          no_room = c.in_ok-new.ensures.none;
+          level_is = ap (λ (all : TopicsFacts). all.level) c.in_ok-numbered.ensures.facts ∙ ap (λ (r : Rules). r.level) c.rules-rules.ensures;
+          empty = ap (λ (all : TopicsFacts). all.lists) c.in_ok-numbered.ensures.facts;
+          no_room = c.in_ok-numbered.ensures.none;
         },
       ),
     )
