@@ -93,3 +93,17 @@ pub(crate) fn printed<W: Threads + Wait + Sync + AllocGlobal + Abort>(
     assert!(rt; own.written().is_empty());
     Ok((status, out))
 }
+
+/// Asserts that the program with these files ends with this status, and that it prints this text.
+pub(crate) fn assert_printed<W: Threads + Wait + Sync + AllocGlobal + Abort>(
+    rt: &W,
+    words: &str,
+    shelf: MemoryShelf,
+    status: u8,
+    text: &[u8],
+) -> Result<(), Fail> {
+    let (ended, out) = printed(rt, words, shelf, Vec::new(rt.alloc()))?;
+    assert_eq!(rt; ended, status, "{words}");
+    assert_eq!(rt; out.written(), text, "{words}");
+    Ok(())
+}

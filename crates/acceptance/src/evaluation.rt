@@ -1,6 +1,6 @@
 //! `eval` through the top call.
-use crate::calls::printed;
-use campaign_cli::{MemoryShelf, MemorySink, USAGE_LINE};
+use crate::calls::{assert_printed, printed};
+use campaign_cli::{MemoryShelf, USAGE_LINE};
 use decimal_rank::Text;
 use std::alloc::Global;
 use std::process::Abort;
@@ -42,15 +42,17 @@ fn shelf_of(
     Ok(MemoryShelf::new(files, fails))
 }
 
-// The status and what was printed, where the run is scored against the qrels.
-fn scored<W: Threads + Wait + Sync + AllocGlobal + Abort>(
+// Asserts what status and what text come where the run is scored against the qrels.
+fn assert_scored<W: Threads + Wait + Sync + AllocGlobal + Abort>(
     rt: &W,
     run: Option<&[u8]>,
     qrels: Option<&[u8]>,
-) -> Result<(u8, MemorySink), Fail> {
+    status: u8,
+    text: &[u8],
+) -> Result<(), Fail> {
     let alloc = rt.alloc();
     let shelf = shelf_of(alloc, run, qrels, Vec::new(alloc))?;
-    printed(rt, "eval r.txt q.txt", shelf, Vec::new(alloc))
+    assert_printed(rt, "eval r.txt q.txt", shelf, status, text)
 }
 
 // The lines of these values, in the order of the measures.
@@ -68,10 +70,7 @@ fn lines_of(alloc: Global, values: &str) -> Result<Vec<u8>, Fail> {
 
 #[test]
 fn a_summary_has_seventeen_lines(rt: HostRuntime) -> Result<(), Fail> {
-    let (status, out) = scored(&rt, Some(RUN), Some(QRELS))?;
-    assert_eq!(rt; status, 0);
-    assert_eq!(rt; out.written(), SCORES);
-    Ok(())
+    assert_scored(&rt, Some(RUN), Some(QRELS), 0, SCORES)
 }
 
 #[test]
@@ -129,9 +128,8 @@ fn a_run_is_scored_against_qrels(rt: HostRuntime) -> Result<(), Fail> {
         ),
     ];
     for (run, qrels, values) in cases {
-        let (status, out) = scored(&rt, Some(run), Some(qrels))?;
-        assert_eq!(rt; status, 0);
-        assert_eq!(rt; out.written(), lines_of(rt.alloc(), values)?.as_slice());
+        let lines = lines_of(rt.alloc(), values)?;
+        assert_scored(&rt, Some(run), Some(qrels), 0, &lines)?;
     }
     Ok(())
 }
@@ -167,9 +165,7 @@ fn a_faulty_file_is_refused(rt: HostRuntime) -> Result<(), Fail> {
         ),
     ];
     for (run, line) in runs {
-        let (status, out) = scored(&rt, Some(run), Some(b"1 0 A -1\n"))?;
-        assert_eq!(rt; status, 3);
-        assert_eq!(rt; out.written(), line);
+        assert_scored(&rt, Some(run), Some(b"1 0 A -1\n"), 3, line)?;
     }
     let qrels: [(&[u8], &[u8]); 6] = [
         (b"1 0 A -1\n", b"input: q.txt line 1 grade\n"),
@@ -183,9 +179,7 @@ fn a_faulty_file_is_refused(rt: HostRuntime) -> Result<(), Fail> {
         ),
     ];
     for (judged, line) in qrels {
-        let (status, out) = scored(&rt, Some(RUN), Some(judged))?;
-        assert_eq!(rt; status, 3);
-        assert_eq!(rt; out.written(), line);
+        assert_scored(&rt, Some(RUN), Some(judged), 3, line)?;
     }
     Ok(())
 }
@@ -197,16 +191,12 @@ fn a_topic_has_at_most_a_thousand_lines(rt: HostRuntime) -> Result<(), Fail> {
     for i in 0u32..1000 {
         run.push_str(&format!(in alloc; "1 Q0 D{i} 1 {i} t\n")?)?;
     }
-    let (status, _) = scored(&rt, Some(run.as_bytes()), Some(QRELS))?;
+    let shelf = shelf_of(alloc, Some(run.as_bytes()), Some(QRELS), Vec::new(alloc))?;
+    let (status, _) = printed(&rt, "eval r.txt q.txt", shelf, Vec::new(alloc))?;
     assert_eq!(rt; status, 0);
     run.push_str("1 Q0 E 1 1 t\n")?;
-    let (status, out) = scored(&rt, Some(run.as_bytes()), Some(QRELS))?;
-    assert_eq!(rt; status, 3);
-    assert_eq!(rt;
-        out.written(),
-        b"input: r.txt line 1001 too-long\n".as_slice()
-    );
-    Ok(())
+    let line = b"input: r.txt line 1001 too-long\n";
+    assert_scored(&rt, Some(run.as_bytes()), Some(QRELS), 3, line)
 }
 
 #[test]
@@ -218,9 +208,7 @@ fn a_missing_file_is_told_before_a_faulty_one(rt: HostRuntime) -> Result<(), Fai
         (None, None),
     ];
     for (run, qrels) in cases {
-        let (status, out) = scored(&rt, run, qrels)?;
-        assert_eq!(rt; status, 4);
-        assert_eq!(rt; out.written().len(), 0);
+        assert_scored(&rt, run, qrels, 4, b"")?;
     }
     Ok(())
 }
@@ -240,9 +228,7 @@ fn other_words_get_the_usage_line(rt: HostRuntime) -> Result<(), Fail> {
     ];
     for words in rows {
         let shelf = shelf_of(alloc, Some(RUN), Some(QRELS), Vec::new(alloc))?;
-        let (status, out) = printed(&rt, words, shelf, Vec::new(alloc))?;
-        assert_eq!(rt; status, 2, "{words}");
-        assert_eq!(rt; out.written(), USAGE_LINE, "{words}");
+        assert_printed(&rt, words, shelf, 2, USAGE_LINE)?;
     }
     Ok(())
 }

@@ -22,4 +22,6 @@ mod session;
 #[cfg(test)]
 mod settings;
 #[cfg(test)]
+mod shelves;
+#[cfg(test)]
 mod waiting_link;

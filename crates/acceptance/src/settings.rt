@@ -1,5 +1,5 @@
 //! Settings, read and refused.
-use crate::calls::printed;
+use crate::calls::assert_printed;
 use campaign_cli::{MemoryShelf, SettingsEnd, read_settings};
 use decimal_rank::Text;
 use std::alloc::Global;
@@ -170,29 +170,9 @@ fn there_are_at_most_five_hundred_callers(rt: HostRuntime) -> Result<(), Fail> {
 #[test]
 fn a_session_needs_its_settings(rt: HostRuntime) -> Result<(), Fail> {
     let alloc = rt.alloc();
-    let (status, out) = printed(
-        &rt,
-        "session",
-        settings_shelf(alloc, SETTINGS)?,
-        Vec::new(alloc),
-    )?;
-    assert_eq!(rt; status, 0);
-    assert!(rt; out.written().is_empty());
-    let (status, out) = printed(
-        &rt,
-        "session",
-        settings_shelf(alloc, "top_grade = 0\n")?,
-        Vec::new(alloc),
-    )?;
-    assert_eq!(rt; status, 3);
-    assert_eq!(rt; out.written(), b"input: campaign.toml\n".as_slice());
-    let (status, out) = printed(
-        &rt,
-        "session",
-        MemoryShelf::new(Vec::new(alloc), Vec::new(alloc)),
-        Vec::new(alloc),
-    )?;
-    assert_eq!(rt; status, 4);
-    assert!(rt; out.written().is_empty());
-    Ok(())
+    assert_printed(&rt, "session", settings_shelf(alloc, SETTINGS)?, 0, b"")?;
+    let refused = settings_shelf(alloc, "top_grade = 0\n")?;
+    assert_printed(&rt, "session", refused, 3, b"input: campaign.toml\n")?;
+    let absent = MemoryShelf::new(Vec::new(alloc), Vec::new(alloc));
+    assert_printed(&rt, "session", absent, 4, b"")
 }

@@ -1,5 +1,5 @@
 -- One request adds one entry at most.
-use Rattle.std.proofs.Common.{◌≡◌, ℕ, ◌+◌, ◌≤◌, ◌==◌, Bool, true, false, cond, Option, None, Some, [], ◌∷◌, ◌++◌, Ok, Err, ap, arith, length, length-append}
+use Rattle.std.proofs.Common.{ℕ, ◌+◌, ◌≤◌, ◌==◌, Bool, true, false, cond, Option, None, Some, Ok, Err, ap, arith, length, length-append}
 use Rattle.std.specs.Option.{option_map_or}
 use Rattle.rulebook.specs.declared.limits.TheConstants.{MAX_ENTRIES}
 use Rattle.rulebook.specs.declared.rules.Caller.{Caller}

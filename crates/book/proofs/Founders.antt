@@ -1,22 +1,19 @@
 -- The first entry of a campaign, by its spelling.
-use Rattle.std.proofs.Common.{◌≡◌, ◌≢◌, ℕ, suc, ◌+◌, ◌-◌, ◌≤◌, ◌^◌, Bool, true, false, List, [], ◌∷◌, ◌++◌, length, take, refl, sym, ap, subst, ◌∙◌, arith}
-use Rattle.std.specs.Prelude.{◌&&◌, IsTrue, codes, nat_le}
+use Rattle.std.proofs.Common.{◌≡◌, ◌≢◌, ℕ, suc, ◌+◌, ◌-◌, Bool, true, false, List, [], ◌∷◌, take, refl, sym, ap, subst, ◌∙◌, arith}
+use Rattle.std.specs.Prelude.{◌&&◌}
 use Rattle.trec_formats.specs.Names.{is_name}
 use Rattle.record_codec.specs.Laws.{OneSpelling}
-use Rattle.rulebook.specs.declared.limits.TheConstants.{MAX_MOMENT}
 use Rattle.rulebook.specs.declared.rules.Rules.{Rules}
-use Rattle.rulebook.specs.declared.ask.Command.{Command}
 use Rattle.rulebook.specs.declared.ask.Command.TheVariants as command
 use Rattle.rulebook.specs.declared.entry.Entry.{Entry}
 use Rattle.rulebook.specs.declared.entry.EntryCore.{EntryCore}
 use Rattle.rulebook.specs.Campaign.{History, rules_of}
-use Rattle.rulebook.specs.Legal.{IsFounding, IsLegal, founding}
-use Rattle.rulebook.specs.Spelling.{IsSpelling, are_rules, entry_bytes, has_spelling, is_number, is_plain}
+use Rattle.rulebook.specs.Legal.{founding}
+use Rattle.rulebook.specs.Spelling.{IsSpelling, are_rules, entry_bytes, has_spelling}
 use Rattle.rulebook.specs.Words.{Text}
-use Rattle.book.specs.declared.faults.BookFault.TheVariants as fault
 use Rattle.book.specs.Openings.{DiffersFrom, OpensWith}
-use Rattle.book.specs.Replays.{BreaksOff, GoesOn, Stops}
-use Rattle.book.specs.Stories.{BreaksAt, HasStory, IsOnlyStory, IsStory, spellings}
+use Rattle.book.specs.Replays.{BreaksOff, GoesOn}
+use Rattle.book.specs.Stories.{BreaksAt, HasStory, IsOnlyStory, IsStory}
 
 second_of_both : (s t : Bool) → (s && t) ≡ true → t ≡ true
 second_of_both true t is = is

@@ -1,10 +1,10 @@
 -- What a journal keeps, said of a book's entries.
-use Rattle.std.proofs.Common.{◌≡◌, ◌≢◌, ◌⊎◌, inl, inr, ⊎_elim, ℕ, ◌+◌, ◌≤◌, ◌^◌, List, [], ◌∷◌, ◌++◌, Option, None, Some, Bool, true, false, length, map, refl, sym, ap, subst, ◌∙◌, arith}
+use Rattle.std.proofs.Common.{◌≡◌, ◌≢◌, inl, inr, ⊎_elim, ℕ, List, [], ◌∷◌, ◌++◌, Option, None, Some, Bool, true, false, refl, sym, ap, subst, ◌∙◌}
 use Rattle.std.proofs.lemmas.List.{append-nil, map-append}
 use Rattle.disk_model.specs.Disks.{EachMoment}
 use Rattle.journal.specs.declared.dues.Due.{Due}
 use Rattle.journal.specs.declared.dues.Due.TheVariants.{Nothing, Cut, Gate}
-use Rattle.journal.specs.Format.{decode, place_behind}
+use Rattle.journal.specs.Format.{place_behind}
 use Rattle.journal.specs.Journals.{JournalState, KeepsRecords}
 use Rattle.journal.specs.Kept.{Keeps, KeepsSome, Settled, StandsFor as JournalStandsFor, StandsForOneOf, StillKeeps}
 use Rattle.journal.specs.Moments.{joined, started, weaker}

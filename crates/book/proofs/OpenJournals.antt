@@ -1,5 +1,5 @@
 -- An open journal as a book, by what its records are.
-use Rattle.std.proofs.Common.{◌≡◌, ◌≢◌, ◌⊎◌, inl, inr, ℕ, ◌+◌, ◌-◌, ◌<◌, ◌≤◌, ◌^◌, List, [], ◌∷◌, ◌++◌, Option, None, Some, Vec, length, take, drop, get_or, refl, sym, ap, subst, ◌∙◌, arith}
+use Rattle.std.proofs.Common.{◌≡◌, ◌≢◌, inl, inr, ℕ, ◌-◌, ◌<◌, ◌≤◌, List, [], ◌∷◌, Option, None, Some, Vec, length, take, drop, get_or, refl, sym, ap, subst, ◌∙◌, arith}
 use Rattle.std.specs.Prelude.{IfErr, IfOk, IfSome, Result, Ok, Err}
 use Rattle.std.specs.declared.alloc.Global.{Global}
 use Rattle.std.proofs.lemmas.List.{take_all}
@@ -12,15 +12,14 @@ use Rattle.journal.specs.Format.{decode}
 use Rattle.journal.specs.Journals.{JournalState}
 use Rattle.journal.specs.Kept.{Settled, StandsForOneOf, payloads as payloads_of}
 use Rattle.journal.specs.Moments.{DecodesAs, Turned, Turns, joined, started, weaker}
-use Rattle.rulebook.specs.declared.entry.Entry.{Entry}
 use Rattle.rulebook.specs.declared.rules.Rules.{Rules}
 use Rattle.rulebook.specs.Campaign.{History}
-use Rattle.rulebook.specs.Legal.{IsAccepted, IsLegal, founding}
+use Rattle.rulebook.specs.Legal.{IsLegal, founding}
 use Rattle.rulebook.specs.Words.{Text}
 use Rattle.book.specs.declared.faults.BookFault.{BookFault}
 use Rattle.book.specs.declared.faults.BookFault.TheVariants as fault
 use Rattle.book.specs.Books.{IsSound, Seen}
-use Rattle.book.specs.Journaling.{IsKept, Parts}
+use Rattle.book.specs.Journaling.{IsKept}
 use Rattle.book.specs.Openings.{Causes, Establishes, Opened, OpensTo, OpensWith, Reads, Refused}
 use Rattle.book.specs.Replays.{Stops}
 use Rattle.book.specs.Stories.{spellings}

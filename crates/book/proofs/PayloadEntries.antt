@@ -1,6 +1,6 @@
 -- The entry that a payload spells: read, and answered again.
-use Rattle.std.proofs.Common.{◌≡◌, ◌≢◌, ℕ, ◌<◌, ◌≤◌, Bool, true, false, List, [], ◌∷◌, ◌++◌, length, refl, sym, ap, subst, ◌∙◌, arith, le-leb}
-use Rattle.std.specs.Prelude.{◌&&◌, IfOk, IsTrue, Result, Ok, Err, nat_le}
+use Rattle.std.proofs.Common.{◌≡◌, ℕ, ◌<◌, ◌≤◌, Bool, true, false, [], ◌∷◌, length, refl, sym, ap, subst, ◌∙◌, arith, le-leb}
+use Rattle.std.specs.Prelude.{◌&&◌, IfOk, Result, Ok, Err, nat_le}
 use Rattle.record_codec.specs.Laws.{OneSpelling}
 use Rattle.rulebook.specs.declared.limits.TheConstants.{MAX_ENTRY_BYTES}
 use Rattle.rulebook.specs.declared.ask.Ask.TheVariants.{Act}

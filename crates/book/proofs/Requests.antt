@@ -1,18 +1,16 @@
 -- One request to a book, by what it came to.
-use Rattle.std.proofs.Common.{◌≡◌, ◌≢◌, ◌⊎◌, inl, inr, ℕ, ◌+◌, ◌≤◌, ◌^◌, Bool, true, false, List, [], ◌∷◌, ◌++◌, Option, None, Some, length, refl, sym, ap, subst, ◌∙◌, arith, leb-true}
+use Rattle.std.proofs.Common.{◌≡◌, ◌⊎◌, inl, inr, ℕ, ◌+◌, ◌≤◌, Bool, true, false, List, [], ◌∷◌, ◌++◌, Option, None, Some, length, refl, sym, ap, subst, ◌∙◌, arith, leb-true}
 use Rattle.std.specs.Prelude.{◌&&◌, IsTrue, is_some, nat_le, sum_by}
 use Rattle.std.proofs.lemmas.List.{append-nil}
 use Rattle.std.proofs.lemmas.List.Sums.{sum_by_push, sum_by-cons}
 use Rattle.decimal_rank.specs.Causes.{Rose}
 use Rattle.disk_model.specs.Disks.{EachMoment}
-use Rattle.journal.specs.Format.{place_behind}
 use Rattle.journal.specs.Journals.{JournalState}
 use Rattle.journal.specs.Moments.{started, weaker}
 use Rattle.rulebook.specs.declared.limits.TheConstants.{MAX_ENTRY_BYTES}
 use Rattle.rulebook.specs.declared.answer.Answer.{Answer}
 use Rattle.rulebook.specs.declared.answer.Answer.TheVariants as answered
 use Rattle.rulebook.specs.declared.ask.Addressed.{Addressed}
-use Rattle.rulebook.specs.declared.ask.Ask.TheVariants.{Act}
 use Rattle.rulebook.specs.declared.entry.Entry.{Entry}
 use Rattle.rulebook.specs.declared.reply.Reply.{Reply}
 use Rattle.rulebook.specs.Additions.{IsAdded}
@@ -20,12 +18,12 @@ use Rattle.rulebook.specs.Campaign.{History}
 use Rattle.rulebook.specs.Legal.{IsAccepted, IsLegal}
 use Rattle.rulebook.specs.Roles.{may_give}
 use Rattle.rulebook.specs.Spelling.{entry_bytes, has_spelling}
-use Rattle.rulebook.specs.Stories.{IsAddressed, IsTold, Leads, StartsWith, added_by, reply_by}
-use Rattle.book.specs.Books.{Acts, IsSound, Leaves, Runs, Seen, Settles, story_of}
-use Rattle.book.specs.Images.{HoldsOneOf, HoldsWith, IsBetween, StandsFor}
+use Rattle.rulebook.specs.Stories.{Leads, StartsWith, added_by, reply_by}
+use Rattle.book.specs.Books.{Acts, IsSound, Leaves, Seen, Settles, story_of}
+use Rattle.book.specs.Images.{HoldsOneOf, IsBetween, StandsFor}
 use Rattle.book.specs.Journaling.{Accepts, HasRoom, IsKept, KeepsBook, Parts}
 use Rattle.book.specs.Laws.{Laws}
-use Rattle.book.specs.RunLaws.{between_of, no_run, starts_itself}
+use Rattle.book.specs.RunLaws.{between_of, no_run}
 use Rattle.book.specs.Stories.{spellings}
 
 first_of_both : (s t : Bool) → (s && t) ≡ true → s ≡ true

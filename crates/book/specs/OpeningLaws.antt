@@ -1,5 +1,5 @@
 -- What an opening comes to where the disk tells what it holds, and what is left of the disk at the end.
-use Rattle.std.specs.Prelude.{◌≡◌, ◌≢◌, ◌⊎◌, ℕ, zero, suc, ◌≤◌, List, [], ◌∷◌, ◌++◌, Option, None, Some, IfSome, IsTrue, is_some, length, map, take}
+use Rattle.std.specs.Prelude.{◌≡◌, ◌⊎◌, ℕ, zero, suc, List, [], ◌∷◌, ◌++◌, Option, None, Some, IfSome, IsTrue, is_some, length, take}
 use Rattle.std.proofs.Common.{inl, inr, refl, sym, ap, subst, ◌∙◌, arith}
 use Rattle.std.proofs.lemmas.List.{take-map}
 use Rattle.decimal_rank.specs.Causes.{Rose}
@@ -7,15 +7,15 @@ use Rattle.journal.specs.Format.{decode}
 use Rattle.rulebook.specs.declared.entry.Entry.{Entry}
 use Rattle.rulebook.specs.declared.rules.Rules.{Rules}
 use Rattle.rulebook.specs.Campaign.{History, rules_of}
-use Rattle.rulebook.specs.Legal.{AreAccepted, IsLegal}
+use Rattle.rulebook.specs.Legal.{AreAccepted}
 use Rattle.rulebook.specs.Spelling.{entry_bytes}
 use Rattle.rulebook.specs.Words.{Text}
 use Rattle.book.specs.declared.faults.BookFault.{BookFault}
 use Rattle.book.specs.declared.faults.BookFault.TheVariants as fault
 use Rattle.book.specs.Books.{IsSound, Seen}
 use Rattle.book.specs.Images.{Holds, HoldsWith, StandsFor}
-use Rattle.book.specs.Openings.{Causes, Opened, Reads, Refused}
-use Rattle.book.specs.Stories.{BreaksAt, HasStory, IsStory, spellings}
+use Rattle.book.specs.Openings.{Causes, Reads, Refused}
+use Rattle.book.specs.Stories.{BreaksAt, HasStory, IsStory}
 
 -- the records have a story under these rules, or there are none
 abbrev pub MayOpen : Rules → List Text → Type 0

@@ -1,7 +1,7 @@
 -- What opening a book comes to: its entries are those that the disk told, or the founding one; or why it isn't opened.
 use Rattle.std.specs.Prelude.{◌≡◌, ◌≢◌, ◌⊎◌, ℕ, ◌≤◌, List, [], ◌∷◌, Option, None, Some, IfSome}
 use Rattle.decimal_rank.specs.Causes.{Rose}
-use Rattle.disk_model.specs.Disks.{EachMoment, NoFurther}
+use Rattle.disk_model.specs.Disks.{NoFurther}
 use Rattle.journal.specs.Format.{decode}
 use Rattle.journal.specs.Moments.{Turned, Turns}
 use Rattle.rulebook.specs.declared.rules.Rules.{Rules}

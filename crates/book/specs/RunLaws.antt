@@ -1,5 +1,5 @@
 -- How runs of a book go on: none at all is one, and two are one.
-use Rattle.std.specs.Prelude.{◌⊎◌, ℕ, ◌≤◌, List, [], ◌∷◌, ◌++◌, Option, None, Some}
+use Rattle.std.specs.Prelude.{ℕ, List, [], ◌∷◌, ◌++◌, Option, None, Some}
 use Rattle.std.proofs.Common.{◌≡◌, inl, inr, refl, sym, ap, ◌∙◌, arith}
 use Rattle.std.proofs.lemmas.List.{append-nil, append_assoc}
 use Rattle.journal.specs.Moments.{joined, started, weaker}
@@ -8,7 +8,7 @@ use Rattle.rulebook.specs.Campaign.{History}
 use Rattle.rulebook.specs.Legal.{IsAccepted}
 use Rattle.rulebook.specs.Stories.{StartsWith}
 use Rattle.book.specs.Books.{IsSound, Runs, Seen}
-use Rattle.book.specs.Images.{Holds, HoldsOneOf, HoldsWith, IsBetween}
+use Rattle.book.specs.Images.{HoldsOneOf, HoldsWith, IsBetween}
 
 pub starts_itself : (H : History) → StartsWith H H
 starts_itself H = ([], sym (append-nil H))

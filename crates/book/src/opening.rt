@@ -18,7 +18,7 @@ use crate::faults::BookFault;
 use crate::founding::founded;
 use crate::laws::rule_laws;
 use crate::pending::Pending;
-use crate::replays::{give_up, replay};
+use crate::replays::replay;
 use campaign_core::State;
 use decimal_rank::Memory;
 use journal::{Disk, Failed, Frame, Journal, OpenFault};
@@ -104,7 +104,7 @@ fn establish<D: Disk>(
     journal.stands();
     match journal.append(frame) {
         Ok(()) => Ok(reopen(alloc, opening, journal, state)),
-        Err(Failed) => Err((journal.close(), give_up(state, BookFault::Disk))),
+        Err(Failed) => Err((journal.close(), BookFault::Disk)),
     }
 }
 

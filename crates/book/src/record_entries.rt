@@ -61,10 +61,7 @@ fn enter_core(state: &mut State, core: EntryCore) -> Result<bool, Memory>
         command,
     } = core;
     match state.prepare(&caller, number, Ask::Act(command), moment) {
-        Ok(Verdict::Told(reply)) => {
-            drop(reply);
-            Ok(false)
-        }
+        Ok(Verdict::Told(_)) => Ok(false),
         Ok(Verdict::Ready(prepared)) => Ok(add_at(state, prepared, moment)),
         Err(Memory) => Err(Memory),
     }
@@ -84,7 +81,6 @@ pub(crate) fn enter(alloc: Global, state: &mut State, payload: &[u8]) -> Result<
     match read_entry(alloc, payload) {
         Ok(core) => {
             if !is_givable(core.caller.role, &core.command) {
-                drop(core);
                 return Ok(false);
             }
             enter_core(state, core)

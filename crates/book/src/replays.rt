@@ -18,14 +18,6 @@ use decimal_rank::Memory;
 use rulebook::Rules;
 use std::alloc::Global;
 
-/// Lets a campaign go, for this fault.
-pub(crate) fn give_up(state: State, fault: BookFault) -> BookFault
-    ensures { result ≡ fault }
-{
-    drop(state);
-    fault
-}
-
 fn are_equal(first: &[u8], second: &[u8]) -> bool
     ensures { result ≡ bytes_eq first.now second.now }
 {
@@ -53,14 +45,14 @@ fn replay_others(
             if are_equal(first, wanted) {
                 return Ok(state);
             }
-            Err(give_up(state, BookFault::RulesDiffer))
+            Err(BookFault::RulesDiffer)
         }
         Ok(Some(count)) => {
             let _legal = state.entries();
             let entry = count as u32 + 2;
-            Err(give_up(state, BookFault::Damaged { entry }))
+            Err(BookFault::Damaged { entry })
         }
-        Err(Memory) => Err(give_up(state, BookFault::Memory)),
+        Err(Memory) => Err(BookFault::Memory),
     }
 }
 

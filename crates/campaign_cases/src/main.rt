@@ -75,10 +75,7 @@ fn play_in(
     counts: &mut Counts,
 ) -> io::Result<()> {
     counts.cases = counts.cases.saturating_add(1);
-    let played = play_lines(rt, door, &mut state, lines, counts);
-    // by a call, whose proof goes part by part
-    drop(state);
-    played
+    play_lines(rt, door, &mut state, lines, counts)
 }
 
 // Plays the lines of a case in a campaign of the rules that its first line tells.

@@ -4,6 +4,7 @@ ghost use Rattle.campaign_server.specs.Doors.{DoorState};
 ghost use Rattle.campaign_server.specs.Links.{LinkState};
 ghost use Rattle.rulebook.specs.declared.reply.Reply.TheVariants.{Page as PageReply};
 ghost use Rattle.rulebook.specs.Scores.{table_page};
+ghost use Rattle.rulebook.specs.Words.{Text as PageText};
 ghost use Rattle.campaign_cli.specs.CheckEnds.{CheckEnds, Tells, check_text, phase_word};
 
 use crate::openings::open_book;
@@ -60,7 +61,7 @@ fn text_of<D: Disk>(alloc: Global, book: &mut Book<D>) -> Result<Vec<u8>, Memory
     text.extend_from_slice(b"\nphase ")?;
     text.extend_from_slice(word_of(book.phase()))?;
     text.extend_from_slice(b"\n")?;
-    text.extend_from_slice(table.bytes())?;
+    text.extend_from_slice(page_of(&table))?;
     Ok(text)
 }
 
@@ -75,9 +76,9 @@ fn word_of(phase: Phase) -> &'static [u8]
 }
 
 // The table of the runs, as an organiser is told it.
-fn table_of<D: Disk>(alloc: Global, book: &mut Book<D>) -> Result<Text, Memory>
+fn table_of<D: Disk>(alloc: Global, book: &mut Book<D>) -> Result<Reply, Memory>
     ensures same { book.new ≡ book.old }
-    ensures table { IfOk result (λ table. table ≡ table_page book.old.history) }
+    ensures table { IfOk result (λ reply. reply ≡ PageReply (table_page book.old.history)) }
 {
     let name = Text::from_slice(alloc, ASKER)?;
     let who = Caller {
@@ -90,18 +91,18 @@ fn table_of<D: Disk>(alloc: Global, book: &mut Book<D>) -> Result<Text, Memory>
         ask: Ask::See(Query::Table),
         moment: 0,
     }) {
-        Answer::Reply(reply) => page_of(reply),
+        Answer::Reply(reply) => Ok(reply),
         Answer::DiskFault => Err(Memory),
         Answer::Memory => Err(Memory),
     }
 }
 
 // The text of a page.
-fn page_of(reply: Reply) -> Result<Text, Memory>
-    ensures { IfOk result (λ text. reply ≡ PageReply text) }
+fn page_of(reply: &Reply) -> &[u8]
+    ensures { (page : PageText) → reply.now ≡ PageReply page → result.now ≡ page }
 {
     let Reply::Page { text } = reply else {
-        return Err(Memory);
+        return &[];
     };
-    Ok(text)
+    text.bytes()
 }

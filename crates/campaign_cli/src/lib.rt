@@ -1,4 +1,4 @@
-//! The program of a campaign: the words that it is called with, its settings, the files that it reads
+//! The program of a campaign: the words that it is called with, its settings, the files that it reads,
 //! the output that it writes, the door that it opens and the disk that it keeps a campaign on. `Shelf` and
 //! `Sink` stand for the outside, beside `Link`, `Door` and `Disk` of the crates below; each has a form in memory and an adapter over
 //! the real thing.
@@ -39,6 +39,3 @@ pub use shelves::{MOST_BYTES, Shelf};
 pub use statuses::Status;
 pub use usage::USAGE_LINE;
 pub use words::{Command, read_words};
-
-#[cfg(test)]
-mod tests;

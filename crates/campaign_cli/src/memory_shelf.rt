@@ -10,7 +10,7 @@ use std::alloc::Global;
 use std::marker::Model;
 
 /// A shelf in memory, which tells its files.
-#[derive(Debug, Drop)]
+#[derive(Debug)]
 pub struct MemoryShelf {
     files: Vec<(Text, Text)>,
     plan: FailurePlan,
@@ -24,6 +24,18 @@ impl Model for MemoryShelf {
     ghost Value = { MemoryShelfState };
 
     ghost view = { λ shelf. record { files = shelf.files.items; plan = shelf.plan; faults = shelf.faults; misses = shelf.misses } };
+}
+
+// a call of its own, so that no caller's proof takes a shelf apart
+impl Drop for MemoryShelf {
+    fn drop(self) {
+        let MemoryShelf {
+            files: _,
+            plan: _,
+            faults: _,
+            misses: _,
+        } = self;
+    }
 }
 
 impl MemoryShelf {

@@ -4,6 +4,7 @@ pub mod CommitCosts
 pub mod Commits
 pub mod FittingChanges
 pub mod HistoryGrowth
+pub mod KeptStates
 pub mod LabelSteps
 pub mod LeaseSteps
 pub mod Legality

@@ -5,7 +5,7 @@ ghost use Rattle.std.specs.Option.{option_map};
 ghost use Rattle.rulebook.specs.declared.ask.Ask.TheVariants.{Act};
 ghost use Rattle.rulebook.specs.Spelling.{are_rules};
 ghost use Rattle.rulebook.specs.Campaign.{phase as phase_of};
-ghost use Rattle.rulebook.specs.Answers.{answer};
+ghost use Rattle.rulebook.specs.Answers.{answer, moment_after, reply_of, told as told_of};
 ghost use Rattle.rulebook.specs.Legal.{is_well_addressed, founding, IsLegal};
 ghost use Rattle.campaign_core.specs.Costs.{commit_steps};
 ghost use Rattle.campaign_core.specs.Decisions.{IsNew};
@@ -28,7 +28,8 @@ use decimal_rank::{Memory, Names, Steps};
 use depth_pool::RunId;
 use mtf_queue::Queue;
 use rulebook::{
-    Ask, Caller, Command, Entry, EntryCore, MAX_ENTRIES, Phase, Quantity, Refusal, Reply, Rules,
+    Ask, Caller, Command, Entry, EntryCore, MAX_ENTRIES, Phase, Quantity, Query, Refusal, Reply,
+    Rules,
 };
 use score_index::Board;
 use std::alloc::Global;
@@ -38,7 +39,6 @@ use std::sync::ledger::Ledger;
 
 /// A campaign, from its founding on. Contracts see its history and the entry that is prepared, if
 /// one is.
-#[derive(Drop)]
 pub struct State {
     campaign: Campaign,
     /// The docnos of the history, and then those of the last request that was prepared.
@@ -66,6 +66,20 @@ impl Model for State {
     } };
 
     ghost invariant = { IsKept };
+}
+
+// a call of its own, so that no caller's proof takes a state apart
+impl Drop for State {
+    fn drop(self) {
+        let State {
+            campaign: _,
+            docnos: _,
+            docnos_kept: _,
+            numbers: _,
+            numbers_kept: _,
+            prepared: _,
+        } = self;
+    }
 }
 
 impl State {
@@ -154,19 +168,12 @@ impl State {
             IfOk result (λ verdict. IsVerdict answer verdict self.new.prepared) }
         ensures err { OnErr result (self.new.prepared ≡ None) }
     {
-        self.forget();
         match ask {
             Ask::Act(command) => match self.repeated(who, number, &command)? {
                 Some(reply) => Ok(Verdict::Told(reply)),
                 None => self.prepare_command(who, number, command, moment),
             },
-            Ask::See(query) => {
-                let alloc = *self.campaign.history.allocator();
-                let now = self.campaign.moment_after(moment);
-                self.docnos.cut(self.docnos_kept);
-                let reply = told(alloc, &self.campaign, &self.docnos, who, now, query)?;
-                Ok(Verdict::Told(reply))
-            }
+            Ask::See(query) => Ok(Verdict::Told(self.tell(who, query, moment)?)),
         }
     }
 
@@ -204,17 +211,30 @@ impl State {
         self.campaign.assessment.cancel();
     }
 
-    /// The reply to a command whose caller used its number before.
+    /// What a query is told. What was prepared is dropped.
+    fn tell(&mut self, who: &Caller, query: Query, moment: u64) -> Result<Reply, Memory>
+        ensures rest { IsAtRest self.old self.new }
+        ensures reply { let H = self.old.history in
+            IfOk result (λ reply. reply ≡ reply_of (told_of H who.now (moment_after H moment) query)) }
+    {
+        self.forget();
+        let alloc = *self.campaign.history.allocator();
+        let now = self.campaign.moment_after(moment);
+        self.docnos.cut(self.docnos_kept);
+        told(alloc, &self.campaign, &self.docnos, who, now, query)
+    }
+
+    /// The reply to a command whose caller used its number before. What was prepared is dropped.
     fn repeated(
         &mut self,
         who: &Caller,
         number: Option<u64>,
         command: &Command,
     ) -> Result<Option<Reply>, Memory>
-        requires forgotten { self.old.prepared ≡ None }
         ensures rest { IsAtRest self.old self.new }
         ensures reply { IfOk result (λ told. told ≡ repeated_reply self.old.history who.now.name number command.now) }
     {
+        self.forget();
         let alloc = *self.campaign.history.allocator();
         self.numbers.cut(self.numbers_kept);
         kept_reply(
@@ -311,10 +331,7 @@ fn prepared(
 {
     let alloc = *campaign.history.allocator();
     match decide(alloc, campaign, docnos, &core)? {
-        Decision::Refused(refusal) => {
-            drop(core);
-            Ok(Err(refusal))
-        }
+        Decision::Refused(refusal) => Ok(Err(refusal)),
         Decision::Accepted(reply, change) => {
             campaign.reserve(change)?;
             add_number(numbers, &core, campaign.history.len() as u32 + 1)?;

@@ -7,7 +7,7 @@ use decimal_rank::{Failed, FailurePlan, count_more};
 use std::marker::Model;
 
 /// The bytes that were written, and the writes that fail. A write takes its piece whole.
-#[derive(Debug, Drop)]
+#[derive(Debug)]
 pub struct MemoryWrites {
     written: Vec<u8>,
     plan: FailurePlan,
@@ -21,6 +21,18 @@ impl Model for MemoryWrites {
     ghost Value = { Written };
 
     ghost view = { λ writes. record { written = writes.written.items; plan = writes.plan; faults = writes.faults; wants = writes.wants } };
+}
+
+// a call of its own, so that no caller's proof takes writes apart
+impl Drop for MemoryWrites {
+    fn drop(self) {
+        let MemoryWrites {
+            written: _,
+            plan: _,
+            faults: _,
+            wants: _,
+        } = self;
+    }
 }
 
 impl MemoryWrites {

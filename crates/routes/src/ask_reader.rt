@@ -60,7 +60,6 @@ enum Progress {
 
 /// A request that is read as its body comes. Contracts see how many bytes of the body were fed, and what is
 /// kept of it.
-#[derive(Drop)]
 pub struct AskReader {
     alloc: Global,
     progress: Progress,
@@ -75,6 +74,17 @@ impl Model for AskReader {
     ghost view = { λ reader. record { fed = reader.fed; progress = reader.progress } };
 
     ghost invariant = { λ reader. IsSound reader.fed reader.progress };
+}
+
+// a call of its own, so that no caller's proof takes a reader apart
+impl Drop for AskReader {
+    fn drop(self) {
+        let AskReader {
+            alloc: _,
+            progress: _,
+            fed: _,
+        } = self;
+    }
 }
 
 // What is kept of a body of which nothing came so far.
@@ -286,7 +296,7 @@ impl AskReader {
         let AskReader {
             alloc,
             progress,
-            ..
+            fed: _,
         } = self;
         match progress {
             Progress::Reads(opened) => end_opened(alloc, opened),

@@ -1,5 +1,7 @@
 //! What a caller asks of a campaign: a command, which adds an entry where it is accepted, or a query, which adds none.
-ghost use Rattle.std.specs.Prelude.{◌≡◌};
+ghost use Rattle.std.specs.Prelude.{◌≡◌, MatchOption};
+ghost use Rattle.rulebook.specs.declared.ask.Command.TheVariants.{Found};
+ghost use Rattle.rulebook.specs.declared.rules.Rules.{Rules as CampaignRules};
 ghost use Rattle.rulebook.specs.SameCommands.{same_command};
 
 use crate::rules::{Caller, Rules};
@@ -7,7 +9,7 @@ use decimal_rank::{Rows, Text};
 use trec_formats::{Topic, TopicList};
 
 /// A request that adds an entry where it is accepted. Two commands are the same where all their fields are.
-#[derive(Debug, Drop, PartialEq)]
+#[derive(Debug, PartialEq)]
 pub enum Command {
     /// The founding of the campaign, which no request gives.
     Found { rules: Rules },
@@ -39,6 +41,43 @@ impl Command {
         ensures { result ≡ same_command self.now other.now }
     {
         self == other
+    }
+
+    /// The rules, where it founds a campaign.
+    pub(crate) fn founding_rules(self) -> Option<Rules>
+        ensures { MatchOption result ((rules : CampaignRules) → self ≡ Found rules → ⊥) (λ rules. self ≡ Found rules) }
+    {
+        let Command::Found { rules } = self else {
+            return None;
+        };
+        Some(rules)
+    }
+}
+
+// a call of its own, so that no caller's proof takes a command apart
+impl Drop for Command {
+    fn drop(self) {
+        match self {
+            Command::Found { rules: _ }
+            | Command::Topics { topics: _ }
+            | Command::Submit { run: _, lists: _ }
+            | Command::Open
+            | Command::Lease { topic: _ }
+            | Command::Grade { lease: _, grade: _ }
+            | Command::Release { lease: _ }
+            | Command::Amend {
+                topic: _,
+                doc: _,
+                grade: _,
+            }
+            | Command::Rule {
+                topic: _,
+                doc: _,
+                grade: _,
+            }
+            | Command::Withdraw { run: _ }
+            | Command::Publish => {}
+        }
     }
 }
 

@@ -45,8 +45,5 @@ pub fn rules_founded(core: EntryCore) -> Option<Rules>
     {
         return None;
     }
-    let Command::Found { rules } = command else {
-        return None;
-    };
-    Some(rules)
+    command.founding_rules()
 }

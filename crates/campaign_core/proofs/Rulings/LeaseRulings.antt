@@ -48,6 +48,12 @@ pub in-phase : (H : History) (p : Phase) (tests : List (Option Refusal)) (ruling
 in-phase H p tests ruling phase_is judging =
     ap (λ t. unless ((refusal.WrongPhase (phase H) when not t) ∷ tests) ruling) (ap (is_phase Judging) (sym phase_is) ∙ sym judging)
 
+pub out-of-phase : (H : History) (wanted p : Phase) (tests : List (Option Refusal)) (ruling : Ruling) → p ≡ phase H → false ≡ is_phase wanted p
+    → unless (wrong_phase_unless wanted H ∷ tests) ruling ≡ Err (refusal.WrongPhase p)
+out-of-phase H wanted p tests ruling phase_is other =
+    ap (λ t. unless ((refusal.WrongPhase (phase H) when not t) ∷ tests) ruling) (ap (is_phase wanted) (sym phase_is) ∙ sym other)
+    ∙ ap (λ (q : Phase). let told : Ruling = Err (refusal.WrongPhase q) in told) (sym phase_is)
+
 refused : (tests more : List (Option Refusal)) (r : Refusal) (ruling : Ruling) → first_refusal tests ≡ Some r → unless (tests ++ more) ruling ≡ Err r
 refused [] more r ruling is = cc is
 refused (None ∷ tests) more r ruling is = refused tests more r ruling is

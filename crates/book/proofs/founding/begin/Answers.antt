@@ -1,9 +1,7 @@
 -- What a first record founds.
-use Rattle.std.proofs.Common.{◌≡◌, ◌∷◌, [], rules, subst, sym}
+use Rattle.std.proofs.Common.{◌∷◌, [], rules, subst, sym}
 use Rattle.rulebook.specs.declared.entry.EntryCore.{EntryCore}
-use Rattle.rulebook.specs.declared.rules.Rules.{Rules}
 use Rattle.rulebook.specs.Campaign.{History}
-use Rattle.rulebook.specs.Legal.{founding}
 use Rattle.rulebook.specs.Spelling.{IsSpelling}
 use Rattle.book.specs.Stories.{IsOnlyStory}
 use Rattle.book.proofs.Founders.{begins, begins_none, begins_unread}

@@ -1,11 +1,12 @@
 -- The founding entry is added to a journal without records.
-use Rattle.std.proofs.Common.{◌≡◌, List, ℕ, [], ◌∷◌, subst}
+use Rattle.std.proofs.Common.{◌≡◌, List, ℕ, [], ◌∷◌, refl, subst}
 use Rattle.disk_model.specs.Disks.{EachMoment}
 use Rattle.journal.specs.Kept.{Keeps, Settled, StandsForOneOf}
 use Rattle.journal.specs.Moments.{weaker}
 use Rattle.rulebook.specs.declared.rules.Rules.{Rules}
 use Rattle.rulebook.specs.Legal.{founding}
 use Rattle.book.specs.Openings.{Establishes}
+use Rattle.book.specs.declared.faults.BookFault.TheVariants as fault
 use Rattle.book.proofs.Keeping.{keeps_settled}
 use Rattle.book.proofs.OpenJournals.{established, establishes, not_established}
 use Rattle.book.proofs.opening.establish.Given.{Over}
@@ -37,4 +38,4 @@ pub returns-in-Err : goal.returns-in-Err
 returns-in-Err g c rules founded =
     let D = g.D.Disk in
     rw c.close.ensures (not_established D.images D.clock D.images_since D.fault_count rules c.args.opening c.args.journal.disk c.append.new.self.disk (moments g (goal.at.returns-in-Err g c).After-append rules founded)
-    c.append.ensures.cause.later c.give_up.result c.give_up.ensures c.in-Err.ensures.cause.failed)
+    c.append.ensures.cause.later fault.Disk refl c.in-Err.ensures.cause.failed)

@@ -1,9 +1,9 @@
 -- An open journal as a book.
-use Rattle.std.proofs.Common.{◌≡◌, ◌∷◌, ◌-◌, List, ℕ, [], length, take, drop, rules, subst, sym, ap, ◌∙◌}
+use Rattle.std.proofs.Common.{◌∷◌, ◌-◌, List, length, take, drop, subst, sym, ap, ◌∙◌}
 use Rattle.journal.specs.Kept.{Settled, payloads as payloads_of}
 use Rattle.rulebook.specs.Words.{Text}
 use Rattle.book.specs.Openings.{OpensWith}
-use Rattle.book.specs.OpenJournals.{TakenUp, TakesUp}
+use Rattle.book.specs.OpenJournals.{TakesUp}
 use Rattle.book.proofs.OpenJournals.{first_and_others, no_records, taken_up}
 use Rattle.book.proofs.opening.take_up.Goals as goal
 

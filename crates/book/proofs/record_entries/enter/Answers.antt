@@ -1,9 +1,7 @@
 -- Whether a payload's entry was added.
-use Rattle.std.proofs.Common.{◌≡◌, ◌≤◌, false, true, length, rules, sym, ap, ◌∙◌, arith}
+use Rattle.std.proofs.Common.{◌≤◌, length, rules, sym, ap, ◌∙◌, arith}
 use Rattle.rulebook.specs.declared.limits.TheConstants.{MAX_ENTRY_BYTES}
-use Rattle.rulebook.specs.declared.ask.Ask.TheVariants.{Act}
 use Rattle.rulebook.specs.declared.entry.EntryCore.{EntryCore}
-use Rattle.rulebook.specs.Roles.{may_give}
 use Rattle.rulebook.specs.Spelling.{IsSpelling, entry_bytes}
 use Rattle.book.proofs.PayloadEntries.{addressed_core, enters_long, enters_result, enters_ungiven, enters_unread}
 use Rattle.book.proofs.record_entries.enter.Goals as goal

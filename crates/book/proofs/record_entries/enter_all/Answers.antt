@@ -1,5 +1,5 @@
 -- The payloads that were entered so far.
-use Rattle.std.proofs.Common.{◌≡◌, ◌+◌, ◌<◌, ℕ, Bool, true, false, List, ◌++◌, ◌∷◌, [], length, take, subst, ap, ◌∙◌, arith, length-append}
+use Rattle.std.proofs.Common.{◌≡◌, ℕ, Bool, true, false, List, ◌++◌, ◌∷◌, [], length, take, subst, ap, ◌∙◌, arith, length-append}
 use Rattle.journal.specs.Kept.{payloads as payloads_of}
 use Rattle.book.specs.Replays.{Enters, GoesOn}
 use Rattle.book.proofs.StorySteps.{breaks_off, goes_all, goes_more, goes_none}

@@ -2,8 +2,7 @@
 use Rattle.std.proofs.Common.{◌≡◌, ◌∷◌, ℕ, Option, sym, subst, ◌∙◌, true, false}
 use Rattle.std.proofs.lemmas.Slice.Eq.{bytes_eq-Decides}
 use Rattle.journal.specs.Kept.{payloads as payloads_of}
-use Rattle.book.specs.declared.faults.BookFault.{BookFault}
-use Rattle.book.specs.Replays.{EntersAll, Stops}
+use Rattle.book.specs.Replays.{EntersAll}
 use Rattle.book.specs.Stories.{IsOnlyStory}
 use Rattle.book.proofs.Founders.{broken, differs_from, opens_with, replayed}
 use Rattle.book.proofs.replays.replay_others.Goals.{After-are_equal}
@@ -19,17 +18,15 @@ returns-then-are_equal c rules plain wanted =
     opens_with c.requires.spelling c.args.first.now (payloads_of c.args.others.now) c.enter_all.new.state.history rules (only (goal.at.returns-then-are_equal c).After-are_equal) plain
     ((bytes_eq-Decides c.args.first.now c.args.wanted.now).0 (sym c.are_equal.ensures ∙ c.if-are_equal.true) ∙ wanted)
 
-pub returns-else-are_equal : goal.returns-else-are_equal
-returns-else-are_equal c rules plain wanted =
+pub returns-in-Ok-None : goal.returns-in-Ok-None
+returns-in-Ok-None c rules plain wanted =
     let others = payloads_of c.args.others.now in
-    subst (λ (why : BookFault). Stops rules (c.args.first.now ∷ others) why) (sym c.give_up.ensures)
-    (differs_from c.requires.spelling c.args.first.now others c.enter_all.new.state.history rules (only (goal.at.returns-else-are_equal c).After-are_equal)
-    (λ is. let same : true ≡ false = sym ((bytes_eq-Decides c.args.first.now c.args.wanted.now).1 (is ∙ sym wanted)) ∙ sym c.are_equal.ensures ∙ c.if-are_equal.false in cc))
+    differs_from c.requires.spelling c.args.first.now others c.enter_all.new.state.history rules (only (goal.at.returns-in-Ok-None c).After-are_equal)
+    (λ is. let same : true ≡ false = sym ((bytes_eq-Decides c.args.first.now c.args.wanted.now).1 (is ∙ sym wanted)) ∙ sym c.are_equal.ensures ∙ c.if-are_equal.false in cc)
 
 pub returns-in-Ok-Some : goal.returns-in-Ok-Some
 returns-in-Ok-Some c rules plain wanted =
     let others = payloads_of c.args.others.now in
     let after = c.enter_all.new.state.history in
     let breaks = subst (λ (broken : Option ℕ). EntersAll c.args.state.history others broken after) c.in-Ok-Some.field-0-is c.in-Ok-Some.ensures in
-    subst (λ (why : BookFault). Stops rules (c.args.first.now ∷ others) why) (sym c.give_up-in-Ok-Some.ensures)
-    (broken c.requires.spelling c.args.first.now others c.args.state.history c.requires.begun c.in-Ok-Some.count breaks.0)
+    broken c.requires.spelling c.args.first.now others c.args.state.history c.requires.begun c.in-Ok-Some.count breaks.0

@@ -1,4 +1,4 @@
-use Rattle.std.proofs.Common.{◌≡◌, ℕ, ◌+◌, [], ◌∷◌, ◌++◌, ◌∙◌, List, ap, arith, length, subst, sym, take}
+use Rattle.std.proofs.Common.{◌≡◌, ℕ, ◌+◌, [], ◌∷◌, ◌++◌, ◌∙◌, List, ap, arith, length, refl, subst, sym, take, take_all}
 use Rattle.std.proofs.lemmas.Grind.{flat_map-append}
 use Rattle.std.proofs.lemmas.List.{append-nil, take_more}
 use Rattle.std.proofs.lemmas.List.Sums.{sum_by-take-drop, sum_by_more}
@@ -8,6 +8,26 @@ use Rattle.rulebook.specs.Words.{Text}
 use Rattle.campaign_core.specs.Numbers.{AreAdded}
 use Rattle.campaign_core.proofs.Numbers.AddedDocs.{added-all, begins-later}
 use Rattle.campaign_core.proofs.docnos.add_docnos.Goals as goal
+
+pub loop-list-init : goal.loop-list-init
+loop-list-init c = (record { names_are = refl; numbers_are = c.new-numbers.ensures.items }, take_all (length c.args.docnos.now) c.args.docnos.now (omega arith), omega arith)
+
+pub add_all-requires : goal.add_all-requires
+add_all-requires c =
+    let i = c.loop-list.list-index in
+    let lists = c.args.lists.now in
+    let list = c.list-item.result in
+    let lines : TopicList → ℕ = λ l. length l.docs in
+    omega (
+      arith,
+      c.requires,
+      c.loop-list.invariant.2,
+      sum_by-take-drop lines lists i,
+      sum_by-take-drop lines lists (i + 1),
+      sum_by_more lines lists i list c.loop-list-test.true,
+      ap lines c.list-item.is,
+      ap (λ (docs : List Text). length docs) c.items.ensures,
+    )
 
 pub loop-list-preserved : goal.loop-list-preserved
 loop-list-preserved c =

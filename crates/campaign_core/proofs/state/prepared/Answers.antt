@@ -1,4 +1,5 @@
-use Rattle.std.proofs.Common.{◌≡◌, ◌+◌, ◌++◌, ◌∙◌, ap, arith, length, subst, sym}
+use Rattle.std.proofs.Common.{◌≡◌, ◌+◌, ◌++◌, ◌∙◌, ap, arith, length, refl, subst, sym}
+use Rattle.std.proofs.lemmas.Int.{ints}
 use Rattle.assessment.specs.Changes.{facts}
 use Rattle.rulebook.specs.declared.entry.Entry.{Entry}
 use Rattle.rulebook.specs.Numbers.{used}
@@ -6,9 +7,33 @@ use Rattle.campaign_core.specs.Decisions.{IsDecision, IsWithinLimits, KeepsLimit
 use Rattle.campaign_core.specs.NumberedRequests.{number_in, place_of}
 use Rattle.campaign_core.specs.declared.decisions.Decision.TheVariants.{Accepted}
 use Rattle.campaign_core.proofs.Entries.FittingChanges.{fits}
+use Rattle.campaign_core.proofs.Entries.KeptStates.{unchanged}
 use Rattle.campaign_core.proofs.Entries.ReadyEntries.{prepared-entry}
 use Rattle.campaign_core.proofs.Numbers.UsedNumbers.{unused-kept}
+use Rattle.campaign_core.proofs.state.prepared.Goals.{After-len}
 use Rattle.campaign_core.proofs.state.prepared.Goals as goal
+
+pub decide-requires : goal.decide-requires
+decide-requires c = record { asked = record { asked = c.requires.asked; command_is = refl }; names = c.requires.names_are }
+
+pub returns-in_err-refusal-clause-unchanged : goal.returns-in_err-refusal-clause-unchanged
+returns-in_err-refusal-clause-unchanged c = unchanged c.args.campaign.now
+
+pub returns-in-Refused-clause-unchanged : goal.returns-in-Refused-clause-unchanged
+returns-in-Refused-clause-unchanged c = unchanged c.args.campaign.now
+
+pub returns-in-Refused-clause-prepared : goal.returns-in-Refused-clause-prepared
+returns-in-Refused-clause-prepared c = subst (IsDecision c.args.campaign.now c.decide.new.docnos c.args.core) c.in-Refused.is c.in_ok-refusal.ensures.decision
+
+-- how many entries there are, once room was given
+counted : (c : After-len) → c.len.result ≡ length c.args.campaign.now.history.items
+counted c = omega (arith, c.len.ensures, c.reserve.new.self.history.ok.0, ap length c.in_ok-reserve-in-Accepted.ensures.unchanged.history_is)
+
+pub overflow_cast-len : goal.overflow_cast-len
+overflow_cast-len c = omega (arith, ints, counted c, c.requires.entries_fit)
+
+pub overflow_add-len : goal.overflow_add-len
+overflow_add-len c = omega (arith, ints, counted c, c.requires.entries_fit)
 
 pub add_number-requires : goal.add_number-requires
 add_number-requires c = λ number is.
@@ -33,7 +58,7 @@ returns-in_ok-told-in-Accepted-clause-prepared c =
     let names = c.decide.new.docnos in
     let decided : IsDecision campaign names c.args.core (Accepted c.in-Accepted.reply c.in-Accepted.change) = subst (IsDecision campaign names c.args.core) c.in-Accepted.is c.in_ok-refusal.ensures.decision in
     let limits : IsWithinLimits H names c.args.core.command = subst (KeepsLimits H names c.args.core.command) c.in-Accepted.is c.in_ok-refusal.ensures.limits in
-    let place : c.len.result + 1 ≡ length H + 1 = omega (arith, c.len.ensures, c.reserve.new.self.history.ok.0, ap length c.in_ok-reserve-in-Accepted.ensures.unchanged.history_is) in
+    let place = ap (λ n. n + 1) (counted (goal.at.returns-in_ok-told-in-Accepted-clause-prepared c).After-len) in
     let numbers_are : c.add_number.new.numbers ≡ c.args.numbers.now ++ number_in (length H + 1) c.args.core =
     c.in_ok-add_number-in-Accepted.ensures.ok ∙ ap (λ n. c.args.numbers.now ++ number_in n c.args.core) place in
     prepared-entry campaign c.reserve.new.self c.args.docnos.now names c.args.numbers.now c.add_number.new.numbers c.args.core c.in_ok-told-in-Accepted.told c.in-Accepted.reply c.in-Accepted.change

@@ -1,5 +1,5 @@
 -- One request: what adds nothing leaves the book as it is, and an entry is journaled.
-use Rattle.std.proofs.Common.{◌≡◌, [], ◌∷◌, rules, subst, sym, ap}
+use Rattle.std.proofs.Common.{◌≡◌, [], ◌∷◌, rules, subst, sym}
 use Rattle.rulebook.specs.Additions.{IsAdded}
 use Rattle.rulebook.specs.Campaign.{History}
 use Rattle.rulebook.specs.Stories.{added_by, reply_by}

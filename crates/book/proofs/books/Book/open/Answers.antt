@@ -1,9 +1,7 @@
 -- A disk as a book.
-use Rattle.std.proofs.Common.{List, Vec, ℕ, sym, subst, ap}
+use Rattle.std.proofs.Common.{List, Vec, ℕ, subst}
 use Rattle.std.specs.declared.alloc.Global.{Global}
 use Rattle.journal.specs.Kept.{payloads as payloads_of}
-use Rattle.rulebook.specs.Words.{Text}
-use Rattle.book.specs.Openings.{Refused}
 use Rattle.book.specs.OpenJournals.{TakesUp}
 use Rattle.book.proofs.OpenJournals.{not_opened, opened_result, refused_result}
 use Rattle.book.proofs.books.Book.open.Given.{Over}

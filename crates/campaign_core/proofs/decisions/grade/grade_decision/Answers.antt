@@ -1,4 +1,4 @@
-use Rattle.std.proofs.Common.{◌≡◌, ◌<◌, ◌≤◌, ◌∙◌, List, Ok, ap, arith, get_or, length, map, subst, sym}
+use Rattle.std.proofs.Common.{◌≡◌, ◌<◌, ◌≤◌, ◌∙◌, List, Ok, ap, arith, get_or, length, map, subst, sym, false}
 use Rattle.std.proofs.lemmas.List.{length-map}
 use Rattle.assessment.specs.Changes.{IsUnended}
 use Rattle.assessment.specs.TopicFacts.{TopicView, facts_of}
@@ -12,10 +12,21 @@ use Rattle.campaign_core.specs.Kept.{KnowsAll}
 use Rattle.campaign_core.specs.Leasing.{KnownLease}
 use Rattle.campaign_core.specs.Numbers.{doc_in, names_of}
 use Rattle.campaign_core.specs.Topics.{KeptTopic}
-use Rattle.campaign_core.proofs.Rulings.LeaseRulings.{found-lease, grade-given, grade-outside, grade-refused, stands-at, unended, within-states}
+use Rattle.campaign_core.proofs.Rulings.LeaseRulings.{found-lease, grade-given, grade-outside, grade-refused, stands-at, unended, within-states, out-of-phase}
 use Rattle.campaign_core.proofs.Lists.Elements.{get-map}
 use Rattle.campaign_core.proofs.Numbers.DocNumbers.{docno-back}
+use Rattle.rulebook.specs.declared.rules.Phase.TheVariants.{Judging}
+use Rattle.rulebook.specs.Refusals.{is_phase}
+use Rattle.campaign_core.specs.Decisions.{IsDecision}
 use Rattle.campaign_core.proofs.decisions.grade.grade_decision.Goals as goal
+
+pub returns-then-not-is_in : goal.returns-then-not-is_in
+returns-then-not-is_in c =
+    let campaign = c.args.campaign.now in
+    let core = c.args.core.now in
+    let other : false ≡ is_phase Judging campaign.phase = sym c.if-not-is_in.true ∙ c.is_in.ensures in
+    subst (IsDecision campaign c.args.docnos.now core) (sym c.wrong_phase.ensures)
+    (ap (ruled campaign.history.items core.caller core.moment) c.requires.asked.command_is ∙ out-of-phase campaign.history.items Judging campaign.phase _ _ c.requires.asked.asked.known.phase_is other)
 
 pub returns-in-Some-lease_refusal : goal.returns-in-Some-lease_refusal
 returns-in-Some-lease_refusal c =

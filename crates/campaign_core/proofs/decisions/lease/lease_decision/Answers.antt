@@ -1,23 +1,29 @@
-use Rattle.std.proofs.Common.{◌≡◌, ◌<◌, ◌+◌, ◌∙◌, ℕ, List, None, Ok, Some, ap, arith, get_or, length, map, subst, sym}
+use Rattle.std.proofs.Common.{◌≡◌, ◌<◌, ◌+◌, ◌∙◌, ℕ, List, None, Ok, Some, ap, arith, false, get_or, length, map, subst, sym}
+use Rattle.std.proofs.lemmas.Int.{ints}
+use Rattle.std.proofs.lemmas.List.{length-map}
 use Rattle.assessment.specs.TopicFacts.{TopicView, facts_of}
 use Rattle.decimal_rank.specs.Names.{docno_of}
 use Rattle.decimal_rank.specs.declared.naming.DocId.{DocId}
+use Rattle.rulebook.specs.declared.limits.TheConstants.{MAX_TOPICS}
 use Rattle.rulebook.specs.declared.reply.Reply.{Reply}
 use Rattle.rulebook.specs.declared.reply.Reply.TheVariants as reply
+use Rattle.rulebook.specs.declared.rules.Phase.TheVariants.{Judging}
 use Rattle.rulebook.specs.declared.rules.Rules.{Rules}
 use Rattle.rulebook.specs.Answers.{ruled}
 use Rattle.rulebook.specs.Campaign.{rules_of, title}
 use Rattle.rulebook.specs.Leases.{Lease, lease_in, leases, live_leases_of}
+use Rattle.rulebook.specs.Refusals.{is_phase}
 use Rattle.rulebook.specs.Words.{Text, contains_text}
+use Rattle.campaign_core.specs.Decisions.{IsDecision}
 use Rattle.campaign_core.specs.Kept.{KnowsAll}
 use Rattle.campaign_core.specs.Leasing.{first_open, is_open_in}
 use Rattle.campaign_core.specs.Numbers.{doc_in, names_of}
 use Rattle.campaign_core.proofs.Judging.LiveLeases.{live-of-same}
-use Rattle.campaign_core.proofs.Rulings.LeaseRulings.{Placed, Standing, doc-told, few-leases, known-topic, lease-granted, lease-many, lease-nothing, lease-unknown, none-named, stands-at, unknown-topic}
+use Rattle.campaign_core.proofs.Rulings.LeaseRulings.{Placed, Standing, doc-told, few-leases, known-topic, lease-granted, lease-many, lease-nothing, lease-unknown, none-named, out-of-phase, stands-at, unknown-topic}
 use Rattle.campaign_core.proofs.Entries.LeaseSteps.{desk-long}
 use Rattle.campaign_core.proofs.Lists.Elements.{get-map}
 use Rattle.campaign_core.proofs.Numbers.DocNumbers.{docno-back}
-use Rattle.campaign_core.proofs.Numbers.TopicPlaces.{known-place}
+use Rattle.campaign_core.proofs.Numbers.TopicPlaces.{as-long, known-place}
 use Rattle.campaign_core.proofs.Rulings.AcceptedEntries.{moment-of, term-fits}
 use Rattle.campaign_core.proofs.decisions.lease.lease_decision.Goals.{After-from, After-named}
 use Rattle.campaign_core.proofs.decisions.lease.lease_decision.Goals as goal
@@ -54,6 +60,36 @@ stands c =
     let found = known-place all c.topics-topics.result.now (Some c.in-Some.number) c.bytes.result.now c.args.topic.now c.topics-topics.ensures c.bytes.ensures c.in-Some.ensures in
     let placed = known-topic H (map facts_of all) c.args.topic.now c.in-Some.number known.assessed.knows.topics_are found in
     stands-at H (map facts_of all) c.args.campaign.now.assessment.leases known.assessed.knows c.args.topic.now c.in-Some.number placed.number_is placed.listed topic.facts topic_is
+
+-- the number is small, as there are few topics
+small : (c : After-from) → c.in-Some.number < MAX_TOPICS
+small c =
+    let all = c.args.campaign.now.assessment.topics.topics in
+    let H = c.args.campaign.now.history.items in
+    omega (arith, (at c).within, as-long H (map facts_of all) c.desk-desk.result.now.leases (knows c), (knows c).topics_fit)
+
+pub returns-then-not-is_in : goal.returns-then-not-is_in
+returns-then-not-is_in c =
+    let campaign = c.args.campaign.now in
+    let H = campaign.history.items in
+    let core = c.args.core.now in
+    let other : false ≡ is_phase Judging campaign.phase = sym c.if-not-is_in.true ∙ c.is_in.ensures in
+    subst (IsDecision campaign c.args.docnos.now core) (sym c.wrong_phase.ensures)
+    (ap (ruled H core.caller core.moment) c.requires.asked.command_is ∙ out-of-phase H Judging campaign.phase _ _ c.requires.asked.asked.known.phase_is other)
+
+pub offset_bounds-topics-number : goal.offset_bounds-topics-number
+offset_bounds-topics-number c = omega (arith, ints, small (goal.at.offset_bounds-topics-number c).After-from)
+
+pub bounds-topics-number : goal.bounds-topics-number
+bounds-topics-number c =
+    let all = c.args.campaign.now.assessment.topics.topics in
+    omega (arith, (at (goal.at.bounds-topics-number c).After-from).within, length-map all facts_of, ap length c.topics-topics.ensures)
+
+pub overflow_cast-number : goal.overflow_cast-number
+overflow_cast-number c = omega (arith, ints, small (goal.at.overflow_cast-number c).After-from)
+
+pub overflow_cast-grant : goal.overflow_cast-grant
+overflow_cast-grant c = omega (arith, ints, small (goal.at.overflow_cast-grant c).After-from)
 
 pub returns-in_default : goal.returns-in_default
 returns-in_default c =

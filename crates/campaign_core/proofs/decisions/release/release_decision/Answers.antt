@@ -1,10 +1,21 @@
-use Rattle.std.proofs.Common.{◌∙◌, ap, subst, sym}
+use Rattle.std.proofs.Common.{◌∙◌, ap, subst, sym, ◌≡◌, false}
 use Rattle.assessment.specs.Changes.{IsUnended}
 use Rattle.rulebook.specs.Answers.{ruled}
 use Rattle.campaign_core.specs.Leasing.{IsLeased}
 use Rattle.campaign_core.specs.Numbers.{names_of}
-use Rattle.campaign_core.proofs.Rulings.LeaseRulings.{release-done, release-refused, unended}
+use Rattle.campaign_core.proofs.Rulings.LeaseRulings.{release-done, release-refused, unended, out-of-phase}
+use Rattle.rulebook.specs.declared.rules.Phase.TheVariants.{Judging}
+use Rattle.rulebook.specs.Refusals.{is_phase}
+use Rattle.campaign_core.specs.Decisions.{IsDecision}
 use Rattle.campaign_core.proofs.decisions.release.release_decision.Goals as goal
+
+pub returns-then-not-is_in : goal.returns-then-not-is_in
+returns-then-not-is_in c =
+    let campaign = c.args.campaign.now in
+    let core = c.args.core.now in
+    let other : false ≡ is_phase Judging campaign.phase = sym c.if-not-is_in.true ∙ c.is_in.ensures in
+    subst (IsDecision campaign (names_of campaign.history.items) core) (sym c.wrong_phase.ensures)
+    (ap (ruled campaign.history.items core.caller core.moment) c.requires.command_is ∙ out-of-phase campaign.history.items Judging campaign.phase _ _ c.requires.asked.known.phase_is other)
 
 pub returns-in-Some-lease_refusal : goal.returns-in-Some-lease_refusal
 returns-in-Some-lease_refusal c =

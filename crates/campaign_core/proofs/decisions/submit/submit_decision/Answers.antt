@@ -12,13 +12,17 @@ use Rattle.rulebook.specs.declared.reply.Reply.{Reply}
 use Rattle.rulebook.specs.declared.reply.Reply.TheVariants as reply
 use Rattle.rulebook.specs.declared.rules.Phase.TheVariants.{Collecting}
 use Rattle.rulebook.specs.Answers.{ruled}
-use Rattle.rulebook.specs.Campaign.{History, Run, docnos, docs_on, is_taken, line_count, phase, runs, submitted_docnos, submitted_lines}
-use Rattle.rulebook.specs.Refusals.{Ruling}
+use Rattle.trec_formats.specs.declared.TopicList.{TopicList}
+use Rattle.rulebook.specs.Campaign.{History, Run, docnos, docnos_with, docs_on, is_taken, line_count, lines_with, phase, runs, submitted_docnos, submitted_lines}
+use Rattle.rulebook.specs.Refusals.{Ruling, is_phase}
 use Rattle.rulebook.specs.Spelling.{is_plain}
 use Rattle.rulebook.specs.Words.{Text, contains_text, each_once}
 use Rattle.campaign_core.specs.Decisions.{IsDecision}
+use Rattle.campaign_core.specs.Growth.{lists_in}
 use Rattle.campaign_core.specs.Numbers.{AreRankable, are_named, docs_in}
+use Rattle.campaign_core.specs.Submissions.{AreSubmissions}
 use Rattle.campaign_core.proofs.Rulings.CollectingRulings.{Passes, collecting-from, each_once-submitted, submit-accepted, submit-fits, submit-taken, submit-too-many-docnos, submit-too-many-lines, submit-too-many-runs, submit-unlisted}
+use Rattle.campaign_core.proofs.Rulings.LeaseRulings.{out-of-phase}
 use Rattle.campaign_core.proofs.Lists.Elements.{all_back}
 use Rattle.campaign_core.proofs.Lists.FirstPlaces.{is-there}
 use Rattle.campaign_core.proofs.Numbers.DocNumbers.{each_named}
@@ -64,6 +68,19 @@ run-fits : (c : After-is_some) → length c.args.lists.now + line_count c.args.l
 run-fits c =
     let core = c.args.core.now in
     submit-fits core.command c.args.run.now c.args.lists.now c.args.lists.now c.requires.asked.command_is (command-short core.caller core.number core.command core.moment c.requires.asked.asked.addressed) refl
+
+pub returns-then-not-is_in-clause-decision : goal.returns-then-not-is_in-clause-decision
+returns-then-not-is_in-clause-decision c =
+    let campaign = c.args.campaign.now in
+    let core = c.args.core.now in
+    let other : false ≡ is_phase Collecting campaign.phase = sym c.if-not-is_in.true ∙ c.is_in.ensures in
+    subst (IsDecision campaign c.args.docnos.now core) (sym c.wrong_phase.ensures)
+    (ap (ruled campaign.history.items core.caller core.moment) c.requires.asked.command_is ∙ out-of-phase campaign.history.items Collecting campaign.phase _ _ c.requires.asked.asked.known.phase_is other)
+
+pub run_number-requires : goal.run_number-requires
+run_number-requires c =
+    let known = c.requires.asked.asked.known in
+    subst (λ (H : History). AreSubmissions H c.deref-2.result.now) (sym c.deref.ensures.value) (subst (AreSubmissions c.args.campaign.now.history.items) (sym c.deref-2.ensures.value) known.submissions_are)
 
 pub returns-then-is_some-clause-decision : goal.returns-then-is_some-clause-decision
 returns-then-is_some-clause-decision c =
@@ -113,6 +130,17 @@ lines-few c =
     le-ltb MAX_LINES (submitted_lines c.args.campaign.now.history.items + line_count c.args.lists.now)
     (omega (arith, c.requires.asked.asked.known.lines_are, c.line_count-lines.ensures, c.from.ensures, c.if-campaign-lines.false))
 
+pub add_docnos-requires : goal.add_docnos-requires
+add_docnos-requires c =
+    let known = c.requires.asked.asked.known in
+    let H = c.args.campaign.now.history.items in
+    let lines = lines-are (goal.at.add_docnos-requires c).After-from in
+    let few : length c.args.docnos.now ≤ MAX_DOCNOS = subst (λ (names : List Text). length names ≤ MAX_DOCNOS) (sym c.requires.names) known.docnos_fit in
+    omega (arith, few, lines, c.from.ensures, c.if-campaign-lines.false)
+
+pub overflow_cast-number : goal.overflow_cast-number
+overflow_cast-number c = omega (arith, ints, c.len-3.ensures, c.len.ensures, c.if-len.false)
+
 pub returns-then-len-gt-MAX_DOCNOS-clause-decision : goal.returns-then-len-gt-MAX_DOCNOS-clause-decision
 returns-then-len-gt-MAX_DOCNOS-clause-decision c =
     let campaign = c.args.campaign.now in
@@ -125,6 +153,9 @@ returns-then-len-gt-MAX_DOCNOS-clause-decision c =
     subst (IsDecision campaign c.add_docnos.new.docnos core) (sym c.limit-then-len-gt-MAX_DOCNOS.ensures)
     (ap (ruled campaign.history.items core.caller core.moment) c.requires.asked.command_is
     ∙ submit-too-many-docnos campaign.history.items c.args.run.now lists (passes at.After-from (collecting at.After-is_some) (taken-is at.After-is_some) (runs-counted at.After-len)) (lines-few at.After-add_docnos) (subst (λ (names : List Text). MAX_DOCNOS < length names) docnos_are many))
+
+pub overflow_cast-reply-2 : goal.overflow_cast-reply-2
+overflow_cast-reply-2 c = omega (arith, ints, c.line_count-lines.ensures, run-fits (goal.at.overflow_cast-reply-2 c).After-is_some)
 
 pub overflow_cast-reply : goal.overflow_cast-reply
 overflow_cast-reply c = omega (arith, ints, run-fits (goal.at.overflow_cast-reply c).After-is_some)
@@ -148,6 +179,21 @@ rankable c =
 
 pub rankings_of-requires : goal.rankings_of-requires
 rankings_of-requires c = (c.add_docnos.new.docnos, rankable (goal.at.rankings_of-requires c).After-deref-3)
+
+pub returns-clause-limits : goal.returns-clause-limits
+returns-clause-limits c =
+    let H = c.args.campaign.now.history.items in
+    let run = c.args.run.now in
+    let lists = c.args.lists.now in
+    let submits : lists ≡ lists_in c.args.core.now.command = sym (ap lists_in c.requires.asked.command_is) in
+    let docnos_are : c.add_docnos.new.docnos ≡ each_once (submitted_docnos H ++ docnos lists) =
+    c.in_ok-numbers.ensures.added.names_are ∙ ap (λ texts. fold with_name texts (docnos lists)) c.requires.names ∙ sym (each_once-submitted H lists) in
+    record {
+      names_are = docnos_are ∙ ap (docnos_with H) submits;
+      names_fit = omega (arith, c.len-2.ensures.len, c.if-len-gt-MAX_DOCNOS.false);
+      lines_fit = subst (λ (lists : List TopicList). lines_with H lists ≤ MAX_LINES) submits
+          (omega (arith, lines-are (goal.at.returns-clause-limits c).After-from, c.from.ensures, c.if-campaign-lines.false));
+    }
 
 pub returns-clause-decision : goal.returns-clause-decision
 returns-clause-decision c =

@@ -1,4 +1,4 @@
-use Rattle.std.proofs.Common.{◌≡◌, ◌∙◌, ap, false, map, sym}
+use Rattle.std.proofs.Common.{◌≡◌, ◌∙◌, ap, false, map, sym, subst}
 use Rattle.assessment.specs.TopicsFacts.{TopicsFacts}
 use Rattle.rulebook.specs.declared.rules.Phase.TheVariants.{Collecting}
 use Rattle.rulebook.specs.declared.rules.Rules.{Rules}
@@ -7,7 +7,19 @@ use Rattle.rulebook.specs.Campaign.{has_topics, phase}
 use Rattle.trec_formats.specs.declared.Topic.{Topic}
 use Rattle.campaign_core.specs.Topics.{empty_topic, kept, labelled_of}
 use Rattle.campaign_core.proofs.Rulings.CollectingRulings.{collecting-from, topics-accepted}
+use Rattle.rulebook.specs.Refusals.{is_phase}
+use Rattle.campaign_core.specs.Decisions.{IsDecision}
+use Rattle.campaign_core.proofs.Rulings.LeaseRulings.{out-of-phase}
+use Rattle.campaign_core.specs.Numbers.{names_of}
 use Rattle.campaign_core.proofs.decisions.topics.topics_decision.Goals as goal
+
+pub returns-then-not-is_in : goal.returns-then-not-is_in
+returns-then-not-is_in c =
+    let campaign = c.args.campaign.now in
+    let core = c.args.core.now in
+    let other : false ≡ is_phase Collecting campaign.phase = sym c.if-not-is_in.true ∙ c.is_in.ensures in
+    subst (IsDecision campaign (names_of campaign.history.items) core) (sym c.wrong_phase.ensures)
+    (ap (ruled campaign.history.items core.caller core.moment) c.requires.command_is ∙ out-of-phase campaign.history.items Collecting campaign.phase _ _ c.requires.asked.known.phase_is other)
 
 pub returns : goal.returns
 returns c =

@@ -1,19 +1,13 @@
-//! Tries shelves and sinks: those in memory, whose calls fail as planned, a sink that takes one byte of each piece, and
-//! the files and the standard output of the system.
-ghost use Rattle.std.specs.Prelude.{◌≡◌, IfOk};
+//! Shelves and sinks: those in memory, whose calls fail as planned, a sink that takes one byte of each piece, and the
+//! files and the standard output of the system.
 ghost use Rattle.campaign_cli.specs.Sinks.{told_by};
 
-use crate::{
+use campaign_cli::{
     Failed, FileShelf, MemoryShelf, MemorySink, OutputSink, Shelf, ShelfFault, Sink, write_all,
 };
 use decimal_rank::Text;
-use std::alloc::{AllocError, Global};
 use std::test::Fail;
 use std::{env, fs, process};
-
-fn text(alloc: Global, bytes: &[u8]) -> Result<Text, AllocError> {
-    Ok(Text::new(bytes.to_vec(alloc)?))
-}
 
 /// A sink that takes one byte of each piece.
 #[derive(Drop)]
@@ -36,8 +30,14 @@ impl Sink for ByteSink {
 #[test]
 fn a_shelf_in_memory(rt: HostRuntime) -> Result<(), Fail> {
     let alloc = rt.alloc();
-    let a = (text(alloc, b"a")?, text(alloc, b"one")?);
-    let b = (text(alloc, b"b")?, text(alloc, b"")?);
+    let a = (
+        Text::from_slice(alloc, b"a")?,
+        Text::from_slice(alloc, b"one")?,
+    );
+    let b = (
+        Text::from_slice(alloc, b"b")?,
+        Text::from_slice(alloc, b"")?,
+    );
     let mut shelf = MemoryShelf::new(vec![in alloc; a, b]?, vec![in alloc; 2, 5]?);
     let rows: [(&[u8], Result<&[u8], ShelfFault>); 6] = [
         (b"a", Ok(b"one")),
