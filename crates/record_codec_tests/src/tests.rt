@@ -76,7 +76,7 @@ fn the_fields_of_a_grade(rt: HostRuntime) -> Result<(), Fail> {
     assert_eq!(rt; core.caller.role, Role::Assessor);
     assert_eq!(rt; core.number, Some(7));
     assert_eq!(rt; core.moment, 1000);
-    assert!(rt; matches!(core.command, Command::Grade { lease: 1, grade: 2 }));
+    assert!(rt; matches!(&core.command, Command::Grade { lease: 1, grade: 2 }));
     Ok(())
 }
 

@@ -27,7 +27,7 @@ fn a_refusal_is_copied(rt: HostRuntime) -> Result<(), Fail> {
     let copy = Reply::Refused(Refusal::Limit { which }).copy(rt.alloc())?;
     assert!(rt;
         matches!(
-            copy,
+            &copy,
             Reply::Refused(Refusal::Limit {
                 which: Quantity::Runs
             })
@@ -46,7 +46,8 @@ fn a_pool_is_copied(rt: HostRuntime) -> Result<(), Fail> {
         topic: text(alloc, b"1")?,
         docs: Rows::new(docs),
     };
-    match pool.copy(alloc)? {
+    let copy = pool.copy(alloc)?;
+    match &copy {
         Reply::Pool { docs, .. } => assert_eq!(rt; docs.items().len(), 2),
         _ => return Err(Fail::from("no pool")),
     }
