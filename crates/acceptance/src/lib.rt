@@ -14,6 +14,8 @@ mod journals;
 #[cfg(test)]
 mod links;
 #[cfg(test)]
+mod network;
+#[cfg(test)]
 mod requests;
 #[cfg(test)]
 mod servers;

@@ -80,8 +80,10 @@ pub(crate) fn give(piece: &[u8], out: &mut [u8]) -> usize
 }
 
 impl Link for AnsweredFirst {
+    ghost use Rattle.std.proofs.Common.{refl};
+
     ghost seen = { λ link. record {
-      reading = record { taken = None; left = None; faults = link.read_faults };
+      reading = record { taken = None; left = None; last = None; faults = link.read_faults };
       writing = record { written = None; faults = 0 };
       clock = record { moments = None; asked = link.asked };
     } };
@@ -110,4 +112,6 @@ impl Link for AnsweredFirst {
         self.asked = self.asked.saturating_add(1);
         0
     }
+
+    ghost tells_alike = { λ _ _. record { taken = refl; left = refl; last = refl; written = refl; moments = refl } };
 }

@@ -67,8 +67,10 @@ fn comes(answers: &AtomicU64, awaited: u64) -> bool {
 }
 
 impl Link for WaitingLink {
+    ghost use Rattle.std.proofs.Common.{refl};
+
     ghost seen = { λ link. record {
-      reading = record { taken = None; left = None; faults = link.read_faults };
+      reading = record { taken = None; left = None; last = None; faults = link.read_faults };
       writing = record { written = None; faults = link.write_faults };
       clock = record { moments = None; asked = link.asked };
     } };
@@ -101,4 +103,6 @@ impl Link for WaitingLink {
         self.asked = self.asked.saturating_add(1);
         0
     }
+
+    ghost tells_alike = { λ _ _. record { taken = refl; left = refl; last = refl; written = refl; moments = refl } };
 }

@@ -1,11 +1,26 @@
 //! The program: the files of the system, standard input and output, the machine's clock, the file of the
-//! campaign's journal and a TCP door on 127.0.0.1, and the top call over them.
+//! campaign's journal and a TCP door on 127.0.0.1, and the top call over them. Standard error is told what failed and
+//! what to do; what standard output has and the status are the top call's alone.
 #![tactic(auto)]
 
+mod complaints;
+mod disk_reports;
+mod door_reports;
+mod second_looks;
+mod sentences;
+mod setting_faults;
+mod setting_lines;
+mod shelf_reports;
+
 use campaign_cli::{FileShelf, OutputSink, Status, campaign};
-use campaign_server::{StreamLink, TcpDoor};
+use campaign_server::StreamLink;
 use decimal_rank::Secret;
 use disk_model::FileDisk;
+use disk_reports::ReportingDisk;
+use door_reports::ReportingDoor;
+use second_looks::{tell_journal, tell_settings};
+use sentences::{tell_status, tell_usage};
+use shelf_reports::ReportingShelf;
 use std::alloc::{AllocError, Global};
 use std::env;
 use std::process::ExitCode;
@@ -28,6 +43,24 @@ fn words(rt: &HostRuntime, alloc: Global) -> Result<Vec<String>, AllocError> {
     Ok(words)
 }
 
+// Tells why the program ends with this status. The shelf and the door told of theirs, 4 and 6.
+fn tell(rt: &HostRuntime, alloc: Global, words: &[String], status: Status) {
+    match status.0 {
+        2 => tell_usage(rt, words),
+        3 if !is_evaluation(words) => tell_settings(rt, alloc),
+        5 => tell_journal(rt, JOURNAL),
+        other => tell_status(rt, other),
+    }
+}
+
+// Whether the words are those of `eval`, which has no settings.
+fn is_evaluation(words: &[String]) -> bool {
+    match words {
+        [word, ..] => word.as_str() == "eval",
+        [] => false,
+    }
+}
+
 fn main(rt: HostRuntime) -> ExitCode {
     let alloc = rt.alloc();
     if !Secret::is_source_answering() {
@@ -35,17 +68,23 @@ fn main(rt: HostRuntime) -> ExitCode {
     }
     let status = match words(&rt, alloc) {
         Ok(words) => {
-            let mut shelf = FileShelf::new(&rt);
+            let mut shelf = ReportingShelf::new(FileShelf::new(&rt), &rt);
             let mut out = OutputSink::new(&rt);
             let mut own = StreamLink::new(&rt);
-            let disk = FileDisk::new(&rt, JOURNAL);
-            let mut door = TcpDoor::new(&rt);
-            let (status, _disk) = campaign(
+            let disk = ReportingDisk::new(FileDisk::new(&rt, JOURNAL), &rt);
+            let mut door = ReportingDoor::new(&rt);
+            let (status, disk) = campaign(
                 &rt, alloc, &words, &mut shelf, &mut out, &mut own, disk, &mut door,
             );
+            // (a look at the journal wants its lock)
+            drop(disk);
+            tell(&rt, alloc, &words, status);
             status
         }
-        Err(_) => Status(7),
+        Err(_) => {
+            tell_status(&rt, 7);
+            Status(7)
+        }
     };
     ExitCode::from(status.0)
 }

@@ -1,13 +1,11 @@
 -- What each status says, from the way in which a command ended.
-use Rattle.std.proofs.Common.{◌≡◌, ◌≢◌, ◌≤◌, ◌⊎◌, ◌==◌, inl, inr, ℕ, List, Option, Some, None, refl, sym, ap, subst, ◌∙◌, arith, cond}
-use Rattle.std.specs.Prelude.{IfSome, if◌then◌else◌}
+use Rattle.std.proofs.Common.{◌≡◌, ◌≤◌, ◌⊎◌, ◌==◌, inl, inr, ℕ, List, Option, Some, None, refl, sym, ap, subst, ◌∙◌, arith, cond}
 use Rattle.std.specs.Io.KnownBytes.{Appends}
 use Rattle.decimal_rank.specs.Causes.{Rose}
 use Rattle.decimal_rank.specs.KnownBytes.{AppendsPart}
 use Rattle.decimal_rank.specs.Writings.{Writing}
 use Rattle.book.specs.declared.faults.BookFault.{BookFault}
 use Rattle.book.specs.declared.faults.BookFault.TheVariants as fault
-use Rattle.book.specs.Books.{Seen}
 use Rattle.book.specs.Openings.{Refused}
 use Rattle.book.specs.OpeningLaws.{MayOpen, opens_or_memory}
 use Rattle.campaign_server.specs.declared.ends.End.{End}
@@ -20,20 +18,22 @@ use Rattle.rulebook.specs.Words.{Text}
 use Rattle.eval.specs.Evaluations.{IsReport, IsInputFault}
 use Rattle.eval.specs.Findings.{AreExclusive}
 use Rattle.campaign_cli.specs.declared.settings.Settings.{Settings}
-use Rattle.campaign_cli.specs.BookEnds.{IsRefused, TellsFault, Unopened, entry_line, header_line, not_begun, not_opened, rules_line, settings_file, settings_line, settings_refused, settings_unread}
-use Rattle.campaign_cli.specs.CheckEnds.{CheckEnds, CheckWay, Shows, check_text, checked, unshown, untold}
-use Rattle.campaign_cli.specs.DrillEnds.{DrillWay, DrillEnds, played, unplayed}
+use Rattle.campaign_cli.specs.BookEnds.{TellsFault, Unopened, entry_line, header_line, not_begun, not_opened, rules_line, settings_file, settings_line, settings_refused, settings_unread}
+use Rattle.campaign_cli.specs.CheckEnds.{CheckWay, check_text, checked, unshown, untold}
+use Rattle.campaign_cli.specs.DrillEnds.{DrillWay, played, unplayed}
 use Rattle.campaign_cli.specs.Endings.{Ends}
-use Rattle.campaign_cli.specs.EvalEnds.{EvalWay, EvalEnds, scored, refused, unread, short}
+use Rattle.campaign_cli.specs.EvalEnds.{EvalWay, scored, refused, unread, short}
 use Rattle.campaign_cli.specs.Outside.{Outside, Streams, Prints, Misses}
 use Rattle.campaign_cli.specs.Requests.{Request, Eval, Session, Serve, Drill, Check, Nothing, ServerNumbers, usage_line}
-use Rattle.campaign_cli.specs.ServeEnds.{Served, ServeWay, ServeEnds, served, unserved}
+use Rattle.campaign_cli.specs.ServeEnds.{Served, ServeWay, served, unserved}
 use Rattle.campaign_cli.specs.ServeEnds.{status_of as serve_status}
-use Rattle.campaign_cli.specs.SessionEnds.{Holds, SessionWay, SessionEnds, held, unheld, status_of}
+use Rattle.campaign_cli.specs.SessionEnds.{Holds, SessionWay, held, unheld, status_of}
 use Rattle.campaign_cli.specs.Settings.{settings_of}
-use Rattle.campaign_cli.specs.Shelves.{Files, Follows, Gives, ShelfState, file_at}
-use Rattle.campaign_cli.specs.Statuses.{Cause, Done, Usage, Input, File, Disk, Door, Memory, Output, Damaged, Link, Cut, number_of, Says, IsBookRefusal, IsDamage, IsMissing, IsRefusal, IsSaid, IsCut, IsUnopened, ServerComesTo, SessionComesTo, CanDo, CanOpen, HasToRefuse, IsCalm, NeedsBook, TellsBoth, TellsRecords, TellsSettings, Statuses}
-use Rattle.campaign_cli.specs.UsageEnds.{UsageWay, UsageEnds, told, untold as unasked}
+use Rattle.campaign_cli.specs.Shelves.{Gives, ShelfState}
+use Rattle.campaign_cli.specs.Statuses.{Cause, Done, Usage, Input, File, Disk, Door, Memory, Output, Damaged, Link, Cut, number_of, Says, IsBookRefusal, IsMissing, IsRefusal, IsSaid, IsCut, IsUnopened, ServerComesTo, SessionComesTo, CanDo, CanOpen, HasToRefuse, IsCalm, NeedsBook, TellsRecords, TellsSettings, Statuses}
+use Rattle.campaign_cli.specs.UsageEnds.{UsageWay, told, untold as unasked}
+use Rattle.campaign_cli.proofs.ToldDisks.{damage_told, opening_of, others_told}
+use Rattle.campaign_cli.proofs.ToldFiles.{not_both_missed, not_missed, prints_whole, told_both, told_settings}
 
 -- a status has one cause
 
@@ -56,41 +56,6 @@ cause_by-number Cut = refl
 
 same_cause : (a b : Cause) → number_of a ≡ number_of b → a ≡ b
 same_cause a b e = sym (cause_by-number a) ∙ ap cause_by e ∙ cause_by-number b
-
--- what was given of a file that is told is the file
-given : (shelf : ShelfState) (name bytes there : List ℕ) (files : Files) → shelf.files ≡ Some files → file_at files name ≡ Some there → Gives shelf name bytes → there ≡ bytes
-given shelf name bytes there files tells at gives =
-    let same : file_at files name ≡ Some bytes = rw tells at gives.same in
-    cc (at, same)
-
--- what holds of two files that are told holds of the bytes that are given
-told_both : (shelf : ShelfState) (run qrels r q : List ℕ) (P : List ℕ → List ℕ → Type 0) → TellsBoth shelf run qrels P → Gives shelf run r → Gives shelf qrels q → P r q
-told_both shelf run qrels r q P w first second =
-    subst (λ r. P r q) (given shelf run r w.1 w.0 w.3 w.4 first) (subst (P w.1) (given shelf qrels q w.2 w.0 w.3 w.5 second) w.6)
-
-told_settings : (shelf : ShelfState) (text : List ℕ) (P : List ℕ → Type 0) → TellsSettings shelf P → Gives shelf settings_file text → P text
-told_settings shelf text P w gives = subst P (given shelf settings_file text w.1 w.0 w.2 w.3 gives) w.4
-
--- a file that is told isn't missed, where no read failed
-not_missed : (old new : ShelfState) (name there : List ℕ) (files : Files) → old.files ≡ Some files → file_at files name ≡ Some there → ¬ (Rose old.faults new.faults) → Misses old new name → ⊥
-not_missed old new name there files tells at calm (inl rose) = calm rose
-not_missed old new name there files tells at calm (inr missed) =
-    let lacks : file_at files name ≡ None = rw tells at missed.1 in
-    cc (at, lacks)
-
-not_both_missed : (old new : ShelfState) (run qrels : List ℕ) (P : List ℕ → List ℕ → Type 0) → TellsBoth old run qrels P → ¬ (Rose old.faults new.faults) → Misses old new run ⊎ Misses old new qrels → ⊥
-not_both_missed old new run qrels P w calm (inl missed) = not_missed old new run w.1 w.0 w.3 w.4 calm missed
-not_both_missed old new run qrels P w calm (inr missed) = not_missed old new qrels w.2 w.0 w.3 w.5 calm missed
-
--- a text was printed whole, where no write failed
-prints_whole : (old new : Writing) (text : List ℕ) (status ended : ℕ) → Prints old new text status ended → ¬ (Rose old.faults new.faults) → ended ≡ status
-prints_whole old new text status ended prints calm = by prints.either
-  where
-    by : ((ended ≡ status) × Appends old.written new.written text)
-        ⊎ ((ended ≡ 8) × Rose old.faults new.faults × AppendsPart old.written new.written text)
-        → ended ≡ status
-    by (inl all) = all.0
-    by (inr part) = absurd (calm part.1)
 
 -- no count of the output falls
 same_out : (old new : Writing) → new ≡ old → old.faults ≤ new.faults
@@ -248,7 +213,7 @@ module _ {D : Type 0} (content : D → Option (List ℕ)) (images : D → List �
     eval_refused run qrels old new status has calm (short same e) = inr e
 
   -- a disk that may be opened is, or memory is short
-  unopened_complete : (old new : Outside D) (status : ℕ) → CanOpen content images clock since faults old → IsCalm content images clock since faults old new → Unopened content images clock since faults old new status → status ≡ 7
+  pub unopened_complete : (old new : Outside D) (status : ℕ) → CanOpen content images clock since faults old → IsCalm content images clock since faults old new → Unopened content images clock since faults old new status → status ≡ 7
   unopened_complete old new status can calm (settings_refused text gives none prints kept) =
       let read = (told_settings old.streams.shelf text (λ bytes. (settings : Settings) × (settings_of bytes ≡ Some settings) × ((payloads : List Text) × TellsRecords (content old.disk) payloads × MayOpen settings.rules payloads)) can gives) in
       let both : None ≡ Some read.0 = sym none ∙ read.1 in
@@ -360,6 +325,8 @@ module _ {D : Type 0} (content : D → Option (List ℕ)) (images : D → List �
         says = says (Eval run qrels) old new status w;
         complete = λ can calm. eval_complete exclusive run qrels old new status can calm ends.way;
         refused = λ has calm. eval_refused exclusive run qrels old new status has calm ends.way;
+        damaged = λ has calm. absurd has.0;
+        differs = λ has calm. absurd has.0;
         shelf = ends.shelf;
         write_faults = eval_later run qrels old.streams new.streams status ends.way;
         own = λ other. ap (λ (w : Streams). w.own) ends.rest;
@@ -374,6 +341,8 @@ module _ {D : Type 0} (content : D → Option (List ℕ)) (images : D → List �
         says = says Session old new status w;
         complete = λ can calm. session_complete old new status can calm ends.way;
         refused = λ has calm. session_refused old new status has calm ends.way;
+        damaged = λ has calm. damage_told content images clock since faults old new status calm has.1 (opening_of content images clock since faults Session old new status tt ends);
+        differs = λ has calm. others_told content images clock since faults old new status calm has.1 (opening_of content images clock since faults Session old new status tt ends);
         shelf = ends.shelf;
         write_faults = session_later old new status ends.way;
         own = λ other. absurd (other refl);
@@ -388,6 +357,8 @@ module _ {D : Type 0} (content : D → Option (List ℕ)) (images : D → List �
         says = says (Serve numbers) old new status w;
         complete = λ can calm. serve_complete numbers old new status can calm ends.way;
         refused = λ has calm. serve_refused numbers old new status has calm ends.way;
+        damaged = λ has calm. damage_told content images clock since faults old new status calm has.1 (opening_of content images clock since faults (Serve numbers) old new status tt ends);
+        differs = λ has calm. others_told content images clock since faults old new status calm has.1 (opening_of content images clock since faults (Serve numbers) old new status tt ends);
         shelf = ends.shelf;
         write_faults = serve_later numbers old new status ends.way;
         own = λ other. ends.own;
@@ -403,6 +374,8 @@ module _ {D : Type 0} (content : D → Option (List ℕ)) (images : D → List �
         says = says (Drill numbers) old new status w;
         complete = λ can calm. drill_complete numbers old new status calm ends.way;
         refused = λ has calm. absurd has;
+        damaged = λ has calm. absurd has.0;
+        differs = λ has calm. absurd has.0;
         shelf = record {
           files = ap (λ (s : ShelfState). s.files) same;
           faults = omega (arith, ap (λ (s : ShelfState). s.faults) same);
@@ -421,6 +394,8 @@ module _ {D : Type 0} (content : D → Option (List ℕ)) (images : D → List �
         says = says Check old new status w;
         complete = λ can calm. check_complete old new status can calm ends.way;
         refused = λ has calm. check_refused old new status has calm ends.way;
+        damaged = λ has calm. damage_told content images clock since faults old new status calm has.1 (opening_of content images clock since faults Check old new status tt ends);
+        differs = λ has calm. others_told content images clock since faults old new status calm has.1 (opening_of content images clock since faults Check old new status tt ends);
         shelf = ends.shelf;
         write_faults = check_later old new status ends.way;
         own = λ other. ends.own;
@@ -436,6 +411,8 @@ module _ {D : Type 0} (content : D → Option (List ℕ)) (images : D → List �
         says = says Nothing old new status w;
         complete = λ can calm. absurd can;
         refused = λ has calm. absurd has;
+        damaged = λ has calm. absurd has.0;
+        differs = λ has calm. absurd has.0;
         shelf = record {
           files = ap (λ (s : ShelfState). s.files) same;
           faults = omega (arith, ap (λ (s : ShelfState). s.faults) same);

@@ -1,4 +1,5 @@
 pub mod BookEnds
+pub mod CalmSessions
 pub mod CheckEnds
 pub mod DrillEnds
 pub mod Endings

@@ -8,7 +8,6 @@ use Rattle.drill.specs.Figures.{are_numbers}
 use Rattle.drill.specs.declared.numbers.DrillNumbers.{DrillNumbers}
 use Rattle.campaign_cli.specs.declared.words.Command.{Command}
 use Rattle.campaign_cli.specs.declared.words.Command.TheVariants as command
-use Rattle.campaign_cli.specs.declared.words.TheConstants.{FORMS}
 
 -- the port of a server, how many workers it has, and the most connections that it takes
 pub record ServerNumbers : Type 0 where
@@ -25,9 +24,17 @@ pub data Request : Type 0 where
   Check : Request
   Nothing : Request
 
+abbrev pub form : List ℕ → List (List ℕ) → List (List ℕ) → Form
+form name positionals options = record { name = name; positionals = positionals; options = options }
+
 -- the forms of the commands: their names, and the names of their positional words and of their options
 abbrev pub forms : List Form
-forms = map (λ row. record { name = row.0.now; positionals = map (λ name. name.now) row.1.now; options = map (λ name. name.now) row.2.now }) FORMS
+forms =
+    form (codes "eval") (codes "run" ∷ codes "qrels" ∷ []) []
+    ∷ form (codes "session") [] []
+    ∷ form (codes "serve") [] (codes "port" ∷ codes "workers" ∷ codes "connections" ∷ [])
+    ∷ form (codes "drill") (codes "seed" ∷ codes "runs" ∷ codes "topics" ∷ codes "docs" ∷ []) []
+    ∷ form (codes "check") [] [] ∷ []
 
 abbrev pub eval_of : List (List ℕ) → Request
 eval_of (run ∷ qrels ∷ []) = Eval run qrels

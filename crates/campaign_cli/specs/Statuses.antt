@@ -7,12 +7,13 @@ use Rattle.decimal_rank.specs.Writings.{Writing}
 use Rattle.book.specs.declared.faults.BookFault.{BookFault}
 use Rattle.book.specs.declared.faults.BookFault.TheVariants as fault
 use Rattle.book.specs.Books.{Seen}
-use Rattle.book.specs.Openings.{Refused}
+use Rattle.book.specs.Openings.{DiffersFrom, Refused}
 use Rattle.book.specs.OpeningLaws.{MayOpen}
 use Rattle.book.specs.Stories.{BreaksAt}
 use Rattle.http_wire.specs.declared.messages.WireFault.{WireFault}
 use Rattle.journal.specs.Format.{decode}
 use Rattle.rulebook.specs.Campaign.{History}
+use Rattle.rulebook.specs.declared.rules.Rules.{Rules}
 use Rattle.rulebook.specs.Words.{Text}
 use Rattle.drill.specs.Plays.{IsPlayed}
 use Rattle.drill.specs.Summaries.{summary_of}
@@ -133,6 +134,14 @@ TellsSettings shelf P =
 abbrev pub TellsRecords : Option (List ℕ) → List Text → Type 0
 TellsRecords content payloads = (bytes : List ℕ) × (content ≡ Some bytes) × (decode bytes ≡ Some payloads)
 
+-- the bytes of a disk are no journal, or so many of its first records have no story while those before the last of them have one
+abbrev pub IsDamaged : Rules → List ℕ → Type 0
+IsDamaged rules bytes = (decode bytes ≡ None) ⊎ ((payloads : List Text) × (entry : ℕ) × (decode bytes ≡ Some payloads) × BreaksAt payloads entry)
+
+-- its records have a story under other rules
+abbrev pub IsOfOthers : Rules → List ℕ → Type 0
+IsOfOthers rules bytes = (payloads : List Text) × (decode bytes ≡ Some payloads) × DiffersFrom rules payloads
+
 module _ {D : Type 0} (content : D → Option (List ℕ)) (images : D → List ℕ → Type 0) (clock : D → ℕ) (images_since : D → ℕ → List ℕ → Type 0) (faults : D → ℕ) where
   -- the disk wasn't opened under the rules of the settings, for this fault
   abbrev pub IsUnopened : Request → Outside D → Outside D → BookFault → Type 0
@@ -225,6 +234,18 @@ module _ {D : Type 0} (content : D → Option (List ℕ)) (images : D → List �
   HasToRefuse Check old = TellsSettings old.streams.shelf (λ bytes. settings_of bytes ≡ None)
   HasToRefuse Nothing old = ⊥
 
+  -- the settings are told and accepted, and the disk tells bytes that have this property under their rules
+  abbrev pub TellsDisk : Outside D → (Rules → List ℕ → Type 0) → Type 0
+  TellsDisk old P = TellsSettings old.streams.shelf (λ text. (settings : Settings) × (settings_of text ≡ Some settings)
+      × ((bytes : List ℕ) × (content old.disk ≡ Some bytes) × P settings.rules bytes))
+
+  -- the command has to tell its disk as damaged, or as another campaign's
+  abbrev pub HasDamage : Request → Outside D → Type 0
+  HasDamage request old = NeedsBook request × TellsDisk old IsDamaged
+
+  abbrev pub HasOtherRules : Request → Outside D → Type 0
+  HasOtherRules request old = NeedsBook request × TellsDisk old IsOfOthers
+
   -- no count of faults rose
   pub record IsCalm (old new : Outside D) : Type 0 where
     pub shelf : ¬ (Rose old.streams.shelf.faults new.streams.shelf.faults)
@@ -245,6 +266,9 @@ module _ {D : Type 0} (content : D → Option (List ℕ)) (images : D → List �
         → (status ≡ 0) ⊎ ((status ≡ 7) ⊎ ((status ≡ 11) × IsCut request old new))
     -- with its files there, one outside its grammar, and no count risen, that is told or memory is short
     pub refused : HasToRefuse request old → IsCalm old new → (status ≡ 3) ⊎ (status ≡ 7)
+    -- with its settings told and accepted, a damaged disk, and no count risen, that is told or memory is short; and so with another campaign's
+    pub damaged : HasDamage request old → IsCalm old new → (status ≡ 9) ⊎ (status ≡ 7)
+    pub differs : HasOtherRules request old → IsCalm old new → ((status ≡ 3) × Appends old.streams.out.written new.streams.out.written rules_line) ⊎ (status ≡ 7)
     -- the files stay, and no count of the shelf or the output falls
     pub shelf : Follows old.streams.shelf new.streams.shelf
     pub write_faults : old.streams.out.faults ≤ new.streams.out.faults

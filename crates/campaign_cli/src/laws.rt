@@ -1,5 +1,6 @@
 //! What each status says, and what stays behind a session and a server, as laws.
 ghost use Rattle.std.specs.Prelude.{ℕ};
+ghost use Rattle.campaign_cli.specs.CalmSessions.{CalmSessionsAreAnswered};
 ghost use Rattle.campaign_cli.specs.Endings.{Ends};
 ghost use Rattle.campaign_cli.specs.Outside.{Outside};
 ghost use Rattle.campaign_cli.specs.Requests.{Request};
@@ -18,6 +19,12 @@ pub fn each_status_says<D: Disk>()
 {
     never_both();
 }
+
+/// Where its files and its disk are told and within their grammars and no call failed, each whole request of a
+/// session is answered by the rules, by its own fault or by want of memory.
+pub fn calm_sessions_are_answered<D: Disk>()
+    ensures { CalmSessionsAreAnswered D.content D.images D.clock D.images_since D.fault_count }
+{}
 
 /// Where no call on the disk failed in a session, the disk stands at its end for the accepted entries
 /// alone.

@@ -29,7 +29,7 @@ mod words;
 pub use decimal_rank::{Failed, Output as Sink, write_all};
 pub use faults::{SettingsEnd, ShelfFault};
 pub use file_shelf::FileShelf;
-pub use laws::{each_status_says, servers_stand, sessions_stand};
+pub use laws::{calm_sessions_are_answered, each_status_says, servers_stand, sessions_stand};
 pub use memory_shelf::MemoryShelf;
 pub use memory_sink::MemorySink;
 pub use output_sink::OutputSink;

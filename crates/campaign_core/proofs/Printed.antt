@@ -2,6 +2,7 @@
 pub mod BestRuns
 pub mod Disagreements
 pub mod KnownRuns
+pub mod LentBoards
 pub mod PageTopics
 pub mod PoolTexts
 pub mod Progress

@@ -128,9 +128,10 @@ pub record IsReadyWith (campaign : Campaign) (names : List Text) (numbers : List
   pub names_are : names ≡ names_of (campaign.history.items ++ e ∷ [])
   pub numbers_are : numbers ≡ numbers_of (campaign.history.items ++ e ∷ [])
 
--- What a command comes to: the refusal of the rules; or its entry, which is ready.
+-- What a command comes to: the refusal of the rules, and no change is pending; or its entry, which is ready.
 abbrev pub IsPrepared : Campaign → List Text → List Numbered → EntryCore → Result Entry Refusal → Type 0
-IsPrepared campaign names numbers core (Err refusal) = ruled campaign.history.items core.caller core.moment core.command ≡ Err refusal
+IsPrepared campaign names numbers core (Err refusal) =
+    (ruled campaign.history.items core.caller core.moment core.command ≡ Err refusal) × (campaign.assessment.pending ≡ None)
 IsPrepared campaign names numbers core (Ok entry) =
     (entry.core ≡ core) × (ruled campaign.history.items core.caller core.moment core.command ≡ Ok entry.reply) × IsReadyWith campaign names numbers entry
 
@@ -141,4 +142,5 @@ pub record IsKept (s : Inside) : Type 0 where
   pub docnos_kept_are : s.docnos_kept ≡ length (names_of s.campaign.history.items)
   pub numbers_are : BeginsWith (numbers_of s.campaign.history.items) s.numbers
   pub numbers_kept_are : s.numbers_kept ≡ length (numbers_of s.campaign.history.items)
-  pub ready : MatchOption s.prepared (Unit {0}) (λ p. IsReadyWith s.campaign s.docnos s.numbers p.value)
+  -- where no entry is prepared, no change is pending
+  pub ready : MatchOption s.prepared (s.campaign.assessment.pending ≡ None) (λ p. IsReadyWith s.campaign s.docnos s.numbers p.value)

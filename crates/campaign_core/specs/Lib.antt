@@ -2,6 +2,7 @@ pub mod Growth
 pub mod Decisions
 pub mod Kept
 pub mod Lendings
+pub mod LendingLaws
 pub mod Numbers
 pub mod NumberedRequests
 pub mod Changes

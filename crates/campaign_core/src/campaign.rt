@@ -1,6 +1,6 @@
 //! A campaign: its history, and what is known of it by numbers. An accepted entry has room made for its
 //! change first, and joins the history with its change then.
-ghost use Rattle.std.specs.Prelude.{◌≡◌, ◌+◌, ◌≤◌, ◌++◌, ◌∷◌, [], IfOk, IsTrue, OnOk, is_some, map};
+ghost use Rattle.std.specs.Prelude.{◌≡◌, ◌+◌, ◌≤◌, ◌++◌, ◌∷◌, [], IfOk, IsTrue, None, OnErr, OnOk, is_some, map};
 ghost use Rattle.std.specs.List.{list_any, position};
 ghost use Rattle.std.specs.Str.{bytes_eq};
 ghost use Rattle.assessment.specs.Changes.{Fits, facts};
@@ -46,6 +46,7 @@ impl Campaign {
         requires { IsTrue (are_rules rules) }
         ensures history { IfOk result (λ campaign. campaign.history.items ≡ founding rules ∷ []) }
         ensures known { IfOk result IsKnown }
+        ensures idle { IfOk result (λ campaign. campaign.assessment.pending ≡ None) }
     {
         let level = rules.level;
         let core = founding_core(alloc, rules)?;
@@ -123,15 +124,17 @@ impl Campaign {
         self.assessment.topics().items()
     }
 
-    /// Makes room for a change, for the entry that it carries out, and for a run.
+    /// Makes room for a change, for the entry that it carries out, and for a run. The change is then pending.
     pub(crate) fn reserve(&mut self, change: Change) -> Result<(), Memory>
-        requires { Fits change (facts self.old.assessment) }
+        requires fits { Fits change (facts self.old.assessment) }
+        requires idle { self.old.assessment.pending ≡ None }
         ensures unchanged { IsUnchanged self.old self.new }
         ensures room { OnOk result (AwaitsChange self.new change) }
+        ensures err { OnErr result (self.new.assessment.pending ≡ None) }
     {
-        self.assessment.reserve(change)?;
         self.history.reserve(1)?;
-        Ok(self.submissions.reserve(1)?)
+        self.submissions.reserve(1)?;
+        self.assessment.reserve(change)
     }
 
     /// Adds an entry for which there is room, and makes its change. A step is a node of a tree, an entry of a ranked
@@ -141,6 +144,7 @@ impl Campaign {
         requires ready { IsReady self.old entry }
         ensures history { self.new.history.items ≡ self.old.history.items ++ entry ∷ [] }
         ensures known { IsKnown self.new }
+        ensures idle { self.new.assessment.pending ≡ None }
         ensures cost { steps.new ≤ steps.old + commit_steps self.old.history.items entry.core.command }
     {
         self.phase = phase_after(&entry.core.command, self.phase);

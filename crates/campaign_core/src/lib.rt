@@ -4,6 +4,7 @@
 mod campaign;
 mod decisions;
 mod docnos;
+mod laws;
 mod pages;
 mod pools;
 mod queries;
@@ -17,6 +18,7 @@ mod texts;
 mod topics;
 mod verdict;
 
+pub use laws::{boards_score_by_the_rules, queues_are_in_the_rules_order};
 pub use state::State;
 pub use tallies::Tally;
 pub use verdict::{Prepared, Verdict};

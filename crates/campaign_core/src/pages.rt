@@ -1,5 +1,5 @@
 //! Pages that are printed topic by topic.
-ghost use Rattle.std.specs.Prelude.{◌≡◌, ◌++◌, ℕ, List, IfOk, IsTrue, OnOk, codes, decimal, map};
+ghost use Rattle.std.specs.Prelude.{◌≡◌, ◌≤◌, ◌++◌, ℕ, List, IfOk, IsTrue, OnOk, codes, decimal, length, map};
 ghost use Rattle.assessment.specs.TopicFacts.{facts_of};
 ghost use Rattle.rulebook.specs.Campaign.{History};
 ghost use Rattle.rulebook.specs.declared.reply.Reply.TheVariants as reply;
@@ -15,6 +15,7 @@ use assessment::Topic;
 use decimal_rank::{Memory, Names, Text};
 use itoa::Buffer;
 use lease_desk::Desk;
+use qrels_view::DocnoOrder;
 use rulebook::{Reply, graded_are_on_trail, labelled_are_listed};
 use std::alloc::Global;
 
@@ -29,7 +30,8 @@ pub(crate) enum Page {
     Progress,
 }
 
-/// A page at a moment: the topics stand by id.
+/// A page at a moment: the topics stand by id. The orders, by the numbers of the topics, are those in which the last
+/// pages left the documents with a grade.
 pub(crate) fn page_reply(
     alloc: Global,
     page: Page,
@@ -37,6 +39,7 @@ pub(crate) fn page_reply(
     docnos: &Names,
     desk: &Desk,
     now: u64,
+    orders: &mut Vec<DocnoOrder>,
 ) -> Result<Reply, Memory>
     requires knows { (H : History) × KnowsAll H (map facts_of topics.now) desk.now.leases × (docnos.now ≡ names_of H) }
     ensures { (H : History) → KnowsAll H (map facts_of topics.now) desk.now.leases → docnos.now ≡ names_of H
@@ -44,7 +47,7 @@ pub(crate) fn page_reply(
 {
     let mut out = Vec::new(alloc);
     for id in &in_order(ids_of(alloc, topics)?) {
-        write_topic(alloc, page, topics, docnos, desk, now, id, &mut out)?;
+        write_topic(alloc, page, topics, docnos, desk, now, id, orders, &mut out)?;
     }
     Ok(Reply::Page {
         text: Text::new(out),
@@ -60,6 +63,7 @@ fn write_topic(
     desk: &Desk,
     now: u64,
     id: &[u8],
+    orders: &mut Vec<DocnoOrder>,
     out: &mut Vec<u8>,
 ) -> Result<(), Memory>
     requires knows { (H : History) × KnowsAll H (map facts_of topics.now) desk.now.leases × (docnos.now ≡ names_of H) }
@@ -69,7 +73,27 @@ fn write_topic(
 {
     let number = topic_number(topics, id).unwrap();
     let live = desk.live_on_topic(number as u16, now);
-    write_part(alloc, page, &topics[number], docnos, live, out)
+    reach(orders, topics.len())?;
+    write_part(
+        alloc,
+        page,
+        &topics[number],
+        docnos,
+        live,
+        &mut orders[number],
+        out,
+    )
+}
+
+/// Has an order for each of so many topics.
+fn reach(orders: &mut Vec<DocnoOrder>, topics: usize) -> Result<(), Memory>
+    ensures { OnOk result (topics ≤ length orders.new.items) }
+{
+    let alloc = *orders.allocator();
+    for _ in orders.len()..topics {
+        orders.push(DocnoOrder::new(alloc))?;
+    }
+    Ok(())
 }
 
 /// Appends what a page shows of a topic, on which so many leases are live.
@@ -79,6 +103,7 @@ fn write_part(
     topic: &Topic,
     docnos: &Names,
     live: u32,
+    order: &mut DocnoOrder,
     out: &mut Vec<u8>,
 ) -> Result<(), Memory>
     requires knows { (H : History) × IsTopicOf H docnos.now topic.now.facts }
@@ -88,7 +113,7 @@ fn write_part(
     // the documents with a grade are those of the trail that have one
     graded_are_on_trail();
     match page {
-        Page::Qrels => topic.grades().write(topic.id(), docnos, out),
+        Page::Qrels => topic.grades().write_by(topic.id(), docnos, order, out),
         Page::Disagreements => write_disagreements(alloc, topic, docnos, out),
         Page::Progress => write_progress(topic, live, out),
     }
@@ -104,7 +129,12 @@ fn write_disagreements(
     ensures { (H : History) → IsTopicOf H docnos.now topic.now.facts
         → OnOk result (out.new.items ≡ out.old.items ++ disagreement_lines H topic.now.facts.id) }
 {
-    let docs = topic.marks().disagreements(alloc, topic.need())?;
+    let need = topic.need();
+    // one label doesn't differ
+    if need != 2 {
+        return Ok(());
+    }
+    let docs = topic.marks().disagreements(alloc, need)?;
     // the documents whose labels differ are among those with a label
     labelled_are_listed();
     for docno in &in_order(docnos_of(alloc, docnos, &docs)?) {

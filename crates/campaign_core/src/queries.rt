@@ -11,10 +11,11 @@ use crate::pages::{Page, page_reply};
 use crate::pools::pool_reply;
 use crate::score_pages::{scores_reply, table_reply};
 use decimal_rank::{Memory, Names};
+use qrels_view::DocnoOrder;
 use rulebook::{Caller, Phase, Query, Refusal, Reply};
 use std::alloc::Global;
 
-/// What a caller's query is told at a moment.
+/// What a caller's query is told at a moment. The orders are those in which the last pages left the documents with a grade.
 pub(crate) fn told(
     alloc: Global,
     campaign: &Campaign,
@@ -22,6 +23,7 @@ pub(crate) fn told(
     who: &Caller,
     now: u64,
     query: Query,
+    orders: &mut Vec<DocnoOrder>,
 ) -> Result<Reply, Memory>
     requires { IsKnownWith docnos.now campaign.now }
     ensures { IfOk result (λ reply. reply ≡ reply_of (told_of campaign.now.history.items who.now now query)) }
@@ -32,14 +34,22 @@ pub(crate) fn told(
         Query::Pool { topic } => pool_reply(alloc, topics, docnos, topic),
         Query::Scores { run } => scores_reply(alloc, campaign, who, &run),
         Query::Table => table_reply(alloc, campaign),
-        Query::Qrels => page_reply(alloc, Page::Qrels, topics, docnos, desk, now),
-        Query::Disagreements => page_reply(alloc, Page::Disagreements, topics, docnos, desk, now),
-        Query::Progress => page_reply(alloc, Page::Progress, topics, docnos, desk, now),
+        Query::Qrels => page_reply(alloc, Page::Qrels, topics, docnos, desk, now, orders),
+        Query::Disagreements => page_reply(
+            alloc,
+            Page::Disagreements,
+            topics,
+            docnos,
+            desk,
+            now,
+            orders,
+        ),
+        Query::Progress => page_reply(alloc, Page::Progress, topics, docnos, desk, now, orders),
         Query::ReleaseQrels { release } => {
             if !is_released(campaign, release) {
                 return Ok(Reply::Refused(Refusal::UnknownRelease));
             }
-            page_reply(alloc, Page::Qrels, topics, docnos, desk, now)
+            page_reply(alloc, Page::Qrels, topics, docnos, desk, now, orders)
         }
         Query::ReleaseScores { release } => {
             if !is_released(campaign, release) {

@@ -27,6 +27,7 @@ use crate::verdict::{Prepared, Verdict};
 use decimal_rank::{Memory, Names, Steps};
 use depth_pool::RunId;
 use mtf_queue::Queue;
+use qrels_view::DocnoOrder;
 use rulebook::{
     Ask, Caller, Command, Entry, EntryCore, MAX_ENTRIES, Phase, Quantity, Query, Refusal, Reply,
     Rules,
@@ -50,6 +51,8 @@ pub struct State {
     /// How many numbers the history has.
     numbers_kept: usize,
     prepared: Option<Snapshot<Entry>>,
+    /// By the numbers of the topics, the orders in which the last pages left their documents with a grade.
+    orders: Vec<DocnoOrder>,
 }
 
 impl Model for State {
@@ -78,6 +81,7 @@ impl Drop for State {
             numbers: _,
             numbers_kept: _,
             prepared: _,
+            orders: _,
         } = self;
     }
 }
@@ -97,6 +101,7 @@ impl State {
             numbers: RequestNumbers::new(alloc),
             numbers_kept: 0,
             prepared: None,
+            orders: Vec::new(alloc),
         })
     }
 
@@ -221,7 +226,15 @@ impl State {
         let alloc = *self.campaign.history.allocator();
         let now = self.campaign.moment_after(moment);
         self.docnos.cut(self.docnos_kept);
-        told(alloc, &self.campaign, &self.docnos, who, now, query)
+        told(
+            alloc,
+            &self.campaign,
+            &self.docnos,
+            who,
+            now,
+            query,
+            &mut self.orders,
+        )
     }
 
     /// The reply to a command whose caller used its number before. What was prepared is dropped.
@@ -323,19 +336,22 @@ fn prepared(
     numbers: &mut RequestNumbers,
     core: EntryCore,
 ) -> Result<Result<Prepared, Refusal>, Memory>
-    requires { IsNew campaign.old docnos.old numbers.old core }
+    requires new { IsNew campaign.old docnos.old numbers.old core }
+    requires idle { campaign.old.assessment.pending ≡ None }
     ensures unchanged { IsUnchanged campaign.old campaign.new }
     ensures docnos_grown { BeginsWith docnos.old docnos.new }
     ensures numbers_grown { BeginsWith numbers.old numbers.new }
     ensures prepared { IfOk result (IsPrepared campaign.new docnos.new numbers.new core) }
+    ensures err { OnErr result (campaign.new.assessment.pending ≡ None) }
 {
     let alloc = *campaign.history.allocator();
     match decide(alloc, campaign, docnos, &core)? {
         Decision::Refused(refusal) => Ok(Err(refusal)),
         Decision::Accepted(reply, change) => {
-            campaign.reserve(change)?;
             add_number(numbers, &core, campaign.history.len() as u32 + 1)?;
             let told = reply.copy(alloc)?;
+            // last, so that nothing is pending where there was no memory
+            campaign.reserve(change)?;
             Ok(Ok(Prepared {
                 entry: Entry { core, reply: told },
                 reply,

@@ -1,5 +1,5 @@
 -- What a connection comes to, over the bytes that were read.
-use Rattle.std.specs.Prelude.{◌≡◌, ◌⊎◌, ℕ, ◌≤◌, ◌<◌, ◌^◌, Bool, List, [], ◌∷◌, ◌++◌, length, take, if◌then◌else◌}
+use Rattle.std.specs.Prelude.{◌≡◌, ◌⊎◌, ℕ, ◌≤◌, ◌<◌, ◌^◌, Bool, List, [], ◌∷◌, ◌++◌, IfSome, length, take, if◌then◌else◌}
 use Rattle.std.specs.Io.KnownBytes.{Appends, Consumes, IsAtEnd}
 use Rattle.decimal_rank.specs.Causes.{Rose}
 use Rattle.http_wire.specs.declared.messages.HttpRequest.{HttpRequest}
@@ -19,12 +19,18 @@ pub record Hears (old new : LinkState) (bytes : List ℕ) : Type 0 where
 abbrev pub at_pause : Bool → Ending
 at_pause clean = if clean then Clean else Cut
 
--- Before the last piece, which is at most what one read takes, the bytes went on: nothing more was read once a request closed or was refused.
-pub record ReadsNoMore (bytes : List ℕ) : Type 0 where
+-- the last read gave so many bytes, where the link tells that
+abbrev pub IsLast : LinkState → ℕ → Type 0
+IsLast link count = IfSome link.reading.last (λ given. given ≡ count)
+
+-- Before the piece that the last read gave, the bytes went on: nothing more was read once a request closed or was refused. Without a read there
+-- is none.
+pub record ReadsNoMore (old new : LinkState) (bytes : List ℕ) : Type 0 where
   pub before : List ℕ
   pub piece : List ℕ
   pub split : bytes ≡ before ++ piece
   pub few : length piece ≤ 8192
+  pub last : IsLast new (length piece) ⊎ (new.reading ≡ old.reading)
   pub requests : List HttpRequest
   pub clean : Bool
   pub goes_on : Messages before requests (at_pause clean)
@@ -85,4 +91,4 @@ module _ (talks : List Said → Type 0) where
     pub bytes : List ℕ
     pub heard : Hears old new bytes
     pub ends : EndsOn bytes old new e
-    pub no_more : ReadsNoMore bytes
+    pub no_more : ReadsNoMore old new bytes

@@ -15,7 +15,7 @@ use Rattle.campaign_server.specs.declared.ends.End.TheVariants as end
 use Rattle.campaign_server.specs.Links.{LinkState}
 use Rattle.campaign_server.specs.Asking.{StreamState, StandsFor, fed_on}
 use Rattle.campaign_server.specs.Chains.{Chain, Said, last_text}
-use Rattle.campaign_server.specs.Connections.{Hears, Spoke, SpokeAll, SpokeCut, SpokePart, at_pause}
+use Rattle.campaign_server.specs.Connections.{Hears, IsLast, ReadsNoMore, Spoke, SpokeAll, SpokeCut, SpokePart, at_pause}
 
 module _ (talks : List Said → Type 0) where
   -- all whole requests of the bytes were answered, and the bytes end so far
@@ -37,6 +37,7 @@ module _ (talks : List Said → Type 0) where
   pub record IsSoFar (old : LinkState) (rest : List ℕ) (new : LinkState) (taken : ℕ) (clean : Bool) : Type 0 where
     pub bytes : List ℕ
     pub heard : Hears old new bytes
+    pub no_more : ReadsNoMore old new bytes
     pub count : length bytes ≡ taken
     pub pause : IsAtPause old bytes rest new clean
 
@@ -68,9 +69,9 @@ pub record IsPiece (taken : ℕ) (piece : List ℕ) (count : ℕ) : Type 0 where
 -- what a read comes to: a piece behind what was fed, none at the end; or a fault, at which nothing was taken; or a piece for which there was no memory
 abbrev pub ReadsPiece : LinkState → LinkState → StreamState → ℕ → Result ℕ ReadFault → StreamState → Type 0
 ReadsPiece old new stream taken (Ok count) after =
-    (piece : List ℕ) × IsPiece taken piece count × Hears old new piece × (after ≡ fed_on stream piece) × (count ≡ 0 → IsAtEnd new.reading.left)
-ReadsPiece old new stream taken (Err Failed) after = Hears old new [] × Rose old.reading.faults new.reading.faults
-ReadsPiece old new stream taken (Err Memory) after = (piece : List ℕ) × (length piece ≤ 8192) × Hears old new piece
+    (piece : List ℕ) × IsPiece taken piece count × Hears old new piece × IsLast new count × (after ≡ fed_on stream piece) × (count ≡ 0 → IsAtEnd new.reading.left)
+ReadsPiece old new stream taken (Err Failed) after = Hears old new [] × IsLast new 0 × Rose old.reading.faults new.reading.faults
+ReadsPiece old new stream taken (Err Memory) after = (piece : List ℕ) × (length piece ≤ 8192) × Hears old new piece × IsLast new (length piece)
 
 -- a refused message was answered, or a write failed in its answer
 abbrev pub RefusesWith : LinkState → LinkState → WireFault → End → Type 0

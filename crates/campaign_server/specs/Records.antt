@@ -1,6 +1,7 @@
 -- The records of a server's links, and what they tell over the one list of entries that is seen at the end.
 use Rattle.std.specs.Prelude.{◌≡◌, ◌≢◌, ℕ, ◌+◌, List, [], ◌∷◌, ◌++◌, IfSome, Option, map}
 use Rattle.std.specs.List.{flat_map}
+use Rattle.hall.specs.Places.{Apart}
 use Rattle.routes.specs.declared.keys.KeyRow.{KeyRow}
 use Rattle.rulebook.specs.Campaign.{History}
 use Rattle.campaign_server.specs.declared.ends.End.{End}
@@ -8,22 +9,24 @@ use Rattle.campaign_server.specs.declared.ends.End.TheVariants as end
 use Rattle.campaign_server.specs.Connections.{Ends}
 use Rattle.campaign_server.specs.Doors.{Ended, HandsOver, IsNew, Told}
 use Rattle.campaign_server.specs.HallConnections.{IsTalkAmong}
-use Rattle.campaign_server.specs.Links.{LinkState}
+use Rattle.campaign_server.specs.Links.{Alike, LinkState}
 
--- A record of a link is that of a connection of a new link, from so many entries and failed disk calls on, over the entries S.
-pub record IsServed (keys : List KeyRow) (n c : ℕ) (S : History) (last : ℕ) (ended : Ended) (told : ℕ) : Type 0 where
+-- A record of a link is that of a connection of a new link, which told what the link tells at its end, from so many entries and failed disk
+-- calls on, over the entries S, where it added the entries at these places.
+pub record IsServed (keys : List KeyRow) (n c : ℕ) (S : History) (last : ℕ) (ended : Ended) (told : ℕ) (places : List ℕ) : Type 0 where
   pub was : LinkState
   pub is : LinkState
   pub new : IsNew was
+  pub alike : Alike was is
   pub tells : IfSome ended.0 (λ state. state ≡ is)
-  pub places : List ℕ
   pub ends : Ends (IsTalkAmong keys n c was.clock S last is.clock places told) was is ended.1
 
--- each record is one, and so many disk faults are told in all of them
-abbrev pub AreServed : List KeyRow → ℕ → ℕ → History → ℕ → List Ended → ℕ → Type 0
-AreServed keys n c S last [] told = told ≡ 0
-AreServed keys n c S last (first ∷ others) told =
-    (here : ℕ) × (there : ℕ) × IsServed keys n c S last first here × AreServed keys n c S last others there × (told ≡ here + there)
+-- Each record is one, so many disk faults are told in all of them, and the entries at these places were added: each in one of them alone.
+abbrev pub AreServed : List KeyRow → ℕ → ℕ → History → ℕ → List Ended → ℕ → List ℕ → Type 0
+AreServed keys n c S last [] told places = (told ≡ 0) × (places ≡ [])
+AreServed keys n c S last (first ∷ others) told places =
+    (here : ℕ) × (there : ℕ) × (own : List ℕ) × (rest : List ℕ) × IsServed keys n c S last first here own × AreServed keys n c S last others there rest
+    × (told ≡ here + there) × (places ≡ own ++ rest) × Apart own rest
 
 -- no connection ended for want of memory
 abbrev pub NoneShort : List Ended → Type 0

@@ -4,7 +4,7 @@ ghost use Rattle.std.specs.Io.{ReadsAtMost};
 ghost use Rattle.std.specs.Io.KnownBytes.{Appends, ReadConsumes, WriteAppends};
 ghost use Rattle.decimal_rank.specs.Causes.{HasCause};
 ghost use Rattle.decimal_rank.specs.KnownBytes.{AppendsPart};
-ghost use Rattle.campaign_server.specs.Links.{LinkState, ReadTakes, Ticks};
+ghost use Rattle.campaign_server.specs.Links.{Alike, LinkState, ReadGives, ReadTakes, Ticks};
 ghost use Rattle.std.proofs.Common.{◌∙◌, refl};
 
 use decimal_rank::{Failed, Output, write_all as write_whole};
@@ -21,6 +21,7 @@ pub trait Link {
         ensures bound { ReadsAtMost result out.new }
         ensures left { ReadConsumes (seen self.old).reading.left (seen self.new).reading.left result out.new }
         ensures taken { ReadTakes (seen self.old).reading.taken (seen self.new).reading.taken result out.new }
+        ensures last { ReadGives (seen self.new).reading.last result }
         ensures cause { HasCause (seen self.old).reading.faults (seen self.new).reading.faults result }
         ensures writing_kept { (seen self.new).writing ≡ (seen self.old).writing }
         ensures clock_kept { (seen self.new).clock ≡ (seen self.old).clock };
@@ -40,6 +41,9 @@ pub trait Link {
         ensures ticks { Ticks (seen self.old).clock (seen self.new).clock result }
         ensures reading_kept { (seen self.new).reading ≡ (seen self.old).reading }
         ensures writing_kept { (seen self.new).writing ≡ (seen self.old).writing };
+
+    /// A link tells a part of its state always or never.
+    ghost tells_alike: { (a b : Self) → Alike (seen a) (seen b) };
 }
 
 /// Writes the whole text, in as many writes as it takes. A write that fails ends it.

@@ -21,6 +21,8 @@ pub struct MemoryLink {
     at: usize,
     /// How many bytes of the next piece were taken.
     within: usize,
+    /// How many bytes the last read gave.
+    last: usize,
     moments: Vec<u64>,
     asked: u64,
     reads: FailurePlan,
@@ -39,6 +41,7 @@ impl Model for MemoryLink {
     ghost view = { λ link. record {
       taken = taken_of link.pieces.items link.at link.within;
       left = left_of link.pieces.items link.at link.within;
+      last = link.last;
       written = link.writes.written;
       moments = link.moments.items;
       asked = link.asked;
@@ -59,6 +62,7 @@ impl Drop for MemoryLink {
             pieces: _,
             at: _,
             within: _,
+            last: _,
             moments: _,
             asked: _,
             reads: _,
@@ -84,6 +88,7 @@ impl MemoryLink {
         ensures { result ≡ record {
           taken = [];
           left = concat pieces.items;
+          last = 0;
           written = [];
           moments = moments.items;
           asked = 0;
@@ -98,6 +103,7 @@ impl MemoryLink {
             pieces,
             at: 0,
             within: 0,
+            last: 0,
             moments,
             asked: 0,
             reads: FailurePlan::new(read_fails),
@@ -122,6 +128,8 @@ impl MemoryLink {
 }
 
 impl Link for MemoryLink {
+    ghost use Rattle.std.proofs.Common.{refl};
+
     ghost seen = { told_by };
 
     /// A read that is to fail changes the counts alone; another one doesn't fail.
@@ -134,10 +142,12 @@ impl Link for MemoryLink {
         ensures after { self.new ≡ after_read self.old result }
     {
         if self.reads.call() {
+            self.last = 0;
             self.read_faults = count_more(self.read_faults);
             return Err(Failed);
         }
-        Ok(give(&self.pieces, &mut self.at, &mut self.within, out))
+        self.last = give(&self.pieces, &mut self.at, &mut self.within, out);
+        Ok(self.last)
     }
 
     /// A write that is to fail changes the counts alone; another one fails only for want of memory.
@@ -158,6 +168,8 @@ impl Link for MemoryLink {
         self.asked = count_more(self.asked);
         moment
     }
+
+    ghost tells_alike = { λ _ _. record { taken = refl; left = refl; last = refl; written = refl; moments = refl } };
 }
 
 /// The moment at a place; the last one stays, and without any it is 0.

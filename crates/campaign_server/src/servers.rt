@@ -84,7 +84,7 @@ fn work_together<D: Disk + Send, R: Door, J: Opening + Send + Sync, W: Threads +
     ensures hall { first.new.hall ≡ first.old.hall }
     ensures parts { whole.new.parts ≡ workers }
     ensures amount { whole.new.amount ≡ length (ended_all (λ v. v.items) R.kept all.new.items) }
-    ensures worked { Worked keys.now (seen_as first.old.seen) workers (seen_as first.new.seen) (ended_all (λ v. v.items) R.kept all.new.items) result }
+    ensures worked { Worked keys.now (seen_as first.old.seen) workers (seen_as first.new.seen) first.new.mine (ended_all (λ v. v.items) R.kept all.new.items) result }
 {
     let mut team = team;
     fill_team(alloc, hall, first, whole, workers, &mut team);

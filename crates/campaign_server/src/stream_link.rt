@@ -21,7 +21,7 @@ pub struct StreamLink<R: Input + Print + Clock> {
 impl<R: Input + Print + Clock + Drop> StreamLink<R> {
     pub fn new(runtime: R) -> StreamLink<R>
         ensures { ⟦<StreamLink<R> as Link>⟧.seen result ≡ record {
-          reading = record { taken = None; left = None; faults = 0 };
+          reading = record { taken = None; left = None; last = None; faults = 0 };
           writing = record { written = None; faults = 0 };
           clock = record { moments = None; asked = 0 };
         } }
@@ -37,8 +37,10 @@ impl<R: Input + Print + Clock + Drop> StreamLink<R> {
 }
 
 impl<R: Input + Print + Clock + Drop> Link for StreamLink<R> {
+    ghost use Rattle.std.proofs.Common.{refl};
+
     ghost seen = { λ link. record {
-      reading = record { taken = None; left = None; faults = link.read_faults };
+      reading = record { taken = None; left = None; last = None; faults = link.read_faults };
       writing = record { written = None; faults = link.write_faults };
       clock = record { moments = None; asked = link.watch.asked };
     } };
@@ -58,4 +60,6 @@ impl<R: Input + Print + Clock + Drop> Link for StreamLink<R> {
     fn moment(&mut self) -> u64 {
         self.watch.moment(&self.runtime)
     }
+
+    ghost tells_alike = { λ _ _. record { taken = refl; left = refl; last = refl; written = refl; moments = refl } };
 }

@@ -1,20 +1,23 @@
 //! The door on the network: a listener on 127.0.0.1. It tells its counts of faults alone, and so do its links. A
-//! peer that goes away is a fault of its own link, and none of the door.
+//! peer that goes away, or takes too long, is a fault of its own link, and none of the door.
 ghost use Rattle.std.specs.Prelude.{◌≡◌, None};
 
 use crate::doors::Door;
 use crate::ends::End;
 use crate::links::Link;
+use crate::listeners::next_stream;
+use crate::patience::{Patience, Turn, has_passed, is_passing, now};
 use crate::system_calls::{given_by, taken_by};
 use crate::watches::Watch;
 use decimal_rank::{Failed, Memory, count_more};
-use std::io::{ErrorKind, Read, Write};
+use std::io::Read;
 use std::marker::Send;
-use std::net::{Ipv4Addr, Net, SocketAddr, TcpListener, TcpStream};
+use std::net::{Ipv4Addr, Net, Shutdown, SocketAddr, TcpListener, TcpStream};
 use std::rt::Clock;
+use std::time::Duration;
 
-/// How many peers in a row that went away before they were taken are passed over.
-const MOST_PASSED: u32 = 1_000_000;
+/// How many pieces that a peer still sends are dropped at the end of its connection, each of at most 8,192 bytes.
+const MOST_DROPPED: u32 = 4_096;
 
 /// A connection of the network. A write goes out at once.
 #[derive(Drop)]
@@ -24,25 +27,53 @@ pub struct TcpLink<R: Clock> {
     read_faults: u64,
     write_faults: u64,
     watch: Watch,
+    patience: Patience,
 }
 
 impl<R: Clock + Drop> Link for TcpLink<R> {
+    ghost use Rattle.std.proofs.Common.{refl};
+
     ghost seen = { λ link. record {
-      reading = record { taken = None; left = None; faults = link.read_faults };
+      reading = record { taken = None; left = None; last = None; faults = link.read_faults };
       writing = record { written = None; faults = link.write_faults };
       clock = record { moments = None; asked = link.watch.asked };
     } };
 
     fn read(&mut self, out: &mut [u8]) -> Result<usize, Failed> {
-        given_by(self.stream.read(out), &mut self.read_faults)
+        self.patience.turn_to(&self.runtime, Turn::Sends);
+        let told = self.patience.read(&self.runtime, &mut self.stream, out);
+        given_by(told, &mut self.read_faults)
     }
 
     fn write(&mut self, piece: &[u8]) -> Result<usize, Failed> {
-        taken_by(self.stream.write(piece), piece, &mut self.write_faults)
+        self.patience.turn_to(&self.runtime, Turn::Takes);
+        let told = self.patience.write(&self.runtime, &mut self.stream, piece);
+        taken_by(told, piece, &mut self.write_faults)
     }
 
     fn moment(&mut self) -> u64 {
         self.watch.moment(&self.runtime)
+    }
+
+    ghost tells_alike = { λ _ _. record { taken = refl; left = refl; last = refl; written = refl; moments = refl } };
+}
+
+// Ends the sending side, and drops what the peer still sends, for a second at most: a connection that is closed with
+// bytes unread is reset, and its peer may then lose the last answer.
+fn close<R: Clock>(runtime: &R, stream: &mut TcpStream) {
+    let _ = stream.shutdown(Shutdown::Write);
+    let _ = stream.set_read_timeout(Some(Duration::from_millis(100)));
+    let since = now(runtime);
+    let mut dropped = [0u8; 8192];
+    for _ in 0..MOST_DROPPED {
+        if has_passed(runtime, since, 1) {
+            return;
+        }
+        match stream.read(&mut dropped) {
+            Ok(0) => return,
+            Err(error) if !is_passing(&error) => return,
+            Ok(_) | Err(_) => {}
+        }
     }
 }
 
@@ -65,18 +96,6 @@ impl<R: Net<Listener = TcpListener, Stream = TcpStream> + Clock + Copy> TcpDoor<
             faults: 0,
         }
     }
-}
-
-// The next stream of a listener. A peer that went away before it was taken is passed over.
-fn next_stream(listener: &TcpListener) -> Option<TcpStream> {
-    for _ in 0..MOST_PASSED {
-        match listener.accept() {
-            Ok((stream, _)) => return Some(stream),
-            Err(error) if error.kind() == ErrorKind::ConnectionAborted => {}
-            Err(_) => return None,
-        }
-    }
-    None
 }
 
 impl<R: Net<Listener = TcpListener, Stream = TcpStream> + Clock + Copy + Send + Drop> Door
@@ -103,18 +122,19 @@ impl<R: Net<Listener = TcpListener, Stream = TcpStream> + Clock + Copy + Send + 
     }
 
     fn accept(&mut self) -> Result<Option<TcpLink<R>>, Failed> {
-        match self.listener.as_ref().and_then(next_stream) {
-            Some(stream) => {
-                // (a link whose writes wait for one another is only slower)
-                let _ = stream.set_nodelay(true);
-                Ok(Some(TcpLink {
-                    runtime: self.runtime,
-                    stream,
-                    read_faults: 0,
-                    write_faults: 0,
-                    watch: Watch::new(),
-                }))
-            }
+        let next = match &self.listener {
+            Some(listener) => next_stream(&self.runtime, listener),
+            None => None,
+        };
+        match next {
+            Some(stream) => Ok(Some(TcpLink {
+                runtime: self.runtime,
+                stream,
+                read_faults: 0,
+                write_faults: 0,
+                watch: Watch::new(),
+                patience: Patience::new(&self.runtime),
+            })),
             None => {
                 self.faults = count_more(self.faults);
                 Err(Failed)
@@ -122,7 +142,12 @@ impl<R: Net<Listener = TcpListener, Stream = TcpStream> + Clock + Copy + Send + 
         }
     }
 
-    fn finish(_link: TcpLink<R>) {}
+    // (a link that failed is closed at once)
+    fn finish(mut link: TcpLink<R>) {
+        if link.read_faults == 0 && link.write_faults == 0 {
+            close(&link.runtime, &mut link.stream);
+        }
+    }
 
     fn done(&mut self, _ended: (), _end: End) -> Result<(), Memory> {
         Ok(())

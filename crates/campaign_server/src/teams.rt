@@ -1,5 +1,6 @@
 //! A team of workers: made with a pass and a share for each, and taken apart again.
 ghost use Rattle.std.specs.Prelude.{◌≡◌, ◌+◌, ◌<◌, ◌≤◌, ◌||◌, ◌∷◌, ◌++◌, [], All, vec_capacity, vec_len};
+ghost use Rattle.hall.specs.Places.{Apart, merged};
 ghost use Rattle.hall.specs.Stories.{AtMost, joined};
 ghost use Rattle.book.specs.Halls.{seen_as};
 ghost use Rattle.campaign_server.specs.Records.{ended_of};
@@ -60,6 +61,7 @@ pub(crate) fn take_in<D: Disk, R: Door, J: Opening>(
     requires room { vec_len all.old < vec_capacity all.old }
     ensures hall { first.new.hall ≡ first.old.hall }
     ensures grown { AtMost first.old.seen first.new.seen × AtMost work.pass.seen first.new.seen }
+    ensures mine { Apart first.old.mine work.pass.mine × (first.new.mine ≡ merged first.old.mine work.pass.mine) }
     ensures parts { whole.new.parts ≡ whole.old.parts + work.share.parts }
     ensures amount { whole.new.amount ≡ whole.old.amount + work.share.amount }
     ensures all { all.new.items ≡ all.old.items ++ work.records ∷ [] }

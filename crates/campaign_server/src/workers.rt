@@ -2,7 +2,6 @@
 //! of the acceptor, serves it, and keeps its record.
 ghost use Rattle.std.specs.Prelude.{◌≡◌, ◌≢◌, ◌<◌, ◌⊎◌, All, false, length, true, vec_len};
 ghost use Rattle.rulebook.specs.Stories.{Story};
-ghost use Rattle.book.specs.Halls.{seen_as};
 ghost use Rattle.campaign_server.specs.declared.ends.End.TheVariants.{Memory as EndMemory};
 ghost use Rattle.campaign_server.specs.Records.{ended_of};
 ghost use Rattle.campaign_server.specs.Workers.{GoesOn, HasServed, IsFresh};
@@ -59,8 +58,7 @@ fn serve_next<D: Disk, R: Door, J: Opening, W: Wait>(
     ensures hall { work.new.pass.hall ≡ work.old.pass.hall }
     ensures parts { work.new.share.parts ≡ work.old.share.parts }
     ensures counted { work.new.share.amount ≡ vec_len work.new.records }
-    ensures goes_on { GoesOn keys.now (seen_as work.old.pass.seen) (ended_of R.kept work.old.records.items) work.old.short
-        (seen_as work.new.pass.seen) (ended_of R.kept work.new.records.items) work.new.short }
+    ensures goes_on { GoesOn keys.now work.old.pass (ended_of R.kept work.old.records.items) work.old.short work.new.pass (ended_of R.kept work.new.records.items) work.new.short }
     ensures not_short { result ≡ true → work.new.short ≡ false }
     ensures stops { result ≡ false → (work.new.short ≡ true) ⊎ (work.new.share.amount ≡ work.old.share.amount) }
 {
@@ -73,6 +71,7 @@ fn serve_next<D: Disk, R: Door, J: Opening, W: Wait>(
         return false;
     };
     let end = serve_connection(rt, alloc, hall, &mut work.pass, &mut line, keys);
+    work.pass.places_rise();
     work.records.push_reserved((R::finish(line), end));
     let short = is_memory(end);
     work.short = short;
@@ -97,8 +96,7 @@ fn serve_all<D: Disk, R: Door, J: Opening, W: Wait>(
     ensures hall { work.new.pass.hall ≡ work.old.pass.hall }
     ensures parts { work.new.share.parts ≡ work.old.share.parts }
     ensures counted { work.new.share.amount ≡ vec_len work.new.records }
-    ensures goes_on { GoesOn keys.now (seen_as work.old.pass.seen) (ended_of R.kept work.old.records.items) work.old.short
-        (seen_as work.new.pass.seen) (ended_of R.kept work.new.records.items) work.new.short }
+    ensures goes_on { GoesOn keys.now work.old.pass (ended_of R.kept work.old.records.items) work.old.short work.new.pass (ended_of R.kept work.new.records.items) work.new.short }
 {
     for _ in 0..limit {
         if !serve_next(rt, alloc, hall, acceptor, keys, work) {

@@ -1,5 +1,5 @@
 -- One write to the index, and what it says at each document.
-use Rattle.std.proofs.Common.{◌≡◌, ◌≢◌, ℕ, ◌<◌, ◌≤◌, Bool, true, false, cond, ◌||◌, get_or, take, nat_lt, eqb, List, [], Option, Some, length, refl, sym, ap, ◌∙◌, arith}
+use Rattle.std.proofs.Common.{◌≡◌, ◌≢◌, ℕ, ◌<◌, ◌≤◌, Bool, true, false, cond, ◌||◌, get_or, take, nat_lt, eqb, List, [], Option, Some, None, eq-eqb, length, refl, sym, ap, ◌∙◌, arith}
 use Rattle.std.specs.BTreeMap.{get}
 use Rattle.std.specs.Option.{option_map_or}
 use Rattle.std.specs.Ordering.{nat_cmp, is_eq}
@@ -12,7 +12,7 @@ use Rattle.smallvec.specs.SmallVec.{SmallVec}
 use borrow.Author.Tests.{eqb-true}
 use Rattle.decimal_rank.specs.declared.naming.DocId.{DocId}
 use Rattle.depth_pool.specs.declared.runs.RunId.{RunId}
-use Rattle.depth_pool.specs.Index.{Index, doc_cmp, holders_at, has_room}
+use Rattle.depth_pool.specs.Index.{Index, doc_cmp, holders_at, has_room, is_vacant}
 
 abbrev pub Entry : Type 0
 Entry = Option (SmallVec RunId)
@@ -56,6 +56,20 @@ kept_holders before after doc entry written same other =
     both : (t : Bool) → cond t (holders_at before other) (holders_at before other) ≡ holders_at before other
     both true = refl
     both false = refl
+
+-- an entry that is taken out
+pub taken_out : (before after : Index) (doc : DocId) → IsWrittenAt before after doc None → is_vacant after doc ≡ false
+taken_out before after doc written =
+    ap (λ (e : Entry). option_map_or (λ holders. eqb (length holders.items) 0) e false) (written.each doc)
+    ∙ ap (λ t. option_map_or (λ holders. eqb (length holders.items) 0) (cond t None (get doc_cmp before doc)) false) (is_eq-nat_cmp doc.0 doc.0 ∙ eq-eqb doc.0 doc.0 refl)
+
+pub vacant_others : (before after : Index) (doc : DocId) → IsWrittenAt before after doc None → (other : DocId) → is_vacant before other ≡ false → is_vacant after other ≡ false
+vacant_others before after doc written other h =
+    ap (λ (e : Entry). option_map_or (λ holders. eqb (length holders.items) 0) e false) (written.each other) ∙ both (is_eq (doc_cmp doc other))
+  where
+    both : (t : Bool) → option_map_or (λ holders. eqb (length holders.items) 0) (cond t None (get doc_cmp before other)) false ≡ false
+    both true = refl
+    both false = h
 
 -- a write that keeps the room
 pub kept_room : (before after : Index) (doc : DocId) (entry : SmallVec RunId) → IsWrittenAt before after doc (Some entry)

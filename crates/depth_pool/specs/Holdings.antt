@@ -27,6 +27,10 @@ has_doc doc docs = list_any (λ other. other.0 == doc.0) docs
 abbrev pub has_run : RunId → List Held → Bool
 has_run run runs = list_any (λ held. held.run.0 == run.0) runs
 
+-- whether a run is among these
+abbrev pub has_id : RunId → List RunId → Bool
+has_id run runs = list_any (λ other. other.0 == run.0) runs
+
 -- the documents that a run of the pool holds, by rank: none where it isn't in the pool
 abbrev pub docs_of : List Held → RunId → List DocId
 docs_of [] run = []

@@ -30,6 +30,10 @@ has_holder index doc = nat_lt 0 (length (holders_at index doc))
 abbrev pub has_room : Index → DocId → Bool
 has_room index doc = option_map_or (λ holders. nat_lt (length holders.items) holders.capacity) (get doc_cmp index doc) false
 
+-- whether an entry stands at a document for no run
+abbrev pub is_vacant : Index → DocId → Bool
+is_vacant index doc = option_map_or (λ holders. length holders.items == 0) (get doc_cmp index doc) false
+
 -- whether a document has a holder
 abbrev pub is_held : DocId × SmallVec RunId → Bool
 is_held entry = nat_lt 0 (length entry.1.items)

@@ -1,11 +1,11 @@
 //! The index of a pool: for each document the runs that hold it, by number.
-ghost use Rattle.std.specs.Prelude.{◌≡◌, ◌≢◌, ℕ, ◌+◌, ◌<◌, ◌≤◌, ◌==◌, ◌&&◌, nat_lt, not, true, List, OnOk, IfOk, All, if◌then◌else◌, length};
+ghost use Rattle.std.specs.Prelude.{◌≡◌, ◌≢◌, ℕ, ◌+◌, ◌<◌, ◌≤◌, ◌==◌, ◌&&◌, nat_lt, not, true, false, List, OnOk, OnErr, IfOk, All, if◌then◌else◌, length};
 ghost use Rattle.std.specs.List.{position_or_len};
 ghost use Rattle.std.specs.BTreeMap.{IsOrdered};
 ghost use Rattle.smallvec.specs.SmallVec.{HasRoomFor};
 ghost use Rattle.decimal_rank.specs.declared.naming.DocId.{DocId};
 ghost use Rattle.depth_pool.specs.Holdings.{IsCount, has_doc};
-ghost use Rattle.depth_pool.specs.Index.{IsReserved, doc_cmp, has_holder, has_room, held_docs, holders_at, with_holder, without_holder};
+ghost use Rattle.depth_pool.specs.Index.{IsReserved, doc_cmp, has_holder, has_room, held_docs, holders_at, is_vacant, with_holder, without_holder};
 
 use crate::runs::RunId;
 use decimal_rank::{DocId, Memory};
@@ -56,6 +56,7 @@ fn place_of(holders: &[RunId], run: RunId) -> usize
 // Makes room for one more run at each document. On an error no entry is left for it.
 pub(crate) fn make_rooms(index: &mut Index, alloc: Global, docs: &[DocId]) -> Result<(), Memory>
     ensures room { OnOk result (All (λ doc. has_room index.new doc ≡ true) docs.now) }
+    ensures none_left { OnErr result (All (λ doc. is_vacant index.new doc ≡ false) docs.now) }
     ensures holders { (other : DocId) → holders_at index.new other ≡ holders_at index.old other }
 {
     let made = try_rooms(index, alloc, docs);
@@ -78,7 +79,8 @@ fn try_rooms(index: &mut Index, alloc: Global, docs: &[DocId]) -> Result<(), Mem
 
 // Takes the entry of each document out where no run stands at it.
 pub(crate) fn drop_empties(index: &mut Index, docs: &[DocId])
-    ensures { (other : DocId) → holders_at index.new other ≡ holders_at index.old other }
+    ensures gone { All (λ doc. is_vacant index.new doc ≡ false) docs.now }
+    ensures holders { (other : DocId) → holders_at index.new other ≡ holders_at index.old other }
 {
     for doc in docs {
         drop_empty(index, *doc);
@@ -87,7 +89,9 @@ pub(crate) fn drop_empties(index: &mut Index, docs: &[DocId])
 
 // Takes the entry of a document out where no run stands at it.
 fn drop_empty(index: &mut Index, doc: DocId)
-    ensures { (other : DocId) → holders_at index.new other ≡ holders_at index.old other }
+    ensures gone { is_vacant index.new doc ≡ false }
+    ensures others { (other : DocId) → is_vacant index.old other ≡ false → is_vacant index.new other ≡ false }
+    ensures holders { (other : DocId) → holders_at index.new other ≡ holders_at index.old other }
 {
     if let Some(holders) = index.get(&doc)
         && holders.is_empty()

@@ -9,7 +9,7 @@ mod runs;
 
 pub use laws::{greatest_run_goes_last, one_list_by_docno};
 pub use pools::Pool;
-pub use runs::RunId;
+pub use runs::{RunId, is_among};
 
 #[cfg(test)]
 mod tests;

@@ -1,13 +1,14 @@
 //! The pool of a topic: the documents that its runs have within the depth.
-ghost use Rattle.std.specs.Prelude.{◌≡◌, ◌+◌, ◌<◌, ◌≤◌, [], Bool, true, false, List, All, AllPairs, IfOk, IfErr, OnOk, OnErr, Some, None, IsTrue, length, take};
+ghost use Rattle.std.specs.Prelude.{◌≡◌, ◌+◌, ◌<◌, ◌≤◌, [], Bool, true, false, List, All, AllPairs, IfSome, IfOk, IfErr, OnOk, OnErr, Some, None, IsTrue, length, take};
 ghost use Rattle.decimal_rank.specs.Names.{docno_of};
 ghost use Rattle.decimal_rank.specs.Places.{AreDistinct};
 ghost use Rattle.decimal_rank.specs.declared.naming.DocId.{DocId};
-ghost use Rattle.depth_pool.specs.Index.{holders_at};
-ghost use Rattle.depth_pool.specs.Holdings.{AreByDocno, AreByNumber, IsCount, KeepsOthers, docs_of, has_doc, has_run, holders_of, holds, some_run_holds, with_run, without_run};
+ghost use Rattle.depth_pool.specs.declared.runs.RunId.{RunId};
+ghost use Rattle.depth_pool.specs.Index.{holders_at, is_vacant};
+ghost use Rattle.depth_pool.specs.Holdings.{AreByDocno, AreByNumber, IsCount, KeepsOthers, docs_of, has_doc, has_id, has_run, holders_of, holds, some_run_holds, with_run, without_run};
 
 use crate::index::{Index, add_holders, docs_held, drop_empties, make_rooms, remove_holders};
-use crate::runs::{RunDocs, RunId, docs_of, put_run, take_run};
+use crate::runs::{RunDocs, RunId, docs_of, is_among, put_run, take_run};
 use decimal_rank::{DocId, Memory, Names, Ranking, Steps};
 use std::alloc::Global;
 use std::collections::BTreeMap;
@@ -109,6 +110,7 @@ impl Pool {
     /// The runs that hold a document, by number, in one step. A step is a look-up by document.
     pub fn holders<L: Ledger>(&self, doc: DocId, steps: &mut Steps<L>) -> &[RunId]
         ensures value { result.now ≡ holders_of doc self.now.runs }
+        ensures each { (run : RunId) → has_id run result.now ≡ holds self.now.runs run doc }
         ensures ascending { AllPairs (λ a b. a.0 < b.0) result.now }
         ensures by_number { AreByNumber self.now.runs }
         ensures cost { steps.new ≡ steps.old + 1 }
@@ -125,7 +127,7 @@ impl Pool {
         ensures value { result ≡ holds self.now.runs run doc }
         ensures cost { steps.new ≡ steps.old + 1 }
     {
-        self.holders(doc, steps).binary_search(&run).is_ok()
+        is_among(run, self.holders(doc, steps))
     }
 
     /// The documents that a run holds, by rank. There are none where it isn't in the pool.
@@ -159,6 +161,7 @@ impl Pool {
 
 // Gives reserved room back.
 fn forget(index: &mut Index, reserved: &mut Option<Vec<DocId>>)
+    ensures gone { IfSome reserved.old (λ docs. All (λ doc. is_vacant index.new doc ≡ false) docs.items) }
     ensures holders { (doc : DocId) → holders_at index.new doc ≡ holders_at index.old doc }
     ensures none { reserved.new ≡ None }
 {

@@ -1,8 +1,8 @@
 //! The runs of a pool by number, each with the documents that it holds by rank.
-ghost use Rattle.std.specs.Prelude.{◌≡◌, ◌+◌, ◌<◌, ◌==◌, IsTrue, vec_len, vec_capacity, nat_lt};
+ghost use Rattle.std.specs.Prelude.{◌≡◌, ◌+◌, ◌<◌, ◌==◌, AllPairs, IsTrue, vec_len, vec_capacity, nat_lt};
 ghost use Rattle.std.specs.List.{position_or_len};
 ghost use Rattle.decimal_rank.specs.declared.naming.DocId.{DocId};
-ghost use Rattle.depth_pool.specs.Holdings.{Held, AreByNumber, docs_of, has_run, has_doc, holds, with_run, without_run};
+ghost use Rattle.depth_pool.specs.Holdings.{Held, AreByNumber, docs_of, has_id, has_run, has_doc, holds, with_run, without_run};
 
 use decimal_rank::DocId;
 use std::marker::Model;
@@ -10,6 +10,14 @@ use std::marker::Model;
 /// The number of a run, from 0 in the order of submission.
 #[derive(Clone, Copy, Debug, Default, PartialEq, Eq, PartialOrd, Ord)]
 pub struct RunId(pub u16);
+
+/// Whether a run is among runs that stand by number.
+pub fn is_among(run: RunId, runs: &[RunId]) -> bool
+    requires { AllPairs (λ a b. a.0 < b.0) runs.now }
+    ensures { result ≡ has_id run runs.now }
+{
+    runs.binary_search(&run).is_ok()
+}
 
 // A run, and the documents that it holds by rank.
 #[derive(Drop)]
@@ -63,6 +71,7 @@ pub(crate) fn take_run(runs: &mut Vec<RunDocs>, run: RunId) -> Vec<DocId>
 
 // The documents that a run holds.
 pub(crate) fn docs_of(runs: &[RunDocs], run: RunId) -> &[DocId]
+    requires { AreByNumber runs.now }
     ensures { result.now ≡ docs_of runs.now run }
 {
     match runs.get(index_of(runs, run)) {
@@ -73,12 +82,11 @@ pub(crate) fn docs_of(runs: &[RunDocs], run: RunId) -> &[DocId]
 
 // The index of a run, or the number of runs where it isn't there.
 fn index_of(runs: &[RunDocs], run: RunId) -> usize
+    requires { AreByNumber runs.now }
     ensures { result ≡ position_or_len (λ held. held.run.0 == run.0) runs.now }
 {
-    for (i, held) in runs.iter().enumerate() {
-        if held.run.0 == run.0 {
-            return i;
-        }
+    match runs.binary_search_by(|held| held.run.cmp(&run)) {
+        Ok(index) => index,
+        Err(_) => runs.len(),
     }
-    runs.len()
 }

@@ -7,7 +7,7 @@ use mathlib.Core.Logic.{dite}
 use native.Mathlib.Decide.{dec_le}
 use Rattle.disk_model.specs.declared.disk_calls.DiskCall.{DiskCall}
 use Rattle.disk_model.specs.declared.disk_calls.DiskCall.TheVariants.{Len, Read, Write, Cut, Sync}
-use Rattle.disk_model.specs.Calls.{ImageSince, Images, IsQuiet, content_after, content_by, images_after, images_by, images_of}
+use Rattle.disk_model.specs.Calls.{AreImagesOf, ImageSince, Images, IsQuiet, content_after, content_by, images_after, images_by, images_of}
 use Rattle.disk_model.specs.Disks.{Alone, CutShort, Elapses, Follows, NoFurther, Torn, written}
 
 -- One call more
@@ -129,6 +129,14 @@ module _ (calls : List DiskCall) (start content : List ℕ) (replayed : content 
           (λ (within : count ≤ length calls). inl (inr (count, low, within, subst (λ (cs : List DiskCall). images_of cs start image) (take-append-le count calls (call ∷ []) within) here)))
           (λ (beyond : ¬ (count ≤ length calls)). let l = longer in
           inr (inr (subst (λ (cs : List DiskCall). images_of cs start image) (take_all count (calls ++ call ∷ []) (omega arith)) here)))
+
+  -- the content is among the images of the calls
+  among : (image : List ℕ) → Images calls start content image → images_of calls start image
+  among image (inl is) = subst (images_of calls start) (sym (is ∙ replayed)) (images_hold calls start (λ other. other ≡ start) refl)
+  among image (inr here) = here
+
+  pub images_are : AreImagesOf calls (Some content) (Images calls start content)
+  images_are = record { start = start; content_is = ap (λ (bytes : List ℕ). Some bytes) replayed; exactly = λ image. (among image, λ here. inr here) }
 
   -- What a crash leaves behind a call.
   pub quiet : (call : DiskCall) → IsQuiet call → NoFurther (Images calls start content) (Images (calls ++ call ∷ []) start content)

@@ -1,5 +1,5 @@
 -- A disk in memory: what its calls so far make of its content, and which images the rules allow.
-use Rattle.std.specs.Prelude.{◌≡◌, ◌≤◌, ◌⊎◌, ℕ, List, [], ◌∷◌, Option, None, Some, Vec, length, min, take}
+use Rattle.std.specs.Prelude.{◌≡◌, ◌≤◌, ◌⊎◌, ◌↔◌, ℕ, List, [], ◌∷◌, Option, None, Some, Vec, length, min, take}
 use Rattle.std.specs.declared.alloc.Global.{Global}
 use Rattle.std.proofs.Common.{inl, inr, subst, sym, le_refl}
 use Rattle.std.proofs.lemmas.List.{take_all}
@@ -42,6 +42,12 @@ images_after (call ∷ calls) content images = images_after calls (content_by ca
 -- at the start the content is the one image
 abbrev pub images_of : List DiskCall → List ℕ → List ℕ → Type 0
 images_of calls start = images_after calls start (λ image. image ≡ start)
+
+-- The calls made the content of some start, and the images are exactly those that the rules allow of them.
+pub record AreImagesOf (calls : List DiskCall) (content : Option (List ℕ)) (images : List ℕ → Type 0) : Type 0 where
+  pub start : List ℕ
+  pub content_is : content ≡ Some (content_after calls start)
+  pub exactly : (image : List ℕ) → images image ↔ images_of calls start image
 
 -- the images now: the content is one
 abbrev pub Images : List DiskCall → List ℕ → List ℕ → List ℕ → Type 0

@@ -1,5 +1,5 @@
 //! The disk: five calls, and what each may leave of the bytes where it is cut short.
-ghost use Rattle.std.specs.Prelude.{◌≡◌, ℕ, ◌+◌, ◌≤◌, ◌^◌, List, Option, length, take, drop, IfOk, IfSome, OnOk};
+ghost use Rattle.std.specs.Prelude.{◌≡◌, ℕ, ◌+◌, ◌≤◌, ◌^◌, List, Option, length, take, drop, is_some, IfOk, IfSome, OnOk};
 ghost use Rattle.std.specs.Option.{option_map};
 ghost use Rattle.decimal_rank.specs.Causes.{HasCause};
 ghost use Rattle.disk_model.specs.Disks.{Alone, CutShort, Elapses, Follows, NoFurther, Torn, written};
@@ -73,6 +73,9 @@ pub trait Disk {
     /// How many calls failed. It is no call on the disk.
     fn faults(&self) -> u64
         ensures { result ≡ fault_count self.now };
+
+    /// A disk tells its content in each state or in none.
+    ghost tells_alike: { (a b : Self) → is_some (content a) ≡ is_some (content b) };
 
     /// A disk as it reads is one of its images.
     ghost reads_as_image: { (disk : Self) → IfSome (content disk) (images disk) };

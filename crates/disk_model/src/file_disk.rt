@@ -137,6 +137,7 @@ fn counted<T: Drop>(outcome: io::Result<T>, faults: &mut u64) -> Result<T, Faile
 
 impl<'a, R: Files<File = File> + Drop> Disk for FileDisk<'a, R> {
     ghost use Rattle.std.specs.Prelude.{None};
+    ghost use Rattle.std.proofs.Common.{refl};
 
     ghost content = { λ _. None };
 
@@ -181,6 +182,8 @@ impl<'a, R: Files<File = File> + Drop> Disk for FileDisk<'a, R> {
     fn faults(&self) -> u64 {
         self.faults
     }
+
+    ghost tells_alike = { λ _ _. refl };
 
     ghost reads_as_image = { λ _. tt };
 

@@ -3,7 +3,7 @@
 ghost use Rattle.std.specs.Prelude.{◌≡◌, ℕ, ◌+◌, ◌≤◌, List, Ok, Some, length, take, OnErr, OnOk};
 ghost use Rattle.decimal_rank.specs.Causes.{HasCause};
 ghost use Rattle.disk_model.specs.declared.disk_calls.DiskCall.TheVariants.{Sync as SyncCall};
-ghost use Rattle.disk_model.specs.Calls.{IsQuiet, begun_with};
+ghost use Rattle.disk_model.specs.Calls.{AreImagesOf, IsQuiet, begun_with};
 ghost use Rattle.disk_model.specs.Disks.{Alone, CutShort, Follows, NoFurther, Torn, written};
 ghost use Rattle.disk_model.specs.HeldImages.{GoesOn, images_now};
 
@@ -64,8 +64,11 @@ impl MemoryDisk {
         &self.held.content
     }
 
-    /// The calls that did their work, in order.
-    pub fn calls(&self) -> &[DiskCall] {
+    /// The calls that did their work, in order. What a crash may leave is exactly what the rules allow of
+    /// them.
+    pub fn calls(&self) -> &[DiskCall]
+        ensures { AreImagesOf result.now (⟦<MemoryDisk as Disk>⟧.content self.now) (⟦<MemoryDisk as Disk>⟧.images self.now) }
+    {
         &self.held.calls
     }
 
@@ -129,6 +132,8 @@ impl Disk for MemoryDisk {
     fn faults(&self) -> u64 {
         self.counts.faults
     }
+
+    ghost tells_alike = { λ _ _. refl };
 
     ghost reads_as_image = { λ disk. inl refl };
 

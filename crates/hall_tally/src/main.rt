@@ -1,6 +1,8 @@
-//! Tries a hall with real threads: workers write notes into one list, each its own numbers in order, and
-//! the list is read back. Usage: `hall_tally WORKERS NOTES`, with 1, 2 or 4 workers. It prints how many
-//! notes stand in the list, and whether each worker's stand there once, in their order.
+//! Tries a hall with real threads, over a list that begins with one note. First workers ask how many notes there are: as
+//! long as that is one, each word of the hall's table has a value that a worker could sleep on, so one that sleeps on
+//! another than the turn's is never woken. Then they write notes into the list, each its own numbers in order, and the list
+//! is read back. Usage: `hall_tally WORKERS NOTES`, with 1, 2 or 4 workers, each of which counts as often. It prints how
+//! many notes stand in the list, and whether each worker's stand there once, in their order.
 #![tactic(auto)]
 
 mod tallies;
@@ -11,7 +13,7 @@ use std::alloc::Global;
 use std::process::ExitCode;
 use std::{env, io};
 use tallies::{Tally, are_in_order};
-use workers::{Crowd, write_notes};
+use workers::{Crowd, Round, work};
 
 // What the words ask for: the workers, and how many notes each writes.
 fn asked(words: &[String]) -> Option<(Crowd, u32)> {
@@ -44,9 +46,13 @@ fn main(rt: HostRuntime) -> io::Result<ExitCode> {
         println!(rt; "usage: hall_tally 1|2|4 NOTES")?;
         return Ok(ExitCode::from(2));
     };
-    match Hall::new(alloc, Tally::new(alloc)) {
+    let Ok(tally) = Tally::new(alloc) else {
+        return Ok(ExitCode::from(7));
+    };
+    match Hall::new(alloc, tally) {
         Ok((hall, pass)) => {
-            let pass = write_notes(&rt, &hall, pass, crowd, 0, notes);
+            let pass = work(&rt, &hall, pass, crowd, 0, Round::Counts(notes));
+            let pass = work(&rt, &hall, pass, crowd, 0, Round::Notes(notes));
             let tally = hall.close(&rt, pass);
             let written = tally.notes.len();
             let in_order = are_in_order(&tally.notes, crowd.size(), notes);

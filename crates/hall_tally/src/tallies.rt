@@ -3,6 +3,7 @@ ghost use Rattle.std.specs.Prelude.{length};
 ghost use Rattle.hall.specs.declared.stories.Story.{Story};
 ghost use Rattle.hall_tally.specs.Tallies.{Tells};
 
+use decimal_rank::Memory;
 use hall::Storied;
 use std::alloc::Global;
 
@@ -37,10 +38,14 @@ pub struct Tally {
 }
 
 impl Tally {
-    pub fn new(alloc: Global) -> Tally {
-        Tally {
-            notes: Vec::new(alloc),
-        }
+    /// A list with one note, which is no worker's.
+    pub fn new(alloc: Global) -> Result<Tally, Memory> {
+        let mut notes = Vec::new(alloc);
+        notes.push(Note {
+            worker: u32::MAX,
+            number: 0,
+        })?;
+        Ok(Tally { notes })
     }
 }
 
@@ -75,10 +80,10 @@ impl Storied for Tally {
     }
 }
 
-/// Whether the notes are those of so many workers, so many of each, and each worker's in their order.
+/// Whether the notes behind the first are those of so many workers, so many of each, and each worker's in their order.
 pub fn are_in_order(notes: &[Note], workers: u32, each: u32) -> bool {
     let mut counts = [0u32; 4];
-    for note in notes {
+    for note in notes.iter().skip(1) {
         let worker = note.worker as usize;
         if worker >= counts.len() || counts[worker] != note.number {
             return false;

@@ -1,4 +1,4 @@
-//! Workers that write notes at the same time.
+//! Workers that ask at the same time.
 ghost use Rattle.std.specs.Prelude.{◌≡◌};
 ghost use Rattle.std.specs.Thread.{IsSync};
 
@@ -26,6 +26,15 @@ impl Crowd {
     }
 }
 
+/// What each worker does in a round.
+#[derive(Clone, Copy, Debug, PartialEq, Eq)]
+pub enum Round {
+    /// It asks so many times how many notes there are, which stay as many.
+    Counts(u32),
+    /// It writes so many notes, in order, and asks for the count behind each.
+    Notes(u32),
+}
+
 // Whether a count has the note that was written before it.
 fn is_among(written: Told, counted: Told) -> bool {
     match (written, counted) {
@@ -34,9 +43,19 @@ fn is_among(written: Told, counted: Told) -> bool {
     }
 }
 
-// One worker writes its notes, in order, and asks for the count behind each. It stops where a count
-// hasn't the note, so that the list then lacks some.
-fn work<R: Wait>(
+// One worker counts so often.
+fn count<R: Wait>(rt: &R, hall: &Hall<Tally>, mut pass: Pass<Tally>, counts: u32) -> Pass<Tally>
+    requires { pass.hall ≡ hall.now }
+    ensures { result.hall ≡ hall.now }
+{
+    for _ in 0..counts {
+        let _ = hall.act(rt, &mut pass, Asked::Count);
+    }
+    pass
+}
+
+// One worker writes its notes. It stops where a count hasn't the note, so that the list then lacks some.
+fn write<R: Wait>(
     rt: &R,
     hall: &Hall<Tally>,
     mut pass: Pass<Tally>,
@@ -56,22 +75,22 @@ fn work<R: Wait>(
     pass
 }
 
-/// Each worker writes so many notes, the workers with the numbers from the first one's on. The pass afterwards has seen
-/// all of them.
-pub fn write_notes<R: Threads + Wait + Sync>(
+/// Each worker takes part in a round, the workers with the numbers from the first one's on. The pass afterwards has seen
+/// all that they wrote.
+pub fn work<R: Threads + Wait + Sync>(
     rt: &R,
     hall: &Hall<Tally>,
     mut pass: Pass<Tally>,
     crowd: Crowd,
     first: u32,
-    notes: u32,
+    round: Round,
 ) -> Pass<Tally>
     requires pass { pass.hall ≡ hall.now }
     requires shared { IsSync R.row }
     ensures { result.hall ≡ hall.now }
 {
     let half = match crowd {
-        Crowd::One => return work(rt, hall, pass, first, notes),
+        Crowd::One => return work_alone(rt, hall, pass, first, round),
         Crowd::Two => Crowd::One,
         Crowd::Four => Crowd::Two,
     };
@@ -82,12 +101,28 @@ pub fn write_notes<R: Threads + Wait + Sync>(
         move ||
             requires { IsSync R.row × (pass.hall ≡ hall.now) }
             ensures { result.hall ≡ hall.entry.now }
-        { write_notes(rt, hall, pass, half, first, notes) },
+        { work(rt, hall, pass, half, first, round) },
         move ||
             requires { IsSync R.row × (other.hall ≡ hall.now) }
             ensures { result.hall ≡ hall.entry.now }
-        { write_notes(rt, hall, other, half, second, notes) },
+        { work(rt, hall, other, half, second, round) },
     );
     hall.join(other, &mut pass);
     pass
+}
+
+fn work_alone<R: Wait>(
+    rt: &R,
+    hall: &Hall<Tally>,
+    pass: Pass<Tally>,
+    worker: u32,
+    round: Round,
+) -> Pass<Tally>
+    requires { pass.hall ≡ hall.now }
+    ensures { result.hall ≡ hall.now }
+{
+    match round {
+        Round::Counts(counts) => count(rt, hall, pass, counts),
+        Round::Notes(notes) => write(rt, hall, pass, worker, notes),
+    }
 }

@@ -60,6 +60,9 @@ before_from_less held trail r s less = by_newest held (reverse trail) r s ∙ ap
 pub less_from_before : (held : Holds) (trail : List Judged) (r s : RunId) → IsBefore held trail r s → rule_cmp held (reverse trail) r s ≡ Less
 less_from_before held trail r s before = less_from (rule_cmp held (reverse trail) r s) (sym (by_newest held (reverse trail) r s) ∙ before)
 
+pub before_from_test : (held : Holds) (trail : List Judged) (r s : RunId) → is_lt (rule_cmp held (reverse trail) r s) ≡ true → IsBefore held trail r s
+before_from_test held trail r s less = by_newest held (reverse trail) r s ∙ less
+
 pub before_test : (held : Holds) (trail : List Judged) (r s : RunId) → IsBefore held trail r s → is_lt (rule_cmp held (reverse trail) r s) ≡ true
 before_test held trail r s before = ap is_lt (less_from_before held trail r s before)
 

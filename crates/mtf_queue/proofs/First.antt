@@ -1,5 +1,5 @@
 -- The first run of the order that passes a test.
-use Rattle.std.proofs.Common.{◌≡◌, ◌||◌, ◌&&◌, ◌<◌, ◌⊎◌, inl, inr, ℕ, suc, zero, Bool, true, false, cond, List, [], ◌∷◌, Option, Some, None, length, get_or, refl, subst, sym, ap, ◌∙◌, arith, filter, eq-eqb}
+use Rattle.std.proofs.Common.{◌≡◌, ◌||◌, ◌&&◌, ◌<◌, ◌⊎◌, inl, inr, ℕ, suc, zero, Bool, true, false, cond, List, [], ◌∷◌, Some, None, length, get_or, refl, subst, sym, ap, ◌∙◌, arith, filter, eq-eqb}
 use Rattle.std.specs.Prelude.{◌==◌, AllPairs, Contains, IsPermutation}
 use Rattle.std.specs.List.{find, list_all}
 use Rattle.std.proofs.lemmas.Bool.{eqb-true}

@@ -66,10 +66,10 @@ regraded [] index relevant = []
 regraded (judged ∷ trail) zero relevant = record judged { relevant = relevant } ∷ trail
 regraded (judged ∷ trail) (suc index) relevant = judged ∷ regraded trail index relevant
 
--- the runs that a judged document puts first, then the others, each in their order
-abbrev pub moved : Holds → DocId → Bool → List RunId → List RunId
-moved held doc relevant order =
-    filter (λ run. is_first_side (Some relevant) (held run doc)) order ++ filter (λ run. not (is_first_side (Some relevant) (held run doc))) order
+-- the runs that a judged document with these holders puts first, then the others, each in their order
+abbrev pub moved : (RunId → Bool) → Bool → List RunId → List RunId
+moved is_holder relevant order =
+    filter (λ run. is_first_side (Some relevant) (is_holder run)) order ++ filter (λ run. not (is_first_side (Some relevant) (is_holder run))) order
 
 -- ---- the rule as a comparison, over the trail with the newest document first
 

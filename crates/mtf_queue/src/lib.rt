@@ -4,6 +4,7 @@
 //! none, the earlier submitted run is first.
 #![tactic(auto)]
 
+mod groups;
 mod laws;
 mod moves;
 mod queues;

@@ -1,31 +1,28 @@
-//! The changes of a queue: a group of runs goes first, a run is taken out, a grade changes.
-ghost use Rattle.std.specs.Prelude.{◌≡◌, ◌+◌, ◌<◌, ◌≤◌, ◌==◌, not, filter, length, vec_len, vec_capacity};
-ghost use Rattle.depth_pool.specs.Holdings.{holds};
+//! The changes of a queue: a group of runs goes first, a run is put in or taken out, a grade changes.
+ghost use Rattle.std.specs.Prelude.{◌≡◌, ◌<◌, ◌≤◌, ◌==◌, AllPairs, false, not, filter, vec_len, vec_capacity};
+ghost use Rattle.depth_pool.specs.Holdings.{has_id};
 ghost use Rattle.mtf_queue.specs.Rule.{moved, regraded};
 
 use crate::rule::Judged;
-use decimal_rank::{DocId, Steps};
-use depth_pool::{Pool, RunId};
-use std::sync::ledger::Ledger;
+use depth_pool::{RunId, is_among};
 
-// Puts the runs first that a judged document puts first. The others wait in a buffer with room for them.
-pub(crate) fn move_group<L: Ledger>(
+// Puts the runs first that a judged document with these holders puts first. The others wait in a
+// buffer with room for them.
+pub(crate) fn move_group(
     order: &mut Vec<RunId>,
     behind: &mut Vec<RunId>,
-    doc: DocId,
+    holders: &[RunId],
     relevant: bool,
-    pool: &Pool,
-    steps: &mut Steps<L>,
 )
     requires room { vec_len order.old ≤ vec_capacity behind.old }
-    ensures order { order.new.items ≡ moved (holds pool.now.runs) doc relevant order.old.items }
-    ensures cost { steps.new ≡ steps.old + length order.old.items }
+    requires ascending { AllPairs (λ a b. a.0 < b.0) holders.now }
+    ensures { order.new.items ≡ moved (λ run. has_id run holders.now) relevant order.old.items }
 {
     behind.clear();
     let mut front = 0;
     for at in 0..order.len() {
         let run = order[at];
-        let is_first = pool.holds(run, doc, steps) == relevant;
+        let is_first = is_among(run, holders) == relevant;
         if is_first {
             order[front] = run;
             front += 1;
@@ -39,15 +36,19 @@ pub(crate) fn move_group<L: Ledger>(
 
 // Takes a run out.
 pub(crate) fn remove_run(order: &mut Vec<RunId>, run: RunId)
-    ensures { order.new.items ≡ filter (λ other. not (other.0 == run.0)) order.old.items }
+    ensures runs { order.new.items ≡ filter (λ other. not (other.0 == run.0)) order.old.items }
+    ensures len { vec_len order.new ≤ vec_len order.old }
 {
     order.retain(|other| other.0 != run.0);
 }
 
-// Gives the document at an index another grade.
-pub(crate) fn set_grade(trail: &mut Vec<Judged>, index: usize, relevant: Option<bool>)
+// Gives the document at an index another grade. Tells whether it had another one.
+pub(crate) fn set_grade(trail: &mut Vec<Judged>, index: usize, relevant: Option<bool>) -> bool
     requires { index < vec_len trail.old }
-    ensures { trail.new.items ≡ regraded trail.old.items index relevant }
+    ensures trail { trail.new.items ≡ regraded trail.old.items index relevant }
+    ensures same { result ≡ false → trail.new.items ≡ trail.old.items }
 {
+    let is_other = trail[index].relevant != relevant;
     trail[index].relevant = relevant;
+    is_other
 }

@@ -3,8 +3,9 @@ ghost use Rattle.std.specs.Prelude.{◌≡◌, ◌+◌, ◌-◌, ◌≤◌, ◌=
 ghost use Rattle.depth_pool.specs.Holdings.{has_run};
 ghost use Rattle.mtf_queue.specs.Rule.{IsInOrder, regraded};
 
+use crate::groups::{Member, sort_by_rule};
 use crate::moves::{move_group, remove_run, set_grade};
-use crate::rule::{Judged, sort_by_rule};
+use crate::rule::{Judged, place_of};
 use decimal_rank::{DocId, Memory, Steps};
 use depth_pool::{Pool, RunId};
 use std::alloc::Global;
@@ -20,10 +21,12 @@ pub struct Queue {
     trail: Vec<Judged>,
     // where the runs wait that a document moves behind the others
     behind: Vec<RunId>,
+    // where the runs are sorted, with room for all
+    members: Vec<Member>,
 }
 
 impl Model for Queue {
-    ghost use Rattle.std.specs.Prelude.{◌-◌, min, vec_len, vec_capacity};
+    ghost use Rattle.std.specs.Prelude.{◌-◌, ◌≤◌, min, vec_len, vec_capacity};
     ghost use Rattle.mtf_queue.specs.QueueView.{QueueView};
 
     ghost Value = { QueueView };
@@ -31,9 +34,11 @@ impl Model for Queue {
     ghost view = { λ queue. record {
       order = queue.order.items;
       trail = queue.trail.items;
-      spare = min (vec_capacity queue.order - vec_len queue.order)
+      spare = min (min (vec_capacity queue.order - vec_len queue.order) (vec_capacity queue.members - vec_len queue.order))
           (min (vec_capacity queue.trail - vec_len queue.trail) (vec_capacity queue.behind - vec_len queue.order));
     } };
+
+    ghost invariant = { λ queue. vec_len queue.order ≤ vec_capacity queue.members };
 }
 
 impl Queue {
@@ -46,6 +51,7 @@ impl Queue {
             order: Vec::new(alloc),
             trail: Vec::new(alloc),
             behind: Vec::new(alloc),
+            members: Vec::new(alloc),
         }
     }
 
@@ -59,6 +65,8 @@ impl Queue {
         self.trail.reserve(1)?;
         self.behind.clear();
         self.behind.reserve(self.order.len() + 1)?;
+        self.members.clear();
+        self.members.reserve(self.order.len() + 1)?;
         Ok(())
     }
 
@@ -72,8 +80,8 @@ impl Queue {
         ensures in_order { IsInOrder pool.now.runs self.new.trail self.new.order }
         ensures trail { self.new.trail ≡ self.old.trail }
     {
-        self.order.push(run).unwrap();
-        sort_by_rule(&mut self.order, self.trail.as_slice(), pool);
+        let place = place_of(self.order.as_slice(), run, self.trail.as_slice(), pool);
+        self.order.insert(place, run).unwrap();
     }
 
     /// Takes a run out, while it is still in the pool.
@@ -112,14 +120,8 @@ impl Queue {
             relevant: Some(relevant),
         };
         self.trail.push(judged).unwrap();
-        move_group(
-            &mut self.order,
-            &mut self.behind,
-            doc,
-            relevant,
-            pool,
-            steps,
-        );
+        let holders = pool.holders(doc, steps);
+        move_group(&mut self.order, &mut self.behind, holders, relevant);
     }
 
     /// Changes or takes away the grade of the document at a place of the trail, counted from 1. The
@@ -132,8 +134,16 @@ impl Queue {
         ensures in_order { IsInOrder pool.now.runs self.new.trail self.new.order }
         ensures trail { self.new.trail ≡ regraded self.old.trail (place - 1) relevant }
     {
-        set_grade(&mut self.trail, place as usize - 1, relevant);
-        sort_by_rule(&mut self.order, self.trail.as_slice(), pool);
+        let is_other = set_grade(&mut self.trail, place as usize - 1, relevant);
+        if !is_other {
+            return;
+        }
+        sort_by_rule(
+            &mut self.order,
+            &mut self.members,
+            self.trail.as_slice(),
+            pool,
+        );
     }
 
     /// The runs, the first to be judged first.

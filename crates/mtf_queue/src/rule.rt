@@ -1,5 +1,5 @@
 //! The rule by which a queue's runs stand: the latest judged document that only one of two runs holds decides.
-ghost use Rattle.std.specs.Prelude.{◌≡◌, ◌≢◌, ◌<◌, AllPairs, IsPermutation, reverse};
+ghost use Rattle.std.specs.Prelude.{◌≡◌, ◌<◌, ◌≤◌, AllPairs, Contains, insert, length, reverse};
 ghost use Rattle.depth_pool.specs.Holdings.{holds};
 ghost use Rattle.mtf_queue.specs.Rule.{IsBefore, rule_cmp};
 
@@ -16,12 +16,14 @@ pub struct Judged {
     pub relevant: Option<bool>,
 }
 
-// Puts the runs in the order of the rule.
-pub(crate) fn sort_by_rule(order: &mut Vec<RunId>, trail: &[Judged], pool: &Pool)
-    ensures runs { IsPermutation order.old.items order.new.items }
-    ensures pairwise { AllPairs (λ r s. r ≢ s) order.old.items → AllPairs (IsBefore (holds pool.now.runs) trail.now) order.new.items }
+// The index at which a run goes into an order of other runs: behind those that come before it.
+pub(crate) fn place_of(order: &[RunId], run: RunId, trail: &[Judged], pool: &Pool) -> usize
+    requires is_new { ¬ Contains order.now run }
+    requires in_order { AllPairs (IsBefore (holds pool.now.runs) trail.now) order.now }
+    ensures within { result ≤ length order.now }
+    ensures in_order { AllPairs (IsBefore (holds pool.now.runs) trail.now) (insert order.now result run) }
 {
-    order.sort_unstable_by(|first, second| compare(trail, pool, *first, *second));
+    order.partition_point(|other| compare(trail, pool, *other, run).is_lt())
 }
 
 // Which of two runs is first by the rule.

@@ -1,3 +1,4 @@
 pub mod Grading
+pub mod Places
 pub mod Placing
 pub mod Sorting

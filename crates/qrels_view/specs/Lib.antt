@@ -1,3 +1,4 @@
 pub mod Grades
 pub mod Lines
+pub mod Places
 pub mod Seen

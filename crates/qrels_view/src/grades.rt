@@ -7,3 +7,10 @@ pub struct Graded {
     pub doc: DocId,
     pub grade: Option<u8>,
 }
+
+/// A document of a trail at its place there, from 0.
+#[derive(Clone, Copy, Debug, PartialEq, Eq)]
+pub(crate) struct Placed {
+    pub(crate) place: u32,
+    pub(crate) graded: Graded,
+}

@@ -3,10 +3,12 @@
 #![tactic(auto)]
 
 mod counts;
+mod docno_orders;
 mod grades;
 mod text;
 mod view;
 
+pub use docno_orders::DocnoOrder;
 pub use grades::Graded;
 pub use view::View;
 

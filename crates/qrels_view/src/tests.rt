@@ -2,7 +2,7 @@
 ghost use Rattle.std.specs.Prelude.{◌≡◌, ◌<◌, All, length};
 ghost use Rattle.std.specs.Bool.{OnTrue};
 
-use crate::View;
+use crate::{DocnoOrder, View};
 use decimal_rank::{DocId, Names, Text};
 use std::alloc::Global;
 use std::test::Fail;
@@ -136,6 +136,46 @@ fn lines_stand_by_docno(rt: HostRuntime) -> Result<(), Fail> {
         text.as_slice(),
         b"6 0 d 1\n7 0 E9 255\n7 0 d3 10\n7 0 d9 0\n".as_slice()
     );
+    Ok(())
+}
+
+// Whether a reading with a kept order gives the text of a reading without one.
+fn is_same_text(
+    alloc: Global,
+    view: &View,
+    names: &Names,
+    order: &mut DocnoOrder,
+) -> Result<bool, Fail> {
+    let mut out = Vec::new(alloc);
+    if are_named(view, names) {
+        view.write_by(b"7", names, order, &mut out)?;
+    }
+    Ok(out == text_after(alloc, b"", view, names)?)
+}
+
+#[test]
+fn a_kept_order_gives_the_same_lines(rt: HostRuntime) -> Result<(), Fail> {
+    let alloc = rt.alloc();
+    let mut names = Names::new(alloc);
+    for name in [b"d9", b"d3", b"E9", b"d1"] {
+        add(alloc, &mut names, name)?;
+    }
+    let mut view = View::new(alloc, 1);
+    let mut order = DocnoOrder::new(alloc);
+    for (doc, new) in [
+        (1, Some(10)),
+        (0, Some(0)),
+        (3, Some(1)),
+        (1, None),
+        (2, Some(255)),
+    ] {
+        assert!(rt; grade(&mut view, doc, new)?);
+        assert!(rt; is_same_text(alloc, &view, &names, &mut order)?);
+    }
+    // the order of a longer view
+    let mut other = View::new(alloc, 1);
+    assert!(rt; grade(&mut other, 3, Some(1))?);
+    assert!(rt; is_same_text(alloc, &other, &names, &mut order)?);
     Ok(())
 }
 

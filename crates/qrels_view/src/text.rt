@@ -4,7 +4,7 @@ ghost use Rattle.std.specs.List.{flat_map};
 ghost use Rattle.decimal_rank.specs.Additions.{Adds};
 ghost use Rattle.qrels_view.specs.Lines.{docno_cmp, line_of};
 
-use crate::grades::Graded;
+use crate::grades::{Graded, Placed};
 use decimal_rank::{DocId, Memory, Names, append_qrel};
 use std::cmp::Ordering;
 
@@ -19,15 +19,15 @@ pub(crate) fn by_docno(names: &Names, a: DocId, b: DocId) -> Ordering
 pub(crate) fn write_lines(
     topic: &[u8],
     names: &Names,
-    graded: &[Graded],
+    placed: &[Placed],
     out: &mut Vec<u8>,
 ) -> Result<(), Memory>
-    ensures ok { OnOk result (out.new.items ≡ out.old.items ++ flat_map (line_of topic.now names.now) graded.now) }
+    ensures ok { OnOk result (out.new.items ≡ out.old.items ++ flat_map (λ one. line_of topic.now names.now one.graded) placed.now) }
     ensures err { OnErr result (out.new.items ≡ out.old.items) }
 {
     let before = out.len();
-    for one in graded {
-        if let Err(memory) = write_line(topic, names, *one, out) {
+    for one in placed {
+        if let Err(memory) = write_line(topic, names, one.graded, out) {
             out.truncate(before);
             return Err(memory);
         }

@@ -6,8 +6,8 @@ ghost use Rattle.qrels_view.specs.Grades.{docs_of, effective_in, graded_of, is_n
 ghost use Rattle.qrels_view.specs.Lines.{qrels_text};
 
 use crate::counts::recount;
-use crate::grades::Graded;
-use crate::text::{by_docno, write_lines};
+use crate::docno_orders::DocnoOrder;
+use crate::text::write_lines;
 use decimal_rank::{DocId, Memory, Names, is_non_relevant, is_relevant};
 use indexmap::IndexMap;
 use std::alloc::Global;
@@ -149,12 +149,26 @@ impl View {
         ensures err { OnErr result (out.new.items ≡ out.old.items) }
         ensures ok { OnOk result (out.new.items ≡ out.old.items ++ qrels_text topic.now names.now self.now.graded) }
     {
-        // names tell with their length that no name stands twice, and grades that no document does
-        let _ = names.len();
-        let _ = self.grades.len();
-        let mut graded = listed(*self.trail.allocator(), &self.grades)?;
-        graded.sort_unstable_by(|a, b| by_docno(names, a.doc, b.doc));
-        write_lines(topic, names, graded.as_slice(), out)
+        let mut order = DocnoOrder::new(*self.trail.allocator());
+        self.write_by(topic, names, &mut order, out)
+    }
+
+    /// The same, and keeps the order by docno for the next reading of this view, which then sorts no more than the
+    /// documents that came since. Any order serves.
+    pub fn write_by(
+        &self,
+        topic: &[u8],
+        names: &Names,
+        order: &mut DocnoOrder,
+        out: &mut Vec<u8>,
+    ) -> Result<(), Memory>
+        requires docs_named { All (λ graded. graded.doc.0 < length names.now) self.now.graded }
+        ensures err { OnErr result (out.new.items ≡ out.old.items) }
+        ensures ok { OnOk result (out.new.items ≡ out.old.items ++ qrels_text topic.now names.now self.now.graded) }
+        ensures order { OnOk result (order.new ≡ length self.now.graded) }
+    {
+        let placed = order.arrange(&self.grades, names)?;
+        write_lines(topic, names, placed.as_slice(), out)
     }
 }
 
@@ -176,18 +190,4 @@ fn put_grade(
     if before.is_none() {
         trail.push(doc).unwrap();
     }
-}
-
-// The documents with their grades, in the order of the trail.
-fn listed(alloc: Global, grades: &IndexMap<u32, Option<u8>>) -> Result<Vec<Graded>, Memory>
-    ensures { IfOk result (λ graded. graded.items ≡ graded_of grades.now.entries) }
-{
-    let mut graded = Vec::with_capacity(alloc, grades.len())?;
-    for (doc, grade) in grades {
-        graded.push(Graded {
-            doc: DocId(*doc),
-            grade: *grade,
-        })?;
-    }
-    Ok(graded)
 }

@@ -1,6 +1,9 @@
+pub mod Blocks
 pub mod Counts
 pub mod Levels
 pub mod Spans
+pub mod Summed
 pub mod Sums
 pub mod Updates
 pub mod Weights
+pub mod Words

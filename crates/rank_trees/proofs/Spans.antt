@@ -2,7 +2,7 @@
 use Rattle.std.proofs.Common.{◌≡◌, ℕ, zero, suc, ◌+◌, ◌-◌, ◌*◌, ◌^◌, ◌<◌, ◌≤◌, List, length, get_or, take, drop, sum, refl, sym, ap, ◌∙◌, arith, zero-add, set, ◌≢◌, subst, Bool, true, false, nat_lt, replicate, Option, None, Some, MatchOption}
 use Rattle.std.proofs.Math.Nat.{lt_of_not-le, one-le-pow, pow-succ'}
 use Rattle.std.proofs.Math.Pow.{pow_mono}
-use Rattle.std.proofs.lemmas.List.{get_or-drop, get_or-set_other, length-drop, take-take, take_all, take_more, length-take}
+use Rattle.std.proofs.lemmas.List.{get_or-drop, get_or-set_other, get_or-take, length-drop, take-take, take_all, take_more, length-take}
 use Rattle.std.proofs.Math.Seq.{take-set-lt}
 use Rattle.std.proofs.Math.ListN.{get_or-eq_default}
 use Rattle.std.proofs.lemmas.Bool.{ltb-true}
@@ -72,6 +72,16 @@ all_zero n k = step (nat_lt k n) refl
         past : nat_lt k n ≡ false → n ≤ k
         past e = grind (arith, nat_tests)
 
+pub all_off : (n k : ℕ) → get_or (replicate n false) k false ≡ false
+all_off n k = step (nat_lt k n) refl
+  where
+    step : (t : Bool) → nat_lt k n ≡ t → get_or (replicate n false) k false ≡ false
+    step true e = get_or-replicate n k false false (ltb-true k n e)
+    step false e = get_or-eq_default (replicate n false) false (omega (arith, length-replicate {A = Bool} n false, past e))
+      where
+        past : nat_lt k n ≡ false → n ≤ k
+        past e = grind (arith, nat_tests)
+
 -- where none is, the sum stays
 span-rest : (nodes : List ℕ) (start count more : ℕ) → ((k : ℕ) → start + count ≤ k → get_or nodes k 0 ≡ 0) → span nodes start (count + more) ≡ span nodes start count
 span-rest nodes start count zero none = let e : count + 0 ≡ count = omega arith in ap (span nodes start) e
@@ -82,8 +92,8 @@ span-rest nodes start count (suc more) none =
     omega (arith, same, here, span-rest nodes start count more none)
 
 module _ (len depth : ℕ) (nodes : List ℕ) (is : IsSumTree len depth nodes) where
-  pub room : len < 2 ^ depth
-  room = subst (λ d. len < 2 ^ d) (sym is.deep) (below_levels len)
+  pub room : len ≤ 2 ^ depth
+  room = let under = subst (λ d. len - 1 < 2 ^ d) (sym is.deep) (below_levels (len - 1)) in omega (arith, under, is.some)
 
   pub leaves-length : length (leaves_of len depth nodes) ≡ len
   leaves-length = omega (arith, length-take len (drop (2 ^ depth) nodes), length-drop (2 ^ depth) nodes, is.sums.size, room)
@@ -92,8 +102,8 @@ module _ (len depth : ℕ) (nodes : List ℕ) (is : IsSumTree len depth nodes) w
   pub list-long : (list : List ℕ) → leaves_of len depth nodes ≡ list → length list ≡ len
   list-long list view = ap length (sym view) ∙ leaves-length
 
-  pub list-deep : (list : List ℕ) → leaves_of len depth nodes ≡ list → levels (length list) ≡ depth
-  list-deep list view = ap levels (list-long list view) ∙ sym is.deep
+  pub list-deep : (list : List ℕ) → leaves_of len depth nodes ≡ list → levels (length list - 1) ≡ depth
+  list-deep list view = ap (λ n. levels (n - 1)) (list-long list view) ∙ sym is.deep
 
   pub leaves-before : (index : ℕ) → index ≤ len → span nodes (2 ^ depth) index ≡ sum (take index (leaves_of len depth nodes))
   leaves-before index within =
@@ -112,36 +122,39 @@ module _ (len depth : ℕ) (nodes : List ℕ) (is : IsSumTree len depth nodes) w
   leaves-from index within =
       omega (arith, leaves-root, leaves-before index within, sum_by-take-drop (λ x. x) (leaves_of len depth nodes) index)
 
-  pub leaf-reached : (number index : ℕ) → index < 2 ^ depth → span nodes (2 ^ depth) index ≤ number → number < span nodes (2 ^ depth) (index + 1) → IsReached (leaves_of len depth nodes) number index
-  leaf-reached number index inside before reached = record {
+  -- a leaf of the list
+  pub leaf-at : (index : ℕ) → index < len → get_or nodes (2 ^ depth + index) 0 ≡ get_or (leaves_of len depth nodes) index 0
+  leaf-at index within = sym (get_or-take len (drop (2 ^ depth) nodes) index 0 within ∙ get_or-drop (2 ^ depth) nodes index 0)
+
+  pub leaf-is : (list : List ℕ) → leaves_of len depth nodes ≡ list → (index : ℕ) → index < length list → get_or nodes (2 ^ depth + index) 0 ≡ get_or list index 0
+  leaf-is list view index within = leaf-at index (omega (arith, within, list-long list view)) ∙ ap (λ leaves. get_or leaves index 0) view
+
+  pub leaf-reached : (number index rest : ℕ) → span nodes (2 ^ depth) index + rest ≡ number → rest < get_or nodes (2 ^ depth + index) 0 → IsReached (leaves_of len depth nodes) number index rest
+  leaf-reached number index rest before reached = record {
     within = omega (arith, within, leaves-length);
     before = omega (arith, before, leaves-before index (omega (arith, within)));
-    reached = omega (arith, reached, leaves-before (index + 1) (omega (arith, within)));
+    reached = omega (arith, reached, leaf-at index within);
   }
     where
       past : len ≤ index → ⊥
-      past h =
-          let e : index + 1 ≡ suc index = omega arith in
-          let more = ap (span nodes (2 ^ depth)) e in
-          let none = is.rest (2 ^ depth + index) (omega (arith, h)) in
-          omega (arith, more, none, before, reached)
+      past h = let none = is.rest (2 ^ depth + index) (omega (arith, h)) in omega (arith, none, reached)
 
       within : index < len
       within = lt_of_not-le past
 
-  pub found-leaf : (list : List ℕ) → leaves_of len depth nodes ≡ list → (number : ℕ) (found : Option ℕ)
-      → MatchOption found (span nodes (2 ^ depth) (2 ^ depth) ≤ number) (λ index. (index < 2 ^ depth) × (span nodes (2 ^ depth) index ≤ number) × (number < span nodes (2 ^ depth) (index + 1)))
-      → MatchOption found (sum list ≤ number) (IsReached list number)
+  pub found-leaf : (list : List ℕ) → leaves_of len depth nodes ≡ list → (number : ℕ) (found : Option (ℕ × ℕ))
+      → MatchOption found (span nodes (2 ^ depth) (2 ^ depth) ≤ number) (λ found. (found.0 < 2 ^ depth) × (span nodes (2 ^ depth) found.0 + found.1 ≡ number) × (found.1 < get_or nodes (2 ^ depth + found.0) 0))
+      → MatchOption found (sum list ≤ number) (λ found. IsReached list number found.0 found.1)
   found-leaf list view number None h =
       let root = leaves-root in
       let level = span-level depth nodes is.sums depth (omega arith) in
       let same = ap sum view in
       omega (arith, h, root, level, same)
-  found-leaf list view number (Some index) h = subst (λ leaves. IsReached leaves number index) view (leaf-reached number index h.0 h.1 h.2)
+  found-leaf list view number (Some found) h = subst (λ leaves. IsReached leaves number found.0 found.1) view (leaf-reached number found.0 found.1 h.1 h.2)
 
 -- ---- a tree whose leaves are 0
 
-pub new-sums : (depth : ℕ) → depth ≤ 10 → AreSums depth (replicate (2 * 2 ^ depth) 0)
+pub new-sums : (depth : ℕ) → depth ≤ 6 → AreSums depth (replicate (2 * 2 ^ depth) 0)
 new-sums depth low = record {
   low = low;
   size = length-replicate {A = ℕ} (2 * 2 ^ depth) 0;
@@ -149,23 +162,25 @@ new-sums depth low = record {
   small = λ k. subst (λ x. k * x ≤ 2048 * 10 ^ 15) (sym (all_zero (2 * 2 ^ depth) k)) (omega arith);
 }
 
-pub new-tree : (len depth : ℕ) → len ≤ 1000 → depth ≡ levels len → depth ≤ 10 → IsSumTree len depth (replicate (2 * 2 ^ depth) 0)
-new-tree len depth few deep low = record {
-  few = few;
-  deep = deep;
+pub new-tree : (last depth : ℕ) → last ≤ 63 → depth ≡ levels last → depth ≤ 6 → IsSumTree (last + 1) depth (replicate (2 * 2 ^ depth) 0)
+new-tree last depth few deep low = record {
+  some = omega arith;
+  few = omega (arith, few);
+  deep = let e : last + 1 - 1 ≡ last = omega arith in deep ∙ ap levels (sym e);
   sums = new-sums depth low;
   rest = λ k past. all_zero (2 * 2 ^ depth) k;
 }
 
-pub new-leaves : (len depth : ℕ) → len < 2 ^ depth → leaves_of len depth (replicate (2 * 2 ^ depth) 0) ≡ replicate len 0
-new-leaves len depth less =
-    ap (take len) (drop-replicate (2 ^ depth) (2 * 2 ^ depth) 0) ∙ take-replicate len (2 * 2 ^ depth - 2 ^ depth) 0 (omega (arith, less))
+pub new-leaves : (len depth : ℕ) → len ≤ 2 ^ depth → leaves_of len depth (replicate (2 * 2 ^ depth) 0) ≡ replicate len 0
+new-leaves len depth within =
+    ap (take len) (drop-replicate (2 ^ depth) (2 * 2 ^ depth) 0) ∙ take-replicate len (2 * 2 ^ depth - 2 ^ depth) 0 (omega (arith, within))
 
 -- ---- a leaf that is written
 
 module _ (len depth : ℕ) (was : List ℕ) (is : IsSumTree len depth was) (now : List ℕ) (index value : ℕ) (within : index < len) (leaves : drop (2 ^ depth) now ≡ set (drop (2 ^ depth) was) index value) where
   pub set-tree : AreSums depth now → IsSumTree len depth now
   set-tree sums = record {
+    some = is.some;
     few = is.few;
     deep = is.deep;
     sums = sums;

@@ -153,12 +153,10 @@ module _ (depth : ℕ) (nodes : List ℕ) (number level start at rest : ℕ) (ar
       }
 
 pub near-leaf : (depth : ℕ) (nodes : List ℕ) (number level start at rest : ℕ) → level ≡ depth → IsNear nodes depth number level start at rest
-    → (at < 2 ^ depth) × (span nodes (2 ^ depth) at ≤ number) × (number < span nodes (2 ^ depth) (at + 1))
+    → (at < 2 ^ depth) × (span nodes (2 ^ depth) at + rest ≡ number) × (rest < get_or nodes (2 ^ depth + at) 0)
 near-leaf depth nodes number level start at rest all near =
     let low : start ≡ 2 ^ depth = near.on_level ∙ ap (λ n. 2 ^ n) all in
     let inside = near.inside in
     let same = ap (λ s. span nodes s at) low in
-    let e : at + 1 ≡ suc at = omega arith in
-    let more = ap (span nodes (2 ^ depth)) e in
     let here = ap (λ s. get_or nodes (s + at) 0) low in
-    (omega (arith, inside, low), omega (arith, same, near.number_is), omega (arith, more, here, same, near.number_is, near.exceeds))
+    (omega (arith, inside, low), omega (arith, same, near.number_is), omega (arith, here, near.exceeds))

@@ -1,2 +1,4 @@
+pub mod Blocks
 pub mod Marks
 pub mod SumTrees
+pub mod Words

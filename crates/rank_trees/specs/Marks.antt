@@ -1,5 +1,5 @@
 -- Places that are on or off: how many are on, which is the one with so many before it, and what they weigh. Places are counted from 1.
-use Rattle.std.specs.Prelude.{◌≡◌, ℕ, ◌+◌, ◌-◌, ◌/◌, ◌^◌, ◌≤◌, Bool, true, false, List, [], ◌∷◌, Some, cond, count_by, drop, map, nat_lt, slice_get, take}
+use Rattle.std.specs.Prelude.{◌≡◌, ℕ, ◌+◌, ◌-◌, ◌≤◌, Bool, true, false, List, [], ◌∷◌, Some, cond, count_by, drop, map, nat_lt, slice_get, take}
 pub use Rattle.decimal_rank.specs.Weights.{weight}
 
 -- how many are on

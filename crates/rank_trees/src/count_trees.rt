@@ -1,8 +1,11 @@
-//! A tree over places that are on or off, which counts those on before a place and finds one by its number.
-ghost use Rattle.std.specs.Prelude.{◌≡◌, ◌+◌, ◌-◌, ◌≤◌, false, IfOk, MatchOption, length, replicate, slice_index_or, slice_set};
+//! Places that are on or off, and a tree of how many are on in each block of 64, which counts those on
+//! before a place and finds one by its number.
+ghost use Rattle.std.specs.Prelude.{◌≡◌, ℕ, ◌+◌, ◌-◌, ◌*◌, ◌/◌, ◌≤◌, ◌<◌, Bool, List, false, IfOk, MatchOption, length, replicate, slice_index_or, slice_set, take};
 ghost use Rattle.decimal_rank.specs.Places.{levels};
 ghost use Rattle.rank_trees.specs.Marks.{IsSelected, count_below, count_on};
+ghost use Rattle.rank_trees.specs.Words.{IsNth, number_of};
 
+use crate::place_words::PlaceWords;
 use crate::sum_trees::SumTree;
 use decimal_rank::{Memory, Steps};
 use std::alloc::Global;
@@ -10,23 +13,25 @@ use std::marker::Model;
 use std::sync::ledger::Ledger;
 
 /// Places, counted from 1, each on or off, and the numbers of those that are on. Contracts see the
-/// list of the places. A step is a node visited, at most one for each binary digit of the number of
-/// places and one more in each call.
+/// list of the places. A step is a node of the tree or a word of 64 places visited, in each call at
+/// most one for each binary digit of the number of places and one more.
 #[derive(Drop)]
 pub struct CountTree {
-    // 1 for a place that is on, else 0
+    len: u32,
+    places: PlaceWords,
+    // of each block of 64 places
     counts: SumTree,
 }
 
 impl Model for CountTree {
-    ghost use Rattle.std.specs.Prelude.{Bool, List, ◌≤◌, All, length};
-    ghost use Rattle.rank_trees.specs.Marks.{are_on};
+    ghost use Rattle.std.specs.Prelude.{◌+◌, ◌/◌, Bool, List, take};
+    ghost use Rattle.rank_trees.specs.Blocks.{AreSummed, count_from};
 
     ghost Value = { List Bool };
 
-    ghost view = { λ tree. are_on tree.counts };
+    ghost view = { λ tree. take tree.len tree.places };
 
-    ghost invariant = { λ tree. All (λ count. count ≤ 1) tree.counts × (length tree.counts ≤ 1000) };
+    ghost invariant = { λ tree. AreSummed count_from 64 (tree.len / 64 + 1) tree.len tree.places tree.counts };
 }
 
 impl CountTree {
@@ -35,8 +40,13 @@ impl CountTree {
         requires { places ≤ 1000 }
         ensures { IfOk result (λ on. on ≡ replicate places false) }
     {
-        let counts = SumTree::new(alloc, places)?;
-        Ok(CountTree { counts })
+        let words = PlaceWords::new(alloc, places)?;
+        let counts = SumTree::new(alloc, places / 64)?;
+        Ok(CountTree {
+            len: places,
+            places: words,
+            counts,
+        })
     }
 
     /// Puts a place on or off.
@@ -46,7 +56,10 @@ impl CountTree {
         ensures on { self.new ≡ slice_set self.old (place - 1) on }
         ensures cost { steps.new ≤ steps.old + levels (length self.old) + 1 }
     {
-        self.counts.set(place - 1, u64::from(on), steps);
+        let was = self.places.put(place - 1, on, steps);
+        let less = u64::from(was);
+        let more = u64::from(on);
+        self.counts.change((place - 1) / 64, less, more, steps);
     }
 
     /// Whether a place is on, in one step.
@@ -56,7 +69,7 @@ impl CountTree {
         ensures on { result ≡ slice_index_or self.now (place - 1) false }
         ensures cost { steps.new ≡ steps.old + 1 }
     {
-        self.counts.leaf(place - 1, steps) > 0
+        self.places.from(place - 1, steps) % 2 == 1
     }
 
     /// How many places less than this one are on. It may be one past the last.
@@ -66,7 +79,10 @@ impl CountTree {
         ensures count { result ≡ count_below self.now place }
         ensures cost { steps.new ≤ steps.old + levels (length self.now) + 1 }
     {
-        self.counts.sum_before(place - 1, steps) as u32
+        let block = (place - 1) / 64;
+        let before = self.counts.sum_before(block, steps) as u32;
+        let word = self.places.from(64 * block, steps);
+        before + count_of(word, (place - 1) % 64)
     }
 
     /// The (j + 1)th place that is on.
@@ -74,9 +90,41 @@ impl CountTree {
         ensures place { MatchOption result (count_on self.now ≤ j) (IsSelected self.now j) }
         ensures cost { steps.new ≤ steps.old + levels (length self.now) + 1 }
     {
-        match self.counts.find(u64::from(j), steps) {
-            Some(index) => Some(index + 1),
+        let number = u64::from(j);
+        match self.counts.find(number, steps) {
+            Some(found) => {
+                let block = found.0;
+                let word = self.places.from(64 * block, steps);
+                Some(64 * block + nth_on(word, found.1 as u32) + 1)
+            }
             None => None,
         }
     }
+}
+
+// How many of so many first places of a word are on.
+fn count_of(word: u64, count: u32) -> u32
+    requires { count < 64 }
+    ensures count { (on : List Bool) → word ≡ number_of on → result ≡ count_on (take count on) }
+    ensures few { result ≤ 64 }
+{
+    (word & ((1u64 << count) - 1)).count_ones()
+}
+
+// The place of a word, from 0, that is on and has so many before it that are.
+fn nth_on(word: u64, number: u32) -> u32
+    ensures place { (on : List Bool) → word ≡ number_of on → length on ≤ 64 → number < count_on on → IsNth on number result }
+    ensures few { result ≤ 64 }
+{
+    let mut bits = word;
+    let mut rest = number;
+    for place in 0..64 {
+        let bit = (bits % 2) as u32;
+        if bit > rest {
+            return place;
+        }
+        rest -= bit;
+        bits /= 2;
+    }
+    64
 }

@@ -1,9 +1,12 @@
 //! Sums over places that are on or off: how many of them are on below a place, which place is the
-//! (j + 1)th that is on, and what those above a place weigh. A call after `new` goes down or up one
-//! path of a tree, a step for each node.
+//! (j + 1)th that is on, and what those above a place weigh. A place is a bit of a word, and a tree
+//! has the sums of blocks of places. A call after `new` goes down or up one path of a tree and looks
+//! at one word, a step for each.
 #![tactic(auto)]
 
 mod count_trees;
+mod nodes;
+mod place_words;
 mod sum_trees;
 mod weight_trees;
 

@@ -8,7 +8,7 @@ use Rattle.std.proofs.lemmas.List.{append-nil, nil_from_length}
 use Rattle.std.proofs.lemmas.Option.{same_Some}
 use Rattle.trec_formats.specs.declared.TopicList.{TopicList}
 use Rattle.trec_formats.specs.Names.{is_between, is_docno, is_name}
-use Rattle.rulebook.specs.declared.limits.TheConstants.{MAX_MOMENT}
+use Rattle.rulebook.specs.Limits.{max_moment}
 use Rattle.rulebook.specs.declared.ask.Command.{Command}
 use Rattle.rulebook.specs.declared.ask.Command.TheVariants as command
 use Rattle.rulebook.specs.declared.entry.EntryCore.{EntryCore}
@@ -199,14 +199,14 @@ entry_codes =
     ∙ ap (λ (t : Text). t ++ to_le_bytes w64 core.moment ++ command_bytes core.command)
     (append_assoc (short core.caller.name) (role_byte core.caller.role ∷ []) (number_bytes core.number)))
     (λ core fits.
-    and_from (is_name core.caller.name && is_number core.number && nat_le core.moment MAX_MOMENT)
+    and_from (is_name core.caller.name && is_number core.number && nat_le core.moment max_moment)
     (is_plain core.command)
-    (and_from (is_name core.caller.name && is_number core.number) (nat_le core.moment MAX_MOMENT)
+    (and_from (is_name core.caller.name && is_number core.number) (nat_le core.moment max_moment)
     (and_from (is_name core.caller.name) (is_number core.number) fits.0 fits.1.0) fits.1.1.0) fits.1.1.1)
     (λ core is.
-    let a = and_parts (is_name core.caller.name && is_number core.number && nat_le core.moment MAX_MOMENT)
+    let a = and_parts (is_name core.caller.name && is_number core.number && nat_le core.moment max_moment)
     (is_plain core.command) is in
-    let b = and_parts (is_name core.caller.name && is_number core.number) (nat_le core.moment MAX_MOMENT) a.0 in
+    let b = and_parts (is_name core.caller.name && is_number core.number) (nat_le core.moment max_moment) a.0 in
     let c = and_parts (is_name core.caller.name) (is_number core.number) b.0 in
     (c.0, (c.1, (b.1, a.1))))
 

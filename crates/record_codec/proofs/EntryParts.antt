@@ -5,7 +5,7 @@ use Rattle.std.specs.List.{list_all}
 use Rattle.std.proofs.lemmas.Bool.{and_from, and_parts, lt-ltb}
 use Rattle.trec_formats.specs.declared.TopicList.{TopicList}
 use Rattle.trec_formats.specs.Names.{is_docno, is_name}
-use Rattle.rulebook.specs.declared.limits.TheConstants.{MAX_MOMENT}
+use Rattle.rulebook.specs.Limits.{max_moment}
 use Rattle.rulebook.specs.declared.rules.Rules.{Rules}
 use Rattle.rulebook.specs.declared.entry.EntryCore.{EntryCore}
 use Rattle.rulebook.specs.Spelling.{are_rules, differ, has_spelling, is_ascending, is_number, is_plain, is_plain_list}
@@ -41,5 +41,5 @@ docs_short l is =
 
 pub command_plain : (core : EntryCore) → IsTrue (has_spelling core) → IsTrue (is_plain core.command)
 command_plain core is =
-    (and_parts (is_name core.caller.name && is_number core.number && nat_le core.moment MAX_MOMENT)
+    (and_parts (is_name core.caller.name && is_number core.number && nat_le core.moment max_moment)
     (is_plain core.command) is).1

@@ -6,7 +6,7 @@ use Rattle.std.specs.Int.{w16, w64, to_le_bytes}
 use Rattle.std.proofs.lemmas.Bool.{eqb-true, leb-true, ltb-true}
 use Rattle.std.proofs.lemmas.Option.{same_Some}
 use Rattle.trec_formats.specs.Names.{is_docno, is_name}
-use Rattle.rulebook.specs.declared.limits.TheConstants.{MAX_MOMENT}
+use Rattle.rulebook.specs.Limits.{max_moment}
 use Rattle.rulebook.specs.declared.rules.Caller.{Caller}
 use Rattle.rulebook.specs.declared.rules.Role.{Role}
 use Rattle.rulebook.specs.declared.rules.Role.TheVariants.{Organiser, Group, Assessor}
@@ -143,9 +143,9 @@ request_codes = record { takes = request_takes; again = request_again }
 
 -- The moment
 
-pub moment_codes : Codes (to_le_bytes w64) (λ m. IsTrue (nat_le m MAX_MOMENT)) moment_at
+pub moment_codes : Codes (to_le_bytes w64) (λ m. IsTrue (nat_le m max_moment)) moment_at
 unfolding moment_at
 moment_codes =
-    like (tested (number_codes w64 (2 ^ 64) wide64) is_moment) (to_le_bytes w64) (λ m. IsTrue (nat_le m MAX_MOMENT))
+    like (tested (number_codes w64 (2 ^ 64) wide64) is_moment) (to_le_bytes w64) (λ m. IsTrue (nat_le m max_moment))
     (λ m. refl) (λ m fits. fits.1)
-    (λ m is. let most = leb-true m MAX_MOMENT is in (omega arith, is))
+    (λ m is. let most = leb-true m max_moment is in (omega arith, is))

@@ -5,7 +5,7 @@ use Rattle.std.specs.Option.{option_and_then, option_map}
 use Rattle.trec_formats.specs.declared.Topic.{Topic}
 use Rattle.trec_formats.specs.declared.TopicList.{TopicList}
 use Rattle.trec_formats.specs.Names.{is_between, is_docno, is_name}
-use Rattle.rulebook.specs.declared.limits.TheConstants.{MAX_MOMENT}
+use Rattle.rulebook.specs.Limits.{max_moment}
 use Rattle.rulebook.specs.declared.rules.Caller.{Caller}
 use Rattle.rulebook.specs.declared.rules.Role.{Role}
 use Rattle.rulebook.specs.declared.rules.Role.TheVariants.{Organiser, Group, Assessor}
@@ -105,7 +105,7 @@ unfoldable pub request_at : Text → Read (Option ℕ)
 request_at bytes = option_and_then (λ b. numbered_of b.0 b.1) (byte_at bytes)
 
 abbrev pub is_moment : ℕ → Bool
-is_moment moment = nat_le moment MAX_MOMENT
+is_moment moment = nat_le moment max_moment
 
 unfoldable pub moment_at : Text → Read ℕ
 moment_at bytes = kept is_moment (number_at w64 bytes)

@@ -1,5 +1,5 @@
 -- The table of the paths.
-use Rattle.std.specs.Prelude.{◌≡◌, ◌⊎◌, ℕ, Bool, true, false, ◌||◌, ◌==◌, ◌&&◌, List, [], ◌∷◌, Option, None, Result, Ok, Err, is_none, codes, drop, length, map, nat_le, if◌then◌else◌}
+use Rattle.std.specs.Prelude.{◌≡◌, ◌⊎◌, ℕ, Bool, true, false, ◌||◌, ◌==◌, ◌&&◌, List, [], ◌∷◌, Option, None, Result, Ok, Err, is_none, codes, drop, length, nat_le, if◌then◌else◌}
 use Rattle.std.specs.Option.{option_map}
 use Rattle.std.specs.List.{fold, before_first, after_first}
 use Rattle.std.specs.Str.{is_utf8}
@@ -16,20 +16,38 @@ use Rattle.rulebook.specs.declared.rules.Role.{Role}
 use Rattle.rulebook.specs.Roles.{is_organiser, is_group, is_assessor}
 use Rattle.routes.specs.declared.places.Place.{Place}
 use Rattle.routes.specs.declared.places.Method.{Method}
-use Rattle.routes.specs.declared.places.Method.TheVariants as methods
+use Rattle.routes.specs.declared.places.Method.TheVariants.{Get, Post}
 use Rattle.routes.specs.declared.places.Parameter.{Parameter}
-use Rattle.routes.specs.declared.places.Parameter.TheVariants as parameters
+use Rattle.routes.specs.declared.places.Parameter.TheVariants.{Name, Nothing, Number}
 use Rattle.routes.specs.declared.places.Askers.{Askers}
-use Rattle.routes.specs.declared.places.Askers.TheVariants as askers
+use Rattle.routes.specs.declared.places.Askers.TheVariants.{Assessors, Everyone, Groups, NotAssessors, NotGroups, Organisers}
 use Rattle.routes.specs.declared.places.Question.{Question}
-use Rattle.routes.specs.declared.places.TheConstants.{ROWS}
+use Rattle.routes.specs.declared.places.Question.TheVariants as question
 
 abbrev pub place_at : Method → Parameter → Askers → Question → Place
-place_at method parameter askers question = record { method = method; parameter = parameter; askers = askers; question = question }
+place_at method parameter askers asked = record { method = method; parameter = parameter; askers = askers; question = asked }
 
 -- each path of the table, in its order, with its row
 abbrev pub rows : List (List ℕ × Place)
-rows = map (λ row. (row.0.now, place_at row.1 row.2 row.3 row.4)) ROWS
+rows =
+    (codes "/topics", place_at Post Nothing Organisers question.Topics)
+    ∷ (codes "/runs/{run}", place_at Post Name Groups question.Submit)
+    ∷ (codes "/open", place_at Post Nothing Organisers question.Open)
+    ∷ (codes "/topics/{topic}/lease", place_at Post Name Assessors question.Lease)
+    ∷ (codes "/leases/{lease}/grade", place_at Post Number Assessors question.Grade)
+    ∷ (codes "/leases/{lease}/release", place_at Post Number Assessors question.Release)
+    ∷ (codes "/topics/{topic}/amend", place_at Post Name Assessors question.Amend)
+    ∷ (codes "/topics/{topic}/rule", place_at Post Name Organisers question.Rule)
+    ∷ (codes "/runs/{run}/withdraw", place_at Post Name NotAssessors question.Withdraw)
+    ∷ (codes "/publish", place_at Post Nothing Organisers question.Publish)
+    ∷ (codes "/topics/{topic}/pool", place_at Get Name NotGroups question.Pool)
+    ∷ (codes "/qrels", place_at Get Nothing Organisers question.Qrels)
+    ∷ (codes "/runs/{run}/scores", place_at Get Name NotAssessors question.Scores)
+    ∷ (codes "/table", place_at Get Nothing Organisers question.Table)
+    ∷ (codes "/disagreements", place_at Get Nothing Organisers question.Disagreements)
+    ∷ (codes "/progress", place_at Get Nothing Organisers question.Progress)
+    ∷ (codes "/releases/{release}/qrels", place_at Get Number Everyone question.ReleaseQrels)
+    ∷ (codes "/releases/{release}/scores", place_at Get Number Everyone question.ReleaseScores) ∷ []
 
 -- the row is among these
 abbrev pub Among : Place → List (List ℕ × Place) → Type 0
@@ -82,19 +100,19 @@ is_path_number text = are_digits text && nat_le (length text) 10 && nat_le (digi
 
 -- whether a text may be the parameter of a row
 abbrev pub fits : Parameter → List ℕ → Bool
-fits parameters.Nothing text = true
-fits parameters.Name text = is_name text
-fits parameters.Number text = is_path_number text
+fits Nothing text = true
+fits Name text = is_name text
+fits Number text = is_path_number text
 
 abbrev pub method_name : Method → List ℕ
-method_name methods.Get = codes "GET"
-method_name methods.Post = codes "POST"
+method_name Get = codes "GET"
+method_name Post = codes "POST"
 
 -- whether a role is among those that may ask
 abbrev pub may_ask : Role → Askers → Bool
-may_ask role askers.Organisers = is_organiser role
-may_ask role askers.Groups = is_group role
-may_ask role askers.Assessors = is_assessor role
-may_ask role askers.NotGroups = is_organiser role || is_assessor role
-may_ask role askers.NotAssessors = is_group role || is_organiser role
-may_ask role askers.Everyone = true
+may_ask role Organisers = is_organiser role
+may_ask role Groups = is_group role
+may_ask role Assessors = is_assessor role
+may_ask role NotGroups = is_organiser role || is_assessor role
+may_ask role NotAssessors = is_group role || is_organiser role
+may_ask role Everyone = true

@@ -10,7 +10,7 @@ ghost use Rattle.routes.specs.Faults.{IsRead};
 ghost use Rattle.routes.specs.FoundOpenings.{opening_shown};
 ghost use Rattle.routes.specs.Openings.{Opening as SeenOpening, opening_of};
 ghost use Rattle.routes.specs.Places.{IsRow, fits, may_ask, parameter};
-ghost use Rattle.rulebook.specs.declared.limits.TheConstants.{MAX_MOMENT};
+ghost use Rattle.rulebook.specs.Limits.{max_moment};
 ghost use Rattle.rulebook.specs.Legal.{is_well_addressed};
 ghost use Rattle.rulebook.specs.Spelling.{is_number};
 ghost use Rattle.trec_formats.specs.Names.{is_name};
@@ -221,7 +221,7 @@ fn end_opened(alloc: Global, opened: Opened) -> Result<(Caller, Option<u64>, Ask
     requires few { IsFew 16777216 opened.body }
     ensures reading { (opening : SeenOpening) (head : HttpHead) (body : List ℕ) → IsOpened opening head.path body opened
         → IsRead (ReadsBehind (Ok opening) (request_with head body)) result }
-    ensures addressed { IfOk result (λ asked. (moment : ℕ) → moment ≤ MAX_MOMENT
+    ensures addressed { IfOk result (λ asked. (moment : ℕ) → moment ≤ max_moment
         → IsTrue (is_well_addressed asked.0 asked.1 asked.2 moment)) }
 {
     let Opened {
@@ -289,7 +289,7 @@ impl AskReader {
     pub fn finish(self) -> Result<(Caller, Option<u64>, Ask), RouteFault>
         ensures reading { (head : HttpHead) (keys : List KeyRow) (body : List ℕ) → IsAsking head keys body self
             → IsRead (Reads (request_with head body) keys) result }
-        ensures addressed { IfOk result (λ asked. (moment : ℕ) → moment ≤ MAX_MOMENT
+        ensures addressed { IfOk result (λ asked. (moment : ℕ) → moment ≤ max_moment
             → IsTrue (is_well_addressed asked.0 asked.1 asked.2 moment)) }
         ensures failed { HasFailed self → result ≡ Err RouteFault.Memory }
     {

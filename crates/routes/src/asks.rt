@@ -4,7 +4,7 @@ ghost use Rattle.std.specs.Prelude.{◌≡◌, ◌≤◌, ℕ, List, IsTrue, IfO
 ghost use Rattle.routes.specs.declared.places.Question.TheVariants as question;
 ghost use Rattle.routes.specs.Asks.{Asks, HasSoundTopics, Reads, fault_of, with_nothing};
 ghost use Rattle.rulebook.specs.declared.ask.Ask.TheVariants.{Act};
-ghost use Rattle.rulebook.specs.declared.limits.TheConstants.{MAX_MOMENT};
+ghost use Rattle.rulebook.specs.Limits.{max_moment};
 ghost use Rattle.rulebook.specs.Legal.{is_well_addressed};
 ghost use Rattle.routes.specs.Faults.{IsRead};
 ghost use Rattle.routes.specs.Places.{IsRow, fits, is_path_number};
@@ -198,7 +198,7 @@ pub fn read_ask(
 ) -> Result<(Caller, Option<u64>, Ask), RouteFault>
     requires { length request.now.body ≤ 16777216 }
     ensures reading { IsRead (Reads request.now keys.now) result }
-    ensures addressed { IfOk result (λ asked. (moment : ℕ) → moment ≤ MAX_MOMENT
+    ensures addressed { IfOk result (λ asked. (moment : ℕ) → moment ≤ max_moment
         → IsTrue (is_well_addressed asked.0 asked.1 asked.2 moment)) }
 {
     let paths = Paths::new(alloc)?;

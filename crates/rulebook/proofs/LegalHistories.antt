@@ -2,6 +2,7 @@
 pub mod Added
 pub mod GrantedLeases
 pub mod JournalSizes
+pub mod LeaseEntries
 pub mod LegalWalk
 pub mod LiveRuns
 pub mod PlainReplies

@@ -1,6 +1,6 @@
 -- What a journal of the accepted entries rests on: what an answer adds may be read back, and all of it has room.
 use Rattle.std.specs.Prelude.{◌≡◌, ℕ, ◌+◌, ◌≤◌, ◌^◌, [], ◌∷◌, ◌++◌, Option, IsTrue, length, sum_by}
-use Rattle.rulebook.specs.declared.limits.TheConstants.{MAX_ENTRIES, MAX_ENTRY_BYTES, MAX_MOMENT, MAX_RUNS}
+use Rattle.rulebook.specs.Limits.{max_entries, max_entry_bytes, max_moment, max_runs}
 use Rattle.rulebook.specs.declared.rules.Caller.{Caller}
 use Rattle.rulebook.specs.declared.rules.Rules.{Rules}
 use Rattle.rulebook.specs.declared.ask.Ask.{Ask}
@@ -25,17 +25,17 @@ AddedAreAccepted =
     → IsTrue (is_well_addressed who number ask moment) → (answer H who number ask moment).added ≡ e ∷ [] → IsAdded H who number ask moment e
 
 abbrev pub EntriesAreFew : Type 0
-EntriesAreFew = (H : History) → IsLegal H → length H ≤ MAX_ENTRIES
+EntriesAreFew = (H : History) → IsLegal H → length H ≤ max_entries
 
 abbrev pub RunsAreFew : Type 0
-RunsAreFew = (H : History) → IsLegal H → length (runs H) ≤ MAX_RUNS
+RunsAreFew = (H : History) → IsLegal H → length (runs H) ≤ max_runs
 
 abbrev pub MomentsAreInTime : Type 0
-MomentsAreInTime = (H : History) → IsLegal H → moment_after H 0 ≤ MAX_MOMENT
+MomentsAreInTime = (H : History) → IsLegal H → moment_after H 0 ≤ max_moment
 
 -- the first entry has room in a record
 abbrev pub FoundingFits : Type 0
-FoundingFits = (rules : Rules) → IsTrue (are_rules rules) → length (entry_bytes (founding rules).core) ≤ MAX_ENTRY_BYTES
+FoundingFits = (rules : Rules) → IsTrue (are_rules rules) → length (entry_bytes (founding rules).core) ≤ max_entry_bytes
 
 -- A journal's head and the records of a legal list, each of five bytes and its entry's, have room in 2^40 bytes.
 abbrev pub LegalFit : Type 0

@@ -5,7 +5,7 @@ use Rattle.std.specs.Option.{option_map, option_map_or}
 use Rattle.std.specs.Str.{bytes_eq}
 use Rattle.trec_formats.specs.declared.Topic.{Topic}
 use Rattle.trec_formats.specs.declared.TopicList.{TopicList}
-use Rattle.rulebook.specs.declared.limits.TheConstants.{MAX_TOPICS, MAX_RUNS, MAX_LINES, MAX_DOCNOS, MAX_ENTRIES}
+use Rattle.rulebook.specs.Limits.{max_topics, max_runs, max_lines, max_docnos, max_entries}
 use Rattle.rulebook.specs.declared.rules.Caller.{Caller}
 use Rattle.rulebook.specs.declared.rules.Phase.TheVariants.{Collecting, Judging, Published}
 use Rattle.rulebook.specs.declared.ask.Command.{Command}
@@ -43,7 +43,7 @@ abbrev pub topics_tests : History → List Topic → List (Option Refusal)
 topics_tests H topics =
     wrong_phase_unless Collecting H
     ∷ (refusal.TopicsFixed when has_topics H)
-    ∷ (refusal.Limit quantity.Topics when nat_lt MAX_TOPICS (length topics)) ∷ []
+    ∷ (refusal.Limit quantity.Topics when nat_lt max_topics (length topics)) ∷ []
 
 abbrev pub topics_ruling : History → List Topic → Ruling
 topics_ruling H topics = unless (topics_tests H topics) (Ok (reply.Topics (length topics)))
@@ -53,9 +53,9 @@ submit_tests H run lists =
     wrong_phase_unless Collecting H
     ∷ (refusal.TagTaken when is_taken H run)
     ∷ option_map refusal.LineTopic (unknown_line H lists)
-    ∷ (refusal.Limit quantity.Runs when nat_le MAX_RUNS (length (runs H)))
-    ∷ (refusal.Limit quantity.Lines when nat_lt MAX_LINES (lines_with H lists))
-    ∷ (refusal.Limit quantity.Docnos when nat_lt MAX_DOCNOS (length (docnos_with H lists))) ∷ []
+    ∷ (refusal.Limit quantity.Runs when nat_le max_runs (length (runs H)))
+    ∷ (refusal.Limit quantity.Lines when nat_lt max_lines (lines_with H lists))
+    ∷ (refusal.Limit quantity.Docnos when nat_lt max_docnos (length (docnos_with H lists))) ∷ []
 
 abbrev pub submit_ruling : History → Text → List TopicList → Ruling
 submit_ruling H run lists = unless (submit_tests H run lists) (Ok (reply.Submitted run (length lists) (line_count lists)))
@@ -220,7 +220,7 @@ moment_after H moment = max moment (option_map_or (λ e. e.core.moment) (slice_g
 -- what a command comes to that wasn't accepted before under its number
 abbrev pub acted : History → EntryCore → Answer
 acted H core =
-    if length H == MAX_ENTRIES then adding_nothing (reply.Refused (refusal.Limit quantity.Entries))
+    if length H == max_entries then adding_nothing (reply.Refused (refusal.Limit quantity.Entries))
     else acting core (ruled H core.caller core.moment core.command)
 
 -- The same command under the same number gets the reply that was kept, and another command none.

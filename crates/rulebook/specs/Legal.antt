@@ -1,7 +1,7 @@
 -- Well addressed requests, and the lists of entries that can come about.
 use Rattle.std.specs.Prelude.{◌≡◌, ℕ, Bool, true, ◌&&◌, [], ◌∷◌, ◌++◌, Option, None, length, nat_le, IsTrue, codes}
 use Rattle.trec_formats.specs.Names.{is_name}
-use Rattle.rulebook.specs.declared.limits.TheConstants.{MAX_MOMENT, MAX_ENTRY_BYTES}
+use Rattle.rulebook.specs.Limits.{max_moment, max_entry_bytes}
 use Rattle.rulebook.specs.declared.rules.Role.TheVariants.{Organiser}
 use Rattle.rulebook.specs.declared.rules.Rules.{Rules}
 use Rattle.rulebook.specs.declared.rules.Caller.{Caller}
@@ -37,9 +37,9 @@ core_of who number moment c = record { caller = who; number = number; moment = m
 abbrev pub is_well_addressed : Caller → Option ℕ → Ask → ℕ → Bool
 is_well_addressed who number (Act c) moment =
     may_give who.role c && has_spelling (core_of who number moment c)
-    && nat_le (length (entry_bytes (core_of who number moment c))) MAX_ENTRY_BYTES
+    && nat_le (length (entry_bytes (core_of who number moment c))) max_entry_bytes
 is_well_addressed who number (See q) moment =
-    may_see who.role q && is_name who.name && is_named q && nat_le moment MAX_MOMENT
+    may_see who.role q && is_name who.name && is_named q && nat_le moment max_moment
 
 -- the first entry of a campaign
 abbrev pub founding : Rules → Entry

@@ -1,4 +1,5 @@
 pub mod Words
+pub mod Limits
 pub mod Campaign
 pub mod Leases
 pub mod Grades
@@ -17,3 +18,5 @@ pub mod Plain
 pub mod Stories
 pub mod Additions
 pub mod Facts
+pub mod LeaseEntries
+pub mod Holders

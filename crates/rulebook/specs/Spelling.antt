@@ -7,7 +7,7 @@ use Rattle.std.specs.Cmp.Lexicographic.{slice_cmp}
 use Rattle.trec_formats.specs.declared.Topic.{Topic}
 use Rattle.trec_formats.specs.declared.TopicList.{TopicList}
 use Rattle.trec_formats.specs.Names.{is_name, is_docno, is_between}
-use Rattle.rulebook.specs.declared.limits.TheConstants.{MAX_MOMENT}
+use Rattle.rulebook.specs.Limits.{max_moment}
 use Rattle.rulebook.specs.declared.rules.Role.{Role}
 use Rattle.rulebook.specs.declared.rules.Role.TheVariants.{Organiser, Group, Assessor}
 use Rattle.rulebook.specs.declared.rules.Rules.{Rules}
@@ -110,7 +110,7 @@ is_number None = true
 is_number (Some n) = nat_lt n (2 ^ 63)
 
 abbrev pub has_spelling : EntryCore → Bool
-has_spelling e = is_name e.caller.name && is_number e.number && nat_le e.moment MAX_MOMENT && is_plain e.command
+has_spelling e = is_name e.caller.name && is_number e.number && nat_le e.moment max_moment && is_plain e.command
 
 -- the bytes are the entry's
 abbrev pub IsSpelling : Text → EntryCore → Type 0

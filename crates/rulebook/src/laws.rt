@@ -3,6 +3,7 @@
 ghost use Rattle.rulebook.specs.Additions.{AddedAreAccepted, EntriesAreFew, FoundingFits, LegalFit, MomentsAreInTime, RunsAreFew};
 ghost use Rattle.rulebook.specs.Entries.{GradedAreOnTrail, GradedAreThere, LabelledAreListed, LabelsJoin, QuietEntriesKeepGrades, RulingsJoin};
 ghost use Rattle.rulebook.specs.Facts.{GradesTellTheirLeases, KeptRepliesAreFirst, LabelsAreFew, LabelsAreTheLastGrades, LabelsGoByLeases, LeasesEndOnce, LiveRunsAreNotWithdrawn, NumbersAreUsedOnce, TopicsAreGivenOnce};
+ghost use Rattle.rulebook.specs.Limits.{LimitsAreTheRules};
 ghost use Rattle.rulebook.specs.Plain.{CommandsAreAnsweredShort, EntriesArePlain, RepliesArePlain};
 
 /// An entry that gives no label and no ruling leaves each label, ruling, effective grade and trail.
@@ -55,6 +56,11 @@ pub fn commands_are_answered_short()
 /// The entry that a request adds is accepted by its own core alone, and keeps the list legal.
 pub fn added_are_accepted()
     ensures { AddedAreAccepted }
+{}
+
+/// The numbers that are looked at are the limits of the rules.
+pub fn limits_are_the_rules()
+    ensures { LimitsAreTheRules }
 {}
 
 pub fn entries_are_few()

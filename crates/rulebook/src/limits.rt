@@ -1,4 +1,5 @@
-//! The limits of a campaign: its topics, runs, lines, docnos, entries and moments, and the bytes of an entry.
+//! The limits of a campaign as the code looks at them: its topics, runs, lines, docnos, entries and moments, and the
+//! bytes of an entry. `limits_are_the_rules` says that they are those of `specs/Limits.antt`.
 
 /// How many topics a campaign has at most.
 pub const MAX_TOPICS: u32 = 250;

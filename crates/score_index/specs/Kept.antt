@@ -1,5 +1,5 @@
 -- What a board keeps beside what contracts see.
-use Rattle.std.specs.Prelude.{◌≡◌, ◌≢◌, ℕ, ◌+◌, ◌-◌, ◌<◌, ◌≤◌, ◌^◌, Bool, false, List, [], ◌∷◌, ◌++◌, Option, Some, None, All, AllPairs, filter, find, length, map, nat_lt, not, replicate, slice_set, vec_capacity, vec_len}
+use Rattle.std.specs.Prelude.{◌≡◌, ℕ, ◌+◌, ◌-◌, ◌<◌, ◌≤◌, ◌^◌, Bool, false, List, [], ◌∷◌, Option, Some, None, All, AllPairs, filter, find, if◌then◌else◌, length, map, nat_lt, not, replicate, slice_set, vec_capacity, vec_len}
 use Rattle.std.specs.Option.{option_map_or}
 use Rattle.decimal_rank.specs.Places.{AreDistinct, place_in}
 use Rattle.decimal_rank.specs.declared.naming.DocId.{DocId}
@@ -29,15 +29,15 @@ pub record IsListKept (relevant non_relevant : ℕ) (list : ScoreList) : Type 0 
   pub rel_is : list.rel ≡ relevant
   pub low_is : list.low ≡ non_relevant
 
--- no run has two lists on a topic
-abbrev pub AreOfOtherRuns : List ScoreList → Type 0
-AreOfOtherRuns lists = AllPairs (λ one other. one.run.0 ≢ other.run.0) lists
+-- lists ascend by run, so that no run has two
+abbrev pub AreByRun : List ScoreList → Type 0
+AreByRun lists = AllPairs (λ one other. one.run.0 < other.run.0) lists
 
 pub record IsTopicKept (topic : TopicScores) : Type 0 where
   pub few_relevant : topic.relevant ≤ 268435456
   pub few_non_relevant : topic.non_relevant ≤ 268435456
   pub lists : All (IsListKept topic.relevant topic.non_relevant) topic.lists
-  pub once : AreOfOtherRuns topic.lists
+  pub by_run : AreByRun topic.lists
 
 -- a topic keeps the cell of the empty list
 abbrev pub HasEmptyCell : ℕ → Topic → Type 0
@@ -100,9 +100,14 @@ listed_with level graded run docs rel low = record {
   low = low;
 }
 
+-- lists with one more, before the first of a greater run
+abbrev pub placed : ScoreList → List ScoreList → List ScoreList
+placed list [] = list ∷ []
+placed list (one ∷ lists) = if nat_lt one.run.0 list.run.0 then one ∷ placed list lists else list ∷ one ∷ lists
+
 -- a topic with one more list
 abbrev pub with_list : ScoreList → TopicScores → TopicScores
-with_list list topic = record { relevant = topic.relevant; non_relevant = topic.non_relevant; lists = topic.lists ++ list ∷ [] }
+with_list list topic = record { relevant = topic.relevant; non_relevant = topic.non_relevant; lists = placed list topic.lists }
 
 -- a count after one document was counted or not, and now is or not
 abbrev pub recounted_from : ℕ → Bool → Bool → ℕ

@@ -120,7 +120,8 @@ impl Board {
     }
 
     /// Gives a document of a topic, whose grade now is `old`, the grade `new`, or takes its grade
-    /// away. A step is an entry that `Ranking::place_of` reads, or a node of a tree.
+    /// away. A step is an entry that `Ranking::place_of` reads, or a node or a
+    /// word of a tree.
     pub fn regrade<L: Ledger>(
         &mut self,
         topic: u16,

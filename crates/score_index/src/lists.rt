@@ -1,9 +1,11 @@
 //! A run's ranked list on a topic, whose cell follows each change of a grade.
-ghost use Rattle.std.specs.Prelude.{◌≡◌, ℕ, ◌+◌, ◌-◌, ◌*◌, ◌<◌, ◌≤◌, ◌==◌, if◌then◌else◌, All, Some, count_by, find, length, map, min, position, sum_by, vec_capacity, vec_len};
+ghost use Rattle.std.specs.Prelude.{◌≡◌, ℕ, ◌+◌, ◌-◌, ◌*◌, ◌<◌, ◌≤◌, ◌==◌, if◌then◌else◌, All, Some, false, true, nat_lt, count_by, find, length, map, min, position, sum_by, vec_capacity, vec_len};
+ghost use Rattle.std.specs.List.Sorted.{IsPartitionPoint};
 ghost use Rattle.std.specs.Option.{option_copied};
+ghost use Rattle.std.specs.Ordering.{nat_cmp};
 ghost use Rattle.decimal_rank.specs.Places.{levels};
 ghost use Rattle.qrels_view.specs.Grades.{effective_in, is_non_relevant, is_relevant};
-ghost use Rattle.score_index.specs.Kept.{IsRoom, listed_with, recounted, remarked, remarked_at, without};
+ghost use Rattle.score_index.specs.Kept.{AreByRun, IsRoom, listed_with, recounted, remarked, remarked_at, without};
 ghost use Rattle.score_index.specs.KeptSums.{AreSums, CanFollow, CanRemark, HasMark, is_lower_mark, is_relevant_mark, list_places};
 ghost use Rattle.score_index.specs.Places.{cell_by};
 ghost use Rattle.score_index.specs.Scores.{is_of, list_steps};
@@ -15,6 +17,7 @@ use decimal_rank::{DocId, Ranking, Steps};
 use depth_pool::RunId;
 use measures::Cell;
 use qrels_view::View;
+use std::cmp::Ordering;
 use std::marker::Model;
 use std::sync::ledger::{Blank, Ledger};
 
@@ -166,11 +169,38 @@ fn is_of(list: &RunList, run: RunId) -> bool
     list.run.0 == run.0
 }
 
-// The list of a run.
+// How a list's run stands to a run.
+fn order_of(list: &RunList, run: RunId) -> Ordering
+    ensures { result ≡ nat_cmp list.now.run.0 run.0 }
+{
+    list.run.0.cmp(&run.0)
+}
+
+// The list of a run, among lists by run.
 pub(crate) fn list_of(lists: &[RunList], run: RunId) -> Option<&RunList>
+    requires { AreByRun lists.now }
     ensures { option_copied result ≡ find (is_of run) lists.now }
 {
-    lists.iter().find(|list| is_of(list, run))
+    match lists.binary_search_by(|list| order_of(list, run)) {
+        Ok(place) => Some(&lists[place]),
+        Err(_) => None,
+    }
+}
+
+// Whether a list's run is less than a run.
+fn is_before(list: &RunList, run: RunId) -> bool
+    ensures { result ≡ nat_lt list.now.run.0 run.0 }
+{
+    list.run.0 < run.0
+}
+
+// The place of one more list among lists by run.
+pub(crate) fn place_for(lists: &[RunList], run: RunId) -> usize
+    requires { AreByRun lists.now }
+    ensures within { result ≤ length lists.now }
+    ensures place { IsPartitionPoint (λ list. nat_lt list.run.0 run.0 ≡ true) (λ list. nat_lt list.run.0 run.0 ≡ false) lists.now result }
+{
+    lists.partition_point(|list| is_before(list, run))
 }
 
 // Takes the lists of a run out.

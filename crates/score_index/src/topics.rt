@@ -4,12 +4,12 @@ ghost use Rattle.measures.specs.Cells.{IsSound};
 ghost use Rattle.measures.specs.Totals.{sums_of};
 ghost use Rattle.measures.specs.declared.cells.Cell.{Cell as OneCell};
 ghost use Rattle.qrels_view.specs.Grades.{as_number, is_non_relevant, is_relevant};
-ghost use Rattle.score_index.specs.Kept.{HasEmptyCell, IsCounted, IsTopicKept, KeepsPlaces, has_grades, kept_cell, seen, spare, with_list, with_regrade, without_lists};
+ghost use Rattle.score_index.specs.Kept.{AreByRun, HasEmptyCell, IsCounted, IsTopicKept, KeepsPlaces, has_grades, kept_cell, seen, spare, with_list, with_regrade, without_lists};
 ghost use Rattle.score_index.specs.KeptSums.{CanRemark};
 ghost use Rattle.score_index.specs.Scores.{list_steps, new_topic};
 ghost use Rattle.score_index.specs.Standing.{StaysSmall};
 
-use crate::lists::{RunList, drop_lists, list_of, regrade_lists};
+use crate::lists::{RunList, drop_lists, list_of, place_for, regrade_lists};
 use crate::marks::mark_of;
 use decimal_rank::{DocId, Memory, Steps, is_non_relevant, is_relevant};
 use depth_pool::RunId;
@@ -58,14 +58,16 @@ pub(crate) fn reserve_lists(topics: &mut [Topic], count: usize) -> Result<(), Me
     Ok(())
 }
 
-// Adds a list.
+// Adds a list, at the place of its run.
 pub(crate) fn add_list(topic: &mut Topic, list: RunList)
-    requires { 1 ≤ spare topic.old }
+    requires room { 1 ≤ spare topic.old }
+    requires by_run { AreByRun topic.old.lists.items }
     ensures seen { seen topic.new ≡ with_list list (seen topic.old) }
     ensures empty { topic.new.empty ≡ topic.old.empty }
     ensures places { spare topic.old ≤ spare topic.new + 1 }
 {
-    topic.lists.push(list).unwrap();
+    let place = place_for(topic.lists.as_slice(), list.run);
+    topic.lists.insert(place, list).unwrap();
 }
 
 // Takes the lists of a run out.

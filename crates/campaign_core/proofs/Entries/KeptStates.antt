@@ -70,7 +70,7 @@ numbers-begin s kept = subst (λ (all : List Numbered). BeginsWith all s.numbers
 -- what was kept and cut stays kept, with what joined it and what is prepared now
 pub kept-on : (old new : Inside) → IsKept old → IsUnchanged old.campaign new.campaign → new.docnos_kept ≡ old.docnos_kept → new.numbers_kept ≡ old.numbers_kept
     → BeginsWith (take old.docnos_kept old.docnos) new.docnos → BeginsWith (take old.numbers_kept old.numbers) new.numbers
-    → MatchOption new.prepared (Unit {0}) (λ p. IsReadyWith new.campaign new.docnos new.numbers p.value) → IsKept new
+    → MatchOption new.prepared (new.campaign.assessment.pending ≡ None) (λ p. IsReadyWith new.campaign new.docnos new.numbers p.value) → IsKept new
 kept-on old new kept same docnos_kept numbers_kept docnos numbers ready =
     let back = sym same.history_is in
     record {
@@ -82,13 +82,22 @@ kept-on old new kept same docnos_kept numbers_kept docnos numbers ready =
       ready = ready;
     }
 
-nothing-ready : {X Y : Type 0} (f : X → Y) (P : X → Type 0) (o : Option X) → option_map f o ≡ None → MatchOption o (Unit {0}) P
-nothing-ready f P None is = tt
-nothing-ready f P (Some x) is = cc is
+nothing-ready : {X Y : Type 0} (f : X → Y) (Idle : Type 0) (P : X → Type 0) (o : Option X) → option_map f o ≡ None → Idle → MatchOption o Idle P
+nothing-ready f Idle P None is idle = idle
+nothing-ready f Idle P (Some x) is idle = cc is
 
--- the same, where nothing is prepared
+nothing-pending : {X Y : Type 0} (f : X → Y) (Idle : Type 0) (P : X → Type 0) (o : Option X) → option_map f o ≡ None → MatchOption o Idle P → Idle
+nothing-pending f Idle P None is idle = idle
+nothing-pending f Idle P (Some x) is ready = cc is
+
+-- where no entry is prepared, no change is pending
+pub idle-of : (s : Inside) → IsKept s → option_map (λ p. p.value) s.prepared ≡ None → s.campaign.assessment.pending ≡ None
+idle-of s kept none = nothing-pending (λ p. p.value) (s.campaign.assessment.pending ≡ None) (λ p. IsReadyWith s.campaign s.docnos s.numbers p.value) s.prepared none kept.ready
+
+-- the same, where nothing is prepared and nothing is pending
 pub kept-idle : (old new : Inside) → IsKept old → IsUnchanged old.campaign new.campaign → new.docnos_kept ≡ old.docnos_kept → new.numbers_kept ≡ old.numbers_kept
     → BeginsWith (take old.docnos_kept old.docnos) new.docnos → BeginsWith (take old.numbers_kept old.numbers) new.numbers
-    → option_map (λ p. p.value) new.prepared ≡ None → IsKept new
-kept-idle old new kept same docnos_kept numbers_kept docnos numbers none =
-    kept-on old new kept same docnos_kept numbers_kept docnos numbers (nothing-ready (λ p. p.value) (λ p. IsReadyWith new.campaign new.docnos new.numbers p.value) new.prepared none)
+    → option_map (λ p. p.value) new.prepared ≡ None → new.campaign.assessment.pending ≡ None → IsKept new
+kept-idle old new kept same docnos_kept numbers_kept docnos numbers none idle =
+    kept-on old new kept same docnos_kept numbers_kept docnos numbers
+    (nothing-ready (λ p. p.value) (new.campaign.assessment.pending ≡ None) (λ p. IsReadyWith new.campaign new.docnos new.numbers p.value) new.prepared none idle)

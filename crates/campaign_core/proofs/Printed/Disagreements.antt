@@ -1,18 +1,19 @@
 -- The documents of a topic whose labels differ, by number and by docno.
 use Rattle.std.proofs.Common.{◌≡◌, ◌&&◌, ℕ, suc, Bool, true, false, List, [], ◌∷◌, Option, filter, length, refl, sym, ap, ◌∙◌, arith, subst, lt-ltb}
 use Rattle.std.specs.Prelude.{◌==◌, is_none, nat_lt}
-use Rattle.std.specs.List.{list_all}
+use Rattle.std.specs.List.{flat_map, list_all}
 use Rattle.std.specs.Str.{bytes_eq}
 use Rattle.std.proofs.lemmas.Bool.{ltb-false}
 use Rattle.decimal_rank.specs.declared.naming.DocId.{DocId}
 use Rattle.labels.specs.declared.given.Given.{Given}
-use Rattle.labels.specs.Grades.{shows_disagreement}
+use Rattle.labels.specs.Grades.{differ as differ_there, shows_disagreement}
 use Rattle.labels.specs.Labelled.{grades_of}
 use Rattle.labels.specs.Marked.{disagrees_at, given_at, is_listed, ruling_at}
 use Rattle.rulebook.specs.Spelling.{differ}
 use Rattle.rulebook.specs.Words.{Text, contains_text, in_order}
 use Rattle.rulebook.specs.Campaign.{History, need}
 use Rattle.rulebook.specs.Entries.{LabelledAreListed}
+use Rattle.rulebook.specs.Pages.{disagreement_line, disagreement_lines}
 use Rattle.rulebook.specs.Grades.{disagrees, is_labelled, labelled, labels_on, ruling}
 use Rattle.campaign_core.specs.Numbers.{doc_in}
 use Rattle.campaign_core.specs.Printed.{IsTopicOf}
@@ -59,6 +60,18 @@ module _ (H : History) (names : List Text) (topic : TopicFacts) (is : IsTopicOf 
           let none : given_at topic.marked doc ≡ [] = is.labelled.given_named doc (ltb-false doc.0 (length names) less) in
           let no_sign : differs_there doc ≡ false = ap (λ (gs : List Given). shows_disagreement topic.need (grades_of gs) (ruling_at topic.marked doc)) none ∙ no-labels topic.need (ruling_at topic.marked doc) in
           cc (no_sign, shows)
+
+  -- where a topic doesn't need two labels no labels differ
+  module _ (other : (topic.need == 2) ≡ false) where
+    agrees : (doc : Text) → disagrees H topic.id doc ≡ false
+    agrees doc = ap (λ t. t && differ_there (grades_of (labels_on H topic.id doc)) && is_none (ruling H topic.id doc)) (ap (λ n. n == 2) (sym need-is) ∙ other)
+
+    none-disagree : (docs : List Text) → filter (disagrees H topic.id) docs ≡ []
+    none-disagree [] = refl
+    none-disagree (doc ∷ docs) = rw (agrees doc) (none-disagree docs)
+
+    pub no-lines : disagreement_lines H topic.id ≡ []
+    no-lines = ap (λ docs. flat_map (disagreement_line topic.id) (in_order docs)) (none-disagree (labelled H topic.id))
 
   module _ (docs : List DocId) (each : (doc : DocId) → is_listed docs doc ≡ differs_there doc) where
     all-inside : list_all (within names) docs ≡ true

@@ -1,6 +1,6 @@
 -- What a connection comes to, as its pieces are read.
 use Rattle.std.proofs.Common.{◌≡◌, ℕ, ◌+◌, ◌<◌, ◌≤◌, ◌^◌, List, [], ◌∷◌, ◌++◌, Bool, true, false, length, refl, sym, ap, ◌∙◌, arith, subst, inl, inr, append-nil, length-append}
-use Rattle.std.specs.Prelude.{nat_lt}
+use Rattle.std.specs.Prelude.{◌⊎◌, IfSome, nat_lt}
 use Rattle.std.specs.Io.KnownBytes.{IsAtEnd}
 use Rattle.std.proofs.KnownBytes.{Appends-nil, Appends-trans, Consumes-nil, Consumes-trans}
 use Rattle.std.proofs.lemmas.Bool.{cond_both, ltb-true, ltb-false}
@@ -11,8 +11,8 @@ use Rattle.http_wire.specs.Messages.{Needs, ReadsOn, Closed, Refused}
 use Rattle.campaign_server.specs.declared.ends.End.{End}
 use Rattle.campaign_server.specs.declared.ends.End.TheVariants as end
 use Rattle.campaign_server.specs.Chains.{Said, requests_of}
-use Rattle.campaign_server.specs.Connections.{Ends, EndsOn, Hears, ReadsNoMore, Spoke, SpokeAll, at_pause}
-use Rattle.campaign_server.specs.Links.{Clock, LinkState}
+use Rattle.campaign_server.specs.Connections.{Ends, EndsOn, Hears, IsLast, ReadsNoMore, Spoke, SpokeAll, at_pause}
+use Rattle.campaign_server.specs.Links.{Clock, LinkState, Reading}
 use Rattle.campaign_server.specs.LoopParts.{EndsHere, IsAtPause, IsPiece, IsSoFar, at_end, last_end, worn}
 
 pub hears_none : (old : LinkState) → Hears old old []
@@ -28,11 +28,28 @@ hears_more old mid new bytes piece first second = record {
 heard_still : (old mid new : LinkState) (bytes : List ℕ) → new.reading ≡ mid.reading → Hears old mid bytes → Hears old new bytes
 heard_still old mid new bytes same heard = record { left = rw same heard.left; taken = rw same heard.taken }
 
+-- what was read no further, where the reading stays
+no_more_still : (old mid new : LinkState) (bytes : List ℕ) → new.reading ≡ mid.reading → ReadsNoMore old mid bytes → ReadsNoMore old new bytes
+no_more_still old mid new bytes same stands = record {
+  before = stands.before;
+  piece = stands.piece;
+  split = stands.split;
+  few = stands.few;
+  last = subst (λ (reading : Reading). IfSome reading.last (λ given. given ≡ length stands.piece) ⊎ (reading ≡ old.reading)) (sym same) stands.last;
+  requests = stands.requests;
+  clean = stands.clean;
+  goes_on = stands.goes_on;
+}
+
+none_read : (was : LinkState) → ReadsNoMore was was []
+none_read was = record { before = []; piece = []; split = refl; few = omega arith; last = inr refl; requests = []; clean = true; goes_on = ((Needs, refl, refl), refl) }
+
 -- no bytes were answered yet
 pub so_none : (talks : List Said → Type 0) (was : LinkState) (rest : List ℕ) → rest ≡ [] → talks [] → IsSoFar talks was rest was 0 true
 so_none talks was rest none talk = record {
   bytes = [];
   heard = hears_none was;
+  no_more = none_read was;
   count = refl;
   pause = record {
     spoke = record {
@@ -47,20 +64,23 @@ so_none talks was rest none talk = record {
 }
 
 -- nothing is read behind bytes that go on
-pause_no_more : (talks : List Said → Type 0) (was : LinkState) (bytes piece rest : List ℕ) (now : LinkState) (clean : Bool) → IsAtPause talks was bytes rest now clean
-    → length piece ≤ 8192 → ReadsNoMore (bytes ++ piece)
-pause_no_more talks was bytes piece rest now clean pause few = record {
+pause_no_more : (talks : List Said → Type 0) (was : LinkState) (bytes piece rest : List ℕ) (now is : LinkState) (clean : Bool) → IsAtPause talks was bytes rest now clean
+    → length piece ≤ 8192 → IsLast is (length piece) → ReadsNoMore was is (bytes ++ piece)
+pause_no_more talks was bytes piece rest now is clean pause few last = record {
   before = bytes;
   piece = piece;
   split = refl;
   few = few;
+  last = inl last;
   requests = requests_of pause.all.said;
   clean = clean;
   goes_on = pause.all.are_messages;
 }
 
-pause_stands : (talks : List Said → Type 0) (was : LinkState) (bytes rest : List ℕ) (now : LinkState) (clean : Bool) → IsAtPause talks was bytes rest now clean → ReadsNoMore bytes
-pause_stands talks was bytes rest now clean pause = subst ReadsNoMore (append-nil bytes) (pause_no_more talks was bytes [] rest now clean pause (omega arith))
+-- and the last read gave nothing
+pause_stands : (talks : List Said → Type 0) (was : LinkState) (bytes rest : List ℕ) (now is : LinkState) (clean : Bool) → IsAtPause talks was bytes rest now clean → IsLast is 0
+    → ReadsNoMore was is bytes
+pause_stands talks was bytes rest now is clean pause last = subst (ReadsNoMore was is) (append-nil bytes) (pause_no_more talks was bytes [] rest now is clean pause (omega arith) last)
 
 module _ (talks : Clock → List Said → Type 0) (was : LinkState) (rest : List ℕ) (now : LinkState) (taken : ℕ) (clean : Bool) (so : IsSoFar (talks now.clock) was rest now taken clean) where
   -- a piece is fed
@@ -84,33 +104,33 @@ module _ (talks : Clock → List Said → Type 0) (was : LinkState) (rest : List
   }
 
   -- a read failed
-  pub ends_read_fault : (mid : LinkState) → Hears now mid [] → mid.writing ≡ now.writing → mid.clock ≡ now.clock → was.reading.faults ≤ now.reading.faults
+  pub ends_read_fault : (mid : LinkState) → Hears now mid [] → IsLast mid 0 → mid.writing ≡ now.writing → mid.clock ≡ now.clock → was.reading.faults ≤ now.reading.faults
       → Rose now.reading.faults mid.reading.faults → Ends (talks mid.clock) was mid end.ReadFault
-  ends_read_fault mid heard writing clock later rose = record {
+  ends_read_fault mid heard last writing clock later rose = record {
     bytes = so.bytes;
     heard = subst (Hears was mid) (append-nil so.bytes) (hears_more was now mid so.bytes [] so.heard heard);
     ends = ((clean, all_still mid writing clock), let risen : Rose was.reading.faults mid.reading.faults = grind arith in risen);
-    no_more = pause_stands (talks now.clock) was so.bytes rest now clean so.pause;
+    no_more = pause_stands (talks now.clock) was so.bytes rest now mid clean so.pause last;
   }
 
   -- there was no memory for a piece
   pub ends_memory : (laws : (bytes : List ℕ) (requests : List HttpRequest) (old new more : List ℕ) → ReadsOn bytes requests old new more) (piece : List ℕ) (mid : LinkState)
-      → length piece ≤ 8192 → Hears now mid piece → mid.writing ≡ now.writing → mid.clock ≡ now.clock → Ends (talks mid.clock) was mid end.Memory
-  ends_memory laws piece mid few heard writing clock = record {
+      → length piece ≤ 8192 → Hears now mid piece → IsLast mid (length piece) → mid.writing ≡ now.writing → mid.clock ≡ now.clock → Ends (talks mid.clock) was mid end.Memory
+  ends_memory laws piece mid few heard last writing clock = record {
     bytes = so.bytes ++ piece;
     heard = hears_more was now mid so.bytes piece so.heard heard;
     ends = (rest ++ piece, piece_spoken laws piece mid writing clock);
-    no_more = pause_no_more (talks now.clock) was so.bytes piece rest now clean so.pause few;
+    no_more = pause_no_more (talks now.clock) was so.bytes piece rest now mid clean so.pause few last;
   }
 
   -- the end of the link
-  pub ends_at_end : (piece : List ℕ) (mid : LinkState) → length piece ≡ 0 → Hears now mid piece → IsAtEnd mid.reading.left → mid.writing ≡ now.writing → mid.clock ≡ now.clock → taken < 2 ^ 40
+  pub ends_at_end : (piece : List ℕ) (mid : LinkState) → length piece ≡ 0 → Hears now mid piece → IsLast mid 0 → IsAtEnd mid.reading.left → mid.writing ≡ now.writing → mid.clock ≡ now.clock → taken < 2 ^ 40
       → Ends (talks mid.clock) was mid (at_end clean)
-  ends_at_end piece mid none heard at_end_ writing clock few = record {
+  ends_at_end piece mid none heard last at_end_ writing clock few = record {
     bytes = so.bytes;
     heard = subst (Hears was mid) (empty_behind so.bytes piece none) (hears_more was now mid so.bytes piece so.heard heard);
     ends = by_clean clean (all_still mid writing clock);
-    no_more = pause_stands (talks now.clock) was so.bytes rest now clean so.pause;
+    no_more = pause_stands (talks now.clock) was so.bytes rest now mid clean so.pause last;
   }
     where
       empty_behind : (bytes piece : List ℕ) → length piece ≡ 0 → bytes ++ piece ≡ bytes
@@ -130,29 +150,36 @@ module _ (talks : Clock → List Said → Type 0) (was : LinkState) (rest : List
     bytes = so.bytes;
     heard = so.heard;
     ends = (so.count ∙ full, (at_pause clean, so.pause.all));
-    no_more = pause_stands (talks now.clock) was so.bytes rest now clean so.pause;
+    no_more = so.no_more;
   }
 
+  -- the bytes before a piece that was read went on
+  piece_no_more : (piece : List ℕ) (mid : LinkState) (count : ℕ) (is : LinkState) → IsPiece taken piece count → IsLast mid count → is.reading ≡ mid.reading → ReadsNoMore was is (so.bytes ++ piece)
+  piece_no_more piece mid count is sized last reading =
+      no_more_still was mid is (so.bytes ++ piece) reading
+      (pause_no_more (talks now.clock) was so.bytes piece rest now mid clean so.pause (omega (arith, sized.size, sized.few)) (subst (IsLast mid) (sym sized.size) last))
+
   -- all requests of the piece are answered, and more is read
-  pub so_more : (other : Clock → List Said → Type 0) (piece : List ℕ) (mid : LinkState) (count : ℕ) (after : List ℕ) (is : LinkState) (next : Bool) → IsPiece taken piece count → Hears now mid piece
+  pub so_more : (other : Clock → List Said → Type 0) (piece : List ℕ) (mid : LinkState) (count : ℕ) (after : List ℕ) (is : LinkState) (next : Bool) → IsPiece taken piece count → Hears now mid piece → IsLast mid count
       → IsAtPause (other is.clock) was (so.bytes ++ piece) after is next → is.reading ≡ mid.reading → IsSoFar (other is.clock) was after is (taken + count) next
-  so_more other piece mid count after is next sized heard pause reading = record {
+  so_more other piece mid count after is next sized heard last pause reading = record {
     bytes = so.bytes ++ piece;
     heard = heard_still was mid is (so.bytes ++ piece) reading (hears_more was now mid so.bytes piece so.heard heard);
+    no_more = piece_no_more piece mid count is sized last reading;
     count = length-append so.bytes piece ∙ ap (λ n. n + length piece) so.count ∙ ap (λ n. taken + n) sized.size;
     pause = pause;
   }
 
   -- the connection ends within a piece
-  pub ends_last : (other : Clock → List Said → Type 0) (piece : List ℕ) (mid : LinkState) (count : ℕ) (is : LinkState) (e : End) → IsPiece taken piece count → Hears now mid piece
+  pub ends_last : (other : Clock → List Said → Type 0) (piece : List ℕ) (mid : LinkState) (count : ℕ) (is : LinkState) (e : End) → IsPiece taken piece count → Hears now mid piece → IsLast mid count
       → EndsHere (other is.clock) was (so.bytes ++ piece) is e → is.reading ≡ mid.reading → Ends (other is.clock) was is (last_end e (taken + count))
-  ends_last other piece mid count is e sized heard here reading = record {
+  ends_last other piece mid count is e sized heard last here reading = record {
     bytes = so.bytes ++ piece;
     heard = heard_still was mid is (so.bytes ++ piece) reading (hears_more was now mid so.bytes piece so.heard heard);
     ends = cond_both (nat_lt (taken + count) (2 ^ 40)) e (worn e) (λ x. EndsOn (other is.clock) (so.bytes ++ piece) was is x)
         (λ few. by_end e here (omega (arith, ltb-true (taken + count) (2 ^ 40) few, size)))
         (λ full. by_worn e here (let all : length (so.bytes ++ piece) ≡ 2 ^ 40 = omega (arith, ltb-false (taken + count) (2 ^ 40) full, size, sized.room) in all));
-    no_more = pause_no_more (talks now.clock) was so.bytes piece rest now clean so.pause (omega (arith, sized.size, sized.few));
+    no_more = piece_no_more piece mid count is sized last reading;
   }
     where
       size : length (so.bytes ++ piece) ≡ taken + count
@@ -183,5 +210,5 @@ ends_before talks was talk = record {
   bytes = [];
   heard = hears_none was;
   ends = ([], (so_none talks was [] refl talk).pause.spoke);
-  no_more = pause_stands talks was [] [] was true (so_none talks was [] refl talk).pause;
+  no_more = none_read was;
 }

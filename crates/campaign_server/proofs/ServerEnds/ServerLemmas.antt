@@ -1,7 +1,8 @@
 -- What a server leaves of its door.
-use Rattle.std.proofs.Common.{◌≡◌, ◌≢◌, ◌⊎◌, ℕ, ◌+◌, ◌-◌, ◌^◌, ◌≤◌, Bool, false, List, [], ◌∷◌, ◌++◌, None, Some, IfSome, length, refl, sym, ap, ◌∙◌, arith, subst, inl, inr, length-append}
+use Rattle.std.proofs.Common.{◌≡◌, ◌≢◌, ◌⊎◌, ℕ, ◌+◌, ◌-◌, ◌^◌, ◌≤◌, Bool, false, List, [], ◌∷◌, ◌++◌, None, Some, IfSome, length, refl, sym, ap, ◌∙◌, arith, subst, inl, inr, append_assoc, length-append}
 use Rattle.std.specs.Prelude.{Option}
 use Rattle.decimal_rank.specs.Causes.{Rose}
+use Rattle.hall.specs.Places.{Apart}
 use Rattle.routes.specs.declared.keys.KeyRow.{KeyRow}
 use Rattle.rulebook.specs.Campaign.{History}
 use Rattle.rulebook.specs.Stories.{AtMost, Story}
@@ -12,6 +13,7 @@ use Rattle.campaign_server.specs.Acceptors.{Closes}
 use Rattle.campaign_server.specs.Records.{AreServed, NoneShort}
 use Rattle.campaign_server.specs.Servers.{Leaves, Settles}
 use Rattle.campaign_server.specs.Workers.{Worked}
+use Rattle.campaign_server.proofs.ServerEnds.PlaceLemmas.{front_apart}
 use Rattle.campaign_server.proofs.ServerEnds.WorkerLemmas.{works_later}
 
 -- a door through which nothing came
@@ -25,16 +27,24 @@ leaves_shut keys workers limit port start after how (Some t) other shut = record
   all = λ e. ap length shut.2 ∙ sym shut.1;
   none_short = λ e. subst NoneShort (sym shut.2) tt;
   faults = 0;
-  served = subst (λ records. AreServed keys (length start.list) start.faults after.list after.faults records 0) (sym shut.2) refl;
+  places = [];
+  served = subst (λ records. AreServed keys (length start.list) start.faults after.list after.faults records 0 []) (sym shut.2) (refl, refl);
   licensed = inl (omega arith);
   ended = λ e. absurd (other e);
 }
 
-served_front : (keys : List KeyRow) (n c : ℕ) (S : History) (last : ℕ) (part rest : List Ended) (told : ℕ) → AreServed keys n c S last (part ++ rest) told
-    → (fewer : ℕ) × AreServed keys n c S last part fewer × (fewer ≤ told)
-served_front keys n c S last [] rest told served = (0, refl, omega arith)
-served_front keys n c S last (first ∷ part) rest told (here, there, one, others, is) =
-    let (fewer, served, few) = served_front keys n c S last part rest there others in (here + fewer, (here, fewer, one, served, refl), omega (arith, is, few))
+served_front : (keys : List KeyRow) (n c : ℕ) (S : History) (last : ℕ) (part rest : List Ended) (told : ℕ) (places : List ℕ) → AreServed keys n c S last (part ++ rest) told places
+    → (fewer : ℕ) × (few : List ℕ) × (more : List ℕ) × AreServed keys n c S last part fewer few × (fewer ≤ told) × (places ≡ few ++ more)
+served_front keys n c S last [] rest told places served = (0, [], places, (refl, refl), omega arith, refl)
+served_front keys n c S last (first ∷ part) rest told places (here, there, own, others, one, are, is, all, apart) =
+    let (fewer, few, more, served, less, split) = served_front keys n c S last part rest there others are in (
+      here + fewer,
+      own ++ few,
+      more,
+      (here, fewer, own, few, one, served, refl, refl, front_apart own few more (subst (Apart own) split apart)),
+      omega (arith, is, less),
+      all ∙ ap (λ ps. own ++ ps) split ∙ sym (append_assoc own few more),
+    )
 
 -- a server ends with a fault of the door only where one is counted
 pub fault_counted : (port opening limit accepted : ℕ) (door : DoorState) (end how : ServeEnd) (records : List Ended) (short : Bool) (new : Option Told) (faults : ℕ)
@@ -43,10 +53,10 @@ fault_counted port opening limit accepted door end how records short new faults 
 fault_counted port opening limit accepted door end how records short new faults closes (inr (memory, handed)) is e =
     absurd (let wrong : serve_end.Memory ≡ serve_end.DoorFault = sym memory ∙ e in cc wrong)
 
-module _ (keys : List KeyRow) (workers limit port : ℕ) (start seen after : Story) (opening accepted : ℕ) (door : DoorState) (end how : ServeEnd) (records : List Ended) (short : Bool)
-    (closes : Closes port opening limit door accepted end) (all_counted : accepted ≡ length records) (worked : Worked keys start workers seen records short) (most : AtMost seen after) where
-  at_end : Worked keys start workers after records short
-  at_end = works_later keys start workers seen after records short most worked
+module _ (keys : List KeyRow) (workers limit port : ℕ) (start seen after : Story) (mine : List ℕ) (opening accepted : ℕ) (door : DoorState) (end how : ServeEnd) (records : List Ended) (short : Bool)
+    (closes : Closes port opening limit door accepted end) (all_counted : accepted ≡ length records) (worked : Worked keys start workers seen mine records short) (most : AtMost seen after) where
+  at_end : Worked keys start workers after mine records short
+  at_end = works_later keys start workers seen after mine records short most worked
 
   -- what is known of a door that told
   record Known (t : Told) : Type 0 where
@@ -67,7 +77,8 @@ module _ (keys : List KeyRow) (workers limit port : ℕ) (start seen after : Sto
         all = λ e. many;
         none_short = λ e. subst NoneShort (sym served) (at_end.none_short not_short);
         faults = at_end.told;
-        served = subst (λ rs. AreServed keys (length start.list) start.faults after.list after.faults rs at_end.told) (sym served) at_end.served;
+        places = at_end.places;
+        served = subst (λ rs. AreServed keys (length start.list) start.faults after.list after.faults rs at_end.told at_end.places) (sym served) at_end.served;
         licensed = at_end.licensed;
         ended = λ e. ended_so (ap (λ (x : Told). x.left) is) accepted_is (known.ended (sym same ∙ e));
       }
@@ -81,24 +92,25 @@ module _ (keys : List KeyRow) (workers limit port : ℕ) (start seen after : Sto
   leaves_part t u known memory part rest split is =
       let served : u.served ≡ part = ap (λ (x : Told). x.served) is ∙ ap (λ before. before ++ part) known.none in
       let accepted_is : u.accepted ≡ accepted = ap (λ (x : Told). x.accepted) is ∙ known.counted in
-      let front =
-      served_front keys (length start.list) start.faults after.list after.faults part rest at_end.told
-      (subst (λ rs. AreServed keys (length start.list) start.faults after.list after.faults rs at_end.told) split at_end.served) in
+      let (fewer, few, more, front, less, places_split) =
+      served_front keys (length start.list) start.faults after.list after.faults part rest at_end.told at_end.places
+      (subst (λ rs. AreServed keys (length start.list) start.faults after.list after.faults rs at_end.told at_end.places) split at_end.served) in
       record {
         opened = inl (ap (λ (x : Told). x.port) is ∙ known.port_is);
         few = let few = closes.few in omega (arith, accepted_is, few);
         none_made_up = let several = ap length served in let total = ap length split ∙ length-append part rest in omega (arith, several, total, all_counted, accepted_is);
         all = λ e. absurd (e memory);
         none_short = λ e. absurd (e memory);
-        faults = front.0;
-        served = subst (λ rs. AreServed keys (length start.list) start.faults after.list after.faults rs front.0) (sym served) front.1;
-        licensed = fewer front.2 at_end.licensed;
+        faults = fewer;
+        places = few;
+        served = subst (λ rs. AreServed keys (length start.list) start.faults after.list after.faults rs fewer few) (sym served) front;
+        licensed = fewer_licensed less at_end.licensed;
         ended = λ e. absurd (let wrong : serve_end.Memory ≡ serve_end.Ended = sym memory ∙ e in cc wrong);
       }
     where
-      fewer : {few many most : ℕ} → few ≤ many → (many ≤ most) ⊎ (2 ^ 64 - 1 ≤ after.faults) → (few ≤ most) ⊎ (2 ^ 64 - 1 ≤ after.faults)
-      fewer least (inl within) = inl (omega (arith, least, within))
-      fewer least (inr great) = inr great
+      fewer_licensed : {few many most : ℕ} → few ≤ many → (many ≤ most) ⊎ (2 ^ 64 - 1 ≤ after.faults) → (few ≤ most) ⊎ (2 ^ 64 - 1 ≤ after.faults)
+      fewer_licensed least (inl within) = inl (omega (arith, least, within))
+      fewer_licensed least (inr great) = inr great
 
   leaves_by : (was new : Option Told) → IfSome was Known → Settles was records short end new how → IfSome new (λ u. Leaves keys workers limit port start after how u)
   leaves_by was None known settles = tt

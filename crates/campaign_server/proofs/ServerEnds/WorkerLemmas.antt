@@ -3,8 +3,8 @@ use Rattle.std.proofs.Common.{◌≡◌, ◌≢◌, ◌⊎◌, ℕ, ◌+◌, ◌
 use Rattle.std.proofs.Math.Nat.{mul-le-mul_left}
 use Rattle.std.proofs.lemmas.List.{map-append}
 use Rattle.atomic_table.specs.Seated.{TableId}
-use Rattle.hall.specs.declared.stories.Story.{Story as HallStory}
 use Rattle.hall.specs.Acts.{Known}
+use Rattle.hall.specs.Places.{Apart, Rises, merged}
 use Rattle.hall.specs.Stories.{AtMost as MostOf}
 use Rattle.routes.specs.declared.keys.KeyRow.{KeyRow}
 use Rattle.rulebook.specs.declared.entry.Entry.{Entry}
@@ -16,10 +16,11 @@ use Rattle.campaign_server.specs.declared.ends.End.TheVariants as end
 use Rattle.campaign_server.specs.Chains.{Said}
 use Rattle.campaign_server.specs.Connections.{Ends}
 use Rattle.campaign_server.specs.Doors.{Ended, IsNew}
-use Rattle.campaign_server.specs.Links.{Clock, LinkState}
+use Rattle.campaign_server.specs.Links.{Alike, Clock, LinkState}
 use Rattle.campaign_server.specs.HallConnections.{IsTalkAmong, Licensed, Serves}
 use Rattle.campaign_server.specs.Records.{AreServed, IsServed, NoneShort, ended_of}
-use Rattle.campaign_server.specs.Workers.{GoesOn, HasServed, Worked}
+use Rattle.campaign_server.specs.Workers.{AreOwn, GoesOn, HasServed, IsFresh, Worked}
+use Rattle.campaign_server.proofs.ServerEnds.PlaceLemmas.{both_apart, gained_apart, none_apart, own_apart, own_both, own_more, own_none, rest_apart}
 use Rattle.campaign_server.proofs.TalkSteps.TalkFacts.{ends_known}
 use Rattle.campaign_server.proofs.TalkSteps.TalkLemmas.{talk_laws}
 
@@ -43,35 +44,55 @@ ends_on keys n c m b S more last then_ places told was is how fewer less least e
     (ends_known {I = Unit {0}} (IsTalkAmong keys n c was.clock S last is.clock places told) (λ one. IsTalkAmong keys m b was.clock (S ++ more) then_ is.clock places told)
     (λ said among. (tt, among_on keys n c m b was.clock S more last then_ is.clock places told said fewer less least among)) was is how ends).1
 
-served_on : (keys : List KeyRow) (n c m b : ℕ) (S more : History) (last then_ : ℕ) (ended : Ended) (told : ℕ) → m ≤ n → b ≤ c → last ≤ then_
-    → IsServed keys n c S last ended told → IsServed keys m b (S ++ more) then_ ended told
-served_on keys n c m b S more last then_ ended told fewer less least served = record {
+served_on : (keys : List KeyRow) (n c m b : ℕ) (S more : History) (last then_ : ℕ) (ended : Ended) (told : ℕ) (places : List ℕ) → m ≤ n → b ≤ c → last ≤ then_
+    → IsServed keys n c S last ended told places → IsServed keys m b (S ++ more) then_ ended told places
+served_on keys n c m b S more last then_ ended told places fewer less least served = record {
   was = served.was;
   is = served.is;
   new = served.new;
+  alike = served.alike;
   tells = served.tells;
-  places = served.places;
-  ends = ends_on keys n c m b S more last then_ served.places told served.was served.is ended.1 fewer less least served.ends;
+  ends = ends_on keys n c m b S more last then_ places told served.was served.is ended.1 fewer less least served.ends;
 }
 
-all_on : (keys : List KeyRow) (n c : ℕ) (S more : History) (last then_ : ℕ) (records : List Ended) (told : ℕ) → last ≤ then_ → AreServed keys n c S last records told
-    → AreServed keys n c (S ++ more) then_ records told
-all_on keys n c S more last then_ [] told least none = none
-all_on keys n c S more last then_ (first ∷ others) told least (here, there, served, rest, is) =
-    (here, there, served_on keys n c n c S more last then_ first here (omega arith) (omega arith) least served, all_on keys n c S more last then_ others there least rest, is)
+all_on : (keys : List KeyRow) (n c : ℕ) (S more : History) (last then_ : ℕ) (records : List Ended) (told : ℕ) (places : List ℕ) → last ≤ then_ → AreServed keys n c S last records told places
+    → AreServed keys n c (S ++ more) then_ records told places
+all_on keys n c S more last then_ [] told places least none = none
+all_on keys n c S more last then_ (first ∷ others) told places least (here, there, own, rest, served, are, is, all, apart) = (
+  here,
+  there,
+  own,
+  rest,
+  served_on keys n c n c S more last then_ first here own (omega arith) (omega arith) least served,
+  all_on keys n c S more last then_ others there rest least are,
+  is,
+  all,
+  apart,
+)
 
 -- the same over a later state
-pub served_later : (keys : List KeyRow) (n c : ℕ) (seen later : Story) (records : List Ended) (told : ℕ) → AtMost seen later
-    → AreServed keys n c seen.list seen.faults records told → AreServed keys n c later.list later.faults records told
-served_later keys n c seen later records told most served =
+pub served_later : (keys : List KeyRow) (n c : ℕ) (seen later : Story) (records : List Ended) (told : ℕ) (places : List ℕ) → AtMost seen later
+    → AreServed keys n c seen.list seen.faults records told places → AreServed keys n c later.list later.faults records told places
+served_later keys n c seen later records told places most served =
     let (more, is) = most.longer in
-    subst (λ S. AreServed keys n c S later.faults records told) (sym is) (all_on keys n c seen.list more seen.faults later.faults records told most.later served)
+    subst (λ S. AreServed keys n c S later.faults records told places) (sym is) (all_on keys n c seen.list more seen.faults later.faults records told places most.later served)
 
-pub served_both : (keys : List KeyRow) (n c : ℕ) (S : History) (last : ℕ) (first second : List Ended) (told more : ℕ) → AreServed keys n c S last first told
-    → AreServed keys n c S last second more → AreServed keys n c S last (first ++ second) (told + more)
-served_both keys n c S last [] second told more none served = subst (AreServed keys n c S last second) (omega (arith, none)) served
-served_both keys n c S last (r ∷ first) second told more (here, there, one, rest, is) served =
-    (here, there + more, one, served_both keys n c S last first second there more rest served, omega (arith, is))
+-- records of which no two added one entry
+pub served_both : (keys : List KeyRow) (n c : ℕ) (S : History) (last : ℕ) (first second : List Ended) (told more : ℕ) (xs ys : List ℕ) → AreServed keys n c S last first told xs
+    → AreServed keys n c S last second more ys → Apart xs ys → AreServed keys n c S last (first ++ second) (told + more) (xs ++ ys)
+served_both keys n c S last [] second told more xs ys none served apart =
+    subst (λ ps. AreServed keys n c S last second (told + more) (ps ++ ys)) (sym none.1) (subst (λ t. AreServed keys n c S last second t ys) (omega (arith, none.0)) served)
+served_both keys n c S last (r ∷ first) second told more xs ys (here, there, own, rest, one, are, is, all, alone) served apart = (
+  here,
+  there + more,
+  own,
+  rest ++ ys,
+  one,
+  served_both keys n c S last first second there more rest ys are served (rest_apart own rest ys xs all apart),
+  omega (arith, is),
+  ap (λ ps. ps ++ ys) all ∙ append_assoc own rest ys,
+  own_apart own rest ys xs all apart alone,
+)
 
 pub most_on : (a b d : Story) → AtMost a b → AtMost b d → AtMost a d
 most_on a b d first second =
@@ -88,10 +109,17 @@ none_both [] second none others = others
 none_both (r ∷ first) second none others = (none.0, none_both first second none.1 others)
 
 -- a worker that is short did what it did
-pub works_short : (keys : List KeyRow) (start : Story) (workers : ℕ) (seen : Story) (records : List Ended) (short : Bool) → Worked keys start workers seen records short
-    → Worked keys start workers seen records true
-works_short keys start workers seen records short worked =
-    record { grown = worked.grown; told = worked.told; served = worked.served; licensed = worked.licensed; none_short = λ wrong. cc }
+pub works_short : (keys : List KeyRow) (start : Story) (workers : ℕ) (seen : Story) (mine : List ℕ) (records : List Ended) (short : Bool) → Worked keys start workers seen mine records short
+    → Worked keys start workers seen mine records true
+works_short keys start workers seen mine records short worked = record {
+  grown = worked.grown;
+  told = worked.told;
+  places = worked.places;
+  served = worked.served;
+  own = worked.own;
+  licensed = worked.licensed;
+  none_short = λ wrong. cc;
+}
 
 licensed_more : (start seen later told more : ℕ) → start ≤ seen → seen ≤ later → (told ≤ 1 * (seen - start)) ⊎ (2 ^ 64 - 1 ≤ seen) → Licensed more seen later
     → (told + more ≤ 1 * (later - start)) ⊎ (2 ^ 64 - 1 ≤ later)
@@ -101,21 +129,21 @@ licensed_more start seen later told more first second (inr great) others = inr (
 
 -- one link more
 pub works_more : (keys : List KeyRow) (start seen later : Story) (records : List Ended) (kept : Option LinkState) (how : End) (short shorter : Bool) (mine more : List ℕ) (was is : LinkState)
-    → IsNew was → IfSome kept (λ state. state ≡ is) → Serves keys seen later mine more was is how
-    → (shorter ≡ false → (short ≡ false) × (how ≢ end.Memory)) → Worked keys start 1 seen records short
-    → Worked keys start 1 later (records ++ (kept, how) ∷ []) shorter
-works_more keys start seen later records kept how short shorter mine more was is new tells serves known worked =
+    → IsNew was → Alike was is → IfSome kept (λ state. state ≡ is) → Serves keys seen later mine more was is how → Rises 0 more (length later.list)
+    → (shorter ≡ false → (short ≡ false) × (how ≢ end.Memory)) → Worked keys start 1 seen mine records short
+    → Worked keys start 1 later more (records ++ (kept, how) ∷ []) shorter
+works_more keys start seen later records kept how short shorter mine more was is new alike tells serves rises known worked =
     let (rest, longer) = worked.grown.longer in
     let fewer : length start.list ≤ length seen.list = omega (arith, ap length longer, length-append start.list rest) in
     let told_there =
     ends_on keys (length seen.list) seen.faults (length start.list) start.faults later.list [] later.faults later.faults serves.places serves.told was is how fewer
     worked.grown.later (omega arith) serves.ends in
-    let one : IsServed keys (length start.list) start.faults later.list later.faults (kept, how) serves.told = record {
+    let one : IsServed keys (length start.list) start.faults later.list later.faults (kept, how) serves.told serves.places = record {
       was = was;
       is = is;
       new = new;
+      alike = alike;
       tells = tells;
-      places = serves.places;
       ends =
           subst (λ S. Ends (IsTalkAmong keys (length start.list) start.faults was.clock S later.faults is.clock serves.places serves.told) was is how)
           (append-nil later.list) told_there;
@@ -123,10 +151,13 @@ works_more keys start seen later records kept how short shorter mine more was is
     record {
       grown = most_on start seen later worked.grown serves.grown;
       told = worked.told + serves.told;
+      places = worked.places ++ serves.places;
       served =
-          served_both keys (length start.list) start.faults later.list later.faults records ((kept, how) ∷ []) worked.told serves.told
-          (served_later keys (length start.list) start.faults seen later records worked.told serves.grown worked.served)
-          (serves.told, 0, one, refl, omega arith);
+          served_both keys (length start.list) start.faults later.list later.faults records ((kept, how) ∷ []) worked.told serves.told worked.places serves.places
+          (served_later keys (length start.list) start.faults seen later records worked.told worked.places serves.grown worked.served)
+          (serves.told, 0, serves.places, [], one, (refl, refl), omega arith, sym (append-nil serves.places), none_apart serves.places)
+          (gained_apart mine worked.places serves.places (length later.list) worked.own (subst (λ ps. Rises 0 ps (length later.list)) serves.gained rises));
+      own = subst (λ ps. AreOwn ps (worked.places ++ serves.places)) (sym serves.gained) (own_more mine worked.places serves.places worked.own);
       licensed = licensed_more start.faults seen.faults later.faults worked.told serves.told worked.grown.later serves.grown.later worked.licensed serves.licensed;
       none_short = λ e. none_both records ((kept, how) ∷ []) (worked.none_short (known e).0) ((known e).1, tt);
     }
@@ -136,22 +167,24 @@ pub ended_more : {R : Type 0} (kept : R → Option LinkState) (records : List (R
 ended_more kept records r how = map-append (λ (one : _ × End). (kept one.0, one.1)) records ((r, how) ∷ [])
 
 -- nothing was done
-pub goes_still : (keys : List KeyRow) (seen : Story) (records : List Ended) (short : Bool) → GoesOn keys seen records short seen records short
-goes_still keys seen records short = record { on = λ start worked. worked }
+pub goes_still : (keys : List KeyRow) (pass : Known Entry) (records : List Ended) (short : Bool) → GoesOn keys pass records short pass records short
+goes_still keys pass records short = record { on = λ start worked. worked }
 
-pub goes_short : (keys : List KeyRow) (seen : Story) (records : List Ended) (short : Bool) → GoesOn keys seen records short seen records true
-goes_short keys seen records short = record { on = λ start worked. works_short keys start 1 seen records short worked }
+pub goes_short : (keys : List KeyRow) (pass : Known Entry) (records : List Ended) (short : Bool) → GoesOn keys pass records short pass records true
+goes_short keys pass records short = record { on = λ start worked. works_short keys start 1 (seen_as pass.seen) pass.mine records short worked }
 
-pub goes_both : (keys : List KeyRow) (a b c : Story) (x y z : List Ended) (r s t : Bool) → GoesOn keys a x r b y s → GoesOn keys b y s c z t → GoesOn keys a x r c z t
+pub goes_both : (keys : List KeyRow) (a b c : Known Entry) (x y z : List Ended) (r s t : Bool) → GoesOn keys a x r b y s → GoesOn keys b y s c z t → GoesOn keys a x r c z t
 goes_both keys a b c x y z r s t first second = record { on = λ start worked. second.on start (first.on start worked) }
 
 -- what a worker did over a later state
-pub works_later : (keys : List KeyRow) (start : Story) (workers : ℕ) (seen later : Story) (records : List Ended) (short : Bool) → AtMost seen later → Worked keys start workers seen records short
-    → Worked keys start workers later records short
-works_later keys start workers seen later records short most worked = record {
+pub works_later : (keys : List KeyRow) (start : Story) (workers : ℕ) (seen later : Story) (mine : List ℕ) (records : List Ended) (short : Bool) → AtMost seen later
+    → Worked keys start workers seen mine records short → Worked keys start workers later mine records short
+works_later keys start workers seen later mine records short most worked = record {
   grown = most_on start seen later worked.grown most;
   told = worked.told;
-  served = served_later keys (length start.list) start.faults seen later records worked.told most worked.served;
+  places = worked.places;
+  served = served_later keys (length start.list) start.faults seen later records worked.told worked.places most worked.served;
+  own = worked.own;
   licensed = licensed_later workers start.faults seen.faults later.faults worked.told most.later worked.licensed;
   none_short = worked.none_short;
 }
@@ -163,16 +196,21 @@ works_later keys start workers seen later records short most worked = record {
     licensed_later n start seen later told least (inl few) = inl (let more = mul-le-mul_left n (minus_le start seen later least) in omega (arith, few, more))
     licensed_later n start seen later told least (inr great) = inr (omega (arith, great, least))
 
--- two groups of workers, over one state that both had seen less of
-pub works_both : (keys : List KeyRow) (start : Story) (workers : ℕ) (a b later : Story) (records more : List Ended) (short shorter : Bool) → AtMost a later → AtMost b later
-    → Worked keys start workers a records short → Worked keys start 1 b more shorter → Worked keys start (workers + 1) later (records ++ more) (short || shorter)
-works_both keys start workers a b later records more short shorter first second worked other =
-    let here = works_later keys start workers a later records short first worked in
-    let there = works_later keys start 1 b later more shorter second other in
+-- two groups of workers, over one state that both had seen less of, and a pass that was made of theirs
+pub works_both : (keys : List KeyRow) (start : Story) (workers : ℕ) (a b later : Story) (mine other : List ℕ) (records more : List Ended) (short shorter : Bool) → AtMost a later → AtMost b later
+    → Apart mine other → Worked keys start workers a mine records short → Worked keys start 1 b other more shorter
+    → Worked keys start (workers + 1) later (merged mine other) (records ++ more) (short || shorter)
+works_both keys start workers a b later mine other records more short shorter first second apart worked single =
+    let here = works_later keys start workers a later mine records short first worked in
+    let there = works_later keys start 1 b later other more shorter second single in
     record {
       grown = here.grown;
       told = here.told + there.told;
-      served = served_both keys (length start.list) start.faults later.list later.faults records more here.told there.told here.served there.served;
+      places = here.places ++ there.places;
+      served =
+          served_both keys (length start.list) start.faults later.list later.faults records more here.told there.told here.places there.places here.served there.served
+          (both_apart mine other here.places there.places apart here.own there.own);
+      own = own_both mine other here.places there.places here.own there.own;
       licensed = both (later.faults - start.faults) here.licensed there.licensed;
       none_short = none short shorter here.none_short there.none_short;
     }
@@ -188,23 +226,34 @@ works_both keys start workers a b later records more short shorter first second 
     none false true here there e = absurd (cc e)
     none true t here there e = absurd (cc e)
 
--- no worker
-pub works_none : (keys : List KeyRow) (start : Story) → Worked keys start 0 start [] false
-works_none keys start = record {
+-- workers that did nothing yet
+pub works_none : (keys : List KeyRow) (start : Story) (workers : ℕ) (mine : List ℕ) → Worked keys start workers start mine [] false
+works_none keys start workers mine = record {
   grown = record { longer = ([], sym (append-nil start.list)); later = omega arith; opening = refl };
   told = 0;
-  served = refl;
+  places = [];
+  served = (refl, refl);
+  own = own_none mine;
   licensed = inl (omega arith);
   none_short = λ e. tt;
 }
 
+pub works_fresh : (keys : List KeyRow) (hall : TableId) (start : Story) (pass : Known Entry) (parts amount count : ℕ) (short : Bool) (records : List Ended)
+    → IsFresh hall start pass parts amount count short records → Worked keys start 1 (seen_as pass.seen) pass.mine records short
+works_fresh keys hall start pass parts amount count short records fresh =
+    subst (λ s. Worked keys start 1 s pass.mine records short) (sym fresh.seen)
+    (subst (λ rs. Worked keys start 1 start pass.mine rs short) (sym fresh.no_records)
+    (subst (λ b. Worked keys start 1 start pass.mine [] b) (sym fresh.not_short) (works_none keys start 1 pass.mine)))
+
 -- one worker more, whose pass is joined
-pub works_in : (keys : List KeyRow) (start : Story) (workers : ℕ) (a later : HallStory Entry) (hall : TableId) (pass : Known Entry) (parts amount count : ℕ) (records more : List Ended) (short shorter : Bool)
-    → MostOf a later → MostOf pass.seen later → Worked keys start workers (seen_as a) records short → HasServed keys hall start pass parts amount count shorter more
-    → Worked keys start (workers + 1) (seen_as later) (records ++ more) (short || shorter)
-works_in keys start workers a later hall pass parts amount count records more short shorter first second worked served =
-    works_both keys start workers (seen_as a) (seen_as pass.seen) (seen_as later) records more short shorter
-    (record { longer = first.0; later = first.1; opening = first.2 }) (record { longer = second.0; later = second.1; opening = second.2 }) worked served.worked
+pub works_in : (keys : List KeyRow) (start : Story) (workers : ℕ) (first later : Known Entry) (hall : TableId) (pass : Known Entry) (parts amount count : ℕ) (records more : List Ended) (short shorter : Bool)
+    → MostOf first.seen later.seen → MostOf pass.seen later.seen → Apart first.mine pass.mine → later.mine ≡ merged first.mine pass.mine
+    → Worked keys start workers (seen_as first.seen) first.mine records short → HasServed keys hall start pass parts amount count shorter more
+    → Worked keys start (workers + 1) (seen_as later.seen) later.mine (records ++ more) (short || shorter)
+works_in keys start workers first later hall pass parts amount count records more short shorter one other apart both worked served =
+    subst (λ mine. Worked keys start (workers + 1) (seen_as later.seen) mine (records ++ more) (short || shorter)) (sym both)
+    (works_both keys start workers (seen_as first.seen) (seen_as pass.seen) (seen_as later.seen) first.mine pass.mine records more short shorter
+    (record { longer = one.0; later = one.1; opening = one.2 }) (record { longer = other.0; later = other.1; opening = other.2 }) apart worked served.worked)
 
 pub most_same : (a b : Story) → b ≡ a → AtMost a b
 most_same a b same = record {

@@ -13,7 +13,7 @@ use Rattle.trec_formats.specs.SoundTopics.{AreSoundTopics}
 use Rattle.trec_formats.specs.Topics.{IsTopics}
 use Rattle.trec_formats.specs.declared.lists.TopicList.{TopicList}
 use Rattle.trec_formats.specs.declared.topics.Topic.{Topic}
-use Rattle.rulebook.specs.declared.limits.TheConstants.{MAX_MOMENT, MAX_ENTRY_BYTES}
+use Rattle.rulebook.specs.Limits.{max_moment, max_entry_bytes}
 use Rattle.rulebook.specs.declared.ask.Ask.{Ask}
 use Rattle.rulebook.specs.declared.ask.Ask.TheVariants.{Act, See}
 use Rattle.rulebook.specs.declared.ask.Command.{Command}
@@ -75,24 +75,24 @@ record IsGiven (row : KeyRow) (c : Command) : Type 0 where
   plain : is_plain c ≡ true
   few : length (command_bytes c) ≤ 33000000
 
-given : (row : KeyRow) (number : Option ℕ) (c : Command) (moment : ℕ) → is_name row.name ≡ true → is_number number ≡ true → moment ≤ MAX_MOMENT → IsGiven row c → IsTrue (is_well_addressed (caller row) number (Act c) moment)
+given : (row : KeyRow) (number : Option ℕ) (c : Command) (moment : ℕ) → is_name row.name ≡ true → is_number number ≡ true → moment ≤ max_moment → IsGiven row c → IsTrue (is_well_addressed (caller row) number (Act c) moment)
 given row number c moment name numbered latest is =
-    let short : length (entry_bytes (core_of (caller row) number moment c)) ≤ MAX_ENTRY_BYTES = omega (arith, is.few, entry_short (caller row) number moment c (name_short row.name name)) in
+    let short : length (entry_bytes (core_of (caller row) number moment c)) ≤ max_entry_bytes = omega (arith, is.few, entry_short (caller row) number moment c (name_short row.name name)) in
     let named = and_from (is_name row.name) (is_number number) name numbered in
-    let timed = and_from (is_name row.name && is_number number) (nat_le moment MAX_MOMENT) named (le-leb moment MAX_MOMENT latest) in
-    let spelled = and_from (is_name row.name && is_number number && nat_le moment MAX_MOMENT) (is_plain c) timed is.plain in
+    let timed = and_from (is_name row.name && is_number number) (nat_le moment max_moment) named (le-leb moment max_moment latest) in
+    let spelled = and_from (is_name row.name && is_number number && nat_le moment max_moment) (is_plain c) timed is.plain in
     let both = and_from (may_give row.role c) (has_spelling (core_of (caller row) number moment c)) is.role spelled in
-    and_from (may_give row.role c && has_spelling (core_of (caller row) number moment c)) (nat_le (length (entry_bytes (core_of (caller row) number moment c))) MAX_ENTRY_BYTES) both (le-leb _ MAX_ENTRY_BYTES short)
+    and_from (may_give row.role c && has_spelling (core_of (caller row) number moment c)) (nat_le (length (entry_bytes (core_of (caller row) number moment c))) max_entry_bytes) both (le-leb _ max_entry_bytes short)
 
 record IsSeen (row : KeyRow) (q : Query) : Type 0 where
   role : may_see row.role q ≡ true
   plain : is_named q ≡ true
 
-seen : (row : KeyRow) (number : Option ℕ) (q : Query) (moment : ℕ) → is_name row.name ≡ true → moment ≤ MAX_MOMENT → IsSeen row q → IsTrue (is_well_addressed (caller row) number (See q) moment)
+seen : (row : KeyRow) (number : Option ℕ) (q : Query) (moment : ℕ) → is_name row.name ≡ true → moment ≤ max_moment → IsSeen row q → IsTrue (is_well_addressed (caller row) number (See q) moment)
 seen row number q moment name latest is =
     let named = and_from (may_see row.role q) (is_name row.name) is.role name in
     let plain = and_from (may_see row.role q && is_name row.name) (is_named q) named is.plain in
-    and_from (may_see row.role q && is_name row.name && is_named q) (nat_le moment MAX_MOMENT) plain (le-leb moment MAX_MOMENT latest)
+    and_from (may_see row.role q && is_name row.name && is_named q) (nat_le moment max_moment) plain (le-leb moment max_moment latest)
 
 -- What a body gives
 
@@ -195,7 +195,7 @@ submit_given row run body lists role name ranked few =
     }
 
 pub addressed_at : (q : Question) (row : KeyRow) (number : Option ℕ) (text body : List ℕ) (ask : Ask) (moment : ℕ) → is_name row.name ≡ true → is_number number ≡ true → lets row.role q ≡ true → suits q text ≡ true
-    → Asks q text body (Ok ask) → (q ≡ question.Topics → HasSoundTopics ask) → length body ≤ 16777216 → moment ≤ MAX_MOMENT → IsTrue (is_well_addressed (caller row) number ask moment)
+    → Asks q text body (Ok ask) → (q ≡ question.Topics → HasSoundTopics ask) → length body ≤ 16777216 → moment ≤ max_moment → IsTrue (is_well_addressed (caller row) number ask moment)
 addressed_at question.Topics row number text body ask moment name numbered role fitting (topics, reading, is) sound few latest =
     subst (λ a. IsTrue (is_well_addressed (caller row) number a moment)) (sym is)
     (given row number (command.Topics topics) moment name numbered latest (topics_given row body topics role reading (subst HasSoundTopics is (sound refl)) few))

@@ -9,7 +9,7 @@ use Rattle.trec_formats.specs.Faults.{OfFault as OfFormat}
 use Rattle.trec_formats.specs.Lists.{IsRankedRunFault}
 use Rattle.trec_formats.specs.RunStates.{IsAfter, RunFed}
 use Rattle.rulebook.specs.declared.ask.Ask.{Ask}
-use Rattle.rulebook.specs.declared.limits.TheConstants.{MAX_MOMENT}
+use Rattle.rulebook.specs.Limits.{max_moment}
 use Rattle.rulebook.specs.Legal.{is_well_addressed}
 use Rattle.routes.specs.declared.ask_reader.Body.{Body}
 use Rattle.routes.specs.declared.ask_reader.Body.TheVariants.{Passed, Run, Gathered}
@@ -113,7 +113,7 @@ pub addressed_there : (opened : Opened) (text : List ℕ) (ask : Ask) → text �
     → IsFew 16777216 opened.body
     → ((told : List ℕ) → KeepsBody told opened.body → Asks opened.place.question text told (Ok ask))
     → (opened.place.question ≡ question.Topics → HasSoundTopics ask)
-    → (moment : ℕ) → moment ≤ MAX_MOMENT → IsTrue (is_well_addressed opened.who opened.number ask moment)
+    → (moment : ℕ) → moment ≤ max_moment → IsTrue (is_well_addressed opened.who opened.number ask moment)
 addressed_there opened text ask text_is is few asks sound moment latest =
     let row : KeyRow = record { name = opened.who.name; role = opened.who.role; key = [] } in
     let (body, short, kept) = some_body opened.body few in

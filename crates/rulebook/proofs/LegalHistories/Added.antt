@@ -4,7 +4,7 @@ use Rattle.std.specs.Prelude.{◌&&◌, ◌==◌, if◌then◌else◌, nat_le, s
 use Rattle.std.specs.Int.{to_le_bytes, w64}
 use Rattle.std.specs.Option.{option_map_or}
 use Rattle.trec_formats.specs.Names.{is_name}
-use Rattle.rulebook.specs.declared.limits.TheConstants.{MAX_ENTRIES, MAX_ENTRY_BYTES, MAX_MOMENT}
+use Rattle.rulebook.specs.Limits.{max_entries, max_entry_bytes, max_moment}
 use Rattle.rulebook.specs.declared.rules.Caller.{Caller}
 use Rattle.rulebook.specs.declared.ask.Ask.{Ask}
 use Rattle.rulebook.specs.declared.ask.Ask.TheVariants.{Act, See}
@@ -43,39 +43,39 @@ moment_pushed H e moment = ap (λ last. max moment (option_map_or (λ (x : Entry
 pub record IsGiven (who : Caller) (number : Option ℕ) (c : Command) (moment : ℕ) : Type 0 where
   pub allowed : may_give who.role c ≡ true
   pub named : (is_name who.name && is_number number) ≡ true
-  pub in_time : moment ≤ MAX_MOMENT
+  pub in_time : moment ≤ max_moment
   pub plain : is_plain c ≡ true
-  pub short : length (entry_bytes (core_of who number moment c)) ≤ MAX_ENTRY_BYTES
+  pub short : length (entry_bytes (core_of who number moment c)) ≤ max_entry_bytes
 
 pub given_of : (who : Caller) (number : Option ℕ) (c : Command) (moment : ℕ) → is_well_addressed who number (Act c) moment ≡ true → IsGiven who number c moment
 given_of who number c moment addressed =
     let core : EntryCore = core_of who number moment c in
-    let size : Bool = nat_le (length (entry_bytes core)) MAX_ENTRY_BYTES in
+    let size : Bool = nat_le (length (entry_bytes core)) max_entry_bytes in
     let front = first_of_both (may_give who.role c && has_spelling core) size addressed in
     let spelled = second_of_both (may_give who.role c) (has_spelling core) front in
-    let timed = first_of_both (is_name who.name && is_number number && nat_le moment MAX_MOMENT) (is_plain c) spelled in
+    let timed = first_of_both (is_name who.name && is_number number && nat_le moment max_moment) (is_plain c) spelled in
     record {
       allowed = first_of_both (may_give who.role c) (has_spelling core) front;
-      named = first_of_both (is_name who.name && is_number number) (nat_le moment MAX_MOMENT) timed;
-      in_time = leb-true moment MAX_MOMENT (second_of_both (is_name who.name && is_number number) (nat_le moment MAX_MOMENT) timed);
-      plain = second_of_both (is_name who.name && is_number number && nat_le moment MAX_MOMENT) (is_plain c) spelled;
-      short = leb-true (length (entry_bytes core)) MAX_ENTRY_BYTES (second_of_both (may_give who.role c && has_spelling core) size addressed);
+      named = first_of_both (is_name who.name && is_number number) (nat_le moment max_moment) timed;
+      in_time = leb-true moment max_moment (second_of_both (is_name who.name && is_number number) (nat_le moment max_moment) timed);
+      plain = second_of_both (is_name who.name && is_number number && nat_le moment max_moment) (is_plain c) spelled;
+      short = leb-true (length (entry_bytes core)) max_entry_bytes (second_of_both (may_give who.role c && has_spelling core) size addressed);
     }
 
 pub addressed_by : (who : Caller) (number : Option ℕ) (c : Command) (moment : ℕ) → IsGiven who number c moment → is_well_addressed who number (Act c) moment ≡ true
 addressed_by who number c moment is =
     let core : EntryCore = core_of who number moment c in
-    let timed = both (is_name who.name && is_number number) (nat_le moment MAX_MOMENT) is.named (le-leb moment MAX_MOMENT is.in_time) in
-    let spelled = both (is_name who.name && is_number number && nat_le moment MAX_MOMENT) (is_plain c) timed is.plain in
-    both (may_give who.role c && has_spelling core) (nat_le (length (entry_bytes core)) MAX_ENTRY_BYTES)
-    (both (may_give who.role c) (has_spelling core) is.allowed spelled) (le-leb _ MAX_ENTRY_BYTES is.short)
+    let timed = both (is_name who.name && is_number number) (nat_le moment max_moment) is.named (le-leb moment max_moment is.in_time) in
+    let spelled = both (is_name who.name && is_number number && nat_le moment max_moment) (is_plain c) timed is.plain in
+    both (may_give who.role c && has_spelling core) (nat_le (length (entry_bytes core)) max_entry_bytes)
+    (both (may_give who.role c) (has_spelling core) is.allowed spelled) (le-leb _ max_entry_bytes is.short)
 
-founding_in_time : (first : Entry) → IsFounding first → moment_after (first ∷ []) 0 ≤ MAX_MOMENT
+founding_in_time : (first : Entry) → IsFounding first → moment_after (first ∷ []) 0 ≤ max_moment
 founding_in_time first is = rw (is.2) (omega arith)
 
-pub moments_in_time : (H : History) → IsLegal H → moment_after H 0 ≤ MAX_MOMENT
+pub moments_in_time : (H : History) → IsLegal H → moment_after H 0 ≤ max_moment
 moments_in_time =
-    legal_induction (λ H. moment_after H 0 ≤ MAX_MOMENT)
+    legal_induction (λ H. moment_after H 0 ≤ max_moment)
     (λ before e legal in_time accepted.
     let given = given_of e.core.caller e.core.number e.core.command e.core.moment accepted.addressed in
     rw (moment_pushed before e 0) (omega (arith, given.in_time)))
@@ -90,7 +90,7 @@ pub entry_size : (e : EntryCore) → length (entry_bytes e) ≡ length e.caller.
 entry_size e = simp (length-append, eight_bytes) (omega arith)
 
 -- a request at a later moment that is in time
-later_given : (who : Caller) (number : Option ℕ) (c : Command) (moment later : ℕ) → later ≤ MAX_MOMENT → IsGiven who number c moment → IsGiven who number c later
+later_given : (who : Caller) (number : Option ℕ) (c : Command) (moment later : ℕ) → later ≤ max_moment → IsGiven who number c moment → IsGiven who number c later
 later_given who number c moment later in_time is = record {
   allowed = is.allowed;
   named = is.named;
@@ -106,12 +106,12 @@ record IsMade (H : History) (core : EntryCore) (e : Entry) : Type 0 where
   core_is : e.core ≡ core
   reply_is : (acted H core).reply ≡ e.reply
   ruled_is : ruled H core.caller core.moment core.command ≡ Ok e.reply
-  room : (length H == MAX_ENTRIES) ≡ false
+  room : (length H == max_entries) ≡ false
 
 made_of : (H : History) (core : EntryCore) (e : Entry) → (acted H core).added ≡ e ∷ [] → IsMade H core e
-made_of H core e added = step (length H == MAX_ENTRIES) (ruled H core.caller core.moment core.command) refl refl added
+made_of H core e added = step (length H == max_entries) (ruled H core.caller core.moment core.command) refl refl added
   where
-    step : (full : Bool) (ruling : Ruling) → (length H == MAX_ENTRIES) ≡ full → ruled H core.caller core.moment core.command ≡ ruling
+    step : (full : Bool) (ruling : Ruling) → (length H == max_entries) ≡ full → ruled H core.caller core.moment core.command ≡ ruling
         → (if full then adding_nothing (reply.Refused (refusal.Limit quantity.Entries)) else acting core ruling).added ≡ e ∷ [] → IsMade H core e
     step true ruling room is added = cc added
     step false (Err r) room is added = cc added
@@ -143,7 +143,7 @@ added_accepted H who number (Act c) moment e legal addressed added =
     made : IsMade H (core_of who number now c) e
     made = made_of H (core_of who number now c) e (ap (λ (a : Answer). a.added) (sym unused.acted_is) ∙ added)
 
-    in_time : now ≤ MAX_MOMENT
+    in_time : now ≤ max_moment
     in_time = omega (arith, (given_of who number c moment addressed).in_time, moments_in_time H legal)
 
     -- by its own core: the moment is the latest already
@@ -159,7 +159,7 @@ added_accepted H who number (Act c) moment e legal addressed added =
         made.core_is ∙ ap (λ (moment : ℕ). core_of who number moment c) (ap (λ (core : EntryCore). core.moment) (sym made.core_is)) ∙ ap (core_of who number e.core.moment) is
 
 -- an accepted entry had room
-pub accepted_room : (H : History) (e : Entry) → IsAccepted H e → (length H == MAX_ENTRIES) ≡ false
+pub accepted_room : (H : History) (e : Entry) → IsAccepted H e → (length H == max_entries) ≡ false
 accepted_room H e accepted =
     let unused = unused_of H e.core.caller e.core.number e.core.command e.core.moment e accepted.added in
     let added = ap (λ (a : Answer). a.added) (sym unused.acted_is) ∙ accepted.added in

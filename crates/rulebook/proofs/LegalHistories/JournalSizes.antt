@@ -11,7 +11,7 @@ use Rattle.std.proofs.lemmas.List.Sums.{sum_by-append}
 use Rattle.trec_formats.specs.Names.{is_between, is_docno, is_name, is_name_byte}
 use Rattle.trec_formats.specs.declared.Topic.{Topic}
 use Rattle.trec_formats.specs.declared.TopicList.{TopicList}
-use Rattle.rulebook.specs.declared.limits.TheConstants.{MAX_DOCNOS, MAX_ENTRIES, MAX_ENTRY_BYTES, MAX_LINES, MAX_RUNS, MAX_TOPICS}
+use Rattle.rulebook.specs.Limits.{max_docnos, max_entries, max_entry_bytes, max_lines, max_runs, max_topics}
 use Rattle.rulebook.specs.declared.rules.Caller.{Caller}
 use Rattle.rulebook.specs.declared.rules.Phase.TheVariants.{Collecting}
 use Rattle.rulebook.specs.declared.rules.Rules.{Rules}
@@ -35,12 +35,12 @@ use Rattle.rulebook.proofs.Elements.AllPass.{all_head, all_tail, first_of_both, 
 use Rattle.rulebook.proofs.LegalHistories.GrantedLeases.{passed}
 use Rattle.rulebook.proofs.LegalHistories.LegalWalk.{accepted_of, legal_induction}
 
-pub entries_few : (H : History) → IsLegal H → length H ≤ MAX_ENTRIES
+pub entries_few : (H : History) → IsLegal H → length H ≤ max_entries
 entries_few =
-    legal_induction (λ H. length H ≤ MAX_ENTRIES)
+    legal_induction (λ H. length H ≤ max_entries)
     (λ before e legal few accepted.
     let room = accepted_room before e accepted in
-    let short : length before < MAX_ENTRIES = grind (arith, nat_tests) in
+    let short : length before < max_entries = grind (arith, nat_tests) in
     rw (length-append before (e ∷ [])) (omega (arith, short)))
     (λ first is. omega arith)
 
@@ -60,11 +60,11 @@ topics_new H topics told is = (passed refusal.TopicsFixed (has_topics H) last ru
     fixed = refusal.TopicsFixed when has_topics H
 
     last : List (Option Refusal)
-    last = (refusal.Limit quantity.Topics when nat_lt MAX_TOPICS (length topics)) ∷ []
+    last = (refusal.Limit quantity.Topics when nat_lt max_topics (length topics)) ∷ []
 
-runs_room : (H : History) (run : Text) (lists : List TopicList) (told : Reply) → submit_ruling H run lists ≡ Ok told → nat_le MAX_RUNS (length (runs H)) ≡ false
+runs_room : (H : History) (run : Text) (lists : List TopicList) (told : Reply) → submit_ruling H run lists ≡ Ok told → nat_le max_runs (length (runs H)) ≡ false
 runs_room H run lists told is =
-    (passed (refusal.Limit quantity.Runs) (nat_le MAX_RUNS (length (runs H))) last ruling told
+    (passed (refusal.Limit quantity.Runs) (nat_le max_runs (length (runs H))) last ruling told
     (passed_other line (limit ∷ last) ruling told
     (passed_other taken (line ∷ limit ∷ last) ruling told (passed_other (wrong_phase_unless Collecting H) (taken ∷ line ∷ limit ∷ last) ruling told is)))).0
   where
@@ -78,10 +78,10 @@ runs_room H run lists told is =
     line = option_map refusal.LineTopic (unknown_line H lists)
 
     limit : Option Refusal
-    limit = refusal.Limit quantity.Runs when nat_le MAX_RUNS (length (runs H))
+    limit = refusal.Limit quantity.Runs when nat_le max_runs (length (runs H))
 
     last : List (Option Refusal)
-    last = (refusal.Limit quantity.Lines when nat_lt MAX_LINES (lines_with H lists)) ∷ (refusal.Limit quantity.Docnos when nat_lt MAX_DOCNOS (length (docnos_with H lists))) ∷ []
+    last = (refusal.Limit quantity.Lines when nat_lt max_lines (lines_with H lists)) ∷ (refusal.Limit quantity.Docnos when nat_lt max_docnos (length (docnos_with H lists))) ∷ []
 
 -- Counts of the long entries
 
@@ -122,10 +122,10 @@ module _ (H : History) (who : Caller) (now : ℕ) where
   topics_step (command.Withdraw run) told is once = omega (arith, once)
   topics_step command.Publish told is once = omega (arith, once)
 
-  runs_step : (c : Command) (told : Reply) → ruled H who now c ≡ Ok told → length (runs H) ≤ MAX_RUNS → length (runs H) + runs_of c ≤ MAX_RUNS
+  runs_step : (c : Command) (told : Reply) → ruled H who now c ≡ Ok told → length (runs H) ≤ max_runs → length (runs H) + runs_of c ≤ max_runs
   runs_step (command.Found rules) told is few = cc is
   runs_step (command.Topics topics) told is few = omega (arith, few)
-  runs_step (command.Submit run lists) told is few = omega (arith, leb-false MAX_RUNS (length (runs H)) (runs_room H run lists told is))
+  runs_step (command.Submit run lists) told is few = omega (arith, leb-false max_runs (length (runs H)) (runs_room H run lists told is))
   runs_step command.Open told is few = omega (arith, few)
   runs_step (command.Lease topic) told is few = omega (arith, few)
   runs_step (command.Grade lease grade) told is few = omega (arith, few)
@@ -143,9 +143,9 @@ topics_once =
     omega (arith, step, topics_pushed before e))
     (λ first is. rw (is.2) (omega arith))
 
-pub runs_few : (H : History) → IsLegal H → length (runs H) ≤ MAX_RUNS
+pub runs_few : (H : History) → IsLegal H → length (runs H) ≤ max_runs
 runs_few =
-    legal_induction (λ H. length (runs H) ≤ MAX_RUNS)
+    legal_induction (λ H. length (runs H) ≤ max_runs)
     (λ before e legal few accepted.
     let step = runs_step before e.core.caller (moment_after before e.core.moment) e.core.command e.reply (accepted_of before e accepted).ruled_is few in
     omega (arith, step, runs_pushed before e))
@@ -196,7 +196,7 @@ names_size (name ∷ names) named =
 rules_size : (r : Rules) → length (rules_bytes r) ≡ length (flat_map short r.doubles) + 17
 rules_size r = simp (length-append, two_bytes, four_bytes, eight_bytes) (omega arith)
 
-pub founding_fits : (rules : Rules) → are_rules rules ≡ true → length (entry_bytes (founding rules).core) ≤ MAX_ENTRY_BYTES
+pub founding_fits : (rules : Rules) → are_rules rules ≡ true → length (entry_bytes (founding rules).core) ≤ max_entry_bytes
 founding_fits r are =
     omega (
       arith,
@@ -218,7 +218,7 @@ long = 33554437
 
 -- an accepted entry is short, or one of the long ones
 module _ (H : History) (who : Caller) (now : ℕ) where
-  entry_fits : (c : Command) (told : Reply) → ruled H who now c ≡ Ok told → is_plain c ≡ true → (size : ℕ) → size ≤ MAX_ENTRY_BYTES → size ≤ length (command_bytes c) + 51
+  entry_fits : (c : Command) (told : Reply) → ruled H who now c ≡ Ok told → is_plain c ≡ true → (size : ℕ) → size ≤ max_entry_bytes → size ≤ length (command_bytes c) + 51
       → size + 5 ≤ 156 + long * (topics_of c + runs_of c)
   entry_fits (command.Found rules) told is plain size most small = cc is
   entry_fits (command.Topics topics) told is plain size most small = omega (arith, most)

@@ -3,7 +3,7 @@ use Rattle.std.proofs.Common.{◌≡◌, ℕ, Bool, true, false, Option, None, S
 use Rattle.std.specs.Prelude.{◌==◌, if◌then◌else◌}
 use Rattle.std.specs.Option.{option_map_or}
 use Rattle.std.proofs.lemmas.List.{append_assoc, append-nil}
-use Rattle.rulebook.specs.declared.limits.TheConstants.{MAX_ENTRIES}
+use Rattle.rulebook.specs.Limits.{max_entries}
 use Rattle.rulebook.specs.declared.ask.Ask.TheVariants.{Act}
 use Rattle.rulebook.specs.declared.ask.Command.{Command}
 use Rattle.rulebook.specs.declared.entry.Entry.{Entry}
@@ -65,7 +65,7 @@ pub record Accepted (H : History) (e : Entry) : Type 0 where
 
 pub accepted_of : (H : History) (e : Entry) → IsAccepted H e → Accepted H e
 accepted_of H e accepted =
-    step (length H == MAX_ENTRIES) (ruled H core.caller core.moment core.command) refl (ap (λ (a : Answer). a.added) (sym free.acted_is) ∙ accepted.added)
+    step (length H == max_entries) (ruled H core.caller core.moment core.command) refl (ap (λ (a : Answer). a.added) (sym free.acted_is) ∙ accepted.added)
   where
     core : EntryCore
     core = core_of e.core.caller e.core.number (moment_after H e.core.moment) e.core.command

@@ -8,7 +8,7 @@ use Rattle.std.proofs.lemmas.List.Sums.{AllPass-from_list_all}
 use Rattle.trec_formats.specs.declared.Topic.{Topic}
 use Rattle.trec_formats.specs.declared.TopicList.{TopicList}
 use Rattle.trec_formats.specs.Names.{is_between, is_name, is_docno}
-use Rattle.rulebook.specs.declared.limits.TheConstants.{MAX_ENTRIES, MAX_ENTRY_BYTES, MAX_MOMENT}
+use Rattle.rulebook.specs.Limits.{max_entries, max_entry_bytes, max_moment}
 use Rattle.rulebook.specs.declared.rules.Caller.{Caller}
 use Rattle.rulebook.specs.declared.ask.Ask.{Ask}
 use Rattle.rulebook.specs.declared.ask.Ask.TheVariants.{Act, See}
@@ -279,14 +279,14 @@ module _ (H : History) (all : ArePlain H) (who : Caller) (now : ℕ) where
 pub addressed_plain : (who : Caller) (number : Option ℕ) (c : Command) (moment : ℕ) → is_well_addressed who number (Act c) moment ≡ true → is_plain c ≡ true
 addressed_plain who number c moment addressed =
     let core : EntryCore = core_of who number moment c in
-    let front = first_of_both (may_give who.role c && has_spelling core) (nat_le (length (entry_bytes core)) MAX_ENTRY_BYTES) addressed in
+    let front = first_of_both (may_give who.role c && has_spelling core) (nat_le (length (entry_bytes core)) max_entry_bytes) addressed in
     let spelled = second_of_both (may_give who.role c) (has_spelling core) front in
-    second_of_both (is_name who.name && is_number number && nat_le moment MAX_MOMENT) (is_plain c) spelled
+    second_of_both (is_name who.name && is_number number && nat_le moment max_moment) (is_plain c) spelled
 
 addressed_named : (who : Caller) (number : Option ℕ) (q : Query) (moment : ℕ) → is_well_addressed who number (See q) moment ≡ true → is_named q ≡ true
 addressed_named who number q moment addressed =
     second_of_both (may_see who.role q && is_name who.name) (is_named q)
-    (first_of_both (may_see who.role q && is_name who.name && is_named q) (nat_le moment MAX_MOMENT) addressed)
+    (first_of_both (may_see who.role q && is_name who.name && is_named q) (nat_le moment max_moment) addressed)
 
 -- The walk over a legal history
 
@@ -337,7 +337,7 @@ command_short H who number c moment legal addressed = by_use (used H who.name nu
 
     by_use : (kept : Option (ℕ × Entry)) → used H who.name number ≡ kept → is_plain_and_short (option_map_or (repeated c) kept (acted H core)).reply ≡ true
     by_use None is =
-        by_ruling (length H == MAX_ENTRIES) (ruled H who (moment_after H moment) c)
+        by_ruling (length H == max_entries) (ruled H who (moment_after H moment) c)
         (ruled_short H (all_plain H legal) who (moment_after H moment) c (addressed_plain who number c moment addressed))
     by_use (Some placed) is = by_sameness (same_command c placed.1.core.command) placed (kept_short H who.name number placed (all_plain H legal) is)
 

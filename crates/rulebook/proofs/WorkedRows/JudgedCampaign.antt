@@ -252,6 +252,9 @@ a_amended = after a_ruled p (command.Amend (codes "1") (codes "a") 0) 1000
 ruling-stands : effective a_amended (codes "1") (codes "a") ≡ Some 2
 ruling-stands = refl
 
+last-ruling : effective (after a_amended organiser (command.Rule (codes "1") (codes "a") 3) 1000) (codes "1") (codes "a") ≡ Some 3
+last-ruling = refl
+
 abbrev b_amended : History
 b_amended = after a_amended p (command.Amend (codes "1") (codes "b") 0) 1000
 

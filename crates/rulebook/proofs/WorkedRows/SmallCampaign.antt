@@ -17,7 +17,6 @@ use Rattle.rulebook.specs.declared.reply.Quantity.TheVariants as quantity
 use Rattle.rulebook.specs.declared.reply.Reply.{Reply}
 use Rattle.rulebook.specs.declared.reply.Reply.TheVariants as reply
 use Rattle.rulebook.specs.declared.entry.Entry.{Entry}
-use Rattle.rulebook.specs.declared.limits.TheConstants.{MAX_LINES, MAX_DOCNOS, MAX_ENTRIES, MAX_MOMENT, MAX_ENTRY_BYTES}
 use Rattle.rulebook.specs.Words.{Text}
 use Rattle.rulebook.specs.Campaign.{History, phase, pool}
 use Rattle.rulebook.specs.Answers.{answer}
@@ -166,7 +165,3 @@ too-many-runs = refl
 
 as-many-runs-as-there-may-be : replied (with_topic 3 ++ replicate 255 run_entry) group (Act Y) ≡ reply.Submitted (codes "Y") 1 3
 as-many-runs-as-there-may-be = refl
-
--- The limits that no small list reaches.
-limits : (MAX_LINES ∷ MAX_DOCNOS ∷ MAX_ENTRIES ∷ MAX_MOMENT ∷ MAX_ENTRY_BYTES ∷ []) ≡ (8000000 ∷ 2000000 ∷ 4000000 ∷ 1099511627776 ∷ 33554432 ∷ [])
-limits = refl

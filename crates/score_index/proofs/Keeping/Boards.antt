@@ -2,12 +2,11 @@
 use Rattle.std.proofs.Common.{◌≡◌, ℕ, zero, suc, ◌<◌, ◌≤◌, Bool, true, false, cond, not, ◌&&◌, eqb, List, [], ◌∷◌, Option, Some, None, get_or, length, map, replicate, set, refl, sym, ap, ◌∙◌, arith, subst}
 use Rattle.std.specs.Prelude.{All, find}
 use Rattle.std.specs.List.{AllZip}
-use Rattle.std.specs.Option.{option_map, option_or}
+use Rattle.std.specs.Option.{option_map}
 use Rattle.std.proofs.lemmas.Bool.{eq-eqb, eqb-true, false≢true}
 use Rattle.std.proofs.lemmas.Bool.Decides.{nat_tests}
 use Rattle.std.proofs.lemmas.List.{get_or-map, length-map, length-set, map-set}
 use Rattle.std.proofs.lemmas.List.Elements.{All-head, All-map, All-set, All-tail}
-use Rattle.std.proofs.lemmas.List.Folds.{find-append}
 use Rattle.decimal_rank.specs.declared.naming.DocId.{DocId}
 use Rattle.depth_pool.specs.declared.runs.RunId.{RunId}
 use Rattle.measures.specs.Cells.{cell_of}
@@ -18,6 +17,7 @@ use Rattle.score_index.specs.Scores.{ScoreList, Scores, TopicScores, docs_in, is
 use Rattle.score_index.specs.Standing.{TopicStandsFor}
 use Rattle.score_index.specs.declared.topics.Topic.{Topic}
 use Rattle.score_index.proofs.Keeping.Listing.{zip-replicate, zip-set}
+use Rattle.score_index.proofs.Keeping.ListsByRun.{others_have, placed-found}
 
 -- ---- what is kept
 
@@ -114,29 +114,13 @@ docs_set run (topic ∷ topics) (suc i) (suc on) new within =
     sucs : (m n : ℕ) → eqb m n ≡ eqb (suc m) (suc n)
     sucs m n = grind (arith, nat_tests)
 
-none_found : (found : Option ScoreList) → option_map (λ list. list.docs) found ≡ None → found ≡ None
-none_found None is = refl
-none_found (Some list) is = cc
-
 pub docs-with_list : (other : RunId) (list : ScoreList) (topic : TopicScores) → docs_in list.run topic ≡ None
     → docs_in other (with_list list topic) ≡ cond (eqb list.run.0 other.0) (Some list.docs) (docs_in other topic)
-docs-with_list other list topic new = ap (option_map (λ one. one.docs)) (find-append (is_of other) topic.lists (list ∷ [])) ∙ step (eqb list.run.0 other.0) refl
+docs-with_list other list topic new = ap (option_map (λ one. one.docs)) (placed-found other list topic.lists (others_have list.run topic.lists new)) ∙ step (eqb list.run.0 other.0)
   where
-    same_run : list.run.0 ≡ other.0 → list.run ≡ other
-    same_run e = let make : ℕ → RunId = λ n. record { 0 = n } in ap make e
-
-    step : (t : Bool) → eqb list.run.0 other.0 ≡ t
-        → option_map (λ one. one.docs) (option_or (find (is_of other) topic.lists) (cond (eqb list.run.0 other.0) (Some list) None)) ≡ cond t (Some list.docs) (docs_in other topic)
-    step true is =
-        let none : find (is_of other) topic.lists ≡ None = none_found _ (ap (λ run. docs_in run topic) (sym (same_run (eqb-true list.run.0 other.0 is))) ∙ new) in
-        ap (λ found. option_map (λ one. one.docs) (option_or found (cond (eqb list.run.0 other.0) (Some list) None))) none
-        ∙ ap (λ t. option_map (λ one. one.docs) (cond t (Some list) None)) is
-    step false is =
-        ap (λ t. option_map (λ one. one.docs) (option_or (find (is_of other) topic.lists) (cond t (Some list) None))) is ∙ whole (find (is_of other) topic.lists)
-      where
-        whole : (found : Option ScoreList) → option_map (λ one. one.docs) (option_or found None) ≡ option_map (λ one. one.docs) found
-        whole None = refl
-        whole (Some one) = refl
+    step : (t : Bool) → option_map (λ one. one.docs) (cond t (Some list) (find (is_of other) topic.lists)) ≡ cond t (Some list.docs) (docs_in other topic)
+    step true = refl
+    step false = refl
 
 docs-remarked : (run : RunId) (doc : DocId) (relevant lower : Bool) (rel low : ℕ) (lists : List ScoreList)
     → option_map (λ one. one.docs) (find (is_of run) (map (remarked doc relevant lower rel low) lists)) ≡ option_map (λ one. one.docs) (find (is_of run) lists)

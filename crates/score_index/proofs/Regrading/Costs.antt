@@ -6,7 +6,7 @@ use Rattle.std.proofs.lemmas.List.Elements.{All-cons, All-head, All-tail}
 use Rattle.std.proofs.lemmas.List.Sums.{sum_by-cons}
 use Rattle.decimal_rank.specs.declared.naming.DocId.{DocId}
 use Rattle.depth_pool.specs.declared.runs.RunId.{RunId}
-use Rattle.score_index.specs.Kept.{AreOfOtherRuns}
+use Rattle.score_index.specs.Kept.{AreByRun}
 use Rattle.score_index.specs.Scores.{ScoreList, is_of, list_steps}
 
 -- the documents of a run's list among these
@@ -54,16 +54,16 @@ none_among run (list ∷ lists) others = step (is_of run list) refl (none_among 
     step true is rest = absurd (All-head (λ one. run.0 ≢ one.run.0) list lists others (sym (eqb-true list.run.0 run.0 is)))
     step false is rest = rest
 
--- where no run has two, the lists take no more steps than the runs' lists do
-pub lists_within : (runs : List RunId) (lists : List ScoreList) → AreOfOtherRuns lists → ((run : RunId) (docs : List DocId) → docs_among lists run ≡ Some docs → Contains runs run)
+-- where no run has two, as where they ascend by run, the lists take no more steps than the runs' lists do
+pub lists_within : (runs : List RunId) (lists : List ScoreList) → AreByRun lists → ((run : RunId) (docs : List DocId) → docs_among lists run ≡ Some docs → Contains runs run)
     → sum_by (λ list. list_steps (Some list.docs)) lists ≤ sum_by (steps_among lists) runs
-lists_within runs lists once has = by_runs lists once (runs_have runs lists has)
+lists_within runs lists ordered has = by_runs lists ordered (runs_have runs lists has)
   where
-    by_runs : (lists : List ScoreList) → AreOfOtherRuns lists → All (λ list. Contains runs list.run) lists → sum_by (λ list. list_steps (Some list.docs)) lists ≤ sum_by (steps_among lists) runs
-    by_runs [] once among = omega arith
-    by_runs (list ∷ lists) once among =
-        let others : All (λ one. list.run.0 ≢ one.run.0) lists = λ k d within. once zero (suc k) d (omega arith) (omega (arith, within)) in
-        let rest = by_runs lists (λ i j d less within. once (suc i) (suc j) d (omega (arith, less)) (omega (arith, within))) (All-tail (λ one. Contains runs one.run) list lists among) in
+    by_runs : (lists : List ScoreList) → AreByRun lists → All (λ list. Contains runs list.run) lists → sum_by (λ list. list_steps (Some list.docs)) lists ≤ sum_by (steps_among lists) runs
+    by_runs [] ordered among = omega arith
+    by_runs (list ∷ lists) ordered among =
+        let others : All (λ one. list.run.0 ≢ one.run.0) lists = λ k d within. let less = ordered zero (suc k) d (omega arith) (omega (arith, within)) in omega (arith, less) in
+        let rest = by_runs lists (λ i j d less within. ordered (suc i) (suc j) d (omega (arith, less)) (omega (arith, within))) (All-tail (λ one. Contains runs one.run) list lists among) in
         let at = All-head (λ one. Contains runs one.run) list lists among in
         let none : steps_among lists list.run ≡ 0 = ap list_steps (none_among list.run lists others) in
         let own : steps_among (list ∷ lists) list.run ≡ list_steps (Some list.docs) = ap (λ t. list_steps (option_map (λ (one : ScoreList). one.docs) (cond t (Some list) (find (is_of list.run) lists)))) (eq-eqb list.run.0 list.run.0 refl) in

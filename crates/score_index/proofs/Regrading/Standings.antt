@@ -3,11 +3,9 @@ use Rattle.std.proofs.Common.{◌≡◌, ◌≢◌, ◌<◌, ℕ, ◌+◌, ◌-�
 use Rattle.std.specs.Prelude.{All, find}
 use Rattle.std.specs.List.{AllZip}
 use Rattle.std.specs.Option.{option_map, option_map_or}
-use Rattle.std.proofs.lemmas.Bool.{eqb-false}
 use Rattle.std.proofs.lemmas.List.{get_or-map, length-map}
 use Rattle.std.proofs.lemmas.List.Kept.{AllPairs-filter}
-use Rattle.std.proofs.lemmas.List.Quantifiers.{all_pairs_push}
-use Rattle.std.proofs.lemmas.List.Elements.{All-cons, All-filter, All-head, All-map, All-push, All-tail}
+use Rattle.std.proofs.lemmas.List.Elements.{All-filter, All-head, All-map, All-tail}
 use Rattle.std.proofs.lemmas.Option.{same_Some}
 use Rattle.decimal_rank.specs.Places.{AreDistinct, place_in}
 use Rattle.decimal_rank.specs.declared.naming.DocId.{DocId}
@@ -16,13 +14,14 @@ use Rattle.measures.specs.Cells.{cell_of}
 use Rattle.qrels_view.specs.Grades.{as_number, effective_in, is_non_relevant, is_relevant, with_grade}
 use Rattle.qrels_view.specs.declared.grades.Graded.{Graded}
 use Rattle.rank_trees.specs.Marks.{count_on}
-use Rattle.score_index.specs.Kept.{AreOfOtherRuns, IsListKept, IsTopicKept, has_grades, kept_cell, kept_cells, lower_in, put_at, relevant_in, remarked, with_list, with_regrade, without_lists}
+use Rattle.score_index.specs.Kept.{AreByRun, IsListKept, IsTopicKept, has_grades, kept_cell, kept_cells, lower_in, put_at, relevant_in, remarked, with_list, with_regrade, without_lists}
 use Rattle.score_index.specs.KeptSums.{CanFollow, CanRemark, IsAt}
 use Rattle.score_index.specs.Places.{cell_by}
 use Rattle.score_index.specs.Scores.{ScoreList, TopicScores, docs_in, is_of}
 use Rattle.score_index.specs.Standing.{ListStandsFor, TopicStandsFor, cell_from, cells_of, grades_by_rank, is_counted, listed_in, non_relevant_of, relevant_of}
 use Rattle.score_index.proofs.Cells.ByPlaces.{by-places, count-map}
 use Rattle.score_index.proofs.Regrading.Grading.{count-with_grade, effective-with_grade, listed_within, put-map}
+use Rattle.score_index.proofs.Keeping.ListsByRun.{others_have, placed-all, placed-ordered}
 use Rattle.score_index.proofs.Keeping.Listing.{chosen_alike, map-map}
 use Rattle.score_index.proofs.Regrading.Marking.{mark-at}
 
@@ -59,30 +58,20 @@ found_all P test (one ∷ lists) list all found = step (test one) (found_all P t
 abbrev HasCounts : ℕ → ℕ → ScoreList → Type 0
 HasCounts rel low list = (list.rel ≡ rel) × (list.low ≡ low)
 
--- lists with their runs stay those of other runs
-once-map : (change : ScoreList → ScoreList) → ((list : ScoreList) → (change list).run ≡ list.run) → (lists : List ScoreList) → AreOfOtherRuns lists → AreOfOtherRuns (map change lists)
-once-map change stays lists once = λ i j d less within.
+-- lists that keep their runs keep their order
+ordered-map : (change : ScoreList → ScoreList) → ((list : ScoreList) → (change list).run ≡ list.run) → (lists : List ScoreList) → AreByRun lists → AreByRun (map change lists)
+ordered-map change stays lists ordered = λ i j d less within.
     let long = length-map lists change in
     let behind : j < length lists = omega (arith, within, long) in
-    subst (λ (r : RunId). r.0 ≢ (get_or (map change lists) j d).run.0) (sym (run_at i d (omega (arith, less, behind))))
-    (subst (λ (r : RunId). (get_or lists i d).run.0 ≢ r.0) (sym (run_at j d behind)) (once i j d less behind))
+    subst (λ (r : RunId). r.0 < (get_or (map change lists) j d).run.0) (sym (run_at i d (omega (arith, less, behind))))
+    (subst (λ (r : RunId). (get_or lists i d).run.0 < r.0) (sym (run_at j d behind)) (ordered i j d less behind))
   where
     run_at : (k : ℕ) (d : ScoreList) → k < length lists → (get_or (map change lists) k d).run ≡ (get_or lists k d).run
     run_at k d within = ap (λ (list : ScoreList). list.run) (get_or-map change lists k d d within) ∙ stays (get_or lists k d)
 
--- where a run has no list, the lists are those of other runs
-others_have : (run : RunId) (lists : List ScoreList) → option_map (λ list. list.docs) (find (is_of run) lists) ≡ None → All (λ list. list.run.0 ≢ run.0) lists
-others_have run [] none = λ k d within. absurd (omega (arith, within))
-others_have run (list ∷ lists) none = step (is_of run list) refl none (others_have run lists)
-  where
-    step : (t : Bool) → is_of run list ≡ t → option_map (λ (one : ScoreList). one.docs) (cond t (Some list) (find (is_of run) lists)) ≡ None
-        → (option_map (λ (one : ScoreList). one.docs) (find (is_of run) lists) ≡ None → All (λ list. list.run.0 ≢ run.0) lists) → All (λ list. list.run.0 ≢ run.0) (list ∷ lists)
-    step true is some rest = cc some
-    step false is none rest = All-cons (λ list. list.run.0 ≢ run.0) list lists (eqb-false list.run.0 run.0 is) (rest none)
-
 topic_kept : (level : ℕ) (topic : TopicScores) (graded : List Graded) → TopicStandsFor level topic graded → topic.relevant ≤ 268435456 → topic.non_relevant ≤ 268435456
-    → All (λ list. length list.docs ≤ 1000) topic.lists → All (λ list. AreDistinct list.docs) topic.lists → All (HasCounts topic.relevant topic.non_relevant) topic.lists → AreOfOtherRuns topic.lists → IsTopicKept topic
-topic_kept level topic graded stands few others short distinct counts once = record {
+    → All (λ list. length list.docs ≤ 1000) topic.lists → All (λ list. AreDistinct list.docs) topic.lists → All (HasCounts topic.relevant topic.non_relevant) topic.lists → AreByRun topic.lists → IsTopicKept topic
+topic_kept level topic graded stands few others short distinct counts ordered = record {
   few_relevant = few;
   few_non_relevant = others;
   lists = λ k d within.
@@ -90,7 +79,7 @@ topic_kept level topic graded stands few others short distinct counts once = rec
       (subst (λ n. IsListKept (relevant_of level graded) n (get_or topic.lists k d)) (sym stands.non_relevant_is)
       (list_kept level graded (get_or topic.lists k d) (short k d within) (distinct k d within) (stands.lists_are k d within)
       ((counts k d within).0 ∙ stands.relevant_is) ((counts k d within).1 ∙ stands.non_relevant_is)));
-  once = once;
+  by_run = ordered;
 }
 
 pub stands-with_list : (level : ℕ) (topic : TopicScores) (graded : List Graded) (list : ScoreList) → ListStandsFor level graded list
@@ -98,17 +87,17 @@ pub stands-with_list : (level : ℕ) (topic : TopicScores) (graded : List Graded
 stands-with_list level topic graded list are stands = record {
   relevant_is = stands.relevant_is;
   non_relevant_is = stands.non_relevant_is;
-  lists_are = All-push (ListStandsFor level graded) topic.lists list stands.lists_are are;
+  lists_are = placed-all (ListStandsFor level graded) list topic.lists stands.lists_are are;
 }
 
 pub kept-with_list : (level : ℕ) (topic : TopicScores) (graded : List Graded) (list : ScoreList) → length list.docs ≤ 1000 → AreDistinct list.docs → ListStandsFor level graded list
     → list.rel ≡ topic.relevant → list.low ≡ topic.non_relevant → docs_in list.run topic ≡ None → TopicStandsFor level topic graded → IsTopicKept topic → IsTopicKept (with_list list topic)
 kept-with_list level topic graded list few distinct are rel low none stands kept =
     topic_kept level (with_list list topic) graded (stands-with_list level topic graded list are stands) kept.few_relevant kept.few_non_relevant
-    (All-push (λ one. length one.docs ≤ 1000) topic.lists list (λ k d within. (kept.lists k d within).few) few)
-    (All-push (λ one. AreDistinct one.docs) topic.lists list (λ k d within. (kept.lists k d within).distinct) distinct)
-    (All-push (HasCounts topic.relevant topic.non_relevant) topic.lists list (λ k d within. ((kept.lists k d within).rel_is, (kept.lists k d within).low_is)) (rel, low))
-    (all_pairs_push (λ one other. one.run.0 ≢ other.run.0) topic.lists list kept.once (λ k d within. others_have list.run topic.lists none k d within))
+    (placed-all (λ one. length one.docs ≤ 1000) list topic.lists (λ k d within. (kept.lists k d within).few) few)
+    (placed-all (λ one. AreDistinct one.docs) list topic.lists (λ k d within. (kept.lists k d within).distinct) distinct)
+    (placed-all (HasCounts topic.relevant topic.non_relevant) list topic.lists (λ k d within. ((kept.lists k d within).rel_is, (kept.lists k d within).low_is)) (rel, low))
+    (placed-ordered list topic.lists kept.by_run (others_have list.run topic.lists none))
 
 pub stands-without : (level : ℕ) (run : RunId) (topic : TopicScores) (graded : List Graded) → TopicStandsFor level topic graded → TopicStandsFor level (without_lists run topic) graded
 stands-without level run topic graded stands = record {
@@ -122,7 +111,7 @@ kept-without run topic kept = record {
   few_relevant = kept.few_relevant;
   few_non_relevant = kept.few_non_relevant;
   lists = All-filter (λ list. not (is_of run list)) (IsListKept topic.relevant topic.non_relevant) topic.lists kept.lists;
-  once = AllPairs-filter (λ one other. one.run.0 ≢ other.run.0) (λ list. not (is_of run list)) topic.lists kept.once;
+  by_run = AllPairs-filter (λ one other. one.run.0 < other.run.0) (λ list. not (is_of run list)) topic.lists kept.by_run;
 }
 
 pub stands-regraded : (level : ℕ) (doc : DocId) (old new : Option ℕ) (topic : TopicScores) (graded : List Graded) → All (λ list. AreDistinct list.docs) topic.lists → effective_in graded doc ≡ old
@@ -161,7 +150,7 @@ kept-regraded level doc old new topic graded is few others stands kept =
     (All-map (λ one. length one.docs ≤ 1000) change topic.lists (λ k d within. (kept.lists k d within).few))
     (All-map (λ one. AreDistinct one.docs) change topic.lists (λ k d within. (kept.lists k d within).distinct))
     (All-map (HasCounts (with_regrade level doc old new topic).relevant (with_regrade level doc old new topic).non_relevant) change topic.lists (λ k d within. (refl, refl)))
-    (once-map change (λ list. refl) topic.lists kept.once)
+    (ordered-map change (λ list. refl) topic.lists kept.by_run)
   where
     change : ScoreList → ScoreList
     change = remarked doc (is_relevant level new) (is_non_relevant level new) (with_regrade level doc old new topic).relevant (with_regrade level doc old new topic).non_relevant

@@ -15,6 +15,11 @@ returns-in_default-clause-told g c =
     let story = seen_as (story_in g.D.Disk.fault_count c.args.book) in
     leaves_shut c.args.keys.now c.args.workers c.args.connections c.args.port story story serve_end.Memory (g.R.Door.seen c.args.door).told (λ wrong. cc wrong) c.requires.shut
 
+pub returns-in_default-with_capacity-clause-told : goal.returns-in_default-with_capacity-clause-told
+returns-in_default-with_capacity-clause-told g c =
+    let story = seen_as (story_in g.D.Disk.fault_count c.args.book) in
+    leaves_shut c.args.keys.now c.args.workers c.args.connections c.args.port story story serve_end.Memory (g.R.Door.seen c.args.door).told (λ wrong. cc wrong) c.requires.shut
+
 pub returns-in-Err-clause-told : goal.returns-in-Err-clause-told
 returns-in-Err-clause-told g c =
     let story = story_in g.D.Disk.fault_count in
@@ -39,17 +44,18 @@ returns-clause-told g c =
     let keys = c.args.keys.now in
     let start = seen_as (book c.args.book) in
     let seen = c.work_together-short.new.first.seen in
+    let mine = c.work_together-short.new.first.mine in
     let after = c.close-2.result in
     let short = c.work_together-short.result in
     let records = ended_all (λ v. v.items) g.R.Door.kept c.work_together-short.new.all.items in
     let amount = c.work_together-short.new.whole.amount in
     let was = (g.R.Door.seen c.args.door).faults in
     let closes : Closes c.args.port was c.args.connections (g.R.Door.seen c.close-door.result.0) amount c.close-door.result.1 = search rules in
-    let worked : Worked keys start c.args.workers (seen_as seen) records short =
-    subst (λ s. Worked keys (seen_as s) c.args.workers (seen_as seen) records short) c.in-Ok-new.ensures.pass.0 c.work_together-short.ensures.worked in
+    let worked : Worked keys start c.args.workers (seen_as seen) mine records short =
+    subst (λ s. Worked keys (seen_as s) c.args.workers (seen_as seen) mine records short) c.in-Ok-new.ensures.pass.0 c.work_together-short.ensures.worked in
     let most : MostOf seen (book after) = c.close-2.ensures in
     let most_of : AtMost (seen_as seen) (seen_as (book after)) = record { longer = most.0; later = most.1; opening = most.2 } in
-    leaves_closed keys c.args.workers c.args.connections c.args.port start (seen_as seen) (seen_as (book after)) was amount (g.R.Door.seen c.close-door.result.0) c.close-door.result.1
+    leaves_closed keys c.args.workers c.args.connections c.args.port start (seen_as seen) (seen_as (book after)) mine was amount (g.R.Door.seen c.close-door.result.0) c.close-door.result.1
     c.settle-door.result.1 records short closes c.work_together-short.ensures.amount worked most_of (g.R.Door.seen c.settle-door.result.0).told c.settle-door.ensures.settled
 
 pub returns-clause-history : goal.returns-clause-history
@@ -57,10 +63,11 @@ returns-clause-history g c =
     let book = story_in g.D.Disk.fault_count in
     let start = seen_as (book c.args.book) in
     let seen = c.work_together-short.new.first.seen in
+    let mine = c.work_together-short.new.first.mine in
     let after = c.close-2.result in
     let records = ended_all (λ v. v.items) g.R.Door.kept c.work_together-short.new.all.items in
-    let worked : Worked c.args.keys.now start c.args.workers (seen_as seen) records c.work_together-short.result =
-    subst (λ s. Worked c.args.keys.now (seen_as s) c.args.workers (seen_as seen) records c.work_together-short.result) c.in-Ok-new.ensures.pass.0 c.work_together-short.ensures.worked in
+    let worked : Worked c.args.keys.now start c.args.workers (seen_as seen) mine records c.work_together-short.result =
+    subst (λ s. Worked c.args.keys.now (seen_as s) c.args.workers (seen_as seen) mine records c.work_together-short.result) c.in-Ok-new.ensures.pass.0 c.work_together-short.ensures.worked in
     let most : MostOf seen (book after) = c.close-2.ensures in
     most_on start (seen_as seen) (seen_as (book after)) worked.grown (record { longer = most.0; later = most.1; opening = most.2 })
 

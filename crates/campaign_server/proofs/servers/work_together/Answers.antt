@@ -40,9 +40,9 @@ workers-init g c =
       amount = c.fill_team.ensures.amount ∙ ap (λ items. length (ended_all (λ v. v.items) g.R.Door.kept items)) (sym none);
       room = c.requires.all.1;
       worked =
-          subst (λ p. Worked c.args.keys.now start (vec_len c.args.all.now) (seen_as p.seen) (ended_all (λ v. v.items) g.R.Door.kept c.args.all.now.items) _) (sym same)
-          (subst (λ items. Worked c.args.keys.now start (vec_len c.args.all.now) start (ended_all (λ v. v.items) g.R.Door.kept items) _) (sym none)
-          (subst (λ n. Worked c.args.keys.now start n start [] _) (sym nobody) (works_none c.args.keys.now start)));
+          subst (λ p. Worked c.args.keys.now start (vec_len c.args.all.now) (seen_as p.seen) p.mine (ended_all (λ v. v.items) g.R.Door.kept c.args.all.now.items) _) (sym same)
+          (subst (λ items. Worked c.args.keys.now start (vec_len c.args.all.now) start c.args.first.now.mine (ended_all (λ v. v.items) g.R.Door.kept items) _) (sym none)
+          (subst (λ n. Worked c.args.keys.now start n start c.args.first.now.mine [] _) (sym nobody) (works_none c.args.keys.now start 0 c.args.first.now.mine)));
     }
 
 pub take_in-short-requires-clause-pass : goal.take_in-short-requires-clause-pass
@@ -85,10 +85,11 @@ workers-preserved g c =
           omega (arith, amount, was, counted, total, one);
       room = search rules;
       worked =
-          subst (λ records. Worked c.args.keys.now start (vec_len c.take_in-short.new.all) (seen_as c.take_in-short.new.first.seen) records c.take_in-short.result) (sym more)
-          (subst (λ n. Worked c.args.keys.now start n (seen_as c.take_in-short.new.first.seen) (ended_all (λ v. v.items) kept before ++ ended_of kept work.records.items) c.take_in-short.result) (sym longer)
-          (subst (λ short. Worked c.args.keys.now start (vec_len c.workers.all + 1) (seen_as c.take_in-short.new.first.seen) (ended_all (λ v. v.items) kept before ++ ended_of kept work.records.items) short)
+          subst (λ records. Worked c.args.keys.now start (vec_len c.take_in-short.new.all) (seen_as c.take_in-short.new.first.seen) c.take_in-short.new.first.mine records c.take_in-short.result) (sym more)
+          (subst (λ n. Worked c.args.keys.now start n (seen_as c.take_in-short.new.first.seen) c.take_in-short.new.first.mine (ended_all (λ v. v.items) kept before ++ ended_of kept work.records.items) c.take_in-short.result) (sym longer)
+          (subst (λ short. Worked c.args.keys.now start (vec_len c.workers.all + 1) (seen_as c.take_in-short.new.first.seen) c.take_in-short.new.first.mine (ended_all (λ v. v.items) kept before ++ ended_of kept work.records.items) short)
           (sym c.take_in-short.ensures.short)
-          (works_in c.args.keys.now start (vec_len c.workers.all) c.workers.first.seen c.take_in-short.new.first.seen c.args.hall.now work.pass work.share.parts work.share.amount (vec_len work.records)
-          (ended_all (λ v. v.items) kept before) (ended_of kept work.records.items) c.workers.short work.short c.take_in-short.ensures.grown.0 c.take_in-short.ensures.grown.1 at.worked served)));
+          (works_in c.args.keys.now start (vec_len c.workers.all) c.workers.first c.take_in-short.new.first c.args.hall.now work.pass work.share.parts work.share.amount (vec_len work.records)
+          (ended_all (λ v. v.items) kept before) (ended_of kept work.records.items) c.workers.short work.short c.take_in-short.ensures.grown.0 c.take_in-short.ensures.grown.1
+          c.take_in-short.ensures.mine.0 c.take_in-short.ensures.mine.1 at.worked served)));
     }

@@ -13,7 +13,7 @@ invariant-workers g l = record {
   count : vec_len l.all + vec_len l.team ≡ l.workers;
   amount : l.whole.amount ≡ length (ended_all (λ v. v.items) g.R.Door.kept l.all.items);
   room : l.workers ≤ vec_capacity l.all;
-  worked : Worked l.keys (seen_as l.fn.first.seen) (vec_len l.all) (seen_as l.first.seen) (ended_all (λ v. v.items) g.R.Door.kept l.all.items) l.short;
+  worked : Worked l.keys (seen_as l.fn.first.seen) (vec_len l.all) (seen_as l.first.seen) l.first.mine (ended_all (λ v. v.items) g.R.Door.kept l.all.items) l.short;
 }
 
 abbrev pub decreases-workers : goal.decreases-workers

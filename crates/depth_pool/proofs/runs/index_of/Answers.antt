@@ -1,14 +1,16 @@
-use Rattle.std.proofs.Common.{◌≡◌, ◌∙◌, ap, eq-eqb, arith, sym, eqb, length, []}
-use Rattle.std.proofs.lemmas.List.Sums.{position_or_len_is}
+use Rattle.std.proofs.Common.{◌≡◌, rules}
+use Rattle.std.specs.Ordering.{nat_cmp}
+use Rattle.std.proofs.lemmas.Fn.{always_returns_same}
 use Rattle.depth_pool.specs.Holdings.{Held}
+use Rattle.depth_pool.proofs.Search.{found_at, found_nowhere}
 use Rattle.depth_pool.proofs.runs.index_of.Goals as goal
 
-pub returns-then-held-run : goal.returns-then-held-run
-returns-then-held-run c =
-    let p = λ (held : Held). eqb held.run.0 c.args.run.0 in
-    sym (position_or_len_is p c.args.runs.now c.loop-i.i c.index-runs-i.result (omega arith) (λ k. c.loop-i.invariant k c.index-runs-i.result) (λ _. ap p (sym (c.held.view_is ∙ c.index-runs-i.is)) ∙ eq-eqb _ _ c.if-held-run.true))
+pub returns-in-Ok : goal.returns-in-Ok
+returns-in-Ok c =
+    found_at c.args.run c.args.runs.now c.in-Ok.index c.requires c.in-Ok.ensures.bound
+    (c.in-Ok.ensures.position (λ (held : Held). nat_cmp held.run.0 c.args.run.0) (always_returns_same _ (λ a r. r ≡ nat_cmp a.0.now.run.0 c.args.run.0) _ (λ a r f' called. (search rules, search rules))))
 
-pub returns : goal.returns
-returns c =
-    let end : c.loop-i.i ≡ length c.args.runs.now = omega arith in
-    sym (position_or_len_is (λ (held : Held). eqb held.run.0 c.args.run.0) c.args.runs.now (length c.args.runs.now) (record { run = c.args.run; docs = [] }) (omega arith) (λ k h. c.loop-i.invariant k _ (omega arith)) (λ h. absurd (omega arith)))
+pub returns-in-Err : goal.returns-in-Err
+returns-in-Err c =
+    found_nowhere c.args.run c.args.runs.now c.in-Err.field-0 c.requires
+    (c.in-Err.ensures.position (λ (held : Held). nat_cmp held.run.0 c.args.run.0) (always_returns_same _ (λ a r. r ≡ nat_cmp a.0.now.run.0 c.args.run.0) _ (λ a r f' called. (search rules, search rules))))

@@ -1,11 +1,12 @@
 -- The lines of the documents so far are appended behind what stood before.
 use Rattle.std.proofs.Common.{◌≡◌, ◌++◌, length, take}
 use Rattle.std.specs.List.{flat_map}
+use Rattle.qrels_view.specs.declared.grades.Placed.{Placed}
 use Rattle.qrels_view.specs.Lines.{line_of}
 use Rattle.qrels_view.proofs.text.write_lines.Given as goal
 
 abbrev pub invariant-loop-one : goal.invariant-loop-one
 invariant-loop-one l = record {
-  lines : l.out.items ≡ l.initial.out.items ++ flat_map (line_of l.topic l.names) (take l.one-index l.graded);
+  lines : l.out.items ≡ l.initial.out.items ++ flat_map (λ (one : Placed). line_of l.topic l.names one.graded) (take l.one-index l.placed);
   before : l.before ≡ length l.initial.out.items;
 }

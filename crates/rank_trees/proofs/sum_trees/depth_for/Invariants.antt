@@ -4,7 +4,7 @@ use Rattle.decimal_rank.specs.Places.{levels}
 use Rattle.rank_trees.proofs.sum_trees.depth_for.Given as goal
 
 abbrev pub invariant-loop-rest : goal.invariant-loop-rest
-invariant-loop-rest l = l.depth + levels l.rest ≡ levels l.len
+invariant-loop-rest l = l.depth + levels l.rest ≡ levels l.last
 
 abbrev pub decreases-loop-rest : goal.decreases-loop-rest
 decreases-loop-rest l = l.rest

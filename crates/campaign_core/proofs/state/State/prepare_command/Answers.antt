@@ -1,4 +1,4 @@
-use Rattle.std.proofs.Common.{◌≡◌, ◌<◌, ◌∙◌, List, Some, ap, arith, length, refl, subst, sym, take}
+use Rattle.std.proofs.Common.{◌≡◌, ◌<◌, ◌∙◌, List, None, Some, ap, arith, length, refl, subst, sym, take}
 use Rattle.rulebook.specs.declared.entry.EntryCore.{EntryCore}
 use Rattle.rulebook.specs.declared.limits.TheConstants.{MAX_ENTRIES}
 use Rattle.rulebook.specs.Answers.{moment_after}
@@ -9,7 +9,7 @@ use Rattle.campaign_core.specs.NumberedRequests.{Numbered}
 use Rattle.campaign_core.specs.Seen.{Seen}
 use Rattle.campaign_core.specs.declared.state.State.TheInside.{Inside}
 use Rattle.campaign_core.proofs.Entries.Answered.{first-accepted, first-refused, full-told}
-use Rattle.campaign_core.proofs.Entries.KeptStates.{kept-idle, kept-on}
+use Rattle.campaign_core.proofs.Entries.KeptStates.{idle-of, kept-idle, kept-on}
 use Rattle.campaign_core.proofs.state.State.prepare_command.Goals.{After-len, After-prepared}
 use Rattle.campaign_core.proofs.state.State.prepare_command.Goals as goal
 
@@ -51,8 +51,11 @@ returns-in-Err-clause-verdict c =
     let at = (goal.at.returns-in-Err-clause-verdict c).After-prepared in
     let refused = subst (IsPrepared c.prepared.new.campaign c.prepared.new.docnos c.prepared.new.numbers (core_of at)) c.in-Err.is c.in_ok-prepared.ensures.prepared in
     let told = first-refused c.args.self.now.history c.prepared.new.campaign.history.items c.args.who.now c.in_ok-copy.field-0 c.args.number c.args.command c.args.moment c.moment_after.result c.requires.unused (few at) (back at)
-    c.in_ok-copy.ensures (when at) c.in-Err.refusal refused in
+    c.in_ok-copy.ensures (when at) c.in-Err.refusal refused.0 in
     (told.0, told.1, ap (λ (s : Seen). s.prepared) c.self.view_is ∙ c.requires.none)
+
+pub prepared-requires-clause-idle : goal.prepared-requires-clause-idle
+prepared-requires-clause-idle c = idle-of c.self.inside c.self.invariant (ap (λ (s : Seen). s.prepared) c.self.view_is ∙ c.requires.none)
 
 -- the docnos and the numbers begin with those of the history
 
@@ -63,17 +66,20 @@ numbers-grown : (c : After-prepared) → BeginsWith (take c.self.inside.numbers_
 numbers-grown c = subst (λ (all : List Numbered). BeginsWith all c.prepared.new.numbers) c.cut-2.ensures c.prepared.ensures.numbers_grown
 
 -- the state behind an answer that adds nothing
-idle : (c : After-prepared) → IsKept (record c.self.inside { campaign = c.prepared.new.campaign; docnos = c.prepared.new.docnos; numbers = c.prepared.new.numbers })
-idle c =
+idle : (c : After-prepared) → c.prepared.new.campaign.assessment.pending ≡ None → IsKept (record c.self.inside { campaign = c.prepared.new.campaign; docnos = c.prepared.new.docnos; numbers = c.prepared.new.numbers })
+idle c nothing =
     let old = c.self.inside in
     let new : Inside = record old { campaign = c.prepared.new.campaign; docnos = c.prepared.new.docnos; numbers = c.prepared.new.numbers } in
-    kept-idle old new c.self.invariant c.prepared.ensures.unchanged refl refl (docnos-grown c) (numbers-grown c) (ap (λ (s : Seen). s.prepared) c.self.view_is ∙ c.requires.none)
+    kept-idle old new c.self.invariant c.prepared.ensures.unchanged refl refl (docnos-grown c) (numbers-grown c) (ap (λ (s : Seen). s.prepared) c.self.view_is ∙ c.requires.none) nothing
 
 pub invariant_of-self : goal.invariant_of-self
-invariant_of-self c = idle (goal.at.invariant_of-self c).After-prepared
+invariant_of-self c = idle (goal.at.invariant_of-self c).After-prepared c.in_err-prepared.ensures.err
 
 pub invariant_of-self-in-Err : goal.invariant_of-self-in-Err
-invariant_of-self-in-Err c = idle (goal.at.invariant_of-self-in-Err c).After-prepared
+invariant_of-self-in-Err c =
+    let at = (goal.at.invariant_of-self-in-Err c).After-prepared in
+    let refused = subst (IsPrepared c.prepared.new.campaign c.prepared.new.docnos c.prepared.new.numbers (core_of at)) c.in-Err.is c.in_ok-prepared.ensures.prepared in
+    idle at refused.1
 
 pub invariant_of-self-in-Ok : goal.invariant_of-self-in-Ok
 invariant_of-self-in-Ok c =

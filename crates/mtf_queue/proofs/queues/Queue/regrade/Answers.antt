@@ -12,5 +12,5 @@ returns-clause-in_order c =
     let order = c.self.inside.order.items in
     let sorted = c.sort_by_rule.new.order.items in
     let before : IsInOrder runs c.self.inside.trail.items order = subst (λ (queue : QueueView). IsInOrder runs queue.trail queue.order) (sym c.self.view_is) c.requires.in_order in
-    in_order_resorted runs c.set_grade.new.trail.items order sorted before.in_pool (differ_in_order (holds runs) c.self.inside.trail.items order before.pairwise) c.sort_by_rule.ensures.runs
+    in_order_resorted runs c.set_grade-is_other.new.trail.items order sorted before.in_pool (differ_in_order (holds runs) c.self.inside.trail.items order before.pairwise) c.sort_by_rule.ensures.runs
     (λ differ. subst (λ t. AllPairs (IsBefore (holds runs) t) sorted) c.as_slice.ensures.value (c.sort_by_rule.ensures.pairwise differ))

@@ -1,13 +1,12 @@
-use Rattle.std.proofs.Common.{◌≡◌, ◌∙◌, ◌≤◌, List, ℕ, ap, arith, length, subst, sym}
-use Rattle.std.proofs.lemmas.List.{length-replicate}
-use Rattle.rank_trees.specs.Marks.{are_on, weights_of}
-use Rattle.rank_trees.proofs.Weights.{none_on, none_weigh}
+use Rattle.std.proofs.Common.{◌+◌, ◌/◌, ◌*◌, ◌∙◌, List, Bool, false, ap, arith, take}
+use Rattle.std.proofs.lemmas.List.{take-replicate}
+use Rattle.rank_trees.specs.Marks.{weights_from}
+use Rattle.rank_trees.proofs.Summed.{none-summed}
+use Rattle.rank_trees.proofs.Weights.{weights-none, weights-off, weights-split}
 use Rattle.rank_trees.proofs.weight_trees.WeightTree.new.Goals as goal
 
 pub invariant_of-result : goal.invariant_of-result
-invariant_of-result c =
-    subst (λ (weights : List ℕ). (weights ≡ weights_of 1 (are_on weights)) × (length weights ≤ 1000)) (sym c.in_ok-weights.ensures)
-    (none_weigh c.args.places, omega (arith, c.requires, length-replicate {A = ℕ} c.args.places 0))
+invariant_of-result c = rw (c.in_ok-words.ensures, c.in_ok-weights.ensures) (none-summed weights_from weights-none weights-split 16 weights-off (c.args.places / 16 + 1) c.args.places c.requires)
 
 pub returns : goal.returns
-returns c = ap (λ (weights : List ℕ). are_on weights) c.in_ok-weights.ensures ∙ none_on c.args.places
+returns c = ap (λ (on : List Bool). take c.args.places on) c.in_ok-words.ensures ∙ take-replicate c.args.places (64 * (c.args.places / 64 + 1)) false (omega arith)

@@ -26,6 +26,12 @@ added c = c.add_list.ensures.seen ∙ ap (λ (l : ScoreList). with_list l (seen 
 none : (c : After-add_list) → docs_in c.args.run (seen c.index_mut-topic.result.now) ≡ None
 none c = ap (docs_in c.args.run) (sym (topic c).topic_is) ∙ c.requires.is_new
 
+pub add_list-requires-clause-by_run : goal.add_list-requires-clause-by_run
+add_list-requires-clause-by_run c =
+    let of : IsTopicOf c.self.inside.level c.self.inside.topics.items (length c.self.inside.rooms.items) c.args.self.now c.args.topic c.index_mut-topic.result.now =
+    topic-of c.self.view_is refl refl c.self.invariant.0 c.requires.topic c.index_mut-topic.ensures.value in
+    of.kept.by_run
+
 pub invariant_of-self : goal.invariant_of-self
 invariant_of-self c =
     let all = (goal.at.invariant_of-self c).After-add_list in

@@ -87,4 +87,4 @@ returns-clause-cost g c = λ runs has.
     let of = topic g (goal.at.returns-clause-cost g c).After-index_mut-topic in
     let was = c.index_mut-topic.result.now in
     let steps : steps_of runs (topic_at c.args.self.now c.args.topic) ≡ steps_of runs (seen was) = ap (steps_of runs) of.topic_is in
-    omega (arith, steps, lists_within runs was.lists.items of.kept.once (λ run docs is. subst (HasRuns runs) of.topic_is has run docs is), c.regrade.ensures.cost)
+    omega (arith, steps, lists_within runs was.lists.items of.kept.by_run (λ run docs is. subst (HasRuns runs) of.topic_is has run docs is), c.regrade.ensures.cost)

@@ -1,0 +1,261 @@
+//! Why settings are refused. `read_settings` decides that they are; this second walk over their text looks for the first
+//! fault and its line, to tell a person.
+ghost use Rattle.std.specs.Prelude.{◌≡◌, ◌≢◌, None, Ok, IfOk, IfSome};
+ghost use Rattle.campaign_cli.specs.Settings.{settings_of};
+
+use crate::setting_faults::Fault;
+use crate::setting_lines::{line_of_caller, line_of_key, line_of_name, line_of_place};
+use campaign_cli::{SettingsEnd, read_settings};
+use decimal_rank::Memory;
+use std::alloc::Global;
+use toml::{Table, Value};
+use trec_formats::is_name;
+
+const MOST_TERM: i64 = 1 << 40;
+
+const MOST_DOUBLES: usize = 250;
+
+const MOST_CALLERS: usize = 500;
+
+/// The keys that settings may have.
+const NAMES: [&str; 7] = [
+    "depth",
+    "term",
+    "hold",
+    "top_grade",
+    "level",
+    "doubles",
+    "caller",
+];
+
+/// A fault of settings, with the line of the text where it stands, if that was found.
+#[derive(Clone, Copy)]
+struct Finding<'a> {
+    line: Option<usize>,
+    fault: Fault<'a>,
+}
+
+/// The sentence on the first fault of settings that are refused, with its line where that was found; none where they
+/// aren't refused.
+pub fn complaint_of(alloc: Global, text: &[u8]) -> Result<Option<String>, Memory>
+    ensures refused { IfOk result (λ complaint. IfSome complaint (λ _. settings_of text.now ≡ None)) }
+    ensures accepted { result ≡ Ok None → settings_of text.now ≢ None }
+{
+    match read_settings(alloc, text) {
+        Ok(_) => Ok(None),
+        Err(SettingsEnd::Refused) => Ok(Some(first_complaint(alloc, text)?)),
+        Err(SettingsEnd::Memory) => Err(Memory),
+    }
+}
+
+fn first_complaint(alloc: Global, bytes: &[u8]) -> Result<String, Memory> {
+    let text = match str::from_utf8(bytes) {
+        Ok(text) => text,
+        Err(error) => {
+            let line = line_of_place(bytes, error.valid_up_to());
+            return told(alloc, Some(line), Fault::NoText);
+        }
+    };
+    match toml::table_from_str(alloc, text) {
+        Ok(table) => match first_fault(text, &table) {
+            Some(found) => told(alloc, found.line, found.fault),
+            None => told(alloc, None, Fault::Unnamed),
+        },
+        Err(error) => {
+            let line = match error.span() {
+                Some(span) => Some(line_of_place(bytes, span.start)),
+                None => return Err(Memory),
+            };
+            told(alloc, line, Fault::NoToml(error.message()))
+        }
+    }
+}
+
+fn told(alloc: Global, line: Option<usize>, fault: Fault) -> Result<String, Memory> {
+    match line {
+        Some(line) => Ok(format!(in alloc; "line {line}: {fault}")?),
+        None => Ok(format!(in alloc; "{fault}")?),
+    }
+}
+
+// The fault on the least line; those whose line wasn't found come behind the others.
+fn first_fault<'a>(text: &str, table: &'a Table) -> Option<Finding<'a>> {
+    let keys = earlier(unknown_key(text, table), number_fault(text, table));
+    earlier(
+        earlier(keys, doubles_fault(text, table)),
+        callers_fault(text, table),
+    )
+}
+
+fn earlier<'a>(first: Option<Finding<'a>>, second: Option<Finding<'a>>) -> Option<Finding<'a>> {
+    match (first, second) {
+        (Some(one), Some(other)) if is_before(other.line, one.line) => Some(other),
+        (Some(one), _) => Some(one),
+        (None, other) => other,
+    }
+}
+
+fn is_before(line: Option<usize>, other: Option<usize>) -> bool {
+    match (line, other) {
+        (Some(line), Some(other)) => line < other,
+        (Some(_), None) => true,
+        (None, _) => false,
+    }
+}
+
+fn unknown_key<'a>(text: &str, table: &'a Table) -> Option<Finding<'a>> {
+    let mut found = None;
+    for key in table.keys() {
+        if !NAMES.iter().any(|name| *name == key.as_str()) {
+            let line = line_of_name(text, key.as_str());
+            let fault = Fault::UnknownKey(key.as_str());
+            found = earlier(found, Some(Finding { line, fault }));
+        }
+    }
+    found
+}
+
+fn number_fault<'a>(text: &str, table: &Table) -> Option<Finding<'a>> {
+    let top_grade = integer_at(table, "top_grade").unwrap_or(255);
+    let rows = [
+        ("depth", 1000),
+        ("term", MOST_TERM),
+        ("hold", 50),
+        ("top_grade", 255),
+        ("level", top_grade),
+    ];
+    let mut found = None;
+    for (key, high) in rows {
+        if let Some(fault) = fault_of_number(table, key, high) {
+            let line = line_of_key(text, 0, key);
+            found = earlier(found, Some(Finding { line, fault }));
+        }
+    }
+    found
+}
+
+// Each number is from 1 on.
+fn fault_of_number<'a>(table: &Table, key: &'static str, high: i64) -> Option<Fault<'a>> {
+    let low = 1;
+    if table.get(key).is_none() {
+        return Some(Fault::Absent { key, low, high });
+    }
+    match integer_at(table, key) {
+        Some(number) if low <= number && number <= high => None,
+        _ => Some(Fault::Number { key, low, high }),
+    }
+}
+
+fn integer_at(table: &Table, key: &str) -> Option<i64> {
+    match table.get(key) {
+        Some(value) => value.as_integer(),
+        None => None,
+    }
+}
+
+fn doubles_fault<'a>(text: &str, table: &Table) -> Option<Finding<'a>> {
+    match table.get("doubles") {
+        Some(value) if !are_doubles(value) => Some(Finding {
+            line: line_of_key(text, 0, "doubles"),
+            fault: Fault::Doubles,
+        }),
+        _ => None,
+    }
+}
+
+// Whether a value is an array of names, each before the next.
+fn are_doubles(value: &Value) -> bool {
+    let Some(items) = value.as_array() else {
+        return false;
+    };
+    let mut before = "";
+    for item in items {
+        match item.as_str() {
+            Some(name) if is_name(name.as_bytes()) && before < name => before = name,
+            _ => return false,
+        }
+    }
+    items.len() <= MOST_DOUBLES
+}
+
+fn callers_fault<'a>(text: &str, table: &'a Table) -> Option<Finding<'a>> {
+    let items = match table.get("caller") {
+        Some(value) => value.as_array(),
+        None => return None,
+    };
+    match items {
+        Some(items) if items.len() <= MOST_CALLERS => fault_among(text, items.as_slice()),
+        _ => Some(Finding {
+            line: line_of_name(text, "caller"),
+            fault: Fault::Callers,
+        }),
+    }
+}
+
+fn fault_among<'a>(text: &str, callers: &'a [Value]) -> Option<Finding<'a>> {
+    for (place, caller) in callers.iter().enumerate() {
+        let number = place.saturating_add(1);
+        let found = match fault_of_caller(number, caller) {
+            Some(found) => Some(found),
+            None => repeat(&callers[..place], number, caller),
+        };
+        if let Some((key, fault)) = found {
+            let line = match line_of_key(text, number, key) {
+                Some(line) => Some(line),
+                None => line_of_caller(text, number),
+            };
+            return Some(Finding { line, fault });
+        }
+    }
+    None
+}
+
+// The first fault of a caller, with the key that it is of.
+fn fault_of_caller<'a>(caller: usize, value: &'a Value) -> Option<(&'a str, Fault<'a>)> {
+    let Some(table) = value.as_table() else {
+        return Some(("", Fault::Callers));
+    };
+    for key in table.keys() {
+        let key = key.as_str();
+        if !matches!(key, "name" | "role" | "key") {
+            return Some((key, Fault::UnknownOfCaller { caller, key }));
+        }
+    }
+    match text_at(value, "name") {
+        Some(name) if is_name(name.as_bytes()) => {}
+        _ => return Some(("name", Fault::Name { caller })),
+    }
+    match text_at(value, "role") {
+        Some("organiser" | "group" | "assessor") => {}
+        _ => return Some(("role", Fault::Role { caller })),
+    }
+    match text_at(value, "key") {
+        Some(key) if is_key(key.as_bytes()) => None,
+        _ => Some(("key", Fault::Key { caller })),
+    }
+}
+
+// Whether a text may be a key.
+fn is_key(text: &[u8]) -> bool {
+    16 <= text.len() && text.len() <= 64 && text.iter().all(|byte| byte.is_ascii_alphanumeric())
+}
+
+fn text_at<'a>(value: &'a Value, key: &str) -> Option<&'a str> {
+    match value.get(key) {
+        Some(text) => text.as_str(),
+        None => None,
+    }
+}
+
+// Whether one of the callers before this one has its name or its key.
+fn repeat<'a>(before: &[Value], caller: usize, value: &Value) -> Option<(&'static str, Fault<'a>)> {
+    for (place, other) in before.iter().enumerate() {
+        let first = place.saturating_add(1);
+        for key in ["name", "key"] {
+            if text_at(value, key) == text_at(other, key) {
+                return Some((key, Fault::Repeat { caller, key, first }));
+            }
+        }
+    }
+    None
+}

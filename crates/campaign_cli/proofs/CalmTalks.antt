@@ -1,0 +1,94 @@
+-- A session in which no call failed: no answer of it tells a fault of the disk, and it ended by no failed call.
+use Rattle.std.proofs.Common.{◌≡◌, ◌≤◌, ◌⊎◌, ◌++◌, inl, inr, ℕ, Bool, true, List, [], ◌∷◌, Option, length, sym, subst, arith}
+use Rattle.decimal_rank.specs.Causes.{Rose}
+use Rattle.http_wire.specs.Messages.{End as Ending}
+use Rattle.routes.specs.declared.keys.KeyRow.{KeyRow}
+use Rattle.rulebook.specs.Campaign.{History}
+use Rattle.campaign_server.specs.declared.ends.End.{End}
+use Rattle.campaign_server.specs.declared.ends.End.TheVariants as end
+use Rattle.campaign_server.specs.Chains.{Said}
+use Rattle.campaign_server.specs.Connections.{EndsOn, SpokeAll}
+use Rattle.campaign_server.specs.Links.{LinkState}
+use Rattle.campaign_server.specs.Sessions.{IsSession}
+use Rattle.campaign_server.specs.Talks.{Talk}
+use Rattle.campaign_cli.specs.CalmSessions.{CalmSessionsAreAnswered, HasNoDiskFault, IsAnswered, IsCalmEnd}
+use Rattle.campaign_cli.specs.SessionEnds.{SessionWay, held, unheld}
+use Rattle.campaign_cli.proofs.ByStatus.{unopened_complete}
+
+-- the disk's count at the end of a talk is no less than at its start
+talk_later : (alone : Bool) (keys : List KeyRow) (n c : ℕ) (S : History) (last : ℕ) (places : List ℕ) (said : List Said) → Talk alone keys n c S last places said → c ≤ last
+talk_later alone keys n c S last places [] talk = talk.1
+talk_later alone keys n c S last places (x ∷ said) (H, more, d, others, stands, places_are, rest) =
+    let behind = talk_later alone keys (length (H ++ more)) d S last others said rest in
+    omega (arith, stands.later, behind)
+
+-- where it hasn't risen since some moment before, no answer tells a fault of the disk
+no_fault : (base last : ℕ) → ¬ (Rose base last) → (alone : Bool) (keys : List KeyRow) (n c : ℕ) (S : History) (places : List ℕ) (said : List Said) → base ≤ c → Talk alone keys n c S last places said → HasNoDiskFault said
+no_fault base last calm alone keys n c S places [] from talk = tt
+no_fault base last calm alone keys n c S places (x ∷ said) from (H, more, d, others, stands, places_are, rest) = (
+  λ told.
+      let rose : Rose c d = stands.fault told in
+      let behind = talk_later alone keys (length (H ++ more)) d S last others said rest in
+      calm (omega (arith, rose, behind, from)),
+  no_fault base last calm alone keys (length (H ++ more)) d S others said (omega (arith, stands.later, from)) rest,
+)
+
+-- what holds of each talk holds of that of a connection
+module _ (P Q : List Said → Type 0) (also : (said : List Said) → P said → Q said) where
+  all_spoke : (old new : LinkState) (bytes : List ℕ) (ending : Ending) → SpokeAll P old bytes new ending → SpokeAll Q old bytes new ending
+  all_spoke old new bytes ending spoke = record { said = spoke.said; are_messages = spoke.are_messages; talk = also spoke.said spoke.talk; written = spoke.written }
+
+  calm_ends : (old new : LinkState) (bytes : List ℕ) (how : End) → IsCalmEnd how → EndsOn P bytes old new how → EndsOn Q bytes old new how
+  calm_ends old new bytes end.Ended calm (few, inl over) = (few, inl (over.0, all_spoke old new bytes _ over.1))
+  calm_ends old new bytes end.Ended calm (few, inr closed) = (few, inr (all_spoke old new bytes _ closed))
+  calm_ends old new bytes end.Cut calm (few, over, spoke) = (few, over, all_spoke old new bytes _ spoke)
+  calm_ends old new bytes (end.Refused cause) calm (few, spoke) = (few, all_spoke old new bytes _ spoke)
+  calm_ends old new bytes end.ReadFault calm ends = absurd calm
+  calm_ends old new bytes end.WriteFault calm ends = absurd calm
+  calm_ends old new bytes end.Memory calm (rest, spoke) =
+      (rest, record { said = spoke.said; split = spoke.split; talk = also spoke.said spoke.talk; written = spoke.written; later = spoke.later })
+  calm_ends old new bytes end.Worn calm (many, (ending, spoke)) = (many, (ending, all_spoke old new bytes ending spoke))
+
+-- no read and no write of the link failed
+calm_end : (old new : LinkState) (talks : List Said → Type 0) (bytes : List ℕ) (how : End) → ¬ (Rose old.reading.faults new.reading.faults) → ¬ (Rose old.writing.faults new.writing.faults)
+    → EndsOn talks bytes old new how → IsCalmEnd how
+calm_end old new talks bytes end.Ended reading writing ends = tt
+calm_end old new talks bytes end.Cut reading writing ends = tt
+calm_end old new talks bytes (end.Refused cause) reading writing ends = tt
+calm_end old new talks bytes end.ReadFault reading writing ends = reading ends.1
+calm_end old new talks bytes end.WriteFault reading writing ends = writing (elim ends [ inl part ↦ part.fault | inr cut ↦ cut.fault ])
+calm_end old new talks bytes end.Memory reading writing ends = tt
+calm_end old new talks bytes end.Worn reading writing ends = tt
+
+module _ {D : Type 0} (content : D → Option (List ℕ)) (images : D → List ℕ → Type 0) (clock : D → ℕ) (since : D → ℕ → List ℕ → Type 0) (faults : D → ℕ) where
+  pub calm_sessions : CalmSessionsAreAnswered content images clock since faults
+  calm_sessions old new status ends can calm = by ends.way
+    where
+      by : SessionWay content images clock since faults old new status → ((status ≡ 7) × (new.streams.own ≡ old.streams.own)) ⊎ IsAnswered content images clock since faults old new status
+      by (unheld none own) = inl (unopened_complete content images clock since faults old new status can calm none, own)
+      by (held text settings how gives is holds same status_is) =
+          let before = old.streams.own in
+          let after = new.streams.own in
+          let talks : List Said → Type 0 = IsSession faults settings.callers holds.opened before.clock holds.closed after.clock in
+          let quiet = calm_end before after talks holds.talk.bytes how calm.reading calm.writing holds.talk.ends in
+          let still : ¬ (Rose (faults old.disk) (faults holds.closed.disk)) = λ rose. calm.disk (subst (λ (disk : D). Rose (faults old.disk) (faults disk)) (sym holds.closes) rose) in
+          let also : (said : List Said) → talks said → talks said × HasNoDiskFault said = λ said session.
+          (session, no_fault (faults old.disk) (faults holds.closed.disk) still true settings.callers (length holds.opened.history) (faults holds.opened.disk) holds.closed.history session.talk.0 said holds.opens.later session.talk.1.talk) in
+          inr (record {
+            text = text;
+            settings = settings;
+            given = gives;
+            read = is;
+            opened = holds.opened;
+            closed = holds.closed;
+            opens = holds.opens;
+            how = how;
+            calm = quiet;
+            status_is = status_is;
+            talk = record {
+              bytes = holds.talk.bytes;
+              heard = holds.talk.heard;
+              ends = calm_ends talks (λ said. talks said × HasNoDiskFault said) also before after holds.talk.bytes how quiet holds.talk.ends;
+              no_more = holds.talk.no_more;
+            };
+          })

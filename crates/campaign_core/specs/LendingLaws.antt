@@ -1,0 +1,50 @@
+-- The board and the queues that a state lends, in the words of the rules.
+use Rattle.std.specs.Prelude.{◌≡◌, ◌<◌, ℕ, IsTrue, List, Some, map, slice_get}
+use Rattle.std.specs.List.Sorted.{IsPermutation}
+use Rattle.depth_pool.specs.declared.runs.RunId.{RunId}
+use Rattle.mtf_queue.specs.QueueView.{QueueView}
+use Rattle.mtf_queue.specs.declared.rule.Judged.{Judged}
+use Rattle.rulebook.specs.Campaign.{History, Run, numbered}
+use Rattle.rulebook.specs.Grades.{trail}
+use Rattle.rulebook.specs.JudgingOrder.{comes_before, relevance}
+use Rattle.rulebook.specs.Legal.{IsLegal}
+use Rattle.rulebook.specs.Scores.{cell_on}
+use Rattle.rulebook.specs.Words.{Text, contains_text}
+use Rattle.qrels_view.specs.declared.grades.Graded.{Graded}
+use Rattle.score_index.specs.Scores.{Scores, topic_at}
+use Rattle.score_index.specs.Standing.{StandsFor, cell_from, grades_at, listed_in}
+use Rattle.campaign_core.specs.Leasing.{topic_in}
+use Rattle.campaign_core.specs.Lendings.{IsBoardOf, IsQueueOf}
+use Rattle.campaign_core.specs.Numbers.{doc_in, names_of}
+use Rattle.campaign_core.specs.Scoring.{run_at}
+use Rattle.campaign_core.specs.Topics.{topic_ids}
+
+-- a run by its number of submission
+abbrev pub number_of : ℕ × Run → RunId
+number_of run = record { 0 = run.0 }
+
+-- a document by its number, and whether it is relevant
+abbrev pub judged_in : History → Text → Text → Judged
+judged_in H topic doc = record { doc = doc_in (names_of H) doc; relevant = relevance H topic doc }
+
+-- The queue has the live runs, of two the one that comes first by the rules earlier; and the trail of the rules.
+pub record IsInRulesOrder (H : History) (topic : Text) (queue : QueueView) : Type 0 where
+  pub runs_are : IsPermutation (map number_of (numbered H)) queue.order
+  pub in_order : (i j m n : ℕ) (p q : ℕ × Run) → i < j → slice_get queue.order i ≡ Some (number_of p) → slice_get queue.order j ≡ Some (number_of q)
+      → slice_get (numbered H) m ≡ Some p → slice_get (numbered H) n ≡ Some q → IsTrue (comes_before H topic p q)
+  pub trail_is : queue.trail ≡ map (judged_in H topic) (trail H topic)
+
+-- What a state lends as the queue of a topic.
+abbrev pub QueuesAreInTheRulesOrder : Type 0
+QueuesAreInTheRulesOrder = (H : History) (number : ℕ) (topic : Text) (queue : QueueView) → IsQueueOf H number queue → slice_get (topic_ids H) number ≡ Some topic → IsInRulesOrder H topic queue
+
+-- The board stands for grades by which the cell of each live run on each topic is that of the rules.
+pub record HasRulesCells (H : History) (board : Scores) : Type 0 where
+  pub grades : List (List Graded)
+  pub stands : StandsFor board grades
+  pub cells : (number : RunId) (run : Run) (topic : Text) → run_at H number ≡ Some run → IsTrue (contains_text (topic_ids H) topic)
+      → cell_from board.level (grades_at grades (topic_in (topic_ids H) topic)) (listed_in number (topic_at board (topic_in (topic_ids H) topic))) ≡ cell_on H run topic
+
+-- What a state lends as the board.
+abbrev pub BoardsScoreByTheRules : Type 0
+BoardsScoreByTheRules = (H : History) (board : Scores) → IsLegal H → IsBoardOf H board → HasRulesCells H board

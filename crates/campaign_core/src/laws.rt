@@ -1,0 +1,17 @@
+//! What a state lends, in the words of the rules.
+ghost use Rattle.campaign_core.specs.LendingLaws.{BoardsScoreByTheRules, QueuesAreInTheRulesOrder};
+
+use rulebook::{graded_are_on_trail, graded_are_there};
+
+/// The board that a state lends stands for grades by which each live run's cells are those of the rules.
+pub fn boards_score_by_the_rules()
+    ensures { BoardsScoreByTheRules }
+{
+    graded_are_on_trail();
+    graded_are_there();
+}
+
+/// The queue of a topic that a state lends has the live runs in the judging order by the trail.
+pub fn queues_are_in_the_rules_order()
+    ensures { QueuesAreInTheRulesOrder }
+{}
