@@ -445,12 +445,12 @@ def nothing_more_was_done(campaign):
 
 
 def second_campaign(campaign):
-    """One document at once, leases of eight seconds; and no settings.json."""
+    """One document at once, leases of twelve seconds; and no settings.json."""
     server = campaign.server
     os.remove(campaign.file("campaign.journal"))
     with open(campaign.file("campaign.toml")) as file:
         settings = file.read()
-    campaign.file("campaign.toml", settings.replace("term = 3600", "term = 8").replace("hold = 2", "hold = 1"))
+    campaign.file("campaign.toml", settings.replace("term = 3600", "term = 12").replace("hold = 2", "hold = 1"))
     os.remove(os.path.join(campaign.front.web, "settings.json"))
     server.start()
     server.asked("/topics", KEYS["office"], "@" + campaign.file("topics.txt"))
