@@ -1,6 +1,7 @@
 //! Settings, read and refused.
 use crate::calls::assert_printed;
-use campaign_cli::{MemoryShelf, SettingsEnd, read_settings};
+use campaign_cli::MemoryShelf;
+use campaign_settings::{SettingsEnd, read_settings};
 use decimal_rank::Text;
 use std::alloc::Global;
 use std::test::Fail;

@@ -1,32 +1,15 @@
 //! Why settings are refused. `read_settings` decides that they are; this second walk over their text looks for the first
 //! fault and its line, to tell a person.
 ghost use Rattle.std.specs.Prelude.{◌≡◌, ◌≢◌, None, Ok, IfOk, IfSome};
-ghost use Rattle.campaign_cli.specs.Settings.{settings_of};
+ghost use Rattle.campaign_settings.specs.Settings.{settings_of};
 
 use crate::setting_faults::Fault;
 use crate::setting_lines::{line_of_caller, line_of_key, line_of_name, line_of_place};
-use campaign_cli::{SettingsEnd, read_settings};
+use campaign_settings::{MOST_CALLERS, MOST_DOUBLES, MOST_TERM, NAMES, SettingsEnd, read_settings};
 use decimal_rank::Memory;
 use std::alloc::Global;
 use toml::{Table, Value};
 use trec_formats::is_name;
-
-const MOST_TERM: i64 = 1 << 40;
-
-const MOST_DOUBLES: usize = 250;
-
-const MOST_CALLERS: usize = 500;
-
-/// The keys that settings may have.
-const NAMES: [&str; 7] = [
-    "depth",
-    "term",
-    "hold",
-    "top_grade",
-    "level",
-    "doubles",
-    "caller",
-];
 
 /// A fault of settings, with the line of the text where it stands, if that was found.
 #[derive(Clone, Copy)]
@@ -119,7 +102,7 @@ fn number_fault<'a>(text: &str, table: &Table) -> Option<Finding<'a>> {
     let top_grade = integer_at(table, "top_grade").unwrap_or(255);
     let rows = [
         ("depth", 1000),
-        ("term", MOST_TERM),
+        ("term", MOST_TERM as i64),
         ("hold", 50),
         ("top_grade", 255),
         ("level", top_grade),

@@ -17,7 +17,7 @@ use Rattle.drill.specs.declared.numbers.DrillNumbers.{DrillNumbers}
 use Rattle.rulebook.specs.Words.{Text}
 use Rattle.eval.specs.Evaluations.{IsReport, IsInputFault}
 use Rattle.eval.specs.Findings.{AreExclusive}
-use Rattle.campaign_cli.specs.declared.settings.Settings.{Settings}
+use Rattle.campaign_settings.specs.declared.settings.Settings.{Settings}
 use Rattle.campaign_cli.specs.BookEnds.{TellsFault, Unopened, entry_line, header_line, not_begun, not_opened, rules_line, settings_file, settings_line, settings_refused, settings_unread}
 use Rattle.campaign_cli.specs.CheckEnds.{CheckWay, check_text, checked, unshown, untold}
 use Rattle.campaign_cli.specs.DrillEnds.{DrillWay, played, unplayed}
@@ -28,7 +28,7 @@ use Rattle.campaign_cli.specs.Requests.{Request, Eval, Session, Serve, Drill, Ch
 use Rattle.campaign_cli.specs.ServeEnds.{Served, ServeWay, served, unserved}
 use Rattle.campaign_cli.specs.ServeEnds.{status_of as serve_status}
 use Rattle.campaign_cli.specs.SessionEnds.{Holds, SessionWay, held, unheld, status_of}
-use Rattle.campaign_cli.specs.Settings.{settings_of}
+use Rattle.campaign_settings.specs.Settings.{settings_of}
 use Rattle.campaign_cli.specs.Shelves.{Gives, ShelfState}
 use Rattle.campaign_cli.specs.Statuses.{Cause, Done, Usage, Input, File, Disk, Door, Memory, Output, Damaged, Link, Cut, number_of, Says, IsBookRefusal, IsMissing, IsRefusal, IsSaid, IsCut, IsUnopened, ServerComesTo, SessionComesTo, CanDo, CanOpen, HasToRefuse, IsCalm, NeedsBook, TellsRecords, TellsSettings, Statuses}
 use Rattle.campaign_cli.specs.UsageEnds.{UsageWay, told, untold as unasked}

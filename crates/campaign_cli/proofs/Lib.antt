@@ -1,12 +1,7 @@
 pub mod ByStatus
 pub mod CalmTalks
 pub mod CodeForms
-pub mod Documents
-pub mod Each
-pub mod Lists
 pub mod MemoryForms
-pub mod Sound
-pub mod TableKeys
 pub mod ToldDisks
 pub mod ToldFiles
 pub mod Ways

@@ -12,7 +12,7 @@ use Rattle.book.specs.Books.{Seen}
 use Rattle.book.specs.Openings.{Causes, DiffersFrom, Opened, OpensWith, Reads}
 use Rattle.book.specs.OpeningLaws.{story_start}
 use Rattle.book.specs.Stories.{HasStory}
-use Rattle.campaign_cli.specs.declared.settings.Settings.{Settings}
+use Rattle.campaign_settings.specs.declared.settings.Settings.{Settings}
 use Rattle.campaign_cli.specs.BookEnds.{TellsFault, Unopened, entry_line, header_line, not_begun, not_opened, rules_line, settings_file, settings_refused, settings_unread}
 use Rattle.campaign_cli.specs.CheckEnds.{CheckWay, checked, unshown, untold}
 use Rattle.campaign_cli.specs.Endings.{Ends}
@@ -20,7 +20,7 @@ use Rattle.campaign_cli.specs.Outside.{Outside}
 use Rattle.campaign_cli.specs.Requests.{Request, Eval, Session, Serve, Drill, Check, Nothing}
 use Rattle.campaign_cli.specs.ServeEnds.{ServeWay, served, unserved}
 use Rattle.campaign_cli.specs.SessionEnds.{SessionWay, held, unheld}
-use Rattle.campaign_cli.specs.Settings.{settings_of}
+use Rattle.campaign_settings.specs.Settings.{settings_of}
 use Rattle.campaign_cli.specs.Shelves.{Files, file_at}
 use Rattle.campaign_cli.specs.Statuses.{GivesSettings, IsCalm, IsDamaged, IsOfOthers, NeedsBook, TellsDisk}
 use Rattle.campaign_cli.proofs.ToldFiles.{given, not_missed, prints_all, prints_whole}

@@ -18,7 +18,7 @@ use Rattle.rulebook.specs.Campaign.{History}
 use Rattle.drill.specs.Plays.{IsPlayed}
 use Rattle.drill.specs.Summaries.{summary_of}
 use Rattle.drill.specs.declared.numbers.DrillNumbers.{DrillNumbers}
-use Rattle.campaign_cli.specs.declared.settings.Settings.{Settings}
+use Rattle.campaign_settings.specs.declared.settings.Settings.{Settings}
 use Rattle.campaign_cli.specs.declared.statuses.Status.{Status}
 use Rattle.campaign_cli.specs.BookEnds.{IsOpened, IsRefused, Unopened, not_begun, not_opened, settings_file, settings_line, settings_refused, settings_unread}
 use Rattle.campaign_cli.specs.CheckEnds.{CheckEnds, CheckWay, Tells, checked, unshown, untold}
@@ -30,7 +30,7 @@ use Rattle.campaign_cli.specs.Requests.{Request, Eval, Session, Serve, Drill, Ch
 use Rattle.campaign_cli.specs.UsageEnds.{untold as unasked}
 use Rattle.campaign_cli.specs.ServeEnds.{Closes, ServeEnds, ServersStand, served, unserved}
 use Rattle.campaign_cli.specs.SessionEnds.{Answers, SessionEnds, SessionsStand, held, unheld}
-use Rattle.campaign_cli.specs.Settings.{settings_of}
+use Rattle.campaign_settings.specs.Settings.{settings_of}
 use Rattle.campaign_cli.specs.Shelves.{Follows, Gives, Lacks, ShelfState, file_at}
 
 abbrev pub outside : ShelfState → Writing → LinkState → DoorState → Streams

@@ -7,9 +7,9 @@ use Rattle.book.specs.Books.{Seen}
 use Rattle.book.specs.Openings.{Opened, Refused}
 use Rattle.routes.specs.declared.keys.KeyRow.{KeyRow}
 use Rattle.rulebook.specs.declared.rules.Rules.{Rules}
-use Rattle.campaign_cli.specs.declared.settings.Settings.{Settings}
+use Rattle.campaign_settings.specs.declared.settings.Settings.{Settings}
 use Rattle.campaign_cli.specs.Outside.{Outside, Prints, Misses}
-use Rattle.campaign_cli.specs.Settings.{settings_of}
+use Rattle.campaign_settings.specs.Settings.{settings_of}
 use Rattle.campaign_cli.specs.Shelves.{Gives, ShelfState}
 
 -- the file with the settings

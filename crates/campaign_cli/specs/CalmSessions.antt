@@ -8,11 +8,11 @@ use Rattle.campaign_server.specs.declared.ends.End.TheVariants as end
 use Rattle.campaign_server.specs.Chains.{Said}
 use Rattle.campaign_server.specs.Connections.{Ends}
 use Rattle.campaign_server.specs.Sessions.{IsSession}
-use Rattle.campaign_cli.specs.declared.settings.Settings.{Settings}
+use Rattle.campaign_settings.specs.declared.settings.Settings.{Settings}
 use Rattle.campaign_cli.specs.BookEnds.{settings_file}
 use Rattle.campaign_cli.specs.Outside.{Outside}
 use Rattle.campaign_cli.specs.SessionEnds.{SessionEnds, status_of}
-use Rattle.campaign_cli.specs.Settings.{settings_of}
+use Rattle.campaign_settings.specs.Settings.{settings_of}
 use Rattle.campaign_cli.specs.Shelves.{Gives}
 use Rattle.campaign_cli.specs.Statuses.{CanOpen, IsCalm}
 

@@ -7,10 +7,10 @@ use Rattle.rulebook.specs.declared.rules.Phase.{Phase}
 use Rattle.rulebook.specs.declared.rules.Phase.TheVariants.{Collecting, Judging, Published}
 use Rattle.rulebook.specs.Campaign.{History, phase}
 use Rattle.rulebook.specs.Scores.{table_page}
-use Rattle.campaign_cli.specs.declared.settings.Settings.{Settings}
+use Rattle.campaign_settings.specs.declared.settings.Settings.{Settings}
 use Rattle.campaign_cli.specs.BookEnds.{Unopened, settings_file}
 use Rattle.campaign_cli.specs.Outside.{Outside, Prints}
-use Rattle.campaign_cli.specs.Settings.{settings_of}
+use Rattle.campaign_settings.specs.Settings.{settings_of}
 use Rattle.campaign_cli.specs.Shelves.{Gives, Follows}
 
 abbrev pub phase_word : Phase → List ℕ

@@ -8,9 +8,7 @@ pub mod Outside
 pub mod Requests
 pub mod ServeEnds
 pub mod SessionEnds
-pub mod Settings
 pub mod Shelves
 pub mod Sinks
 pub mod Statuses
-pub mod TomlTables
 pub mod UsageEnds

@@ -10,11 +10,11 @@ use Rattle.campaign_server.specs.Doors.{DoorState}
 use Rattle.campaign_server.specs.Servers.{Leaves}
 use Rattle.routes.specs.declared.keys.KeyRow.{KeyRow}
 use Rattle.rulebook.specs.Stories.{AtMost}
-use Rattle.campaign_cli.specs.declared.settings.Settings.{Settings}
+use Rattle.campaign_settings.specs.declared.settings.Settings.{Settings}
 use Rattle.campaign_cli.specs.BookEnds.{Unopened, settings_file}
 use Rattle.campaign_cli.specs.Outside.{Outside}
 use Rattle.campaign_cli.specs.Requests.{ServerNumbers}
-use Rattle.campaign_cli.specs.Settings.{settings_of}
+use Rattle.campaign_settings.specs.Settings.{settings_of}
 use Rattle.campaign_cli.specs.Shelves.{Gives, Follows}
 
 -- the status by an end

@@ -10,10 +10,10 @@ use Rattle.campaign_server.specs.Connections.{Ends}
 use Rattle.campaign_server.specs.Links.{LinkState}
 use Rattle.campaign_server.specs.Sessions.{IsSession}
 use Rattle.routes.specs.declared.keys.KeyRow.{KeyRow}
-use Rattle.campaign_cli.specs.declared.settings.Settings.{Settings}
+use Rattle.campaign_settings.specs.declared.settings.Settings.{Settings}
 use Rattle.campaign_cli.specs.BookEnds.{Unopened, settings_file}
 use Rattle.campaign_cli.specs.Outside.{Outside}
-use Rattle.campaign_cli.specs.Settings.{settings_of}
+use Rattle.campaign_settings.specs.Settings.{settings_of}
 use Rattle.campaign_cli.specs.Shelves.{Gives, Follows}
 
 -- the status by an end

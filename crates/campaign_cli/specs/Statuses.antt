@@ -22,14 +22,14 @@ use Rattle.campaign_server.specs.declared.ends.End.TheVariants as end
 use Rattle.campaign_server.specs.declared.ends.ServeEnd.{ServeEnd}
 use Rattle.campaign_server.specs.declared.ends.ServeEnd.TheVariants as serve_end
 use Rattle.eval.specs.Evaluations.{IsReport, IsInputFault}
-use Rattle.campaign_cli.specs.declared.settings.Settings.{Settings}
+use Rattle.campaign_settings.specs.declared.settings.Settings.{Settings}
 use Rattle.campaign_cli.specs.BookEnds.{entry_line, header_line, rules_line, settings_file, settings_line}
 use Rattle.campaign_cli.specs.CheckEnds.{Shows, check_text}
 use Rattle.campaign_cli.specs.Outside.{Outside, Misses}
 use Rattle.campaign_cli.specs.Requests.{Request, Eval, Session, Serve, Drill, Check, Nothing, ServerNumbers, usage_line}
 use Rattle.campaign_cli.specs.ServeEnds.{Served}
 use Rattle.campaign_cli.specs.SessionEnds.{Holds}
-use Rattle.campaign_cli.specs.Settings.{settings_of}
+use Rattle.campaign_settings.specs.Settings.{settings_of}
 use Rattle.campaign_cli.specs.Shelves.{Files, Follows, Gives, ShelfState, file_at}
 
 -- the causes of the statuses

@@ -1,7 +1,4 @@
-//! Why a file wasn't given, and why settings weren't read.
-
-use decimal_rank::Memory;
-use std::alloc::{AllocError, AllocFailed};
+//! Why a file wasn't given.
 
 /// Why a shelf gave no file: it has none of this name that is short enough to be read, the read
 /// failed, or there was no memory for the bytes.
@@ -10,44 +7,4 @@ pub enum ShelfFault {
     Absent,
     Failed,
     Memory,
-}
-
-/// Why settings weren't read: they are refused, or there was no memory for them.
-#[derive(Clone, Copy, Debug, PartialEq, Eq)]
-pub enum SettingsEnd {
-    Refused,
-    Memory,
-}
-
-impl From<Memory> for SettingsEnd {
-    ghost use Rattle.campaign_cli.specs.declared.faults.SettingsEnd.TheVariants.{Memory as NoMemory};
-    ghost use Rattle.std.specs.Prelude.{◌≡◌};
-
-    ghost from_gives = { λ _ e. e ≡ NoMemory };
-
-    fn from(_memory: Memory) -> SettingsEnd {
-        SettingsEnd::Memory
-    }
-}
-
-impl From<AllocError> for SettingsEnd {
-    ghost use Rattle.campaign_cli.specs.declared.faults.SettingsEnd.TheVariants.{Memory as NoMemory};
-    ghost use Rattle.std.specs.Prelude.{◌≡◌};
-
-    ghost from_gives = { λ _ e. e ≡ NoMemory };
-
-    fn from(_error: AllocError) -> SettingsEnd {
-        SettingsEnd::Memory
-    }
-}
-
-impl<T: Drop> From<AllocFailed<T>> for SettingsEnd {
-    ghost use Rattle.campaign_cli.specs.declared.faults.SettingsEnd.TheVariants.{Memory as NoMemory};
-    ghost use Rattle.std.specs.Prelude.{◌≡◌};
-
-    ghost from_gives = { λ _ e. e ≡ NoMemory };
-
-    fn from(_error: AllocFailed<T>) -> SettingsEnd {
-        SettingsEnd::Memory
-    }
 }

@@ -1,4 +1,4 @@
-//! The program of a campaign: the words that it is called with, its settings, the files that it reads,
+//! The program of a campaign: the words that it is called with, the files that it reads,
 //! the output that it writes, the door that it opens and the disk that it keeps a campaign on. `Shelf` and
 //! `Sink` stand for the outside, beside `Link`, `Door` and `Disk` of the crates below; each has a form in memory and an adapter over
 //! the real thing.
@@ -19,22 +19,19 @@ mod program;
 mod readings;
 mod servers;
 mod sessions;
-mod settings;
 mod shelves;
 mod statuses;
-mod toml_tables;
 mod usage;
 mod words;
 
 pub use decimal_rank::{Failed, Output as Sink, write_all};
-pub use faults::{SettingsEnd, ShelfFault};
+pub use faults::ShelfFault;
 pub use file_shelf::FileShelf;
 pub use laws::{calm_sessions_are_answered, each_status_says, servers_stand, sessions_stand};
 pub use memory_shelf::MemoryShelf;
 pub use memory_sink::MemorySink;
 pub use output_sink::OutputSink;
 pub use program::campaign;
-pub use settings::{Settings, read_settings};
 pub use shelves::{MOST_BYTES, Shelf};
 pub use statuses::Status;
 pub use usage::USAGE_LINE;

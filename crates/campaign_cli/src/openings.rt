@@ -7,13 +7,12 @@ ghost use Rattle.rulebook.specs.Spelling.{are_rules};
 ghost use Rattle.campaign_cli.specs.BookEnds.{IsOpened, IsRefused, TellsFault, Unopened, entry_line};
 ghost use Rattle.campaign_cli.specs.Shelves.{Follows};
 
-use crate::faults::SettingsEnd;
 use crate::printing::print;
 use crate::readings::read;
-use crate::settings::{Settings, read_settings};
 use crate::shelves::Shelf;
 use crate::statuses::Status;
 use book::{Book, BookFault, Disk};
+use campaign_settings::{Settings, SettingsEnd, read_settings};
 use decimal_rank::{Memory, Output as Sink};
 use itoa::Buffer as Digits;
 use routes::Keys;

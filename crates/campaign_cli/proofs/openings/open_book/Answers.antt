@@ -2,7 +2,7 @@
 use Rattle.std.proofs.Common.{◌≡◌, None, Some, rules}
 use Rattle.campaign_cli.specs.BookEnds.{settings_file, settings_line}
 use Rattle.campaign_cli.specs.Outside.{Prints}
-use Rattle.campaign_cli.specs.Settings.{settings_of}
+use Rattle.campaign_settings.specs.Settings.{settings_of}
 use Rattle.campaign_cli.specs.Shelves.{Gives}
 use Rattle.campaign_cli.proofs.Ways.{refused_result, refused_settings, unread_settings}
 use Rattle.campaign_cli.proofs.openings.open_book.Goals as goal

@@ -8,7 +8,7 @@ use Rattle.toml.specs.Parse.{parse_document}
 use Rattle.toml.specs.View.{view, table_view}
 use Rattle.toml.specs.declared.value.Value.{Value, Table}
 use Rattle.toml.proofs.Views.{view-Table}
-use Rattle.campaign_cli.specs.TomlTables.{data_of}
+use Rattle.campaign_settings.specs.TomlTables.{data_of}
 
 text_data : (text : List ℕ) → IsUtf8 text → data_of text ≡ option_map table (parse_document text)
 text_data text is = ap (λ t. option_map table (cond t (parse_document text) None)) (is_utf8-from_IsUtf8 text is)

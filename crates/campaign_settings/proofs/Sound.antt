@@ -8,11 +8,11 @@ use Rattle.trec_formats.specs.Names.{is_between, is_name}
 use Rattle.rulebook.specs.declared.rules.Rules.{Rules}
 use Rattle.rulebook.specs.Spelling.{are_rules, is_ascending}
 use Rattle.routes.specs.declared.keys.KeyRow.{KeyRow}
-use Rattle.campaign_cli.specs.declared.faults.SettingsEnd.{SettingsEnd}
-use Rattle.campaign_cli.specs.declared.faults.SettingsEnd.TheVariants as end
-use Rattle.campaign_cli.specs.declared.settings.Settings.{Settings}
-use Rattle.campaign_cli.specs.Settings.{Gives, callers_at, doubles_at, doubles_of, name_of, rules_in, setting_names, settings_in, taken}
-use Rattle.campaign_cli.specs.TomlTables.{each_of, has_known_keys, items_at, natural, number_at, within}
+use Rattle.campaign_settings.specs.declared.faults.SettingsEnd.{SettingsEnd}
+use Rattle.campaign_settings.specs.declared.faults.SettingsEnd.TheVariants as end
+use Rattle.campaign_settings.specs.declared.settings.Settings.{Settings}
+use Rattle.campaign_settings.specs.Settings.{Gives, callers_at, doubles_at, doubles_of, name_of, rules_in, setting_names, settings_in, taken}
+use Rattle.campaign_settings.specs.TomlTables.{each_of, has_known_keys, items_at, natural, number_at, within}
 
 -- what was read of what was read
 module _ {A B : Type 0} where

@@ -7,7 +7,7 @@ use Rattle.std.specs.Option.{option_map_or}
 use Rattle.toml.specs.Data.{Data, as_table}
 use Rattle.toml.specs.View.{members_view, table_view}
 use Rattle.toml.specs.declared.value.Value.{Value}
-use Rattle.campaign_cli.specs.TomlTables.{member_count, has_members, are_known, has_known_keys}
+use Rattle.campaign_settings.specs.TomlTables.{member_count, has_members, are_known, has_known_keys}
 
 member_count-view : (entries : List (String Global × Value)) → member_count (members_view entries) ≡ length entries
 member_count-view [] = refl

@@ -9,10 +9,10 @@ use Rattle.rulebook.specs.declared.rules.Rules.{Rules}
 use Rattle.rulebook.specs.Spelling.{is_ascending}
 use Rattle.routes.specs.declared.keys.KeyRow.{KeyRow}
 use Rattle.routes.specs.Keys.{are_rows}
-use Rattle.campaign_cli.specs.declared.faults.SettingsEnd.{SettingsEnd}
-use Rattle.campaign_cli.specs.declared.faults.SettingsEnd.TheVariants as end
-use Rattle.campaign_cli.specs.declared.settings.Settings.{Settings}
-use Rattle.campaign_cli.specs.TomlTables.{data_of, number_at, text_at, items_at, has_members, has_known_keys, each_of}
+use Rattle.campaign_settings.specs.declared.faults.SettingsEnd.{SettingsEnd}
+use Rattle.campaign_settings.specs.declared.faults.SettingsEnd.TheVariants as end
+use Rattle.campaign_settings.specs.declared.settings.Settings.{Settings}
+use Rattle.campaign_settings.specs.TomlTables.{data_of, number_at, text_at, items_at, has_members, has_known_keys, each_of}
 
 infixl 10 ◌>>=◌
 -- what is read of what was read, where both can be

@@ -3,7 +3,7 @@ ghost use Rattle.std.specs.Prelude.{◌≡◌, ◌≤◌, IfOk, IfSome, map, opt
 ghost use Rattle.std.specs.BTreeMap.{keys};
 ghost use Rattle.std.specs.List.{list_all, list_any};
 ghost use Rattle.toml.specs.View.{view};
-ghost use Rattle.campaign_cli.specs.TomlTables.{data_of, natural, within, number_at, text_at, items_at, has_members, has_known_keys};
+ghost use Rattle.campaign_settings.specs.TomlTables.{data_of, natural, within, number_at, text_at, items_at, has_members, has_known_keys};
 
 use decimal_rank::Memory;
 use std::alloc::Global;

@@ -2,7 +2,7 @@
 use Rattle.std.proofs.Common.{◌≡◌, List, [], ◌∷◌, ◌++◌, Option, Some, None, map, refl, ap, sym, ◌∙◌, option_map, append-nil, append_assoc}
 use Rattle.std.specs.Prelude.{option_and_then}
 use Rattle.toml.specs.Data.{Data}
-use Rattle.campaign_cli.specs.TomlTables.{each_of}
+use Rattle.campaign_settings.specs.TomlTables.{each_of}
 
 module _ {X : Type 0} (read : Data → Option X) where
   -- what is read of all, where `done` was read before the rest

@@ -1,9 +1,9 @@
 -- The names of all items are those so far and those of the items that are left, if each of these is one.
 use Rattle.std.proofs.Common.{◌≡◌, ◌++◌, length, map, option_map}
 use Rattle.toml.specs.View.{view}
-use Rattle.campaign_cli.specs.Settings.{name_of}
-use Rattle.campaign_cli.specs.TomlTables.{each_of}
-use Rattle.campaign_cli.proofs.settings.names_of.Given as goal
+use Rattle.campaign_settings.specs.Settings.{name_of}
+use Rattle.campaign_settings.specs.TomlTables.{each_of}
+use Rattle.campaign_settings.proofs.settings.names_of.Given as goal
 
 abbrev pub invariant-loop-left : goal.invariant-loop-left
 invariant-loop-left l = each_of name_of (map view l.items) ≡ option_map (λ rest. l.names.items ++ rest) (each_of name_of (map view l.left))

@@ -4,7 +4,7 @@ use Rattle.std.specs.Option.{option_map_or}
 use Rattle.toml.specs.Data.{Data, Items, as_array}
 use Rattle.toml.specs.View.{view, items_view}
 use Rattle.toml.specs.declared.value.Value.{Value}
-use Rattle.campaign_cli.specs.TomlTables.{list_of, items_at}
+use Rattle.campaign_settings.specs.TomlTables.{list_of, items_at}
 
 pub list_is : (values : List Value) → map view values ≡ list_of (items_view values)
 list_is [] = refl

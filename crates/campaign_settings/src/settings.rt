@@ -3,10 +3,11 @@ ghost use Rattle.std.specs.Prelude.{◌≡◌, ◌≤◌, IfOk, IsTrue, map};
 ghost use Rattle.std.specs.List.{list_all};
 ghost use Rattle.toml.specs.View.{view};
 ghost use Rattle.rulebook.specs.Spelling.{are_rules, is_ascending};
-ghost use Rattle.campaign_cli.specs.Settings.{Gives, is_key, is_key_byte, name_in, name_of, key_in, role_in, doubles_at, rules_in, role_of, caller_of, callers_at, settings_in, settings_of};
-ghost use Rattle.campaign_cli.specs.TomlTables.{number_at, each_of};
+ghost use Rattle.campaign_settings.specs.Settings.{Gives, is_key, is_key_byte, name_in, name_of, key_in, role_in, doubles_at, rules_in, role_of, caller_of, callers_at, settings_in, settings_of};
+ghost use Rattle.campaign_settings.specs.TomlTables.{number_at, each_of};
 
 use crate::faults::SettingsEnd;
+use crate::limits::{MOST_CALLERS, MOST_DOUBLES, MOST_TERM, NAMES};
 use crate::toml_tables::{has_known_keys, has_members, items_at, number_at, read_data, text_at};
 use decimal_rank::{Rows, Text};
 use routes::{KeyRow, Keys, are_rows};
@@ -14,25 +15,6 @@ use rulebook::{Role, Rules};
 use std::alloc::Global;
 use toml::Value;
 use trec_formats::is_name;
-
-/// The greatest term of a lease, in seconds.
-const MOST_TERM: u64 = 1 << 40;
-
-/// The most topics whose documents need two labels.
-const MOST_DOUBLES: usize = 250;
-
-const MOST_CALLERS: usize = 500;
-
-/// The keys that settings may have.
-const NAMES: [&str; 7] = [
-    "depth",
-    "term",
-    "hold",
-    "level",
-    "top_grade",
-    "doubles",
-    "caller",
-];
 
 /// The settings of a campaign: its rules, and its callers with their keys.
 #[derive(Drop)]

@@ -1,7 +1,7 @@
 -- All names ascend if the last one that was passed and those that are left do.
 use Rattle.std.proofs.Common.{◌≡◌, ◌∷◌, length}
 use Rattle.rulebook.specs.Spelling.{is_ascending}
-use Rattle.campaign_cli.proofs.settings.is_ascending.Given as goal
+use Rattle.campaign_settings.proofs.settings.is_ascending.Given as goal
 
 abbrev pub invariant-loop-left : goal.invariant-loop-left
 invariant-loop-left l = is_ascending l.names ≡ is_ascending (l.before ∷ l.left)

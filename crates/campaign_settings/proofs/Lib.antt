@@ -1,0 +1,5 @@
+pub mod Documents
+pub mod Each
+pub mod Lists
+pub mod Sound
+pub mod TableKeys
