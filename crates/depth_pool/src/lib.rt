@@ -11,5 +11,3 @@ pub use laws::{greatest_run_goes_last, one_list_by_docno};
 pub use pools::Pool;
 pub use runs::{RunId, is_among};
 
-#[cfg(test)]
-mod tests;

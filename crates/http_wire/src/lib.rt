@@ -19,5 +19,3 @@ pub use laws::{
 pub use messages::{HttpField, HttpHead, HttpRequest, Step, WireFault};
 pub use wires::Wire;
 
-#[cfg(test)]
-mod tests;

@@ -1,5 +1,5 @@
-//! Tests of the board of scores, the desk of leases and the judging order, each also along random courses against what
-//! is worked out from nothing.
+//! Tests of pools, labels, measures and their lines; and of the board of scores, the desk of leases and the judging
+//! order, each also along random courses against what is worked out from nothing.
 #![tactic(auto)]
 
 #[cfg(test)]
@@ -9,6 +9,8 @@ mod boards;
 #[cfg(test)]
 mod desks;
 #[cfg(test)]
+mod document_labels;
+#[cfg(test)]
 mod letters;
 #[cfg(test)]
 mod plain_cells;
@@ -17,4 +19,8 @@ mod queued_topics;
 #[cfg(test)]
 mod queues;
 #[cfg(test)]
+mod run_measures;
+#[cfg(test)]
 mod scored_board;
+#[cfg(test)]
+mod topic_pools;

@@ -14,5 +14,3 @@ pub use laws::{
 };
 pub use marks::Marks;
 
-#[cfg(test)]
-mod tests;

@@ -12,5 +12,3 @@ pub use means::{Measure, Summary, fixed};
 pub use score_lines::{write_cell, write_four, write_summary};
 pub use totals::{Totals, mean};
 
-#[cfg(test)]
-mod tests;

@@ -1,4 +1,4 @@
-use Rattle.depth_pool.proofs.tests.a_run_holds_what_stands_within_the_depth.Given as goal
+use Rattle.judging_tests.proofs.topic_pools.a_run_holds_what_stands_within_the_depth.Given as goal
 
 -- the ledger is the blank's
 abbrev pub ghosts-holders_told : goal.ghosts-holders_told

@@ -1,4 +1,4 @@
-use Rattle.depth_pool.proofs.tests.holders_ascend_whatever_the_order_of_the_runs.Given as goal
+use Rattle.judging_tests.proofs.topic_pools.holders_ascend_whatever_the_order_of_the_runs.Given as goal
 
 -- the ledger is the blank's
 abbrev pub ghosts-held : goal.ghosts-held

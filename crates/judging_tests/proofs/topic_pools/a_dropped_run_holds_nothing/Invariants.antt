@@ -1,4 +1,4 @@
-use Rattle.depth_pool.proofs.tests.a_dropped_run_holds_nothing.Given as goal
+use Rattle.judging_tests.proofs.topic_pools.a_dropped_run_holds_nothing.Given as goal
 
 -- the ledger is the blank's
 abbrev pub ghosts-held : goal.ghosts-held

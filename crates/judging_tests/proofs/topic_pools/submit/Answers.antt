@@ -4,7 +4,7 @@ use Rattle.std.proofs.lemmas.List.Elements.{All-take}
 use Rattle.decimal_rank.specs.declared.naming.DocId.{DocId}
 use Rattle.depth_pool.specs.Holdings.{Held, with_run}
 use Rattle.depth_pool.proofs.Lists.{all_put}
-use Rattle.depth_pool.proofs.tests.submit.Goals as goal
+use Rattle.judging_tests.proofs.topic_pools.submit.Goals as goal
 
 pub returns-clause-named : goal.returns-clause-named
 returns-clause-named c =

@@ -3,7 +3,7 @@ use Rattle.std.specs.List.{All}
 use Rattle.std.proofs.lemmas.List.Elements.{All-filter}
 use Rattle.decimal_rank.specs.declared.naming.DocId.{DocId}
 use Rattle.depth_pool.specs.Holdings.{Held}
-use Rattle.depth_pool.proofs.tests.the_documents_of_a_pool_stand_by_docno.Goals as goal
+use Rattle.judging_tests.proofs.topic_pools.the_documents_of_a_pool_stand_by_docno.Goals as goal
 
 pub docs-requires-in-loop-first : goal.docs-requires-in-loop-first
 docs-requires-in-loop-first g c =

@@ -1,7 +1,7 @@
 //! Tries which messages are requests and which faults others have, that it is the same however they are cut, the
 //! limits of a head, the texts of answers, and the search for a field by its name.
-use super::*;
 use decimal_rank::Memory;
+use http_wire::{HttpHead, Step, Wire, WireFault, find_named, write_answer};
 use std::alloc::Global;
 use std::test::Fail;
 

@@ -1,7 +1,7 @@
 use Rattle.std.proofs.Common.{◌∷◌, []}
 use Rattle.std.proofs.lemmas.List.Elements.{All-cons, All-nil}
 use Rattle.measures.specs.Cells.{IsSound}
-use Rattle.measures.proofs.tests.each_mean_is_over_all_topics.Goals as goal
+use Rattle.judging_tests.proofs.run_measures.each_mean_is_over_all_topics.Goals as goal
 
 pub mean-summary-requires-clause-sound : goal.mean-summary-requires-clause-sound
 mean-summary-requires-clause-sound g c =

@@ -1,7 +1,7 @@
 //! Tried are cells, their means and totals, the rounding to four decimals, and the printed lines.
 ghost use Rattle.measures.specs.Cells.{IsSound};
 
-use crate::{
+use measures::{
     Cell, Summary, Totals, bpref_den, mean, scratch, write_cell, write_four, write_summary,
 };
 use std::alloc::Global;

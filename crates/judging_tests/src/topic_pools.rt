@@ -3,8 +3,8 @@ ghost use Rattle.std.specs.Prelude.{◌≡◌, ◌≢◌, ◌<◌, [], ◌∷◌
 ghost use Rattle.decimal_rank.specs.declared.naming.DocId.{DocId};
 ghost use Rattle.depth_pool.specs.Holdings.{KeepsOthers, has_run};
 
-use super::*;
 use decimal_rank::{DocId, Names, Ranking, Steps, Text};
+use depth_pool::{Pool, RunId};
 use std::alloc::Global;
 use std::marker::Brand;
 use std::sync::ledger::{Blank, Ledger};

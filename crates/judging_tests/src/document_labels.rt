@@ -1,6 +1,6 @@
 //! Tried are the labels and effective grades of one document, and those of three documents of a topic.
-use super::*;
 use decimal_rank::{DocId, Text};
+use labels::{Labels, Marks};
 use std::alloc::Global;
 use std::test::Fail;
 
