@@ -1,18 +1,19 @@
 //! The texts of answers: each has a status by what was answered, and a body, which is plain text for a page and a JSON
 //! object else.
-ghost use Rattle.std.specs.Prelude.{◌≡◌, ◌+◌, ◌-◌, ◌^◌, ◌<◌, ◌≤◌, ◌++◌, IsTrue, IsOk, OnOk, OnErr, drop, length, take, vec_len, vec_capacity};
+ghost use Rattle.std.specs.Prelude.{◌≡◌, ◌+◌, ◌-◌, ◌^◌, ◌<◌, ◌≤◌, ◌++◌, false, true, IsTrue, IsOk, MatchOption, OnOk, OnErr, drop, length, take, vec_len, vec_capacity};
 ghost use Rattle.http_wire.specs.Answers.{answer_text, head_text, is_status};
 ghost use Rattle.routes.specs.Answers.{body_of, detail, field_before, field_behind, format_body, graded_body, is_json, is_page, is_plain, is_short, leased_body, no_field, phase_name, pool_body, quantity_name, refusal_body, refusal_name, refusal_status, reply_body, reply_status, route_body, route_status, status_of, submitted_body, success_status, text_of, topics_body, wire_body, wire_status};
 ghost use Rattle.rulebook.specs.Plain.{is_plain_reply, is_short_reply};
 ghost use Rattle.rulebook.specs.Spelling.{is_printable};
 ghost use Rattle.trec_formats.specs.Names.{is_docno, is_name};
 ghost use Rattle.decimal_rank.specs.Additions.{Adds};
-ghost use Rattle.routes.specs.AnswerParts.{field_shown};
+ghost use Rattle.routes.specs.AnswerParts.{IsPage, field_shown};
+ghost use Rattle.rulebook.specs.declared.reply.Reply.TheVariants as reply_as;
 
 use crate::faults::RouteFault;
 use crate::growth::{Part, append_parts};
 use decimal_rank::{Memory, Text};
-use http_wire::{WireFault, write_head};
+use http_wire::{WireFault, write_answer, write_head};
 use rulebook::{Phase, Quantity, Refusal, Reply};
 use trec_formats::{FormatFault, Kind, cause_name};
 
@@ -524,27 +525,28 @@ fn write_body(out: &mut Vec<u8>, answer: &Answered) -> Result<(), Memory>
     }
 }
 
-fn is_json(answer: &Answered) -> bool
-    ensures { result ≡ is_json answer.now }
+// The text of an answer that is a page.
+fn page_of(answer: &Answered) -> Option<&[u8]>
+    ensures { MatchOption result (is_json answer.now ≡ true) (λ page. IsPage answer.now page.now) }
 {
     match answer {
-        Answered::Reply { reply, .. } => !is_page(reply),
-        Answered::Route(_) | Answered::Wire(_) | Answered::DiskFault | Answered::Memory => true,
+        Answered::Reply { reply, .. } => page_in(reply),
+        Answered::Route(_) | Answered::Wire(_) | Answered::DiskFault | Answered::Memory => None,
     }
 }
 
-fn is_page(reply: &Reply) -> bool
-    ensures { result ≡ is_page reply.now }
+fn page_in(reply: &Reply) -> Option<&[u8]>
+    ensures { MatchOption result (is_page reply.now ≡ false) (λ page. reply.now ≡ reply_as.Page page.now) }
 {
     match reply {
-        Reply::Page { .. } => true,
+        Reply::Page { text } => Some(text.bytes()),
         Reply::Done
         | Reply::Topics { .. }
         | Reply::Submitted { .. }
         | Reply::Leased { .. }
         | Reply::Graded { .. }
         | Reply::Pool { .. }
-        | Reply::Refused(_) => false,
+        | Reply::Refused(_) => None,
     }
 }
 
@@ -558,31 +560,25 @@ fn bring_forward(out: &mut Vec<u8>, before: usize, size: usize)
 }
 
 // Puts the head of an answer in front of its body, which is what there is from this place on.
-fn put_head(
-    status: u16,
-    json: bool,
-    close: bool,
-    before: usize,
-    out: &mut Vec<u8>,
-) -> Result<(), Memory>
+fn put_head(status: u16, close: bool, before: usize, out: &mut Vec<u8>) -> Result<(), Memory>
     requires known { IsTrue (is_status status) }
     requires within { before ≤ vec_len out.old }
-    ensures ok { OnOk result (out.new.items ≡ take before out.old.items ++ answer_text status json close (drop before out.old.items)) }
+    ensures ok { OnOk result (out.new.items ≡ take before out.old.items ++ answer_text status true close (drop before out.old.items)) }
     ensures err { OnErr result (out.new.items ≡ out.old.items) }
-    ensures room { vec_len out.old + length (head_text status json close (vec_len out.old - before)) ≤ vec_capacity out.old → IsOk result }
+    ensures room { vec_len out.old + length (head_text status true close (vec_len out.old - before)) ≤ vec_capacity out.old → IsOk result }
     ensures capacity { vec_capacity out.old ≤ vec_capacity out.new }
 {
     let size = out.len() - before;
-    write_head(status, json, close, size, out)?;
+    write_head(status, true, close, size, out)?;
     bring_forward(out, before, size);
     Ok(())
 }
 
-/// Appends the text of an answer; `close` says that the connection ends behind it. It takes no memory
-/// where `out` has room for the text, which is at most 4,096 bytes but for a pool and a page. The body
-/// is written once, and the head, which has its length, is put in front of it.
+// Appends the text of an answer whose body is JSON. The body is written once, and the head, which has
+// its length, is put in front of it.
 #[tactic(auto, unfolding(crate::specs::Answers::text_of))]
-pub fn render(answer: &Answered, close: bool, out: &mut Vec<u8>) -> Result<(), Memory>
+fn write_object(answer: &Answered, close: bool, out: &mut Vec<u8>) -> Result<(), Memory>
+    requires { is_json answer.now ≡ true }
     ensures ok { OnOk result (out.new.items ≡ out.old.items ++ text_of answer.now close) }
     ensures err { OnErr result (out.new.items ≡ out.old.items) }
     ensures room { vec_len out.old + length (text_of answer.now close) ≤ vec_capacity out.old → IsOk result }
@@ -592,11 +588,27 @@ pub fn render(answer: &Answered, close: bool, out: &mut Vec<u8>) -> Result<(), M
     let before = out.len();
     let status = status_of(answer);
     write_body(out, answer)?;
-    match put_head(status, is_json(answer), close, before, out) {
+    match put_head(status, close, before, out) {
         Ok(()) => Ok(()),
         Err(memory) => {
             out.truncate(before);
             Err(memory)
         }
+    }
+}
+
+/// Appends the text of an answer; `close` says that the connection ends behind it. It takes no memory
+/// where `out` has room for the text, which is at most 4,096 bytes but for a pool and a page.
+#[tactic(auto, unfolding(crate::specs::Answers::text_of))]
+pub fn render(answer: &Answered, close: bool, out: &mut Vec<u8>) -> Result<(), Memory>
+    ensures ok { OnOk result (out.new.items ≡ out.old.items ++ text_of answer.now close) }
+    ensures err { OnErr result (out.new.items ≡ out.old.items) }
+    ensures room { vec_len out.old + length (text_of answer.now close) ≤ vec_capacity out.old → IsOk result }
+    ensures few { IsTrue (is_plain answer.now) → IsTrue (is_short answer.now) → length (text_of answer.now close) ≤ 4096 }
+    ensures capacity { vec_capacity out.old ≤ vec_capacity out.new }
+{
+    match page_of(answer) {
+        Some(page) => write_answer(status_of(answer), false, close, page, out),
+        None => write_object(answer, close, out),
     }
 }
