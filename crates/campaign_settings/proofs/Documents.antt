@@ -1,9 +1,9 @@
 -- The data of TOML texts.
-use Rattle.std.proofs.Common.{◌≡◌, ℕ, List, Option, true, false, Some, None, ap, sym, refl, ◌∙◌, cond, BTreeMap, Global, String, option_map}
+use Rattle.std.proofs.Common.{◌≡◌, ℕ, List, Some, None, ap, sym, ◌∙◌, cond, BTreeMap, Global, String, option_map}
 use Rattle.std.specs.Str.{IsUtf8, is_utf8}
 use Rattle.std.proofs.lemmas.Bool.{false_from_ne_true}
 use Rattle.std.proofs.lemmas.Str.{IsUtf8-from_is_utf8, is_utf8-from_IsUtf8}
-use Rattle.toml.specs.Data.{Data, Members, table}
+use Rattle.toml.specs.Data.{table}
 use Rattle.toml.specs.Parse.{parse_document}
 use Rattle.toml.specs.View.{view, table_view}
 use Rattle.toml.specs.declared.value.Value.{Value, Table}

@@ -1,10 +1,9 @@
 -- The items of arrays.
-use Rattle.std.proofs.Common.{◌≡◌, List, [], ◌∷◌, Some, None, map, refl, ap, sym, ◌∙◌, Option, option_map}
-use Rattle.std.specs.Option.{option_map_or}
-use Rattle.toml.specs.Data.{Data, Items, as_array}
+use Rattle.std.proofs.Common.{◌≡◌, List, [], ◌∷◌, Some, map, refl, ap, ◌∙◌, option_map}
+use Rattle.toml.specs.Data.{Data, as_array}
 use Rattle.toml.specs.View.{view, items_view}
 use Rattle.toml.specs.declared.value.Value.{Value}
-use Rattle.campaign_settings.specs.TomlTables.{list_of, items_at}
+use Rattle.campaign_settings.specs.TomlTables.{list_of}
 
 pub list_is : (values : List Value) → map view values ≡ list_of (items_view values)
 list_is [] = refl

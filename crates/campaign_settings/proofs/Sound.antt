@@ -1,5 +1,5 @@
 -- Rules that are read are within their bounds.
-use Rattle.std.proofs.Common.{◌≡◌, ◌&&◌, ◌^◌, ℕ, Bool, true, false, cond, List, [], ◌∷◌, Option, Some, None, Result, Ok, Err, length, refl, sym, ap, subst, ◌∙◌, codes, option_map}
+use Rattle.std.proofs.Common.{◌≡◌, ◌&&◌, ◌^◌, ℕ, Bool, true, false, cond, List, [], ◌∷◌, Option, Some, None, Result, Ok, Err, length, refl, subst, codes, option_map}
 use Rattle.std.specs.Prelude.{IfOk, IsTrue, nat_le, option_and_then}
 use Rattle.std.specs.List.{list_all}
 use Rattle.std.proofs.lemmas.Bool.{and_parts}
@@ -7,7 +7,6 @@ use Rattle.toml.specs.Data.{Data, as_str, as_integer, get}
 use Rattle.trec_formats.specs.Names.{is_between, is_name}
 use Rattle.rulebook.specs.declared.rules.Rules.{Rules}
 use Rattle.rulebook.specs.Spelling.{are_rules, is_ascending}
-use Rattle.routes.specs.declared.keys.KeyRow.{KeyRow}
 use Rattle.campaign_settings.specs.declared.faults.SettingsEnd.{SettingsEnd}
 use Rattle.campaign_settings.specs.declared.faults.SettingsEnd.TheVariants as end
 use Rattle.campaign_settings.specs.declared.settings.Settings.{Settings}

@@ -1,8 +1,7 @@
 -- Bytes that grow by one part after another.
-use Rattle.std.proofs.Common.{◌≡◌, ℕ, ◌+◌, ◌<◌, ◌≤◌, List, [], ◌∷◌, ◌++◌, Bool, true, false, length, drop, Some, get_or, ◌-◌, ap, sym, ◌∙◌, append_assoc, refl, take, map, arith, length-append, append-nil, ap₂, length-drop}
+use Rattle.std.proofs.Common.{◌≡◌, ℕ, ◌+◌, ◌<◌, ◌≤◌, List, [], ◌∷◌, ◌++◌, Bool, true, false, length, drop, Some, get_or, ◌-◌, ap, sym, ◌∙◌, refl, take, map, arith, append-nil, ap₂, length-drop}
 use Rattle.std.specs.Prelude.{slice_get, not, ◌==◌, ◌||◌, ◌&&◌, if◌then◌else◌}
 use Rattle.std.specs.List.{flat_map, join_with_byte, list_all}
-use Rattle.std.proofs.Math.Seq.{take-append_seam}
 use Rattle.std.proofs.lemmas.List.{drop-append-le, drop_at, take-append-le, take_all, take_at}
 use Rattle.routes.specs.Answers.{escaped, escaped_byte, quoted}
 use Rattle.routes.specs.AnswerParts.{is_unmarked_byte}

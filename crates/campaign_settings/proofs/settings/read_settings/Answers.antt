@@ -1,4 +1,3 @@
-use Rattle.toml.specs.View.{view}
 use Rattle.campaign_settings.proofs.Sound.{sound}
 use Rattle.campaign_settings.proofs.settings.read_settings.Goals as goal
 
