@@ -17,19 +17,19 @@ use Rattle.depth_pool.specs.declared.runs.RunId.{RunId}
 use Rattle.depth_pool.specs.Holdings.{has_id}
 use Rattle.mtf_queue.specs.declared.groups.Member.{Member}
 use Rattle.mtf_queue.specs.declared.rule.Judged.{Judged}
-use Rattle.mtf_queue.specs.Groups.{AreAlike, AreFew, AreGrouped, AreSorted, AreToldApart, StandAlike, docs_cmp, first_group, half_of, run_of}
+use Rattle.mtf_queue.specs.Groups.{AreByRun, AreFew, AreGrouped, AreSorted, AreToldApart, StandAlike, docs_cmp, first_group, half_of, run_of}
 use Rattle.mtf_queue.specs.Rule.{Holds, IsBefore, rule_cmp, side}
 use Rattle.mtf_queue.proofs.Comparing.{before_from_less}
 
 -- ---- comparisons of numbers
 
-cmp_less : (a b : ℕ) → a < b → nat_cmp a b ≡ Less
+pub cmp_less : (a b : ℕ) → a < b → nat_cmp a b ≡ Less
 cmp_less a b h = grind (arith, nat_tests)
 
-cmp_same : (a b : ℕ) → a ≡ b → nat_cmp a b ≡ Equal
+pub cmp_same : (a b : ℕ) → a ≡ b → nat_cmp a b ≡ Equal
 cmp_same a b h = grind (arith, nat_tests)
 
-cmp_more : (a b : ℕ) → b < a → nat_cmp a b ≡ Greater
+pub cmp_more : (a b : ℕ) → b < a → nat_cmp a b ≡ Greater
 cmp_more a b h = grind (arith, nat_tests)
 
 -- half a group is compared by its group, and in it by its side
@@ -46,7 +46,7 @@ halves_cmp a b x y few few' = step (nat_cmp a b) refl (ranked a b (nat_cmp a b) 
     step Equal e h = inner h (nat_cmp x y) refl (ranked x y (nat_cmp x y) refl) ∙ ap (λ o. ordering_then o (nat_cmp x y)) (sym e)
     step Greater e h = cmp_more (2 * a + x) (2 * b + y) (omega arith) ∙ ap (λ o. ordering_then o (nat_cmp x y)) (sym e)
 
-side_few : (grade : Option Bool) (held : Bool) → side grade held ≤ 1
+pub side_few : (grade : Option Bool) (held : Bool) → side grade held ≤ 1
 side_few None held = omega arith
 side_few (Some true) true = omega arith
 side_few (Some true) false = omega arith
@@ -102,7 +102,7 @@ module _ (held : Holds) (docs : List Judged) (doc : DocId) (relevant : Bool) (ho
       ∙ ap (λ b. ordering_then (docs_cmp held docs p.run q.run) (nat_cmp (side (Some relevant) b) (side_of q))) (same p.run)
       ∙ ap (λ b. ordering_then (docs_cmp held docs p.run q.run) (nat_cmp (side (Some relevant) (held p.run doc)) (side (Some relevant) b))) (same q.run)
 
-  grouped_halved : (members : List Member) → AreGrouped held docs members → AreGrouped held (judged_now ∷ docs) (map (half_of holders relevant) members)
+  pub grouped_halved : (members : List Member) → AreGrouped held docs members → AreGrouped held (judged_now ∷ docs) (map (half_of holders relevant) members)
   grouped_halved members was i d h j e l =
       let within : i < length members = omega (arith, length-map members (half_of holders relevant)) in
       let within' : j < length members = omega (arith, length-map members (half_of holders relevant)) in
@@ -111,11 +111,25 @@ module _ (held : Holds) (docs : List Judged) (doc : DocId) (relevant : Bool) (ho
       (subst (Q (half_of holders relevant (get_or members i d))) (sym (get_or-map (half_of holders relevant) members j e e within'))
       (one_halved (get_or members i d) (get_or members j e) (was i d within j e within')))
 
-grouped_permuted : (held : Holds) (docs : List Judged) (members sorted : List Member) → IsPermutation members sorted → AreGrouped held docs members → AreGrouped held docs sorted
+pub grouped_permuted : (held : Holds) (docs : List Judged) (members sorted : List Member) → IsPermutation members sorted → AreGrouped held docs members → AreGrouped held docs sorted
 grouped_permuted held docs members sorted permuted was =
     let R : Member → Member → Type 0 = λ p q. nat_cmp p.group q.group ≡ docs_cmp held docs p.run q.run in
     All-permutation (λ p. All (R p) sorted) members sorted permuted
     (All-weaker (λ p. All (R p) members) (λ p. All (R p) sorted) (λ p each. All-permutation (R p) members sorted permuted each) members was)
+
+-- ---- from runs to members, and back
+
+pub pairs_of_runs : (R : RunId → RunId → Type 0) (members : List Member) → AllPairs R (map run_of members) → AllPairs (λ p q. R p.run q.run) members
+pairs_of_runs R members pairs i j d l m =
+    subst (λ r. R r (get_or members j d).run) (get_or-map run_of members i d d.run (omega arith))
+    (subst (R (get_or (map run_of members) i d.run)) (get_or-map run_of members j d d.run m) (pairs i j d.run l (omega (arith, length-map members run_of))))
+
+pub runs_of_pairs : (R : RunId → RunId → Type 0) (members : List Member) → AllPairs (λ p q. R p.run q.run) members → AllPairs R (map run_of members)
+runs_of_pairs R members pairs i j d l m =
+    let none : Member = record { group = 0; run = d } in
+    let within : j < length members = omega (arith, length-map members run_of) in
+    subst (λ r. R r (get_or (map run_of members) j d)) (sym (get_or-map run_of members i none d (omega arith)))
+    (subst (R (get_or members i none).run) (sym (get_or-map run_of members j none d within)) (pairs i j none l within))
 
 -- ---- the order of a sort
 
@@ -141,12 +155,13 @@ sorted_pairs members sorted i j d l m =
     not_less (get_or members i d).group (get_or members j d).group (get_or members i d).run.0 (get_or members j d).run.0
     (sorted_far (λ p q. is_lt (member_cmp p q)) (ranks_by member_total (λ m. m)) members sorted i j d (omega arith) m)
 
-group_at_most : (a b x y : ℕ) → (a < b) ⊎ ((a ≡ b) × (x ≤ y)) → a ≤ b
-group_at_most a b x y (inl h) = omega arith
-group_at_most a b x y (inr h) = omega (arith, h.0)
-
-pub groups_rise : (members : List Member) → AreSorted members → AllPairs (λ p q. p.group ≤ q.group) members
-groups_rise members sorted i j d l m = group_at_most (get_or members i d).group (get_or members j d).group (get_or members i d).run.0 (get_or members j d).run.0 (sorted i j d l m)
+-- members of one group are sorted by run
+pub sorted_by_run : (members : List Member) → All (λ member. member.group ≡ 0) members → AreSorted members → AreByRun members
+sorted_by_run members none sorted = runs_of_pairs (λ r s. r.0 ≤ s.0) members (λ i j d l m. later (get_or members i d) (get_or members j d) (none i d (omega arith)) (none j d m) (sorted i j d l m))
+  where
+    later : (p q : Member) → p.group ≡ 0 → q.group ≡ 0 → (p.group < q.group) ⊎ ((p.group ≡ q.group) × (p.run.0 ≤ q.run.0)) → p.run.0 ≤ q.run.0
+    later p q first second (inl less) = absurd (omega (arith, first, second))
+    later p q first second (inr tied) = tied.1
 
 -- ---- groups that are numbered anew
 
@@ -157,41 +172,13 @@ run_at old new k d same len h =
 pub same_length : (old new : List Member) → map run_of new ≡ map run_of old → length new ≡ length old
 same_length old new same = sym (length-map new run_of) ∙ ap length same ∙ length-map old run_of
 
-alike_cmp : (a b c d : ℕ) → AreAlike a b c d → nat_cmp c d ≡ nat_cmp a b
-alike_cmp a b c d (inl both) = cmp_less c d both.1 ∙ sym (cmp_less a b both.0)
-alike_cmp a b c d (inr both) = cmp_same c d both.1 ∙ sym (cmp_same a b both.0)
-
-alike_back : (a b c d : ℕ) → AreAlike a b c d → nat_cmp d c ≡ nat_cmp b a
-alike_back a b c d (inl both) = cmp_more d c both.1 ∙ sym (cmp_more b a both.0)
-alike_back a b c d (inr both) = cmp_same d c (sym both.1) ∙ sym (cmp_same b a (sym both.0))
-
-sorted_alike : (a b c d x y x' y' : ℕ) → AreAlike a b c d → (a < b) ⊎ ((a ≡ b) × (x ≤ y)) → x' ≡ x → y' ≡ y → (c < d) ⊎ ((c ≡ d) × (x' ≤ y'))
-sorted_alike a b c d x y x' y' (inl both) was e f = inl both.1
-sorted_alike a b c d x y x' y' (inr both) (inl less) e f = absurd (omega (arith, both.0))
-sorted_alike a b c d x y x' y' (inr both) (inr tied) e f = inr (both.1, omega (arith, tied.1))
-
-pub sorted_numbered : (old new : List Member) → map run_of new ≡ map run_of old → StandAlike old new → AreSorted old → AreSorted new
-sorted_numbered old new same alike sorted i j d l m =
-    let len = same_length old new same in
-    sorted_alike (get_or old i d).group (get_or old j d).group (get_or new i d).group (get_or new j d).group (get_or old i d).run.0 (get_or old j d).run.0 (get_or new i d).run.0 (get_or new j d).run.0
-    (alike i j d l (omega arith)) (sorted i j d l (omega arith))
-    (ap (λ (r : RunId). r.0) (run_at old new i d same len (omega arith))) (ap (λ (r : RunId). r.0) (run_at old new j d same len (omega arith)))
-
-groups_cmp : (old new : List Member) → StandAlike old new → (i j : ℕ) (d : Member) → i < length old → j < length old → nat_cmp (get_or new i d).group (get_or new j d).group ≡ nat_cmp (get_or old i d).group (get_or old j d).group
-groups_cmp old new alike i j d h l = step (nat_cmp i j) (ranked i j (nat_cmp i j) refl)
-  where
-    step : (o : Ordering) → MatchOrdering o (i < j) (i ≡ j) (j < i) → nat_cmp (get_or new i d).group (get_or new j d).group ≡ nat_cmp (get_or old i d).group (get_or old j d).group
-    step Less e = alike_cmp (get_or old i d).group (get_or old j d).group (get_or new i d).group (get_or new j d).group (alike i j d e l)
-    step Equal e = cmp_same (get_or new i d).group (get_or new j d).group (ap (λ k. (get_or new k d).group) e) ∙ sym (cmp_same (get_or old i d).group (get_or old j d).group (ap (λ k. (get_or old k d).group) e))
-    step Greater e = alike_back (get_or old j d).group (get_or old i d).group (get_or new j d).group (get_or new i d).group (alike j i d e h)
-
-grouped_numbered : (held : Holds) (docs : List Judged) (old new : List Member) → map run_of new ≡ map run_of old → StandAlike old new → AreGrouped held docs old → AreGrouped held docs new
+pub grouped_numbered : (held : Holds) (docs : List Judged) (old new : List Member) → map run_of new ≡ map run_of old → StandAlike old new → AreGrouped held docs old → AreGrouped held docs new
 grouped_numbered held docs old new same alike was i d h j e l =
     let len = same_length old new same in
     let within : i < length old = omega arith in
     let within' : j < length old = omega arith in
     ap (λ m. nat_cmp (get_or new i d).group m.group) (get_or_default new j e d l)
-    ∙ groups_cmp old new alike i j d within within'
+    ∙ alike i j d within within'
     ∙ was i d within j d within'
     ∙ sym (ap (λ r. docs_cmp held docs r (get_or old j d).run) (run_at old new i d same len within))
     ∙ sym (ap (λ r. docs_cmp held docs (get_or new i d).run r) (run_at old new j d same len within'))
@@ -204,12 +191,12 @@ runs_halved holders relevant [] = refl
 runs_halved holders relevant (member ∷ members) = ap (λ runs. member.run ∷ runs) (runs_halved holders relevant members)
 
 pub grouped_cut : (held : Holds) (docs : List Judged) (doc : DocId) (relevant : Bool) (holders : List RunId) → ((run : RunId) → has_id run holders ≡ held run doc)
-    → (members sorted numbered : List Member) → IsPermutation (map (half_of holders relevant) members) sorted → map run_of numbered ≡ map run_of sorted → StandAlike sorted numbered
+    → (members halves numbered : List Member) → halves ≡ map (half_of holders relevant) members → map run_of numbered ≡ map run_of halves → StandAlike halves numbered
     → AreGrouped held docs members → AreGrouped held (record { doc = doc; relevant = Some relevant } ∷ docs) numbered
-grouped_cut held docs doc relevant holders same members sorted numbered permuted runs alike was =
+grouped_cut held docs doc relevant holders same members halves numbered is runs alike was =
     let docs_now : List Judged = record { doc = doc; relevant = Some relevant } ∷ docs in
-    grouped_numbered held docs_now sorted numbered runs alike
-    (grouped_permuted held docs_now (map (half_of holders relevant) members) sorted permuted (grouped_halved held docs doc relevant holders same members was))
+    grouped_numbered held docs_now halves numbered runs alike
+    (subst (AreGrouped held docs_now) (sym is) (grouped_halved held docs doc relevant holders same members was))
 
 -- ---- the order at the end
 
@@ -238,13 +225,22 @@ in_order_pair held trail left p q grouped differ (inr tied) (inl none) = before_
 pub in_order_grouped : (held : Holds) (trail : List Judged) (left : ℕ) (members : List Member) → AreGrouped held (drop left trail) members → AreSorted members
     → (left ≡ 0) ⊎ AreToldApart members → AllPairs (λ p q. p.run ≢ q.run) members → AllPairs (λ p q. IsBefore held trail p.run q.run) members
 in_order_grouped held trail left members grouped sorted ends differ i j d l m =
-    in_order_pair held trail left (get_or members i d) (get_or members j d) (grouped i d (omega arith) j d m) (differ i j d l m) (sorted i j d l m) (end ends)
+    in_order_pair held trail left (get_or members i d) (get_or members j d) (grouped i d (omega arith) j d m) (differ i j d l m) (sorted i j d l m) (end ends (sorted i j d l m))
   where
-    end : (left ≡ 0) ⊎ AreToldApart members → (left ≡ 0) ⊎ ((get_or members i d).group < (get_or members j d).group)
-    end (inl none) = inl none
-    end (inr apart) = inr (apart i j d l m)
+    end : (left ≡ 0) ⊎ AreToldApart members
+        → ((get_or members i d).group < (get_or members j d).group) ⊎ (((get_or members i d).group ≡ (get_or members j d).group) × ((get_or members i d).run.0 ≤ (get_or members j d).run.0))
+        → (left ≡ 0) ⊎ ((get_or members i d).group < (get_or members j d).group)
+    end (inl none) stand = inl none
+    end (inr apart) (inl less) = inr less
+    end (inr apart) (inr tied) = absurd (differ i j d l m (apart i d (omega arith) j d m tied.0))
 
--- ---- from runs to members, and back
+pub told_apart_permuted : (members sorted : List Member) → IsPermutation members sorted → AreToldApart members → AreToldApart sorted
+told_apart_permuted members sorted permuted was =
+    let R : Member → Member → Type 0 = λ p q. p.group ≡ q.group → p.run ≡ q.run in
+    All-permutation (λ p. All (R p) sorted) members sorted permuted
+    (All-weaker (λ p. All (R p) members) (λ p. All (R p) sorted) (λ p each. All-permutation (R p) members sorted permuted each) members was)
+
+-- ---- all runs in one group
 
 pub runs_first : (order : List RunId) → map run_of (map first_group order) ≡ order
 runs_first [] = refl
@@ -252,18 +248,6 @@ runs_first (run ∷ order) = ap (λ runs. run ∷ runs) (runs_first order)
 
 pub first_groups : (order : List RunId) → All (λ member. member.group ≡ 0) (map first_group order)
 first_groups order k d h = ap (λ (m : Member). m.group) (get_or-map first_group order k d.run d (omega (arith, length-map order first_group)))
-
-pub pairs_of_runs : (R : RunId → RunId → Type 0) (members : List Member) → AllPairs R (map run_of members) → AllPairs (λ p q. R p.run q.run) members
-pairs_of_runs R members pairs i j d l m =
-    subst (λ r. R r (get_or members j d).run) (get_or-map run_of members i d d.run (omega arith))
-    (subst (R (get_or (map run_of members) i d.run)) (get_or-map run_of members j d d.run m) (pairs i j d.run l (omega (arith, length-map members run_of))))
-
-pub runs_of_pairs : (R : RunId → RunId → Type 0) (members : List Member) → AllPairs (λ p q. R p.run q.run) members → AllPairs R (map run_of members)
-runs_of_pairs R members pairs i j d l m =
-    let none : Member = record { group = 0; run = d } in
-    let within : j < length members = omega (arith, length-map members run_of) in
-    subst (λ r. R r (get_or (map run_of members) j d)) (sym (get_or-map run_of members i none d (omega arith)))
-    (subst (R (get_or members i none).run) (sym (get_or-map run_of members j none d within)) (pairs i j none l within))
 
 pub one_group : (held : Holds) (members : List Member) → All (λ member. member.group ≡ 0) members → AreGrouped held [] members
 one_group held members none i d h j e l = cmp_same (get_or members i d).group (get_or members j e).group (none i d h ∙ sym (none j e l))

@@ -1,5 +1,6 @@
 -- Groups of runs: those that documents don't tell apart.
-use Rattle.std.specs.Prelude.{◌≡◌, ℕ, ◌+◌, ◌*◌, ◌<◌, ◌≤◌, ◌⊎◌, Some, Bool, List, [], ◌∷◌, length, slice_index_or, All, AllPairs}
+use Rattle.std.specs.Prelude.{◌≡◌, ℕ, ◌+◌, ◌*◌, ◌<◌, ◌≤◌, ◌==◌, ◌⊎◌, Some, Bool, List, [], ◌∷◌, length, map, slice_index_or, sum, take, All, AllPairs}
+use Rattle.std.specs.List.{count_by}
 use Rattle.std.specs.Ordering.{nat_cmp, ordering_then}
 use Rattle.std.specs.declared.cmp.Ordering.{Ordering}
 use Rattle.std.specs.declared.cmp.Ordering.TheVariants.{Equal}
@@ -34,19 +35,40 @@ AreGrouped held docs members = All (λ p. All (λ q. nat_cmp p.group q.group ≡
 abbrev pub AreSorted : List Member → Type 0
 AreSorted members = AllPairs (λ p q. (p.group < q.group) ⊎ ((p.group ≡ q.group) × (p.run.0 ≤ q.run.0))) members
 
--- each run is a group of its own
+-- by number
+abbrev pub AreByRun : List Member → Type 0
+AreByRun members = AllPairs (λ r s. r.0 ≤ s.0) (map run_of members)
+
+-- the runs of one group are one run
 abbrev pub AreToldApart : List Member → Type 0
-AreToldApart members = AllPairs (λ p q. p.group < q.group) members
+AreToldApart members = All (λ p. All (λ q. p.group ≡ q.group → p.run ≡ q.run) members) members
 
 -- there are no more groups than runs
 abbrev pub AreFew : List Member → Type 0
 AreFew members = All (λ member. member.group < length members) members
 
--- two numbers of groups stand as two others did
-abbrev pub AreAlike : ℕ → ℕ → ℕ → ℕ → Type 0
-AreAlike a b c d = ((a < b) × (c < d)) ⊎ ((a ≡ b) × (c ≡ d))
-
--- each two groups, the earlier first, stand as they did
+-- each two groups compare as they did
 abbrev pub StandAlike : List Member → List Member → Type 0
-StandAlike old new = (i j : ℕ) (d : Member) → i < j → j < length old
-    → AreAlike (slice_index_or old i d).group (slice_index_or old j d).group (slice_index_or new i d).group (slice_index_or new j d).group
+StandAlike old new = (i j : ℕ) (d : Member) → i < length old → j < length old
+    → nat_cmp (slice_index_or new i d).group (slice_index_or new j d).group ≡ nat_cmp (slice_index_or old i d).group (slice_index_or old j d).group
+
+-- how many runs a group has
+abbrev pub size_of : ℕ → List Member → ℕ
+size_of group members = count_by (λ member. member.group == group) members
+
+-- the sizes of the groups, by their numbers
+pub record AreSizes (sizes : List ℕ) (members : List Member) : Type 0 where
+  pub each : (group : ℕ) → group < length sizes → slice_index_or sizes group 0 ≡ size_of group members
+  pub total : sum sizes ≡ length members
+
+-- at each place the sum of the numbers before it
+abbrev pub AreSumsBefore : List ℕ → List ℕ → Type 0
+AreSumsBefore numbers sums = (k : ℕ) → k < length numbers → slice_index_or sums k 0 ≡ sum (take k numbers)
+
+-- a run whose group has the number that stands at the place of its old one
+abbrev pub numbered_by : List ℕ → Member → Member
+numbered_by numbers member = record { group = slice_index_or numbers member.group 0; run = member.run }
+
+-- the runs from a number on that are among some of these are among all
+abbrev pub KeepsFrom : RunId → List RunId → List RunId → Type 0
+KeepsFrom run all some = (other : RunId) → run.0 ≤ other.0 → has_id other some ≡ has_id other all

@@ -23,10 +23,12 @@ pub struct Queue {
     behind: Vec<RunId>,
     // where the runs are sorted, with room for all
     members: Vec<Member>,
+    // where the groups of the sort are counted, with room for two of each run
+    sizes: Vec<usize>,
 }
 
 impl Model for Queue {
-    ghost use Rattle.std.specs.Prelude.{◌-◌, ◌≤◌, min, vec_len, vec_capacity};
+    ghost use Rattle.std.specs.Prelude.{◌-◌, ◌/◌, ◌≤◌, min, vec_len, vec_capacity};
     ghost use Rattle.mtf_queue.specs.QueueView.{QueueView};
 
     ghost Value = { QueueView };
@@ -34,11 +36,11 @@ impl Model for Queue {
     ghost view = { λ queue. record {
       order = queue.order.items;
       trail = queue.trail.items;
-      spare = min (min (vec_capacity queue.order - vec_len queue.order) (vec_capacity queue.members - vec_len queue.order))
-          (min (vec_capacity queue.trail - vec_len queue.trail) (vec_capacity queue.behind - vec_len queue.order));
+      spare = min (min (vec_capacity queue.order - vec_len queue.order) (vec_capacity queue.trail - vec_len queue.trail))
+          (min (vec_capacity queue.behind - vec_len queue.order) (min (vec_capacity queue.members) (vec_capacity queue.sizes / 2) - vec_len queue.order));
     } };
 
-    ghost invariant = { λ queue. vec_len queue.order ≤ vec_capacity queue.members };
+    ghost invariant = { λ queue. vec_len queue.order ≤ min (vec_capacity queue.members) (vec_capacity queue.sizes / 2) };
 }
 
 impl Queue {
@@ -52,6 +54,7 @@ impl Queue {
             trail: Vec::new(alloc),
             behind: Vec::new(alloc),
             members: Vec::new(alloc),
+            sizes: Vec::new(alloc),
         }
     }
 
@@ -67,6 +70,8 @@ impl Queue {
         self.behind.reserve(self.order.len() + 1)?;
         self.members.clear();
         self.members.reserve(self.order.len() + 1)?;
+        self.sizes.clear();
+        self.sizes.reserve(2 * (self.order.len() + 1))?;
         Ok(())
     }
 
@@ -141,6 +146,7 @@ impl Queue {
         sort_by_rule(
             &mut self.order,
             &mut self.members,
+            &mut self.sizes,
             self.trail.as_slice(),
             pool,
         );

@@ -1,42 +1,48 @@
-use Rattle.std.proofs.Common.{◌<◌, arith, length, sym, ◌∙◌}
-use borrow.Author.Tests.{eqb-true, ltb-true}
-use Rattle.mtf_queue.proofs.GroupOrder.{same_length}
-use Rattle.mtf_queue.proofs.Numbering.{all_alike, next_group, numbered_as, same_group, test_fails}
+use Rattle.std.proofs.Common.{◌≡◌, ◌<◌, ◌*◌, ◌∙◌, arith, ap, length, map, subst, sym}
+use Rattle.std.specs.List.{All}
+use Rattle.mtf_queue.specs.Groups.{AreSizes, AreSumsBefore, run_of}
+use Rattle.mtf_queue.proofs.Numbering.{alike-numbered, apart-numbered, few-numbered, not-more, runs_numbered}
+use Rattle.mtf_queue.proofs.groups.number.Goals.{After-as_slice-2}
 use Rattle.mtf_queue.proofs.groups.number.Goals as goal
-use Rattle.mtf_queue.proofs.groups.number.Goals.{then-is_same, else-is_same, then-at-gt0, else-at-gt0}
 
-pub loop-at-preserved : goal.loop-at-preserved
-loop-at-preserved c =
-    let old = c.args.members.now.items in
-    let members = c.loop-at.members.items in
-    let at = c.loop-at.at in
-    let was = c.loop-at.invariant.0 in
-    let read = c.index.result.now in
-    let written = c.index_mut.result.now in
-    let within : at < length old = omega (arith, c.loop-at.invariant.1, c.loop-at-test.true) in
-    let inside : at < length members = omega (arith, within, same_length old members was.runs) in
-    elim c.if-is_same.branch [
-      | then-is_same w ↦ (
-        numbered_as old members at read written c.loop-at.first c.if-is_same.first _ c.if-is_same.are_tied w.first-is w.are_tied-is inside c.index.ensures c.index_mut.ensures.value
-            (elim c.if-at-gt0.branch [
-              | then-at-gt0 v ↦ same_group old members at c.loop-at.first c.loop-at.last c.loop-at.are_tied was within read c.index.ensures v.if-at-gt0.true (eqb-true read.group c.loop-at.last (sym v.is_same-is ∙ w.if-is_same.true))
-              | else-at-gt0 v ↦ absurd (omega (arith, ltb-true 0 at (sym v.is_same-is ∙ w.if-is_same.true), v.if-at-gt0.false))
-            ]),
-        c.loop-at.invariant.1,
-        c.loop-at.invariant.2,
-      )
-      | else-is_same w ↦ (
-        numbered_as old members at read written at c.if-is_same.first c.loop-at.are_tied c.if-is_same.are_tied w.first-is w.are_tied-is inside c.index.ensures c.index_mut.ensures.value
-            (next_group old members at c.loop-at.first c.loop-at.last c.loop-at.are_tied was within read c.index.ensures c.requires
-            (λ there same. elim c.if-at-gt0.branch [
-              | then-at-gt0 v ↦ test_fails read.group c.loop-at.last (sym v.is_same-is ∙ w.if-is_same.false) same
-              | else-at-gt0 v ↦ absurd (omega (arith, there, v.if-at-gt0.false))
-            ])),
-        c.loop-at.invariant.1,
-        c.loop-at.invariant.2,
-      )
-    ]
+pub count-requires-clause-within : goal.count-requires-clause-within
+count-requires-clause-within c = subst (λ list. All (λ member. member.group < 2 * length list) list) (sym c.as_slice.ensures.value) c.requires.within
+
+pub add_up-largest-requires : goal.add_up-largest-requires
+add_up-largest-requires c = omega (arith, c.count.ensures.sizes.total, c.as_slice.type_inv.1)
+
+are_sizes : (c : After-as_slice-2) → AreSizes c.count.new.sizes.items c.args.members.now.items
+are_sizes c = subst (AreSizes c.count.new.sizes.items) c.as_slice.ensures.value c.count.ensures.sizes
+
+sums_before : (c : After-as_slice-2) → AreSumsBefore c.count.new.sizes.items c.as_slice-2.result.now
+sums_before c = subst (AreSumsBefore c.count.new.sizes.items) (sym c.as_slice-2.ensures.value) c.add_up-largest.ensures.sums
+
+long : (c : After-as_slice-2) → length c.count.new.sizes.items ≡ 2 * length c.args.members.now.items
+long c = omega (arith, c.count.new.sizes.ok.0, c.count.ensures.len, ap length c.as_slice.ensures.value)
+
+within : (c : After-as_slice-2) → All (λ member. member.group < length c.count.new.sizes.items) c.args.members.now.items
+within c = subst (λ n. All (λ member. member.group < n) c.args.members.now.items) (sym (long c)) c.requires.within
+
+pub put_numbers-requires : goal.put_numbers-requires
+put_numbers-requires c =
+    let as_long : length c.as_slice-2.result.now ≡ length c.count.new.sizes.items = omega (arith, ap length c.as_slice-2.ensures.value, c.add_up-largest.ensures.len, c.add_up-largest.new.sizes.ok.0, c.count.new.sizes.ok.0) in
+    subst (λ n. All (λ member. member.group < n) c.args.members.now.items) (sym as_long) (within c)
+
+pub returns-clause-runs : goal.returns-clause-runs
+returns-clause-runs c = ap (map run_of) c.put_numbers.ensures.numbered ∙ runs_numbered c.as_slice-2.result.now c.args.members.now.items
 
 pub returns-clause-alike : goal.returns-clause-alike
 returns-clause-alike c =
-    all_alike c.args.members.now.items c.loop-at.members.items c.loop-at.at c.loop-at.first c.loop-at.last c.loop-at.are_tied c.loop-at.invariant.0 (omega (arith, c.loop-at.invariant.1, c.loop-at-test.false))
+    let at = (goal.at.returns-clause-alike c).After-as_slice-2 in
+    alike-numbered c.count.new.sizes.items c.as_slice-2.result.now c.args.members.now.items (are_sizes at) (sums_before at) (within at) c.put_numbers.new.members.items c.put_numbers.ensures.numbered
+
+pub returns-clause-few : goal.returns-clause-few
+returns-clause-few c =
+    let at = (goal.at.returns-clause-few c).After-as_slice-2 in
+    few-numbered c.count.new.sizes.items c.as_slice-2.result.now c.args.members.now.items (are_sizes at) (sums_before at) (within at) c.put_numbers.new.members.items c.put_numbers.ensures.numbered
+
+pub returns-clause-told_apart : goal.returns-clause-told_apart
+returns-clause-told_apart c = λ none.
+    let at = (goal.at.returns-clause-told_apart c).After-as_slice-2 in
+    apart-numbered c.count.new.sizes.items c.as_slice-2.result.now c.args.members.now.items (are_sizes at) (sums_before at) (within at) c.add_up-largest.result c.add_up-largest.ensures.largest
+    (not-more c.add_up-largest.result none) c.put_numbers.new.members.items c.put_numbers.ensures.numbered

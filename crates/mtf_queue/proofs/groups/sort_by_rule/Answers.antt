@@ -14,6 +14,12 @@ pub cut_groups-requires-clause-one_group : goal.cut_groups-requires-clause-one_g
 cut_groups-requires-clause-one_group c =
     All-permutation (λ member. member.group ≡ 0) (map first_group c.as_slice.result.now) c.put_in_one_group.new.members.items c.put_in_one_group.ensures.runs (first_groups c.as_slice.result.now)
 
+pub cut_groups-requires-clause-room : goal.cut_groups-requires-clause-room
+cut_groups-requires-clause-room c =
+    let order = c.as_slice.result.now in
+    let put = c.put_in_one_group.new.members in
+    omega (arith, length_permutation (map first_group order) put.items c.put_in_one_group.ensures.runs, length-map order first_group, ap length c.as_slice.ensures.value, c.args.order.now.ok.0, put.ok.0, c.requires.room_for_sizes)
+
 pub take_runs-requires : goal.take_runs-requires
 take_runs-requires c =
     let order = c.args.order.now.items in
