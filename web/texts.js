@@ -82,8 +82,8 @@ export const texts = {
     askTopics: (number) => `Give ${count(number, "topic", "topics")}? They can't be changed or taken back.`,
     topicsGiven: (number) => `The campaign has ${count(number, "topic", "topics")}.`,
     open: "Open the judging",
-    openHint: "From then on no run is taken, and assessors are given documents.",
-    askOpen: "Open the judging? From then on no run is taken, and that can't be undone.",
+    openHint: "From then on assessors are given documents. Runs are taken until the publication.",
+    askOpen: "Open the judging? From then on assessors are given documents, and that can't be undone.",
     opened: "The judging is open.",
     publish: "Publish",
     publishHint: "The grades as they stand become the qrels; what has no grade stays out.",
@@ -201,7 +201,7 @@ export const texts = {
     "wrong-phase": ({ phase }) =>
       ({
         collecting: "It is too early: the campaign still collects runs, and the organiser hasn't opened the judging.",
-        judging: "It is too late: the judging is open, and no topic or run is taken any more.",
+        judging: "It is too late: the judging is open, and no topic is taken any more.",
         published: "It is too late: the campaign is published.",
       })[phase] ?? `This isn't possible in the phase ${phase}.`,
     "topics-fixed": () => "The campaign has its topics already; they are given once.",

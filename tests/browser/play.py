@@ -229,9 +229,6 @@ def organiser_opens(campaign):
     page.click("button", "Open the judging")
     office.confirms("Open the judging")
     office.is_told("The judging is open.")
-    campaign.city.here()
-    campaign.city.hands_in(campaign.file("city.prf.run"), "city.late")
-    campaign.city.is_told("It is too late")
 
 
 def first_documents(campaign):
@@ -262,7 +259,8 @@ def first_documents(campaign):
     page.settled()
     anna.amends("FT911-3", "2")
     anna.is_told("FT911-3 is amended: 2, highly relevant.")
-    harbor.here()
+    harbor.hands_in(campaign.file("late.run", "401 Q0 FT911-3 1 0.5 late"), "harbor.late")
+    harbor.is_told("harbor.late is handed in")
     page.click("button", "harbor.dense")
     page.found("#run h3", "Scores of harbor.dense")
     page.click("button", "Withdraw this run")
@@ -431,6 +429,9 @@ def campaign_is_published(campaign):
     anna.takes("401")
     anna.is_told("It is too late: the campaign is published.")
     city.here()
+    page.click("nav a", "Submit")
+    city.hands_in(campaign.file("city.prf.run"), "city.late")
+    city.is_told("It is too late: the campaign is published.")
     page.click("nav a", "Release")
     sees_table(city, "/releases/1/scores")
 
@@ -439,7 +440,7 @@ def nothing_more_was_done(campaign):
     """The journal has README's commands and no more, though answers were lost and keys pressed twice."""
     campaign.server.kill()
     told = campaign.server.checked().splitlines()
-    same("the journal", told[:2], ["entries 49", "phase published"])
+    same("the journal", told[:2], ["entries 50", "phase published"])
 
 
 # ---- a campaign whose leases end soon

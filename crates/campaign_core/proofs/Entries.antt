@@ -3,6 +3,7 @@ pub mod Answered
 pub mod CommitCosts
 pub mod Commits
 pub mod FittingChanges
+pub mod GrowingNames
 pub mod HistoryGrowth
 pub mod KeptStates
 pub mod LabelSteps

@@ -50,7 +50,7 @@ topics_ruling H topics = unless (topics_tests H topics) (Ok (reply.Topics (lengt
 
 abbrev pub submit_tests : History → Text → List TopicList → List (Option Refusal)
 submit_tests H run lists =
-    wrong_phase_unless Collecting H
+    wrong_phase_where Published H
     ∷ (refusal.TagTaken when is_taken H run)
     ∷ option_map refusal.LineTopic (unknown_line H lists)
     ∷ (refusal.Limit quantity.Runs when nat_le max_runs (length (runs H)))

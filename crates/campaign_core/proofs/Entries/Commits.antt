@@ -50,9 +50,10 @@ use Rattle.assessment.specs.declared.change.Change.TheVariants as change
 use Rattle.lease_desk.specs.Leases.{granted, with_end}
 use Rattle.lease_desk.specs.declared.leases.Lease.{Lease as DeskLease}
 use Rattle.rulebook.specs.declared.ask.Command.{Command}
-use Rattle.campaign_core.proofs.Rulings.AcceptedCommands.{amend-told, grade-told, lease-told, listed-id, numbered-all, numbered-within, open-reply, publish-told, release-told, rule-told, some-same, submit-collecting, submit-reply, topics-few, topics-plain, topics-reply, withdraw-told}
+use Rattle.campaign_core.proofs.Rulings.AcceptedCommands.{amend-told, grade-told, lease-told, listed-id, numbered-all, numbered-within, open-reply, publish-told, release-told, rule-told, some-same, submit-reply, topics-few, topics-plain, topics-reply, withdraw-told}
 use Rattle.campaign_core.proofs.Entries.HistoryGrowth.{submitted_docnos-push, submitted_lines-push}
 use Rattle.campaign_core.proofs.Entries.LabelSteps.{GivenFollow, GivenStay, RulingsFollow, RulingsStay, few-here, few-more, few-ruled, labelled-elsewhere, labelled-here, marked-there, ruled-elsewhere, ruled-here}
+use Rattle.campaign_core.proofs.Entries.GrowingNames.{labelled-grows, leased-grows}
 use Rattle.campaign_core.proofs.Entries.LeaseSteps.{leased-ended, leased-granted}
 use Rattle.campaign_core.proofs.Entries.Legality.{IsLegal-push, moment_after-push}
 use Rattle.assessment.proofs.ListFacts.{each_cons}
@@ -307,12 +308,6 @@ module _ (laws : Laws) where
       let later = unjudged-stays s.history.items (s.history.items ++ e ∷ []) (map labelled_of (topics_of s)) keeps labels_are leases_are none in
       record { no_lease = later.no_lease; no_label = later.no_label; no_ruling = later.no_ruling; no_trail = later.no_trail; no_mark = no_mark }
 
-  no-grade : (s : Campaign) → IsKnown s → IsUnjudged s.history.items (map labelled_of (topics_of s)) → All (λ (t : LabelledTopic). t.graded ≡ []) (map labelled_of (topics_of s))
-  no-grade s kept_s none k d within =
-      let t : LabelledTopic = get_or (map labelled_of (topics_of s)) k d in
-      let labelled = kept_s.assessed.knows.labels_are k d within in
-      labelled.graded_are ∙ ap (map (graded_in s.history.items (names_of s.history.items) t.id)) (none.no_trail t.id)
-
   new-marks : (given : List Topic) → All (λ (t : LabelledTopic). t.marked ≡ []) (map (λ (topic : Topic). unlabelled topic.id) given)
   new-marks [] = λ k d within. absurd (omega (arith, within))
   new-marks (t ∷ given) = each_cons (λ (t : LabelledTopic). t.marked ≡ []) (unlabelled t.id) (map (λ (topic : Topic). unlabelled topic.id) given) refl (new-marks given)
@@ -466,9 +461,8 @@ module _ (laws : Laws) where
       let keeps = keeps-all s e kept_s quiet in
       let reply_is : e.reply ≡ reply.Submitted name (length lists) (line_count lists) = submit-reply H name lists e.reply ruled in
       let no_lease : leases J ≡ leases H = no-lease H e (ap (lease_in e.core.caller.name) reply_is) in
-      let none = kept_s.unjudged (submit-collecting H name lists e.reply ruled) in
-      let labels_are = labels-none H e quiet.no_label in
       let labelled_is = each-labelled run entered.items ts in
+      let phases = phase-stays H e (ap publishes is) (ap opens is) in
       let listed : entered.items ≡ map (λ (t : TopicFacts). docs_in (names_of J) (docs_on lists t.id)) ts = entered_is ∙ ap (λ (names : List Text). map (λ (t : TopicFacts). docs_in names (docs_on lists t.id)) ts) names_is in
       record {
         phase_is = ap (λ c. phase_after c s.phase) is ∙ kept_s.phase_is ∙ sym (phase-stays H e (ap publishes is) (ap opens is));
@@ -480,8 +474,8 @@ module _ (laws : Laws) where
             topics_are = ap (λ (ls : List (List DocId)). map kept (each_with_list run ls ts)) entered_is
                 ∙ runs-added H J name lists run names ts (topic_ids H) laws.goes_last rules_are grown (numbered-more H J new run_is withdrawn_are live) names_is number kept_s.assessed.knows.topics_are
                 ∙ ap (λ (ts : List Topic). map (kept_of J) (map (λ (t : Topic). t.id) ts)) (sym same);
-            labels_are = subst (All (IsLabelled J (names_of J))) (sym labelled_is) (fresh-labels s e (map labelled_of ts) keeps labels_are no_lease none none.no_mark (no-grade s kept_s none));
-            leased = leased-none H J s.assessment.leases none.no_lease no_lease (none-ended H e (λ n. ap (ends n) is)) kept_s.assessed.knows.leased;
+            labels_are = subst (All (IsLabelled J (names_of J))) (sym labelled_is) (λ k d within. labelled-grows H J (get_or (map labelled_of ts) k d) keeps grown (kept_s.assessed.knows.labels_are k d within));
+            leased = leased-grows H J s.assessment.leases no_lease (none-ended H e (λ n. ap (ends n) is)) ids_are grown kept_s.assessed.knows.leased;
             topics_differ = ap differ ids_are ∙ kept_s.assessed.knows.topics_differ;
             topics_fit = rw ids_are kept_s.assessed.knows.topics_fit;
           };
@@ -491,7 +485,9 @@ module _ (laws : Laws) where
               ap (λ (ls : List (List DocId)). with_lists run ls (facts s.assessment).topics.lists other on) listed
               ∙ run-lists H J new run ts (facts s.assessment).topics.lists number run_is withdrawn_are live grown (state-ids H ts (topic_ids H) kept_s.assessed.knows.topics_are) ids_are kept_s.assessed.lists_are other on;
         };
-        unjudged = λ collecting. subst (IsUnjudged J) (sym labelled_is) (fresh-after s e (map labelled_of ts) keeps labels_are no_lease none none.no_mark);
+        unjudged = λ collecting.
+            let none = kept_s.unjudged (sym phases ∙ collecting) in
+            subst (IsUnjudged J) (sym labelled_is) (fresh-after s e (map labelled_of ts) keeps (labels-none H e quiet.no_label) no_lease none none.no_mark);
       }
   carried-out s names e (change.Withdraw run) kept_s ready names_is (name, is, number) =
       let H = s.history.items in

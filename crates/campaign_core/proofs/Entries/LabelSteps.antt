@@ -157,6 +157,8 @@ unchanged H J t names_are labels rulings grades trail_stays was =
       rulings_are = λ doc named. was.rulings_are doc named ∙ sym (rulings doc);
       given_named = was.given_named;
       labels_named = λ doc absent. labels doc ∙ was.labels_named doc absent;
+      ruled_named = was.ruled_named;
+      rulings_named = λ doc absent. rulings doc ∙ was.rulings_named doc absent;
       graded_are = was.graded_are ∙ same-grades t.id grades (trail H t.id) ∙ ap (map (graded_in J (names_of H) t.id)) (sym trail_stays);
       trail_named = ap (are_named (names_of H)) trail_stays ∙ was.trail_named;
     })
@@ -174,10 +176,12 @@ regraded-here : (H J : History) (t : LabelledTopic) (marked : List Marked) (doc 
     → ((other : Text) → contains_text (names_of H) other ≡ true → ruling_at marked (doc_in (names_of H) other) ≡ ruling J t.id other)
     → ((other : DocId) → length (names_of H) ≤ other.0 → given_at marked other ≡ [])
     → ((other : Text) → contains_text (names_of H) other ≡ false → labels_on J t.id other ≡ [])
+    → ((other : DocId) → length (names_of H) ≤ other.0 → ruling_at marked other ≡ None)
+    → ((other : Text) → contains_text (names_of H) other ≡ false → ruling J t.id other ≡ None)
     → trail J t.id ≡ (if is_some (effective J t.id doc) then with_name (trail H t.id) doc else trail H t.id)
     → ((other : Text) → bytes_eq doc other ≡ false → effective J t.id other ≡ effective H t.id other)
     → IsLabelled J (names_of J) (record { id = t.id; marked = marked; graded = with_grade (doc_in (names_of H) doc) (effective_at (need H t.id) marked (doc_in (names_of H) doc)) t.graded })
-regraded-here H J t marked doc needs names_are doc_named was given rulings past none trail_is others =
+regraded-here H J t marked doc needs names_are doc_named was given rulings past none past_ruled none_ruled trail_is others =
     let names = names_of H in
     let d : DocId = doc_in names doc in
     let grade : effective_at (need H t.id) marked d ≡ effective J t.id doc =
@@ -189,6 +193,8 @@ regraded-here H J t marked doc needs names_are doc_named was given rulings past 
       rulings_are = rulings;
       given_named = past;
       labels_named = none;
+      ruled_named = past_ruled;
+      rulings_named = none_ruled;
       graded_are = ap (λ (o : Option ℕ). with_grade d o t.graded) grade
           ∙ ap (with_grade d (effective J t.id doc)) was.graded_are
           ∙ along H J t.id doc names doc_named others (trail H t.id) was.trail_named (trail-differs H t.id)
@@ -242,6 +248,8 @@ module _ (given_follow : GivenFollow) (rulings_stay : RulingsStay) (H J : Histor
       (λ doc absent. joined.labels_are t.id doc
       ∙ ap (λ b. if b then with_label label.assessor label.grade (labels_on H t.id doc) else labels_on H t.id doc) (and-false (bytes_eq label.topic t.id) (bytes_eq label.doc doc) (other-name names label.doc doc doc_named absent))
       ∙ was.labels_named doc absent)
+      (λ other past. rulings_stay d other label.assessor label.grade t.marked ∙ was.ruled_named other past)
+      (λ doc absent. joined.rulings_are t.id doc ∙ was.rulings_named doc absent)
       (subst (λ topic. trail J topic ≡ (if is_some (effective J topic label.doc) then with_name (trail H topic) label.doc else trail H topic)) (sym ids) joined.trail_is)
       (λ other differs. joined.effective_is t.id other (and-false (bytes_eq label.topic t.id) (bytes_eq label.doc other) differs))
     where
@@ -293,6 +301,12 @@ module _ (rulings_follow : RulingsFollow) (given_stay : GivenStay) (H J : Histor
       (λ other named. given_stay d (doc_in names other) grade t.marked ∙ was.given_are other named ∙ sym (ruled.labels_are t.id other))
       rulings (λ other past. given_stay d other grade t.marked ∙ was.given_named other past)
       (λ other absent. ruled.labels_are t.id other ∙ was.labels_named other absent)
+      (λ other past. rulings_follow d other grade t.marked
+      ∙ ap (λ b. if (b && is_marked t.marked d) then Some grade else ruling_at t.marked other) (past-other names doc other doc_named past)
+      ∙ was.ruled_named other past)
+      (λ other absent. ruled.rulings_are t.id other
+      ∙ ap (λ b. if b then Some grade else ruling H t.id other) (and-false (bytes_eq topic t.id) (bytes_eq doc other) (other-name names doc other doc_named absent))
+      ∙ was.rulings_named other absent)
       (subst (λ topic. trail J topic ≡ (if is_some (effective J topic doc) then with_name (trail H topic) doc else trail H topic)) (sym ids) ruled.trail_is)
       (λ other differs. ruled.effective_is t.id other (and-false (bytes_eq topic t.id) (bytes_eq doc other) differs))
     where

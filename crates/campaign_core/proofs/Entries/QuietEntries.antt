@@ -97,6 +97,8 @@ labelled-stays H J t keeps names_are labelled = subst (λ names. IsLabelled J na
   rulings_are = λ doc named. labelled.rulings_are doc named ∙ sym (keeps.rulings_are t.id doc);
   given_named = labelled.given_named;
   labels_named = λ doc absent. keeps.labels_are t.id doc ∙ labelled.labels_named doc absent;
+  ruled_named = labelled.ruled_named;
+  rulings_named = λ doc absent. keeps.rulings_are t.id doc ∙ labelled.rulings_named doc absent;
   graded_are = labelled.graded_are
       ∙ sym (map-same (graded_in J (names_of H) t.id) (graded_in H (names_of H) t.id) (trail H t.id) (λ doc. ap (λ (o : Option ℕ). let g = graded_in H (names_of H) t.id doc in record g { grade = o }) (keeps.effective_is t.id doc)))
       ∙ ap (map (graded_in J (names_of H) t.id)) (sym (keeps.trail_is t.id));
@@ -109,6 +111,8 @@ labelled-none J t no_label no_ruling no_trail no_mark no_grade = record {
   rulings_are = λ doc named. rw no_mark (sym (no_ruling t.id doc));
   given_named = λ doc past. rw no_mark refl;
   labels_named = λ doc absent. rw no_label refl;
+  ruled_named = λ doc past. rw no_mark refl;
+  rulings_named = λ doc absent. no_ruling t.id doc;
   graded_are = no_grade ∙ sym (ap (map (graded_in J (names_of J) t.id)) (no_trail t.id));
   trail_named = ap (are_named (names_of J)) (no_trail t.id);
 }

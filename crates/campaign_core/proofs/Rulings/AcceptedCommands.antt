@@ -14,14 +14,13 @@ use Rattle.rulebook.specs.declared.reply.Reply.{Reply}
 use Rattle.rulebook.specs.declared.reply.Reply.TheVariants as reply
 use Rattle.trec_formats.specs.declared.Topic.{Topic}
 use Rattle.rulebook.specs.Words.{Text, contains_text}
-use Rattle.rulebook.specs.Refusals.{Ruling, ◌when◌, given, is_phase, unless, wrong_phase_unless}
+use Rattle.rulebook.specs.Refusals.{Ruling, ◌when◌, given, is_phase, unless, wrong_phase_unless, wrong_phase_where}
 use Rattle.rulebook.specs.Answers.{amend_ruling, grade_range, grade_ruling, lease_refusals, lease_ruling, open_ruling, publish_ruling, release_ruling, rule_ruling, run_refusals, submit_ruling, topics_ruling, unknown_line, withdraw_ruling}
 use Rattle.rulebook.specs.Spelling.{differ, is_plain, is_plain_topic}
 use Rattle.rulebook.specs.declared.ask.Command.TheVariants as command
 use Rattle.rulebook.specs.declared.limits.TheConstants.{MAX_DOCNOS, MAX_LINES, MAX_RUNS, MAX_TOPICS}
 use Rattle.rulebook.specs.declared.reply.Quantity.TheVariants as quantity
 use Rattle.trec_formats.specs.declared.TopicList.{TopicList}
-use Rattle.campaign_core.proofs.Rulings.CollectingRulings.{collecting-from}
 use Rattle.campaign_core.proofs.Lists.Elements.{both_true}
 use Rattle.rulebook.specs.Campaign.{History, Run, docnos_with, has_topics, is_taken, is_topic, is_withdrawn, line_count, lines_with, phase, rules_of, runs, title}
 use Rattle.rulebook.specs.Grades.{is_labelled, is_labelled_by}
@@ -175,12 +174,7 @@ submit_tests H name lists =
 pub submit-reply : (H : History) (name : Text) (lists : List TopicList) (answer : Reply) → submit_ruling H name lists ≡ Ok answer → answer ≡ reply.Submitted name (length lists) (line_count lists)
 submit-reply H name lists answer is =
     same-reply answer (reply.Submitted name (length lists) (line_count lists))
-    (unless-ok (wrong_phase_unless Collecting H ∷ submit_tests H name lists) (Ok (reply.Submitted name (length lists) (line_count lists))) answer is)
-
-pub submit-collecting : (H : History) (name : Text) (lists : List TopicList) (answer : Reply) → submit_ruling H name lists ≡ Ok answer → phase H ≡ Collecting
-submit-collecting H name lists answer is =
-    let a = first-test (refusal.WrongPhase (phase H)) (not (is_phase Collecting (phase H))) (submit_tests H name lists) (Ok (reply.Submitted name (length lists) (line_count lists))) answer is in
-    collecting-from (phase H) (double-not (is_phase Collecting (phase H)) a.0)
+    (unless-ok (wrong_phase_where Published H ∷ submit_tests H name lists) (Ok (reply.Submitted name (length lists) (line_count lists))) answer is)
 
 pub open-reply : (H : History) (answer : Reply) → open_ruling H ≡ Ok answer → answer ≡ reply.Done
 open-reply H answer is = same-reply answer reply.Done (unless-ok (wrong_phase_unless Collecting H ∷ []) (Ok reply.Done) answer is)

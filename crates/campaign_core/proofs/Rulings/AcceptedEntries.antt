@@ -10,7 +10,7 @@ use Rattle.rulebook.specs.declared.ask.Ask.TheVariants.{Act}
 use Rattle.rulebook.specs.declared.ask.Command.{Command}
 use Rattle.rulebook.specs.declared.ask.Command.TheVariants as command
 use Rattle.rulebook.specs.declared.rules.Caller.{Caller}
-use Rattle.rulebook.specs.declared.rules.Phase.TheVariants.{Collecting}
+use Rattle.rulebook.specs.declared.rules.Phase.TheVariants.{Collecting, Published}
 use Rattle.rulebook.specs.declared.reply.Reply.{Reply}
 use Rattle.rulebook.specs.declared.reply.Reply.TheVariants as reply
 use Rattle.rulebook.specs.declared.reply.Refusal.TheVariants as refusal
@@ -102,7 +102,7 @@ topics-told H given answer is =
 pub submit-told : (H : History) (name : Text) (lists : List TopicList) (answer : Reply) → submit_ruling H name lists ≡ Ok answer → (is_taken H name ≡ false) × (unknown_line H lists ≡ None) × (length (runs H) < MAX_RUNS)
 submit-told H name lists answer is =
     let w = six_tests (refusal.WrongPhase (phase H)) refusal.TagTaken (refusal.Limit quantity.Runs) (refusal.Limit quantity.Lines) (refusal.Limit quantity.Docnos)
-    (not_collecting H) (is_taken H name) (option_map refusal.LineTopic (unknown_line H lists)) (nat_le MAX_RUNS (length (runs H))) (nat_lt MAX_LINES (lines_with H lists)) (nat_lt MAX_DOCNOS (length (docnos_with H lists)))
+    (is_phase Published (phase H)) (is_taken H name) (option_map refusal.LineTopic (unknown_line H lists)) (nat_le MAX_RUNS (length (runs H))) (nat_lt MAX_LINES (lines_with H lists)) (nat_lt MAX_DOCNOS (length (docnos_with H lists)))
     (Ok (reply.Submitted name (length lists) (line_count lists))) answer is in
     (w.0, none_mapped refusal.LineTopic (unknown_line H lists) w.1, leb-false _ _ w.2)
 

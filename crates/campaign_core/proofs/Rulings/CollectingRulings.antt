@@ -35,36 +35,36 @@ collecting-from Published is = cc is
 pub topics-accepted : (H : History) (given : List Topic) → phase H ≡ Collecting → has_topics H ≡ false → length given ≤ MAX_TOPICS → topics_ruling H given ≡ Ok (reply.Topics (length given))
 topics-accepted H given collecting none few = rw (collecting, none, le-ltb MAX_TOPICS (length given) few) refl
 
-pub submit-taken : (H : History) (run : Text) (lists : List TopicList) → phase H ≡ Collecting → is_taken H run ≡ true → submit_ruling H run lists ≡ Err refusal.TagTaken
-submit-taken H run lists collecting taken = rw (collecting, taken) refl
+pub submit-taken : (H : History) (run : Text) (lists : List TopicList) → is_phase Published (phase H) ≡ false → is_taken H run ≡ true → submit_ruling H run lists ≡ Err refusal.TagTaken
+submit-taken H run lists unpublished taken = rw (unpublished, taken) refl
 
-pub submit-unlisted : (H : History) (run : Text) (lists : List TopicList) (line : ℕ) → phase H ≡ Collecting → is_taken H run ≡ false → unknown_line H lists ≡ Some line
+pub submit-unlisted : (H : History) (run : Text) (lists : List TopicList) (line : ℕ) → is_phase Published (phase H) ≡ false → is_taken H run ≡ false → unknown_line H lists ≡ Some line
     → submit_ruling H run lists ≡ Err (refusal.LineTopic line)
-submit-unlisted H run lists line collecting free unlisted = rw (collecting, free, unlisted) refl
+submit-unlisted H run lists line unpublished free unlisted = rw (unpublished, free, unlisted) refl
 
-pub submit-too-many-runs : (H : History) (run : Text) (lists : List TopicList) → phase H ≡ Collecting → is_taken H run ≡ false → unknown_line H lists ≡ None → MAX_RUNS ≤ length (runs H)
+pub submit-too-many-runs : (H : History) (run : Text) (lists : List TopicList) → is_phase Published (phase H) ≡ false → is_taken H run ≡ false → unknown_line H lists ≡ None → MAX_RUNS ≤ length (runs H)
     → submit_ruling H run lists ≡ Err (refusal.Limit quantity.Runs)
-submit-too-many-runs H run lists collecting free listed full = rw (collecting, free, listed, le-leb MAX_RUNS (length (runs H)) full) refl
+submit-too-many-runs H run lists unpublished free listed full = rw (unpublished, free, listed, le-leb MAX_RUNS (length (runs H)) full) refl
 
 -- a run that passes the tests before those of its lines and its docnos
 pub record Passes (H : History) (run : Text) (lists : List TopicList) : Type 0 where
-  pub collecting : phase H ≡ Collecting
+  pub unpublished : is_phase Published (phase H) ≡ false
   pub free : is_taken H run ≡ false
   pub listed : unknown_line H lists ≡ None
   pub runs_fit : length (runs H) < MAX_RUNS
 
 module _ (H : History) (run : Text) (lists : List TopicList) (passes : Passes H run lists) where
   pub submit-too-many-lines : nat_lt MAX_LINES (submitted_lines H + line_count lists) ≡ true → submit_ruling H run lists ≡ Err (refusal.Limit quantity.Lines)
-  submit-too-many-lines full = rw (passes.collecting, passes.free, passes.listed, lt-leb MAX_RUNS (length (runs H)) passes.runs_fit, full) refl
+  submit-too-many-lines full = rw (passes.unpublished, passes.free, passes.listed, lt-leb MAX_RUNS (length (runs H)) passes.runs_fit, full) refl
 
   module _ (lines_fit : nat_lt MAX_LINES (submitted_lines H + line_count lists) ≡ false) where
     pub submit-too-many-docnos : MAX_DOCNOS < length (each_once (submitted_docnos H ++ docnos lists)) → submit_ruling H run lists ≡ Err (refusal.Limit quantity.Docnos)
     submit-too-many-docnos full =
-        rw (passes.collecting, passes.free, passes.listed, lt-leb MAX_RUNS (length (runs H)) passes.runs_fit, lines_fit, lt-ltb MAX_DOCNOS (length (each_once (submitted_docnos H ++ docnos lists))) full) refl
+        rw (passes.unpublished, passes.free, passes.listed, lt-leb MAX_RUNS (length (runs H)) passes.runs_fit, lines_fit, lt-ltb MAX_DOCNOS (length (each_once (submitted_docnos H ++ docnos lists))) full) refl
 
     pub submit-accepted : length (each_once (submitted_docnos H ++ docnos lists)) ≤ MAX_DOCNOS → submit_ruling H run lists ≡ Ok (reply.Submitted run (length lists) (line_count lists))
     submit-accepted docnos_fit =
-        rw (passes.collecting, passes.free, passes.listed, lt-leb MAX_RUNS (length (runs H)) passes.runs_fit, lines_fit, le-ltb MAX_DOCNOS (length (each_once (submitted_docnos H ++ docnos lists))) docnos_fit) refl
+        rw (passes.unpublished, passes.free, passes.listed, lt-leb MAX_RUNS (length (runs H)) passes.runs_fit, lines_fit, le-ltb MAX_DOCNOS (length (each_once (submitted_docnos H ++ docnos lists))) docnos_fit) refl
 
 -- A run's lists and lines are no more than the bytes of their spelling.
 docs-bytes : (docs : List Text) → length docs ≤ length (flat_map short docs)

@@ -26,7 +26,7 @@ use Rattle.rulebook.specs.Answers.{grade_ruling, lease_refusals, lease_ruling, r
 use Rattle.rulebook.specs.Campaign.{History, is_topic, need, phase, rules_of, title, topics}
 use Rattle.rulebook.specs.JudgingOrder.{named}
 use Rattle.rulebook.specs.Leases.{Lease, lease_in, lease_numbered, leases, live_leases_of}
-use Rattle.rulebook.specs.Refusals.{Ruling, ◌when◌, given, is_phase, unless, wrong_phase_unless}
+use Rattle.rulebook.specs.Refusals.{Ruling, ◌when◌, given, is_phase, unless, wrong_phase_unless, wrong_phase_where}
 use Rattle.rulebook.specs.Words.{Text, contains_text}
 use Rattle.campaign_core.specs.Kept.{KnowsAll}
 use Rattle.campaign_core.specs.Labelling.{IsLabelled}
@@ -52,6 +52,12 @@ pub out-of-phase : (H : History) (wanted p : Phase) (tests : List (Option Refusa
     → unless (wrong_phase_unless wanted H ∷ tests) ruling ≡ Err (refusal.WrongPhase p)
 out-of-phase H wanted p tests ruling phase_is other =
     ap (λ t. unless ((refusal.WrongPhase (phase H) when not t) ∷ tests) ruling) (ap (is_phase wanted) (sym phase_is) ∙ sym other)
+    ∙ ap (λ (q : Phase). let told : Ruling = Err (refusal.WrongPhase q) in told) (sym phase_is)
+
+pub barred-phase : (H : History) (wanted p : Phase) (tests : List (Option Refusal)) (ruling : Ruling) → p ≡ phase H → true ≡ is_phase wanted p
+    → unless (wrong_phase_where wanted H ∷ tests) ruling ≡ Err (refusal.WrongPhase p)
+barred-phase H wanted p tests ruling phase_is there =
+    ap (λ t. unless ((refusal.WrongPhase (phase H) when t) ∷ tests) ruling) (ap (is_phase wanted) (sym phase_is) ∙ sym there)
     ∙ ap (λ (q : Phase). let told : Ruling = Err (refusal.WrongPhase q) in told) (sym phase_is)
 
 refused : (tests more : List (Option Refusal)) (r : Refusal) (ruling : Ruling) → first_refusal tests ≡ Some r → unless (tests ++ more) ruling ≡ Err r

@@ -30,7 +30,7 @@ pub(crate) fn submit_decision(
     ensures limits { IfOk result (KeepsLimits campaign.now.history.items docnos.new core.now.command) }
     ensures grown { BeginsWith docnos.old docnos.new }
 {
-    if !is_in(campaign, Phase::Collecting) {
+    if is_in(campaign, Phase::Published) {
         return Ok(wrong_phase(campaign));
     }
     if run_number(&campaign.history, &campaign.submissions, run.bytes()).is_some() {

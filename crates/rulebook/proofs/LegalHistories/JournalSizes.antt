@@ -13,7 +13,7 @@ use Rattle.trec_formats.specs.declared.Topic.{Topic}
 use Rattle.trec_formats.specs.declared.TopicList.{TopicList}
 use Rattle.rulebook.specs.Limits.{max_docnos, max_entries, max_entry_bytes, max_lines, max_runs, max_topics}
 use Rattle.rulebook.specs.declared.rules.Caller.{Caller}
-use Rattle.rulebook.specs.declared.rules.Phase.TheVariants.{Collecting}
+use Rattle.rulebook.specs.declared.rules.Phase.TheVariants.{Collecting, Published}
 use Rattle.rulebook.specs.declared.rules.Rules.{Rules}
 use Rattle.rulebook.specs.declared.ask.Command.{Command}
 use Rattle.rulebook.specs.declared.ask.Command.TheVariants as command
@@ -27,7 +27,7 @@ use Rattle.rulebook.specs.Answers.{moment_after, submit_ruling, topics_ruling, r
 use Rattle.rulebook.specs.Facts.{given_topics}
 use Rattle.rulebook.specs.Campaign.{History, docnos_with, has_topics, is_taken, line_count, lines_with, run_in, runs, topics_in}
 use Rattle.rulebook.specs.Legal.{IsAccepted, IsLegal, founding}
-use Rattle.rulebook.specs.Refusals.{Ruling, ◌when◌, unless, wrong_phase_unless}
+use Rattle.rulebook.specs.Refusals.{Ruling, ◌when◌, unless, wrong_phase_unless, wrong_phase_where}
 use Rattle.rulebook.specs.Spelling.{are_rules, command_bytes, entry_bytes, is_ascending, is_number, is_plain, number_bytes, rules_bytes, short}
 use Rattle.rulebook.specs.Words.{Text}
 use Rattle.rulebook.proofs.LegalHistories.Added.{accepted_room, entry_size, given_of}
@@ -66,7 +66,7 @@ runs_room : (H : History) (run : Text) (lists : List TopicList) (told : Reply) �
 runs_room H run lists told is =
     (passed (refusal.Limit quantity.Runs) (nat_le max_runs (length (runs H))) last ruling told
     (passed_other line (limit ∷ last) ruling told
-    (passed_other taken (line ∷ limit ∷ last) ruling told (passed_other (wrong_phase_unless Collecting H) (taken ∷ line ∷ limit ∷ last) ruling told is)))).0
+    (passed_other taken (line ∷ limit ∷ last) ruling told (passed_other (wrong_phase_where Published H) (taken ∷ line ∷ limit ∷ last) ruling told is)))).0
   where
     ruling : Ruling
     ruling = Ok (reply.Submitted run (length lists) (line_count lists))

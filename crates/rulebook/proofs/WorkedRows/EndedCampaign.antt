@@ -12,7 +12,7 @@ use Rattle.rulebook.specs.Words.{Text}
 use Rattle.rulebook.specs.Answers.{Answer, answer}
 use Rattle.rulebook.specs.Campaign.{History, live, phase, pool}
 use Rattle.rulebook.specs.Grades.{relevant_count, non_relevant_count}
-use Rattle.rulebook.proofs.WorkedRows.SmallCampaign.{X, group, organiser, with_topic}
+use Rattle.rulebook.proofs.WorkedRows.SmallCampaign.{X, group, organiser, submitted, with_topic}
 use Rattle.rulebook.proofs.WorkedRows.JudgedCampaign.{after, all_graded, c_leased, lease, leased, p, q, refused, replied, told_at}
 
 -- Numbered requests: the sixth entry is a grade under the number 7.
@@ -137,3 +137,6 @@ no-lease-then = refl
 
 no-withdrawal-then : replied published group (withdraw (codes "Y")) 1000 ≡ refused (refusal.WrongPhase Published)
 no-withdrawal-then = refl
+
+no-run-then : replied published group (submitted (codes "Z") (codes "a" ∷ [])) 1000 ≡ refused (refusal.WrongPhase Published)
+no-run-then = refl

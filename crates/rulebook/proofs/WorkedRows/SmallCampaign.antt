@@ -119,7 +119,7 @@ as-many-topics-as-there-may-be = refl
 older-moment : (answer (campaign 3) group None (Act (submitted (codes "Z") (codes "a" ∷ []))) 900).added ≡ (answer (campaign 3) group None (Act (submitted (codes "Z") (codes "a" ∷ []))) 1000).added
 older-moment = refl
 
--- Once it is opened, a campaign takes no topics and no runs, and isn't opened again.
+-- Once it is opened, a campaign takes no topics, and isn't opened again. It still takes runs.
 abbrev pub opened : History
 opened = after (campaign 3) organiser command.Open
 
@@ -132,11 +132,14 @@ judging-from-then-on = refl
 collecting-before : phase (campaign 3) ≡ Collecting
 collecting-before = refl
 
-no-run-after-opening : replied opened group (Act (submitted (codes "Z") (codes "a" ∷ []))) ≡ reply.Refused (refusal.WrongPhase Judging)
-no-run-after-opening = refl
+run-after-opening : replied opened group (Act (submitted (codes "Z") (codes "a" ∷ []))) ≡ reply.Submitted (codes "Z") 1 1
+run-after-opening = refl
 
-phase-before-name : replied opened group (Act X) ≡ reply.Refused (refusal.WrongPhase Judging)
-phase-before-name = refl
+pool-with-late-run : pool (after opened group (submitted (codes "Z") (codes "g" ∷ []))) (codes "1") ≡ codes "a" ∷ codes "b" ∷ codes "c" ∷ codes "d" ∷ codes "e" ∷ codes "f" ∷ codes "g" ∷ []
+pool-with-late-run = refl
+
+name-still-taken : replied opened group (Act X) ≡ reply.Refused refusal.TagTaken
+name-still-taken = refl
 
 no-topics-after-opening : replied opened organiser (Act (command.Topics (pooling ∷ []))) ≡ reply.Refused (refusal.WrongPhase Judging)
 no-topics-after-opening = refl

@@ -10,7 +10,7 @@ use Rattle.rulebook.specs.declared.ask.Command.TheVariants as command
 use Rattle.rulebook.specs.declared.limits.TheConstants.{MAX_DOCNOS, MAX_ENTRY_BYTES, MAX_LINES}
 use Rattle.rulebook.specs.declared.reply.Reply.{Reply}
 use Rattle.rulebook.specs.declared.reply.Reply.TheVariants as reply
-use Rattle.rulebook.specs.declared.rules.Phase.TheVariants.{Collecting}
+use Rattle.rulebook.specs.declared.rules.Phase.TheVariants.{Published}
 use Rattle.rulebook.specs.Answers.{ruled}
 use Rattle.trec_formats.specs.declared.TopicList.{TopicList}
 use Rattle.rulebook.specs.Campaign.{History, Run, docnos, docnos_with, docs_on, is_taken, line_count, lines_with, phase, runs, submitted_docnos, submitted_lines}
@@ -21,8 +21,8 @@ use Rattle.campaign_core.specs.Decisions.{IsDecision}
 use Rattle.campaign_core.specs.Growth.{lists_in}
 use Rattle.campaign_core.specs.Numbers.{AreRankable, are_named, docs_in}
 use Rattle.campaign_core.specs.Submissions.{AreSubmissions}
-use Rattle.campaign_core.proofs.Rulings.CollectingRulings.{Passes, collecting-from, each_once-submitted, submit-accepted, submit-fits, submit-taken, submit-too-many-docnos, submit-too-many-lines, submit-too-many-runs, submit-unlisted}
-use Rattle.campaign_core.proofs.Rulings.LeaseRulings.{out-of-phase}
+use Rattle.campaign_core.proofs.Rulings.CollectingRulings.{Passes, each_once-submitted, submit-accepted, submit-fits, submit-taken, submit-too-many-docnos, submit-too-many-lines, submit-too-many-runs, submit-unlisted}
+use Rattle.campaign_core.proofs.Rulings.LeaseRulings.{barred-phase}
 use Rattle.campaign_core.proofs.Lists.Elements.{all_back}
 use Rattle.campaign_core.proofs.Lists.FirstPlaces.{is-there}
 use Rattle.campaign_core.proofs.Numbers.DocNumbers.{each_named}
@@ -32,8 +32,9 @@ use Rattle.campaign_core.proofs.Rulings.AcceptedEntries.{command-short, docs-pla
 use Rattle.campaign_core.proofs.decisions.submit.submit_decision.Goals.{After-add_docnos, After-deref-3, After-from, After-is_some, After-len}
 use Rattle.campaign_core.proofs.decisions.submit.submit_decision.Goals as goal
 
-collecting : (c : After-is_some) → phase c.args.campaign.now.history.items ≡ Collecting
-collecting c = sym c.requires.asked.asked.known.phase_is ∙ collecting-from c.args.campaign.now.phase (sym c.if-not-is_in.ensures)
+-- the campaign isn't published
+unpublished : (c : After-is_some) → is_phase Published (phase c.args.campaign.now.history.items) ≡ false
+unpublished c = ap (is_phase Published) (sym c.requires.asked.asked.known.phase_is) ∙ sym c.if-is_in.ensures
 
 -- whether the name is taken, by what was looked up
 taken-is : (c : After-is_some) → c.is_some.result ≡ is_taken c.args.campaign.now.history.items c.args.run.now
@@ -50,10 +51,10 @@ runs-counted c =
     let counted : length c.args.campaign.now.submissions.items ≡ vec_len c.args.campaign.now.submissions = search rules in
     omega (arith, runs-many c.args.campaign.now.history.items c.args.campaign.now.submissions.items c.requires.asked.asked.known.submissions_are, counted, c.len.ensures)
 
-passes : (c : After-from) → phase c.args.campaign.now.history.items ≡ Collecting → c.is_some.result ≡ is_taken c.args.campaign.now.history.items c.args.run.now
+passes : (c : After-from) → is_phase Published (phase c.args.campaign.now.history.items) ≡ false → c.is_some.result ≡ is_taken c.args.campaign.now.history.items c.args.run.now
     → c.len.result ≡ length (runs c.args.campaign.now.history.items) → Passes c.args.campaign.now.history.items c.args.run.now c.args.lists.now
-passes c collecting taken counted = record {
-  collecting = collecting;
+passes c not_published taken counted = record {
+  unpublished = not_published;
   free = sym taken ∙ c.if-is_some.false;
   listed = sym c.unknown_line.ensures ∙ c.in_default.is;
   runs_fit = omega (arith, counted, c.if-len.false);
@@ -69,13 +70,12 @@ run-fits c =
     let core = c.args.core.now in
     submit-fits core.command c.args.run.now c.args.lists.now c.args.lists.now c.requires.asked.command_is (command-short core.caller core.number core.command core.moment c.requires.asked.asked.addressed) refl
 
-pub returns-then-not-is_in-clause-decision : goal.returns-then-not-is_in-clause-decision
-returns-then-not-is_in-clause-decision c =
+pub returns-then-is_in-clause-decision : goal.returns-then-is_in-clause-decision
+returns-then-is_in-clause-decision c =
     let campaign = c.args.campaign.now in
     let core = c.args.core.now in
-    let other : false ≡ is_phase Collecting campaign.phase = sym c.if-not-is_in.true ∙ c.is_in.ensures in
     subst (IsDecision campaign c.args.docnos.now core) (sym c.wrong_phase.ensures)
-    (ap (ruled campaign.history.items core.caller core.moment) c.requires.asked.command_is ∙ out-of-phase campaign.history.items Collecting campaign.phase _ _ c.requires.asked.asked.known.phase_is other)
+    (ap (ruled campaign.history.items core.caller core.moment) c.requires.asked.command_is ∙ barred-phase campaign.history.items Published campaign.phase _ _ c.requires.asked.asked.known.phase_is c.if-is_in.ensures)
 
 pub run_number-requires : goal.run_number-requires
 run_number-requires c =
@@ -87,14 +87,14 @@ returns-then-is_some-clause-decision c =
     let core = c.args.core.now in
     let at = (goal.at.returns-then-is_some-clause-decision c).After-is_some in
     ap (ruled c.args.campaign.now.history.items core.caller core.moment) c.requires.asked.command_is
-    ∙ submit-taken c.args.campaign.now.history.items c.args.run.now c.args.lists.now (collecting at) (sym (taken-is at) ∙ c.if-is_some.true)
+    ∙ submit-taken c.args.campaign.now.history.items c.args.run.now c.args.lists.now (unpublished at) (sym (taken-is at) ∙ c.if-is_some.true)
 
 pub returns-in-Some-clause-decision : goal.returns-in-Some-clause-decision
 returns-in-Some-clause-decision c =
     let core = c.args.core.now in
     let at = (goal.at.returns-in-Some-clause-decision c).After-is_some in
     ap (ruled c.args.campaign.now.history.items core.caller core.moment) c.requires.asked.command_is
-    ∙ submit-unlisted c.args.campaign.now.history.items c.args.run.now c.args.lists.now c.in-Some.line (collecting at) (sym (taken-is at) ∙ c.if-is_some.false) (sym c.unknown_line.ensures ∙ c.in-Some.is)
+    ∙ submit-unlisted c.args.campaign.now.history.items c.args.run.now c.args.lists.now c.in-Some.line (unpublished at) (sym (taken-is at) ∙ c.if-is_some.false) (sym c.unknown_line.ensures ∙ c.in-Some.is)
 
 pub returns-then-len-clause-decision : goal.returns-then-len-clause-decision
 returns-then-len-clause-decision c =
@@ -103,7 +103,7 @@ returns-then-len-clause-decision c =
     let at = goal.at.returns-then-len-clause-decision c in
     subst (IsDecision campaign c.args.docnos.now core) (sym c.limit.ensures)
     (ap (ruled campaign.history.items core.caller core.moment) c.requires.asked.command_is
-    ∙ submit-too-many-runs campaign.history.items c.args.run.now c.args.lists.now (collecting at.After-is_some) (sym (taken-is at.After-is_some) ∙ c.if-is_some.false) (sym c.unknown_line.ensures ∙ c.in_default.is)
+    ∙ submit-too-many-runs campaign.history.items c.args.run.now c.args.lists.now (unpublished at.After-is_some) (sym (taken-is at.After-is_some) ∙ c.if-is_some.false) (sym c.unknown_line.ensures ∙ c.in_default.is)
     (omega (arith, runs-counted at.After-len, c.if-len.true)))
 
 pub line_count-lines-requires : goal.line_count-lines-requires
@@ -122,7 +122,7 @@ returns-then-campaign-lines-clause-decision c =
     let many : MAX_LINES < submitted_lines campaign.history.items + line_count c.args.lists.now = omega (arith, lines-are at.After-from, c.from.ensures, c.if-campaign-lines.true) in
     subst (IsDecision campaign c.args.docnos.now core) (sym c.limit-then-campaign-lines.ensures)
     (ap (ruled campaign.history.items core.caller core.moment) c.requires.asked.command_is
-    ∙ submit-too-many-lines campaign.history.items c.args.run.now c.args.lists.now (passes at.After-from (collecting at.After-is_some) (taken-is at.After-is_some) (runs-counted at.After-len)) (lt-ltb MAX_LINES (submitted_lines campaign.history.items + line_count c.args.lists.now) many))
+    ∙ submit-too-many-lines campaign.history.items c.args.run.now c.args.lists.now (passes at.After-from (unpublished at.After-is_some) (taken-is at.After-is_some) (runs-counted at.After-len)) (lt-ltb MAX_LINES (submitted_lines campaign.history.items + line_count c.args.lists.now) many))
 
 -- the lines are few
 lines-few : (c : After-add_docnos) → nat_lt MAX_LINES (submitted_lines c.args.campaign.now.history.items + line_count c.args.lists.now) ≡ false
@@ -152,7 +152,7 @@ returns-then-len-gt-MAX_DOCNOS-clause-decision c =
     let many : MAX_DOCNOS < length c.add_docnos.new.docnos = omega (arith, c.len-2.ensures.len, c.if-len-gt-MAX_DOCNOS.true) in
     subst (IsDecision campaign c.add_docnos.new.docnos core) (sym c.limit-then-len-gt-MAX_DOCNOS.ensures)
     (ap (ruled campaign.history.items core.caller core.moment) c.requires.asked.command_is
-    ∙ submit-too-many-docnos campaign.history.items c.args.run.now lists (passes at.After-from (collecting at.After-is_some) (taken-is at.After-is_some) (runs-counted at.After-len)) (lines-few at.After-add_docnos) (subst (λ (names : List Text). MAX_DOCNOS < length names) docnos_are many))
+    ∙ submit-too-many-docnos campaign.history.items c.args.run.now lists (passes at.After-from (unpublished at.After-is_some) (taken-is at.After-is_some) (runs-counted at.After-len)) (lines-few at.After-add_docnos) (subst (λ (names : List Text). MAX_DOCNOS < length names) docnos_are many))
 
 pub overflow_cast-reply-2 : goal.overflow_cast-reply-2
 overflow_cast-reply-2 c = omega (arith, ints, c.line_count-lines.ensures, run-fits (goal.at.overflow_cast-reply-2 c).After-is_some)
@@ -208,7 +208,7 @@ returns-clause-decision c =
     let docnos_are : c.add_docnos.new.docnos ≡ each_once (submitted_docnos H ++ docnos lists) =
     c.in_ok-numbers.ensures.added.names_are ∙ ap (λ texts. fold with_name texts (docnos lists)) c.requires.names ∙ sym (each_once-submitted H lists) in
     let few : length c.add_docnos.new.docnos ≤ MAX_DOCNOS = omega (arith, c.len-2.ensures.len, c.if-len-gt-MAX_DOCNOS.false) in
-    let accepted = submit-accepted H run lists (passes at.After-from (collecting at.After-is_some) (taken-is at.After-is_some) (runs-counted at.After-len)) (lines-few at.After-add_docnos) (subst (λ (names : List Text). length names ≤ MAX_DOCNOS) docnos_are few) in
+    let accepted = submit-accepted H run lists (passes at.After-from (unpublished at.After-is_some) (taken-is at.After-is_some) (runs-counted at.After-len)) (lines-few at.After-add_docnos) (subst (λ (names : List Text). length names ≤ MAX_DOCNOS) docnos_are few) in
     let reply_is : reply.Submitted c.in_ok-name.name (length lists) c.line_count-lines.result ≡ reply.Submitted run (length lists) (line_count lists) =
     ap (λ (name : Text). let r : Reply = reply.Submitted name (length lists) c.line_count-lines.result in r) c.in_ok-name.ensures.copy
     ∙ ap (λ lines. let r : Reply = reply.Submitted run (length lists) lines in r) c.line_count-lines.ensures in
