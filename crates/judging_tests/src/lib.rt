@@ -1,5 +1,5 @@
-//! Tests of pools, labels, measures and their lines; and of the board of scores, the desk of leases and the judging
-//! order, each also along random courses against what is worked out from nothing.
+//! Tests of pools, labels, effective grades, measures and their lines; and of the board of scores, the desk of leases
+//! and the judging order, each also along random courses against what is worked out from nothing.
 #![tactic(auto)]
 
 #[cfg(test)]
@@ -10,6 +10,8 @@ mod boards;
 mod desks;
 #[cfg(test)]
 mod document_labels;
+#[cfg(test)]
+mod graded_views;
 #[cfg(test)]
 mod letters;
 #[cfg(test)]

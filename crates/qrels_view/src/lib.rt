@@ -11,6 +11,3 @@ mod view;
 pub use docno_orders::DocnoOrder;
 pub use grades::Graded;
 pub use view::View;
-
-#[cfg(test)]
-mod tests;

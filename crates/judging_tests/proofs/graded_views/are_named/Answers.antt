@@ -2,7 +2,7 @@ use Rattle.std.proofs.Common.{◌≡◌, ◌∙◌, ◌<◌, length, get_or, ap,
 use Rattle.std.proofs.lemmas.List.{get_or-map}
 use Rattle.decimal_rank.specs.declared.naming.DocId.{DocId}
 use Rattle.qrels_view.specs.declared.grades.Graded.{Graded}
-use Rattle.qrels_view.proofs.tests.are_named.Goals as goal
+use Rattle.judging_tests.proofs.graded_views.are_named.Goals as goal
 
 pub returns : goal.returns
 returns c = λ k d h.

@@ -2,9 +2,10 @@
 ghost use Rattle.std.specs.Prelude.{◌≡◌, ◌<◌, All, length};
 ghost use Rattle.std.specs.Bool.{OnTrue};
 
-use crate::{DocnoOrder, View};
 use decimal_rank::{DocId, Names, Text};
+use qrels_view::{DocnoOrder, View};
 use std::alloc::Global;
+use std::process::Abort;
 use std::test::Fail;
 
 // Gives a document a grade, or takes it away. False where the trail has no room for one more.
@@ -46,9 +47,12 @@ fn steps() -> [Step; 9] {
 
 #[test]
 fn grades_come_and_change_and_go(rt: HostRuntime) -> Result<(), Fail> {
-    let mut view = View::new(rt.alloc(), 1);
+    expect_counts(&rt, &mut View::new(rt.alloc(), 1))
+}
+
+fn expect_counts(rt: &impl Abort, view: &mut View) -> Result<(), Fail> {
     for (doc, new, relevant, non_relevant, trail) in steps() {
-        assert!(rt; grade(&mut view, doc, new)?);
+        assert!(rt; grade(view, doc, new)?);
         assert_eq!(rt; view.effective(DocId(doc)), new);
         assert_eq!(rt; view.relevant(), relevant);
         assert_eq!(rt; view.non_relevant(), non_relevant);
@@ -59,7 +63,10 @@ fn grades_come_and_change_and_go(rt: HostRuntime) -> Result<(), Fail> {
 
 #[test]
 fn the_place_of_a_document_stays(rt: HostRuntime) -> Result<(), Fail> {
-    let mut view = View::new(rt.alloc(), 1);
+    expect_places(&rt, &mut View::new(rt.alloc(), 1))
+}
+
+fn expect_places(rt: &impl Abort, view: &mut View) -> Result<(), Fail> {
     let steps = [
         (B, Some(1), [None, Some(1), None]),
         (E, Some(0), [None, Some(1), Some(2)]),
@@ -68,7 +75,7 @@ fn the_place_of_a_document_stays(rt: HostRuntime) -> Result<(), Fail> {
         (E, Some(3), [Some(3), Some(1), Some(2)]),
     ];
     for (doc, new, [a, b, e]) in steps {
-        assert!(rt; grade(&mut view, doc, new)?);
+        assert!(rt; grade(view, doc, new)?);
         assert_eq!(rt; view.place(DocId(A)), a);
         assert_eq!(rt; view.place(DocId(B)), b);
         assert_eq!(rt; view.place(DocId(E)), e);
@@ -78,11 +85,14 @@ fn the_place_of_a_document_stays(rt: HostRuntime) -> Result<(), Fail> {
 
 #[test]
 fn a_level_of_two(rt: HostRuntime) -> Result<(), Fail> {
-    let mut view = View::new(rt.alloc(), 2);
+    expect_level(&rt, &mut View::new(rt.alloc(), 2))
+}
+
+fn expect_level(rt: &impl Abort, view: &mut View) -> Result<(), Fail> {
     assert_eq!(rt; view.level(), 2);
-    assert!(rt; grade(&mut view, A, Some(1))?);
-    assert!(rt; grade(&mut view, B, Some(2))?);
-    assert!(rt; grade(&mut view, E, Some(3))?);
+    for (doc, new) in [(A, Some(1)), (B, Some(2)), (E, Some(3))] {
+        assert!(rt; grade(view, doc, new)?);
+    }
     assert_eq!(rt; view.relevant(), 2);
     assert_eq!(rt; view.non_relevant(), 1);
     Ok(())
@@ -111,6 +121,15 @@ fn text_after(alloc: Global, line: &[u8], view: &View, names: &Names) -> Result<
     Ok(out)
 }
 
+// Four docnos, of the documents 0 to 3.
+fn docnos(alloc: Global) -> Result<Names, Fail> {
+    let mut names = Names::new(alloc);
+    for name in [b"d9", b"d3", b"E9", b"d1"] {
+        add(alloc, &mut names, name)?;
+    }
+    Ok(names)
+}
+
 fn add(alloc: Global, names: &mut Names, name: &[u8]) -> Result<(), Fail> {
     if names.len() < 1000 {
         names.add(Text::from_slice(alloc, name)?)?;
@@ -118,24 +137,64 @@ fn add(alloc: Global, names: &mut Names, name: &[u8]) -> Result<(), Fail> {
     Ok(())
 }
 
+// A document and its new grade.
+type Grade = (u32, Option<u8>);
+
+const GRADES: [Grade; 5] = [
+    (1, Some(10)),
+    (0, Some(0)),
+    (3, Some(1)),
+    (2, Some(255)),
+    (3, None),
+];
+
 #[test]
 fn lines_stand_by_docno(rt: HostRuntime) -> Result<(), Fail> {
     let alloc = rt.alloc();
-    let mut names = Names::new(alloc);
-    for name in [b"d9", b"d3", b"E9", b"d1"] {
-        add(alloc, &mut names, name)?;
+    let names = docnos(alloc)?;
+    expect_lines(&rt, alloc, &names, &mut View::new(alloc, 1))
+}
+
+fn expect_lines(
+    rt: &impl Abort,
+    alloc: Global,
+    names: &Names,
+    view: &mut View,
+) -> Result<(), Fail> {
+    for (doc, new) in GRADES {
+        assert!(rt; grade(view, doc, new)?);
     }
-    let mut view = View::new(alloc, 1);
-    assert!(rt; grade(&mut view, 1, Some(10))?);
-    assert!(rt; grade(&mut view, 0, Some(0))?);
-    assert!(rt; grade(&mut view, 3, Some(1))?);
-    assert!(rt; grade(&mut view, 2, Some(255))?);
-    assert!(rt; grade(&mut view, 3, None)?);
-    let text = text_after(alloc, b"6 0 d 1\n", &view, &names)?;
+    let text = text_after(alloc, b"6 0 d 1\n", view, names)?;
     assert_eq!(rt;
         text.as_slice(),
         b"6 0 d 1\n7 0 E9 255\n7 0 d3 10\n7 0 d9 0\n".as_slice()
     );
+    Ok(())
+}
+
+#[test]
+fn a_kept_order_gives_the_same_lines(rt: HostRuntime) -> Result<(), Fail> {
+    let alloc = rt.alloc();
+    let names = docnos(alloc)?;
+    let mut order = DocnoOrder::new(alloc);
+    expect_same_lines(&rt, alloc, &names, &GRADES, &mut order)?;
+    // what is kept is the order of a longer view
+    expect_same_lines(&rt, alloc, &names, &GRADES[2..3], &mut order)
+}
+
+// After each of these grades a reading with the kept order gives the lines of one without.
+fn expect_same_lines(
+    rt: &impl Abort,
+    alloc: Global,
+    names: &Names,
+    grades: &[Grade],
+    order: &mut DocnoOrder,
+) -> Result<(), Fail> {
+    let mut view = View::new(alloc, 1);
+    for (doc, new) in grades {
+        assert!(rt; grade(&mut view, *doc, *new)?);
+        assert!(rt; is_same_text(alloc, &view, names, order)?);
+    }
     Ok(())
 }
 
@@ -151,32 +210,6 @@ fn is_same_text(
         view.write_by(b"7", names, order, &mut out)?;
     }
     Ok(out == text_after(alloc, b"", view, names)?)
-}
-
-#[test]
-fn a_kept_order_gives_the_same_lines(rt: HostRuntime) -> Result<(), Fail> {
-    let alloc = rt.alloc();
-    let mut names = Names::new(alloc);
-    for name in [b"d9", b"d3", b"E9", b"d1"] {
-        add(alloc, &mut names, name)?;
-    }
-    let mut view = View::new(alloc, 1);
-    let mut order = DocnoOrder::new(alloc);
-    for (doc, new) in [
-        (1, Some(10)),
-        (0, Some(0)),
-        (3, Some(1)),
-        (1, None),
-        (2, Some(255)),
-    ] {
-        assert!(rt; grade(&mut view, doc, new)?);
-        assert!(rt; is_same_text(alloc, &view, &names, &mut order)?);
-    }
-    // the order of a longer view
-    let mut other = View::new(alloc, 1);
-    assert!(rt; grade(&mut other, 3, Some(1))?);
-    assert!(rt; is_same_text(alloc, &other, &names, &mut order)?);
-    Ok(())
 }
 
 #[test]
