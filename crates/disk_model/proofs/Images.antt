@@ -7,7 +7,7 @@ use mathlib.Core.Logic.{dite}
 use native.Mathlib.Decide.{dec_le}
 use Rattle.disk_model.specs.declared.disk_calls.DiskCall.{DiskCall}
 use Rattle.disk_model.specs.declared.disk_calls.DiskCall.TheVariants.{Len, Read, Write, Cut, Sync}
-use Rattle.disk_model.specs.Calls.{AreImagesOf, ImageSince, Images, IsQuiet, content_after, content_by, images_after, images_by, images_of}
+use Rattle.disk_model.specs.Calls.{AreImagesOf, ImageSince, Images, IsQuiet, content_after, content_by, images_after, images_by, images_of, seen_after}
 use Rattle.disk_model.specs.Disks.{Alone, CutShort, Elapses, Follows, NoFurther, Torn, written}
 
 -- One call more
@@ -106,9 +106,9 @@ module _ (calls : List DiskCall) (start content : List ℕ) (replayed : content 
   content_now = subst (λ (i : List ℕ). images_of calls start i) (sym replayed) (images_hold calls start (λ image. image ≡ start) refl)
 
   -- Time goes on by one call.
-  pub one_more : (call : DiskCall) (content' : List ℕ) → Elapses (length calls) (length (calls ++ call ∷ [])) (ImageSince calls start content)
-      (ImageSince (calls ++ call ∷ []) start content') (Images (calls ++ call ∷ []) start content')
-  one_more call content' = record {
+  pub one_more : (call : DiskCall) (content' : List ℕ) (before now : ℕ)
+      → Elapses (seen_after calls start content before) (seen_after (calls ++ call ∷ []) start content' now)
+  one_more call content' before now = record {
     later = (let l = longer in omega arith);
     nothing_else = λ moment image le since. ⊎_elim (λ (is : image ≡ content'). inr (inl is)) (λ since. split moment image since.0 since.1 since.2 since.3) since;
     keeps = λ moment image le past. ⊎_elim
@@ -135,8 +135,8 @@ module _ (calls : List DiskCall) (start content : List ℕ) (replayed : content 
   among image (inl is) = subst (images_of calls start) (sym (is ∙ replayed)) (images_hold calls start (λ other. other ≡ start) refl)
   among image (inr here) = here
 
-  pub images_are : AreImagesOf calls (Some content) (Images calls start content)
-  images_are = record { start = start; content_is = ap (λ (bytes : List ℕ). Some bytes) replayed; exactly = λ image. (among image, λ here. inr here) }
+  pub images_are : (faults : ℕ) → AreImagesOf calls (seen_after calls start content faults)
+  images_are faults = record { start = start; content_is = ap (λ (bytes : List ℕ). Some bytes) replayed; exactly = λ image. (among image, λ here. inr here) }
 
   -- What a crash leaves behind a call.
   pub quiet : (call : DiskCall) → IsQuiet call → NoFurther (Images calls start content) (Images (calls ++ call ∷ []) start content)
@@ -148,8 +148,8 @@ module _ (calls : List DiskCall) (start content : List ℕ) (replayed : content 
   synced_image image (inl is) = is
   synced_image image (inr here) = let now : image ≡ content_after calls start = images_push calls Sync start (λ other. other ≡ start) image here in now ∙ sym replayed
 
-  pub alone : Alone (Some content) (Images (calls ++ Sync ∷ []) start content)
-  alone image here = ap (λ (i : List ℕ). Some i) (sym (synced_image image here))
+  pub alone : (faults : ℕ) → Alone (seen_after (calls ++ Sync ∷ []) start content faults)
+  alone faults image here = ap (λ (i : List ℕ). Some i) (sym (synced_image image here))
 
   pub written_follows : (place : ℕ) (piece : List ℕ) (kept : Vec ℕ Global) → kept.items ≡ piece → place ≤ length content
       → Follows (Torn place (length piece)) (Images calls start content) (Images (calls ++ Write place kept ∷ []) start (written place piece content))
@@ -172,10 +172,11 @@ module _ (calls : List DiskCall) (start content : List ℕ) (replayed : content 
 
 -- The same of a disk behind the call, whose calls, start and content are known by equations.
 module _ (calls calls' : List DiskCall) (start start' content content' : List ℕ) (call : DiskCall) (replayed : content ≡ content_after calls start) (calls_are : calls' ≡ calls ++ call ∷ []) (start_is : start' ≡ start) where
-  pub time_behind : Elapses (length calls) (length calls') (ImageSince calls start content) (ImageSince calls' start' content') (Images calls' start' content')
-  time_behind = subst (λ (cs : List DiskCall). Elapses (length calls) (length cs) (ImageSince calls start content) (ImageSince cs start' content') (Images cs start' content')) (sym calls_are)
-      (subst (λ (s : List ℕ). Elapses (length calls) (length (calls ++ call ∷ [])) (ImageSince calls start content) (ImageSince (calls ++ call ∷ []) s content') (Images (calls ++ call ∷ []) s content')) (sym start_is)
-      (one_more calls start content replayed call content'))
+  pub time_behind : (before now : ℕ) → Elapses (seen_after calls start content before) (seen_after calls' start' content' now)
+  time_behind before now =
+      subst (λ (cs : List DiskCall). Elapses (seen_after calls start content before) (seen_after cs start' content' now)) (sym calls_are)
+      (subst (λ (s : List ℕ). Elapses (seen_after calls start content before) (seen_after (calls ++ call ∷ []) s content' now)) (sym start_is)
+      (one_more calls start content replayed call content' before now))
 
   -- what holds of the images with the call last holds of those of the disk
   pub behind : (P : (List ℕ → Type 0) → Type 0) (now : List ℕ) → content' ≡ now → P (Images (calls ++ call ∷ []) start now) → P (Images calls' start' content')

@@ -5,7 +5,7 @@ use Rattle.std.proofs.Common.{inl, inr, subst, sym, le_refl}
 use Rattle.std.proofs.lemmas.List.{take_all}
 use Rattle.disk_model.specs.declared.disk_calls.DiskCall.{DiskCall}
 use Rattle.disk_model.specs.declared.disk_calls.DiskCall.TheVariants.{Len, Read, Write, Cut, Sync}
-use Rattle.disk_model.specs.Disks.{CutShort, Torn, written}
+use Rattle.disk_model.specs.Disks.{CutShort, DiskState, Torn, written}
 
 -- the content after a call
 abbrev pub content_by : DiskCall → List ℕ → List ℕ
@@ -44,10 +44,10 @@ abbrev pub images_of : List DiskCall → List ℕ → List ℕ → Type 0
 images_of calls start = images_after calls start (λ image. image ≡ start)
 
 -- The calls made the content of some start, and the images are exactly those that the rules allow of them.
-pub record AreImagesOf (calls : List DiskCall) (content : Option (List ℕ)) (images : List ℕ → Type 0) : Type 0 where
+pub record AreImagesOf (calls : List DiskCall) (disk : DiskState) : Type 0 where
   pub start : List ℕ
-  pub content_is : content ≡ Some (content_after calls start)
-  pub exactly : (image : List ℕ) → images image ↔ images_of calls start image
+  pub content_is : disk.content ≡ Some (content_after calls start)
+  pub exactly : (image : List ℕ) → disk.images image ↔ images_of calls start image
 
 -- the images now: the content is one
 abbrev pub Images : List DiskCall → List ℕ → List ℕ → List ℕ → Type 0
@@ -56,6 +56,16 @@ Images calls start content image = (image ≡ content) ⊎ images_of calls start
 -- an image after some number of the calls, from that number on
 abbrev pub ImageSince : List DiskCall → List ℕ → List ℕ → ℕ → List ℕ → Type 0
 ImageSince calls start content moment image = (image ≡ content) ⊎ ((count : ℕ) × (moment ≤ count) × (count ≤ length calls) × images_of (take count calls) start image)
+
+-- what a disk tells that made these calls, and of whose calls so many failed
+abbrev pub seen_after : List DiskCall → List ℕ → List ℕ → ℕ → DiskState
+seen_after calls start content faults = record {
+  content = Some content;
+  images = Images calls start content;
+  clock = length calls;
+  images_since = ImageSince calls start content;
+  faults = faults;
+}
 
 -- the content at the start: it is kept from the first call that changes something on
 abbrev pub begun_with : Option (Vec ℕ Global) → List ℕ → List ℕ

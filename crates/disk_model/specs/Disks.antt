@@ -26,19 +26,38 @@ Follows step old new = (image : List ℕ) → new image → (earlier : List ℕ)
 abbrev pub NoFurther : (List ℕ → Type 0) → (List ℕ → Type 0) → Type 0
 NoFurther old new = (image : List ℕ) → new image → old image
 
+-- What a disk tells.
+pub record DiskState : Type 1 where
+  -- what a read gives, where the disk tells it
+  pub content : Option (List ℕ)
+  -- what a crash now may leave; nothing where the disk doesn't tell
+  pub images : List ℕ → Type 0
+  -- the moment, as a number that doesn't fall
+  pub clock : ℕ
+  -- what a crash at some moment from that one on might have left
+  pub images_since : ℕ → List ℕ → Type 0
+  -- how many calls failed
+  pub faults : ℕ
+
 -- each image is the content
-abbrev pub Alone : Option (List ℕ) → (List ℕ → Type 0) → Type 0
-Alone content images = (image : List ℕ) → images image → content ≡ Some image
+abbrev pub Alone : DiskState → Type 0
+Alone disk = (image : List ℕ) → disk.images image → disk.content ≡ Some image
+
+-- since this moment there is no other
+abbrev pub OnlyNow : DiskState → Type 0
+OnlyNow disk = (image : List ℕ) → disk.images_since disk.clock image → disk.images image
 
 -- Time goes on: a crash since a moment might have left what it might have left before, or what it may leave now.
-pub record Elapses (before now : ℕ) (past since : ℕ → List ℕ → Type 0) (images : List ℕ → Type 0) : Type 0 where
-  pub later : before ≤ now
-  pub nothing_else : (moment : ℕ) (image : List ℕ) → moment ≤ before → since moment image → past moment image ⊎ images image
-  pub keeps : (moment : ℕ) (image : List ℕ) → moment ≤ before → past moment image → since moment image
+pub record Elapses (old new : DiskState) : Type 0 where
+  pub later : old.clock ≤ new.clock
+  pub nothing_else : (moment : ℕ) (image : List ℕ) → moment ≤ old.clock → new.images_since moment image
+      → old.images_since moment image ⊎ new.images image
+  pub keeps : (moment : ℕ) (image : List ℕ) → moment ≤ old.clock → old.images_since moment image → new.images_since moment image
 
 -- A crash at any moment from an old state of a disk to a new one leaves an image that has P.
-pub record EachMoment {D : Type 0} (clock : D → ℕ) (since : D → ℕ → List ℕ → Type 0) (old new : D) (P : List ℕ → Type 0) : Type 0 where
-  pub later : clock old ≤ clock new
-  pub each : (image : List ℕ) → since new (clock old) image → P image
+pub record EachMoment {D : Type 0} (seen : D → DiskState) (old new : D) (P : List ℕ → Type 0) : Type 0 where
+  pub later : (seen old).clock ≤ (seen new).clock
+  pub each : (image : List ℕ) → (seen new).images_since (seen old).clock image → P image
   -- for a run that began earlier
-  pub before : (moment : ℕ) (image : List ℕ) → moment ≤ clock old → since new moment image → since old moment image ⊎ P image
+  pub before : (moment : ℕ) (image : List ℕ) → moment ≤ (seen old).clock → (seen new).images_since moment image
+      → (seen old).images_since moment image ⊎ P image

@@ -1,15 +1,17 @@
--- The images of what a disk in memory holds, now and since an earlier moment.
-use Rattle.std.specs.Prelude.{ℕ, List, length}
+-- What a disk in memory tells, by what it holds.
+use Rattle.std.specs.Prelude.{ℕ, List}
 use Rattle.disk_model.specs.declared.disk_calls.Held.{Held}
-use Rattle.disk_model.specs.Calls.{ImageSince, Images, begun_with}
-use Rattle.disk_model.specs.Disks.{Elapses}
+use Rattle.disk_model.specs.Calls.{begun_with, seen_after}
+use Rattle.disk_model.specs.Disks.{DiskState, Elapses}
+
+-- where so many calls failed
+abbrev pub seen_with : Held → ℕ → DiskState
+seen_with held faults =
+    seen_after held.calls.items (begun_with held.start held.content.items) held.content.items faults
 
 abbrev pub images_now : Held → List ℕ → Type 0
-images_now held = Images held.calls.items (begun_with held.start held.content.items) held.content.items
+images_now held = (seen_with held 0).images
 
-abbrev pub images_from : Held → ℕ → List ℕ → Type 0
-images_from held = ImageSince held.calls.items (begun_with held.start held.content.items) held.content.items
-
--- time goes on by the calls that were kept
+-- time goes on by the calls that were kept, however many failed
 abbrev pub GoesOn : Held → Held → Type 0
-GoesOn old new = Elapses (length old.calls.items) (length new.calls.items) (images_from old) (images_from new) (images_now new)
+GoesOn old new = (before now : ℕ) → Elapses (seen_with old before) (seen_with new now)

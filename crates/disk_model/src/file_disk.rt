@@ -139,15 +139,13 @@ impl<'a, R: Files<File = File> + Drop> Disk for FileDisk<'a, R> {
     ghost use Rattle.std.specs.Prelude.{None};
     ghost use Rattle.std.proofs.Common.{refl};
 
-    ghost content = { λ _. None };
-
-    ghost images = { λ _ _. ⊥ };
-
-    ghost clock = { λ _. 0 };
-
-    ghost images_since = { λ _ _ _. ⊥ };
-
-    ghost fault_count = { λ disk. disk.faults };
+    ghost seen = { λ disk. record {
+      content = None;
+      images = λ _. ⊥;
+      clock = 0;
+      images_since = λ _ _. ⊥;
+      faults = disk.faults;
+    } };
 
     fn len(&mut self) -> Result<u64, Failed> {
         let opening = opened(&self.files, self.path, &mut self.file);

@@ -5,7 +5,7 @@ ghost use Rattle.decimal_rank.specs.Causes.{HasCause};
 ghost use Rattle.disk_model.specs.declared.disk_calls.DiskCall.TheVariants.{Sync as SyncCall};
 ghost use Rattle.disk_model.specs.Calls.{AreImagesOf, IsQuiet, begun_with};
 ghost use Rattle.disk_model.specs.Disks.{Alone, CutShort, Follows, NoFurther, Torn, written};
-ghost use Rattle.disk_model.specs.HeldImages.{GoesOn, images_now};
+ghost use Rattle.disk_model.specs.HeldImages.{GoesOn, images_now, seen_with};
 
 use crate::disk_calls::{DiskCall, Held};
 use crate::disks::Disk;
@@ -38,9 +38,9 @@ impl MemoryDisk {
     /// A disk with these bytes, all of them synced. The calls that are to fail are given by their
     /// places, from 1. It takes no memory.
     pub fn new(content: Vec<u8>, fails: Vec<u64>) -> MemoryDisk
-        ensures content { ⟦<MemoryDisk as Disk>⟧.content result ≡ Some content.items }
-        ensures synced { Alone (⟦<MemoryDisk as Disk>⟧.content result) (⟦<MemoryDisk as Disk>⟧.images result) }
-        ensures faults { ⟦<MemoryDisk as Disk>⟧.fault_count result ≡ 0 }
+        ensures content { (⟦<MemoryDisk as Disk>⟧.seen result).content ≡ Some content.items }
+        ensures synced { Alone (⟦<MemoryDisk as Disk>⟧.seen result) }
+        ensures faults { (⟦<MemoryDisk as Disk>⟧.seen result).faults ≡ 0 }
     {
         let alloc = *content.allocator();
         MemoryDisk {
@@ -59,7 +59,7 @@ impl MemoryDisk {
 
     /// What a read gives.
     pub fn content(&self) -> &[u8]
-        ensures { ⟦<MemoryDisk as Disk>⟧.content self.now ≡ Some result.now }
+        ensures { (⟦<MemoryDisk as Disk>⟧.seen self.now).content ≡ Some result.now }
     {
         &self.held.content
     }
@@ -67,7 +67,7 @@ impl MemoryDisk {
     /// The calls that did their work, in order. What a crash may leave is exactly what the rules allow of
     /// them.
     pub fn calls(&self) -> &[DiskCall]
-        ensures { AreImagesOf result.now (⟦<MemoryDisk as Disk>⟧.content self.now) (⟦<MemoryDisk as Disk>⟧.images self.now) }
+        ensures { AreImagesOf result.now (⟦<MemoryDisk as Disk>⟧.seen self.now) }
     {
         &self.held.calls
     }
@@ -79,20 +79,11 @@ impl MemoryDisk {
 }
 
 impl Disk for MemoryDisk {
-    ghost use Rattle.std.specs.Prelude.{ℕ, List, Some, length};
     ghost use Rattle.std.proofs.Common.{inl, refl};
     ghost use Rattle.disk_model.specs.Calls.{begun_with, now_among, only_now_left};
-    ghost use Rattle.disk_model.specs.HeldImages.{images_from, images_now};
+    ghost use Rattle.disk_model.specs.HeldImages.{seen_with};
 
-    ghost content = { λ disk. Some disk.held.content.items };
-
-    ghost images = { λ disk. images_now disk.held };
-
-    ghost clock = { λ disk. length disk.held.calls.items };
-
-    ghost images_since = { λ disk. images_from disk.held };
-
-    ghost fault_count = { λ disk. disk.counts.faults };
+    ghost seen = { λ disk. seen_with disk.held disk.counts.faults };
 
     fn len(&mut self) -> Result<u64, Failed> {
         self.counts.begin()?;
@@ -137,9 +128,11 @@ impl Disk for MemoryDisk {
 
     ghost reads_as_image = { λ disk. inl refl };
 
-    ghost counts_now = { λ disk. now_among disk.held.calls.items (begun_with disk.held.start disk.held.content.items) disk.held.content.items };
+    ghost counts_now = { λ disk. now_among disk.held.calls.items
+        (begun_with disk.held.start disk.held.content.items) disk.held.content.items };
 
-    ghost only_now = { λ disk. only_now_left disk.held.calls.items (begun_with disk.held.start disk.held.content.items) disk.held.content.items };
+    ghost only_now = { λ disk. only_now_left disk.held.calls.items
+        (begun_with disk.held.start disk.held.content.items) disk.held.content.items };
 }
 
 impl Counts {
@@ -176,7 +169,7 @@ impl Held {
         requires { IsQuiet call }
         ensures content { self.new.content.items ≡ self.old.content.items }
         ensures crash { NoFurther (images_now self.old) (images_now self.new) }
-        ensures alone { OnOk result (call ≡ SyncCall → Alone (Some self.new.content.items) (images_now self.new)) }
+        ensures alone { OnOk result (call ≡ SyncCall → Alone (seen_with self.new 0)) }
         ensures time { GoesOn self.old self.new }
     {
         self.calls.reserve(1)?;
@@ -186,7 +179,8 @@ impl Held {
 
     // Keeps the content of the start, before it is changed.
     fn keep_start(&mut self) -> Result<(), Memory>
-        ensures begun { (content : List ℕ) → OnOk result (begun_with self.new.start content ≡ begun_with self.old.start self.old.content.items) }
+        ensures begun { (content : List ℕ) → OnOk result
+            (begun_with self.new.start content ≡ begun_with self.old.start self.old.content.items) }
         ensures err { OnErr result (self.new.start ≡ self.old.start) }
         ensures calls { self.new.calls ≡ self.old.calls }
         ensures content { self.new.content ≡ self.old.content }
@@ -202,8 +196,10 @@ impl Held {
 
     fn write(&mut self, place: u64, piece: &[u8]) -> Result<(), Memory>
         requires { place ≤ length self.old.content.items }
-        ensures content { OnOk result (self.new.content.items ≡ written place piece.now self.old.content.items) }
-        ensures crash { Follows (Torn place (length piece.now)) (images_now self.old) (images_now self.new) }
+        ensures content { OnOk result
+            (self.new.content.items ≡ written place piece.now self.old.content.items) }
+        ensures crash { Follows (Torn place (length piece.now))
+            (images_now self.old) (images_now self.new) }
         ensures time { GoesOn self.old self.new }
     {
         let kept = piece.to_vec(*self.content.allocator())?;

@@ -5,7 +5,7 @@ use Rattle.std.proofs.lemmas.List.{append-nil, drop_all, drop_at, drop_more, tak
 use Rattle.std.proofs.lemmas.Bool.{cases_eq}
 use mathlib.Core.Logic.{dite}
 use native.Mathlib.Decide.{dec_le}
-use Rattle.disk_model.specs.Disks.{CutShort, EachMoment, Follows, Torn, written}
+use Rattle.disk_model.specs.Disks.{CutShort, DiskState, EachMoment, Follows, Torn, written}
 use Rattle.journal.specs.Format.{decode, payload_behind, records}
 use Rattle.journal.specs.Frames.{IsFrame}
 use Rattle.journal.specs.Kept.{CutDue, GateDue, IsFront, Settled, Shut, Staged, StandsFor}
@@ -214,8 +214,8 @@ module _ (images after : List ℕ → Type 0) (place : ℕ) (all : List (List �
       )
 
 -- What holds of the images, and of those after a step, holds of each moment of the step.
-pub moments_of : {D : Type 0} (clock : D → ℕ) (since : D → ℕ → List ℕ → Type 0) (old new : D) (step : List ℕ → List ℕ → Type 0) (images P : List ℕ → Type 0)
+pub moments_of : {D : Type 0} (seen : D → DiskState) (old new : D) (step : List ℕ → List ℕ → Type 0) (images P : List ℕ → Type 0)
     → ((image : List ℕ) → images image → P image) → ((after : List ℕ → Type 0) → Follows step images after → (image : List ℕ) → after image → P image)
-    → EachMoment clock since old new (WithStep step images) → EachMoment clock since old new P
-moments_of clock since old new step images P now later = weaker clock since old new (WithStep step images) P
+    → EachMoment seen old new (WithStep step images) → EachMoment seen old new P
+moments_of seen old new step images P now later = weaker seen old new (WithStep step images) P
     (λ image here. ⊎_elim (λ was. now image was) (λ made. later (λ new. (earlier : List ℕ) × images earlier × step earlier new) (λ new from. from) image made) here)

@@ -37,9 +37,11 @@ impl<D: Disk> Model for Journal<D> {
 
     ghost Value = { JournalState D };
 
-    ghost view = { λ journal. record { disk = journal.disk; place = journal.place; due = journal.due } };
+    ghost view = { λ journal.
+        record { disk = journal.disk; place = journal.place; due = journal.due } };
 
-    ghost invariant = { λ journal. (journal.place < 2 ^ 40) × Kept (D.images journal.disk) journal.place journal.due };
+    ghost invariant = { λ journal. (journal.place < 2 ^ 40)
+        × Kept (D.seen journal.disk).images journal.place journal.due };
 }
 
 impl<D: Disk> Journal<D> {
@@ -47,17 +49,25 @@ impl<D: Disk> Journal<D> {
     /// becomes an empty journal. One with another header is left as it is. A disk of 2^39 bytes and more
     /// finds no memory.
     pub fn open(alloc: Global, disk: D) -> Result<(Journal<D>, Vec<Vec<u8>>), (D, OpenFault)>
-        ensures read { IfOk result (λ opened. IfSome (D.content disk) (λ bytes. decode bytes ≡ Some (payloads opened.1.items))) }
-        ensures settled { IfOk result (λ opened. Settled (D.images opened.0.disk) opened.0.place (payloads opened.1.items)) }
+        ensures read { IfOk result (λ opened.
+            IfSome (D.seen disk).content (λ bytes. decode bytes ≡ Some (payloads opened.1.items))) }
+        ensures settled { IfOk result (λ opened.
+            Settled (D.seen opened.0.disk).images opened.0.place (payloads opened.1.items)) }
         ensures nothing_due { IfOk result (λ opened. opened.0.due ≡ Nothing) }
-        ensures any_moment { IfOk result (λ opened. Turned D.clock D.images D.images_since disk opened.0.disk (DecodesAs (D.content disk))) }
-        ensures any_moment_err { IfErr result (λ fault. Turns D.clock D.images D.images_since disk fault.0 (DecodesAs (D.content disk))) }
-        ensures header { IfErr result (λ fault. fault.1 ≡ OpenFault.Header → IfSome (D.content disk) (λ bytes. decode bytes ≡ None)) }
+        ensures any_moment { IfOk result
+            (λ opened. Turned D.seen disk opened.0.disk (DecodesAs (D.seen disk).content)) }
+        ensures any_moment_err { IfErr result
+            (λ fault. Turns D.seen disk fault.0 (DecodesAs (D.seen disk).content)) }
+        ensures header { IfErr result (λ fault. fault.1 ≡ OpenFault.Header
+            → IfSome (D.seen disk).content (λ bytes. decode bytes ≡ None)) }
         ensures untouched { IfErr result (λ fault. fault.1 ≢ DiskFault
-            → (D.content fault.0 ≡ D.content disk) × NoFurther (D.images disk) (D.images fault.0)) }
-        ensures fault { IfErr result (λ fault. fault.1 ≡ DiskFault → Rose (D.fault_count disk) (D.fault_count fault.0)) }
-        ensures later { IfOk result (λ opened. D.fault_count disk ≤ D.fault_count opened.0.disk) }
-        ensures later_err { IfErr result (λ fault. D.fault_count disk ≤ D.fault_count fault.0) }
+            → ((D.seen fault.0).content ≡ (D.seen disk).content)
+            × NoFurther (D.seen disk).images (D.seen fault.0).images) }
+        ensures fault { IfErr result (λ fault. fault.1 ≡ DiskFault
+            → Rose (D.seen disk).faults (D.seen fault.0).faults) }
+        ensures later { IfOk result
+            (λ opened. (D.seen disk).faults ≤ (D.seen opened.0.disk).faults) }
+        ensures later_err { IfErr result (λ fault. (D.seen disk).faults ≤ (D.seen fault.0).faults) }
     {
         let mut disk = disk;
         match take_up(alloc, &mut disk) {
@@ -78,16 +88,21 @@ impl<D: Disk> Journal<D> {
     /// first. It takes no memory.
     pub fn append(&mut self, frame: &Frame) -> Result<(), Failed>
         requires { self.old.place + 6 + length frame.now ≤ 2 ^ 40 }
-        ensures added { OnOk result ((all pending : List (List ℕ)) → KeepsRecords D.images self.old all pending
-            → Settled (D.images self.new.disk) self.new.place (all ++ frame.now ∷ [])) }
+        ensures added { OnOk result ((all pending : List (List ℕ))
+            → KeepsRecords D.seen self.old all pending
+            → Settled (D.seen self.new.disk).images self.new.place (all ++ frame.now ∷ [])) }
         ensures nothing_due { OnOk result (self.new.due ≡ Nothing) }
         ensures place { OnOk result (self.new.place ≡ self.old.place + 5 + length frame.now) }
         ensures place_err { OnErr result (self.new.place ≡ self.old.place) }
-        ensures kept { OnErr result ((all pending : List (List ℕ)) → KeepsRecords D.images self.old all pending
-            → StillKeeps (D.images self.new.disk) self.new.place self.new.due all pending frame.now) }
-        ensures any_moment { (all pending : List (List ℕ)) → KeepsRecords D.images self.old all pending
-            → EachMoment D.clock D.images_since self.old.disk self.new.disk (StandsForOneOf all pending frame.now) }
-        ensures cause { HasCause (D.fault_count self.old.disk) (D.fault_count self.new.disk) result }
+        ensures kept { OnErr result ((all pending : List (List ℕ))
+            → KeepsRecords D.seen self.old all pending
+            → StillKeeps (D.seen self.new.disk).images self.new.place self.new.due
+            all pending frame.now) }
+        ensures any_moment { (all pending : List (List ℕ))
+            → KeepsRecords D.seen self.old all pending
+            → EachMoment D.seen self.old.disk self.new.disk (StandsForOneOf all pending frame.now) }
+        ensures cause { HasCause (D.seen self.old.disk).faults (D.seen self.new.disk).faults
+            result }
     {
         append_frame(
             &mut self.disk,
@@ -99,38 +114,45 @@ impl<D: Disk> Journal<D> {
 
     /// Leaves the acknowledged records alone on the disk. It takes no memory.
     pub fn mend(&mut self) -> Result<(), Failed>
-        ensures mended { OnOk result ((all pending : List (List ℕ)) → KeepsRecords D.images self.old all pending
-            → Settled (D.images self.new.disk) self.new.place all) }
+        ensures mended { OnOk result ((all pending : List (List ℕ))
+            → KeepsRecords D.seen self.old all pending
+            → Settled (D.seen self.new.disk).images self.new.place all) }
         ensures nothing_due { OnOk result (self.new.due ≡ Nothing) }
         ensures place { self.new.place ≡ self.old.place }
-        ensures kept { (all pending : List (List ℕ)) → KeepsRecords D.images self.old all pending
-            → KeepsSome (D.images self.new.disk) self.new.place self.new.due all pending }
-        ensures any_moment { (all pending : List (List ℕ)) → KeepsRecords D.images self.old all pending
-            → EachMoment D.clock D.images_since self.old.disk self.new.disk (StandsFor all pending) }
-        ensures cause { HasCause (D.fault_count self.old.disk) (D.fault_count self.new.disk) result }
+        ensures kept { (all pending : List (List ℕ)) → KeepsRecords D.seen self.old all pending
+            → KeepsSome (D.seen self.new.disk).images self.new.place self.new.due all pending }
+        ensures any_moment { (all pending : List (List ℕ))
+            → KeepsRecords D.seen self.old all pending
+            → EachMoment D.seen self.old.disk self.new.disk (StandsFor all pending) }
+        ensures cause { HasCause (D.seen self.old.disk).faults (D.seen self.new.disk).faults
+            result }
     {
         mend_due(&mut self.disk, self.place, &mut self.due)
     }
 
     /// What a journal keeps is what each image of its disk gives; the place follows from the payloads.
     pub fn stands(&self)
-        ensures stands { (all pending : List (List ℕ)) → KeepsRecords D.images self.now all pending
-            → (image : List ℕ) → D.images self.now.disk image → StandsFor all pending image }
-        ensures alone { (all : List (List ℕ)) → Settled (D.images self.now.disk) self.now.place all
-            → (image : List ℕ) → D.images self.now.disk image → decode image ≡ Some all }
-        ensures total { (all pending : List (List ℕ)) → KeepsRecords D.images self.now all pending → self.now.place ≡ place_behind all }
+        ensures stands { (all pending : List (List ℕ)) → KeepsRecords D.seen self.now all pending
+            → (image : List ℕ) → (D.seen self.now.disk).images image → StandsFor all pending image }
+        ensures alone { (all : List (List ℕ))
+            → Settled (D.seen self.now.disk).images self.now.place all
+            → (image : List ℕ) → (D.seen self.now.disk).images image → decode image ≡ Some all }
+        ensures total { (all pending : List (List ℕ)) → KeepsRecords D.seen self.now all pending
+            → self.now.place ≡ place_behind all }
     {}
 
     /// Whether the next append mends first.
     pub fn is_due(&self) -> bool
-        ensures { (result ≡ true → self.now.due ≢ Nothing) × (self.now.due ≢ Nothing → result ≡ true) }
+        ensures { (result ≡ true → self.now.due ≢ Nothing)
+            × (self.now.due ≢ Nothing → result ≡ true) }
     {
         self.due != Due::Nothing
     }
 
     /// Whether a frame's record can be added: with it the journal has at most `MOST_BYTES` of the disk.
     pub fn has_room(&self, frame: &Frame) -> bool
-        ensures { (result ≡ true → self.now.place + 6 + length frame.now ≤ 2 ^ 40) × (self.now.place + 6 + length frame.now ≤ 2 ^ 40 → result ≡ true) }
+        ensures { (result ≡ true → self.now.place + 6 + length frame.now ≤ 2 ^ 40)
+            × (self.now.place + 6 + length frame.now ≤ 2 ^ 40 → result ≡ true) }
     {
         self.place + 6 + frame.payload().len() as u64 <= MOST_BYTES
     }

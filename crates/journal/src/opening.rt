@@ -46,15 +46,23 @@ impl From<Memory> for OpenFault {
 /// Reads a journal's records and mends it; a disk with fewer bytes than a record takes becomes an empty
 /// journal.
 pub(crate) fn take_up<D: Disk>(alloc: Global, disk: &mut D) -> Result<Records, OpenFault>
-    ensures read { IfOk result (λ found. IfSome (D.content disk.old) (λ bytes. decode bytes ≡ Some (payloads found.payloads.items))) }
-    ensures settled { IfOk result (λ found. Settled (D.images disk.new) found.place (payloads found.payloads.items)) }
+    ensures read { IfOk result (λ found. IfSome (D.seen disk.old).content
+        (λ bytes. decode bytes ≡ Some (payloads found.payloads.items))) }
+    ensures settled { IfOk result
+        (λ found. Settled (D.seen disk.new).images found.place (payloads found.payloads.items)) }
     ensures within { IfOk result (λ found. found.place < 2 ^ 40) }
-    ensures any_moment { IfOk result (λ _. Turned D.clock D.images D.images_since disk.old disk.new (DecodesAs (D.content disk.old))) }
-    ensures any_moment_err { IfErr result (λ _. Turns D.clock D.images D.images_since disk.old disk.new (DecodesAs (D.content disk.old))) }
-    ensures header { IfErr result (λ fault. fault ≡ OpenFault.Header → IfSome (D.content disk.old) (λ bytes. decode bytes ≡ None)) }
-    ensures untouched { IfErr result (λ fault. fault ≢ DiskFault → (D.content disk.new ≡ D.content disk.old) × NoFurther (D.images disk.old) (D.images disk.new)) }
-    ensures disk { IfErr result (λ fault. fault ≡ DiskFault → Rose (D.fault_count disk.old) (D.fault_count disk.new)) }
-    ensures later { D.fault_count disk.old ≤ D.fault_count disk.new }
+    ensures any_moment { IfOk result
+        (λ _. Turned D.seen disk.old disk.new (DecodesAs (D.seen disk.old).content)) }
+    ensures any_moment_err { IfErr result
+        (λ _. Turns D.seen disk.old disk.new (DecodesAs (D.seen disk.old).content)) }
+    ensures header { IfErr result (λ fault. fault ≡ OpenFault.Header
+        → IfSome (D.seen disk.old).content (λ bytes. decode bytes ≡ None)) }
+    ensures untouched { IfErr result (λ fault. fault ≢ DiskFault
+        → ((D.seen disk.new).content ≡ (D.seen disk.old).content)
+        × NoFurther (D.seen disk.old).images (D.seen disk.new).images) }
+    ensures disk { IfErr result (λ fault. fault ≡ DiskFault
+        → Rose (D.seen disk.old).faults (D.seen disk.new).faults) }
+    ensures later { (D.seen disk.old).faults ≤ (D.seen disk.new).faults }
 {
     let bytes = read_all(alloc, disk)?;
     if bytes.len() <= EMPTY_JOURNAL.len() {
@@ -69,16 +77,21 @@ pub(crate) fn take_up<D: Disk>(alloc: Global, disk: &mut D) -> Result<Records, O
 
 // All bytes of the disk, which are then the only ones that a crash leaves.
 fn read_all<D: Disk>(alloc: Global, disk: &mut D) -> Result<Vec<u8>, OpenFault>
-    ensures alone { IfOk result (λ bytes. (image : List ℕ) → D.images disk.new image → image ≡ bytes.items) }
-    ensures told { IfOk result (λ bytes. IfSome (D.content disk.old) (λ content. content ≡ bytes.items)) }
+    ensures alone { IfOk result (λ bytes. (image : List ℕ) → (D.seen disk.new).images image
+        → image ≡ bytes.items) }
+    ensures told { IfOk result
+        (λ bytes. IfSome (D.seen disk.old).content (λ content. content ≡ bytes.items)) }
     ensures few { IfOk result (λ bytes. length bytes.items < 2 ^ 39) }
-    ensures any_moment { IfOk result (λ bytes. Turned D.clock D.images D.images_since disk.old disk.new (λ image. image ≡ bytes.items)) }
-    ensures any_moment_err { IfErr result (λ _. Turns D.clock D.images D.images_since disk.old disk.new (DecodesAs (D.content disk.old))) }
-    ensures content { D.content disk.new ≡ D.content disk.old }
-    ensures crash { NoFurther (D.images disk.old) (D.images disk.new) }
+    ensures any_moment { IfOk result
+        (λ bytes. Turned D.seen disk.old disk.new (λ image. image ≡ bytes.items)) }
+    ensures any_moment_err { IfErr result
+        (λ _. Turns D.seen disk.old disk.new (DecodesAs (D.seen disk.old).content)) }
+    ensures content { (D.seen disk.new).content ≡ (D.seen disk.old).content }
+    ensures crash { NoFurther (D.seen disk.old).images (D.seen disk.new).images }
     ensures fault { IfErr result (λ fault. fault ≢ OpenFault.Header) }
-    ensures disk { IfErr result (λ fault. fault ≡ DiskFault → Rose (D.fault_count disk.old) (D.fault_count disk.new)) }
-    ensures later { D.fault_count disk.old ≤ D.fault_count disk.new }
+    ensures disk { IfErr result (λ fault. fault ≡ DiskFault
+        → Rose (D.seen disk.old).faults (D.seen disk.new).faults) }
+    ensures later { (D.seen disk.old).faults ≤ (D.seen disk.new).faults }
 {
     disk.sync()?;
     let count = disk.len()?;
@@ -100,10 +113,10 @@ fn zeros(alloc: Global, count: usize) -> Result<Vec<u8>, Memory>
 
 // Makes an empty journal of a disk that has no more bytes than one.
 fn found<D: Disk>(disk: &mut D) -> Result<(), Failed>
-    requires { (image : List ℕ) → D.images disk.old image → length image ≤ 17 }
-    ensures settled { OnOk result (Settled (D.images disk.new) 16 []) }
-    ensures any_moment { EachMoment D.clock D.images_since disk.old disk.new (λ image. length image ≤ 17) }
-    ensures cause { HasCause (D.fault_count disk.old) (D.fault_count disk.new) result }
+    requires { (image : List ℕ) → (D.seen disk.old).images image → length image ≤ 17 }
+    ensures settled { OnOk result (Settled (D.seen disk.new).images 16 []) }
+    ensures any_moment { EachMoment D.seen disk.old disk.new (λ image. length image ≤ 17) }
+    ensures cause { HasCause (D.seen disk.old).faults (D.seen disk.new).faults result }
 {
     disk.write_at(0, &EMPTY_JOURNAL)?;
     disk.cut(EMPTY_JOURNAL.len() as u64)?;
@@ -113,17 +126,20 @@ fn found<D: Disk>(disk: &mut D) -> Result<(), Failed>
 
 // Reads the records of these bytes, which are the only ones that a crash leaves, and mends their end.
 fn reopen<D: Disk>(alloc: Global, disk: &mut D, bytes: &[u8]) -> Result<Records, OpenFault>
-    requires alone { (image : List ℕ) → D.images disk.old image → image ≡ bytes.now }
+    requires alone { (image : List ℕ) → (D.seen disk.old).images image → image ≡ bytes.now }
     requires long { 17 < length bytes.now }
     requires few { length bytes.now < 2 ^ 39 }
     ensures read { IfOk result (λ found. decode bytes.now ≡ Some (payloads found.payloads.items)) }
-    ensures settled { IfOk result (λ found. Settled (D.images disk.new) found.place (payloads found.payloads.items)) }
+    ensures settled { IfOk result
+        (λ found. Settled (D.seen disk.new).images found.place (payloads found.payloads.items)) }
     ensures within { IfOk result (λ found. found.place < 2 ^ 40) }
-    ensures any_moment { EachMoment D.clock D.images_since disk.old disk.new (λ image. decode image ≡ decode bytes.now) }
+    ensures any_moment { EachMoment D.seen disk.old disk.new
+        (λ image. decode image ≡ decode bytes.now) }
     ensures header { IfErr result (λ fault. fault ≡ OpenFault.Header → decode bytes.now ≡ None) }
     ensures untouched { IfErr result (λ fault. fault ≢ DiskFault → disk.new ≡ disk.old) }
-    ensures disk { IfErr result (λ fault. fault ≡ DiskFault → Rose (D.fault_count disk.old) (D.fault_count disk.new)) }
-    ensures later { D.fault_count disk.old ≤ D.fault_count disk.new }
+    ensures disk { IfErr result (λ fault. fault ≡ DiskFault
+        → Rose (D.seen disk.old).faults (D.seen disk.new).faults) }
+    ensures later { (D.seen disk.old).faults ≤ (D.seen disk.new).faults }
 {
     if !has_header(bytes) {
         return Err(OpenFault::Header);

@@ -27,7 +27,8 @@ pub(crate) fn has_header(bytes: &[u8]) -> bool
 /// Reads all records behind a header.
 pub(crate) fn read_records(alloc: Global, bytes: &[u8]) -> Result<Records, Memory>
     requires { starts_with nat_eq bytes.now header ≡ true }
-    ensures front { IfOk result (λ found. IsFront (take found.place bytes.now) found.place (payloads found.payloads.items)) }
+    ensures front { IfOk result (λ found.
+        IsFront (take found.place bytes.now) found.place (payloads found.payloads.items)) }
     ensures within { IfOk result (λ found. found.place ≤ length bytes.now) }
     ensures all { IfOk result (λ found. records 0 (drop found.place bytes.now) ≡ []) }
 {
@@ -73,7 +74,8 @@ fn record_at(bytes: &[u8], place: usize) -> Option<usize>
 // The length that is told behind an open gate, where so many bytes are there.
 fn payload_length(behind: &[u8]) -> Option<usize>
     ensures none { IfNone result (is_whole behind.now ≡ false) }
-    ensures some { IfSome result (λ count. (told_length behind.now ≡ count) × (4 + count ≤ length behind.now)) }
+    ensures some { IfSome result
+        (λ count. (told_length behind.now ≡ count) × (4 + count ≤ length behind.now)) }
 {
     if behind.len() < LENGTH_BYTES {
         return None;

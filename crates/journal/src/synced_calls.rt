@@ -9,12 +9,15 @@ use disk_model::{Disk, Failed};
 
 /// Writes the piece and syncs.
 pub(crate) fn write_through<D: Disk>(disk: &mut D, place: u64, piece: &[u8]) -> Result<(), Failed>
-    requires within { ReachesTo place (D.images disk.old) }
+    requires within { ReachesTo place (D.seen disk.old).images }
     requires room { place + length piece.now ≤ 2 ^ 40 }
-    ensures done { OnOk result (Follows (λ earlier image. image ≡ written place piece.now earlier) (D.images disk.old) (D.images disk.new)) }
-    ensures crash { Follows (Torn place (length piece.now)) (D.images disk.old) (D.images disk.new) }
-    ensures any_moment { EachMoment D.clock D.images_since disk.old disk.new (WithStep (Torn place (length piece.now)) (D.images disk.old)) }
-    ensures cause { HasCause (D.fault_count disk.old) (D.fault_count disk.new) result }
+    ensures done { OnOk result (Follows (λ earlier image. image ≡ written place piece.now earlier)
+        (D.seen disk.old).images (D.seen disk.new).images) }
+    ensures crash { Follows (Torn place (length piece.now))
+        (D.seen disk.old).images (D.seen disk.new).images }
+    ensures any_moment { EachMoment D.seen disk.old disk.new
+        (WithStep (Torn place (length piece.now)) (D.seen disk.old).images) }
+    ensures cause { HasCause (D.seen disk.old).faults (D.seen disk.new).faults result }
 {
     disk.write_at(place, piece)?;
     disk.sync()?;
@@ -23,11 +26,13 @@ pub(crate) fn write_through<D: Disk>(disk: &mut D, place: u64, piece: &[u8]) -> 
 
 /// Cuts the disk and syncs.
 pub(crate) fn cut_through<D: Disk>(disk: &mut D, to: u64) -> Result<(), Failed>
-    requires within { ReachesTo to (D.images disk.old) }
-    ensures done { OnOk result (Follows (λ earlier image. image ≡ take to earlier) (D.images disk.old) (D.images disk.new)) }
-    ensures crash { Follows (CutShort to) (D.images disk.old) (D.images disk.new) }
-    ensures any_moment { EachMoment D.clock D.images_since disk.old disk.new (WithStep (CutShort to) (D.images disk.old)) }
-    ensures cause { HasCause (D.fault_count disk.old) (D.fault_count disk.new) result }
+    requires within { ReachesTo to (D.seen disk.old).images }
+    ensures done { OnOk result (Follows (λ earlier image. image ≡ take to earlier)
+        (D.seen disk.old).images (D.seen disk.new).images) }
+    ensures crash { Follows (CutShort to) (D.seen disk.old).images (D.seen disk.new).images }
+    ensures any_moment { EachMoment D.seen disk.old disk.new
+        (WithStep (CutShort to) (D.seen disk.old).images) }
+    ensures cause { HasCause (D.seen disk.old).faults (D.seen disk.new).faults result }
 {
     disk.cut(to)?;
     disk.sync()?;

@@ -8,7 +8,7 @@ use Rattle.journal.proofs.mends.mend_due.Goals as goal
 
 pub returns-in-Nothing : goal.returns-in-Nothing
 returns-in-Nothing g c =
-    let shut = cut_where_shut (g.D.Disk.images c.args.disk.now) c.args.place c.args.due.now c.in-Nothing.is in
+    let shut = cut_where_shut (g.D.Disk.seen c.args.disk.now).images c.args.place c.args.due.now c.in-Nothing.is in
     let cut = c.mend_cut.ensures in
     record {
       mended = on_ok_weaker c.mend_cut.result (λ settles all pending keeps. settles all (shut all pending keeps)) cut.mended;
@@ -20,7 +20,7 @@ returns-in-Nothing g c =
 
 pub returns-in_ok-close_gate-in-Gate : goal.returns-in_ok-close_gate-in-Gate
 returns-in_ok-close_gate-in-Gate g c =
-    let images = g.D.Disk.images c.args.disk.now in
+    let images = (g.D.Disk.seen c.args.disk.now).images in
     let gate = gate_where_gate images c.args.place c.args.due.now c.in-Gate.is in
     let shut = λ (all pending : List (List ℕ)) (keeps : Keeps images c.args.place c.args.due.now all pending). c.in_ok-close_gate-in-Gate.ensures.done all pending (gate all pending keeps) in
     let cut = c.mend_cut-in-Gate.ensures in
@@ -28,7 +28,7 @@ returns-in_ok-close_gate-in-Gate g c =
       mended = on_ok_weaker c.mend_cut-in-Gate.result (λ settles all pending keeps. settles all (shut all pending keeps)) cut.mended;
       nothing_due = cut.nothing_due;
       kept = λ all pending keeps. inl (cut.kept all (shut all pending keeps));
-      any_moment = λ all pending keeps. joined g.D.Disk.clock g.D.Disk.images_since c.args.disk.now c.close_gate.new.disk c.mend_cut-in-Gate.new.disk (StandsFor all pending)
+      any_moment = λ all pending keeps. joined g.D.Disk.seen c.args.disk.now c.close_gate.new.disk c.mend_cut-in-Gate.new.disk (StandsFor all pending)
           (c.close_gate.ensures.any_moment all pending (gate all pending keeps)) (cut.any_moment all pending (shut all pending keeps));
       cause = search rules;
     }

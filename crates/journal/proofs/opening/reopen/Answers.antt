@@ -10,17 +10,17 @@ use Rattle.journal.proofs.opening.reopen.Given.{Over}
 use Rattle.journal.proofs.opening.reopen.Goals.{After-due_at-due, After-mend_due}
 use Rattle.journal.proofs.opening.reopen.Goals as goal
 
-kept : (g : Over) (c : After-due_at-due g) → Keeps (g.D.Disk.images c.args.disk.now) c.in_ok-records.records.place c.due_at-due.result (payloads c.in_ok-records.records.payloads.items) []
+kept : (g : Over) (c : After-due_at-due g) → Keeps (g.D.Disk.seen c.args.disk.now).images c.in_ok-records.records.place c.due_at-due.result (payloads c.in_ok-records.records.payloads.items) []
 kept g c =
     let read = c.in_ok-records.ensures in
-    due_keeps c.args.bytes.now c.in_ok-records.records.place (payloads c.in_ok-records.records.payloads.items) read.front read.all (g.D.Disk.images c.args.disk.now) c.requires.alone c.due_at-due.result c.due_at-due.ensures
+    due_keeps c.args.bytes.now c.in_ok-records.records.place (payloads c.in_ok-records.records.payloads.items) read.front read.all (g.D.Disk.seen c.args.disk.now).images c.requires.alone c.due_at-due.result c.due_at-due.ensures
 
-moments : (g : Over) (c : After-mend_due g) → Keeps (g.D.Disk.images c.args.disk.now) c.in_ok-records.records.place c.due_at-due.result (payloads c.in_ok-records.records.payloads.items) []
-    → EachMoment g.D.Disk.clock g.D.Disk.images_since c.args.disk.now c.mend_due.new.disk (λ image. decode image ≡ decode c.args.bytes.now)
+moments : (g : Over) (c : After-mend_due g) → Keeps (g.D.Disk.seen c.args.disk.now).images c.in_ok-records.records.place c.due_at-due.result (payloads c.in_ok-records.records.payloads.items) []
+    → EachMoment g.D.Disk.seen c.args.disk.now c.mend_due.new.disk (λ image. decode image ≡ decode c.args.bytes.now)
 moments g c keeps =
     let read = c.in_ok-records.ensures in
     let all = payloads c.in_ok-records.records.payloads.items in
-    weaker g.D.Disk.clock g.D.Disk.images_since c.args.disk.now c.mend_due.new.disk (StandsFor all []) (λ image. decode image ≡ decode c.args.bytes.now)
+    weaker g.D.Disk.seen c.args.disk.now c.mend_due.new.disk (StandsFor all []) (λ image. decode image ≡ decode c.args.bytes.now)
     (stands_as c.args.bytes.now c.in_ok-records.records.place all read.front read.all) (c.mend_due.ensures.any_moment all [] keeps)
 
 pub mend_due-requires-clause-kept : goal.mend_due-requires-clause-kept

@@ -2,7 +2,7 @@
 use Rattle.std.proofs.Common.{◌≡◌, ℕ, List, [], ◌∷◌, ◌++◌, refl, rules, subst, sym}
 use Rattle.std.specs.Prelude.{Some}
 use Rattle.disk_model.specs.declared.disk_calls.DiskCall.{DiskCall}
-use Rattle.disk_model.specs.Calls.{Images, begun_with}
+use Rattle.disk_model.specs.Calls.{Images, begun_with, seen_after}
 use Rattle.disk_model.specs.Disks.{Alone, NoFurther}
 use Rattle.disk_model.specs.HeldImages.{images_now}
 use Rattle.disk_model.proofs.Images.{alone, behind, content_left, quiet, replayed_behind, time_behind}
@@ -28,6 +28,9 @@ pub returns-clause-crash : goal.returns-clause-crash
 returns-clause-crash c = images_hold (goal.at.returns-clause-crash c).After-push_reserved (λ after. NoFurther (images_now c.args.self.now) after) (quiet c.args.self.now.calls.items _ _ c.args.self.now.replayed c.args.call c.requires)
 
 pub returns-clause-alone : goal.returns-clause-alone
-returns-clause-alone c is_sync = images_hold (goal.at.returns-clause-alone c).After-push_reserved (λ after. Alone (Some c.args.self.now.content.items) after)
-    (subst (λ (call : DiskCall). Alone (Some c.args.self.now.content.items) (Images (c.args.self.now.calls.items ++ call ∷ []) (begun_with c.args.self.now.start c.args.self.now.content.items) c.args.self.now.content.items)) (sym is_sync)
-    (alone c.args.self.now.calls.items _ _ c.args.self.now.replayed))
+returns-clause-alone c is_sync =
+    let calls = c.args.self.now.calls.items in
+    let content = c.args.self.now.content.items in
+    let start = begun_with c.args.self.now.start content in
+    images_hold (goal.at.returns-clause-alone c).After-push_reserved (λ after. (image : List ℕ) → after image → Some content ≡ Some image)
+    (subst (λ (call : DiskCall). Alone (seen_after (calls ++ call ∷ []) start content 0)) (sym is_sync) (alone calls start content c.args.self.now.replayed 0))

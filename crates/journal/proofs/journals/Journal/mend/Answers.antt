@@ -13,6 +13,6 @@ invariant_of-self g c =
 
 pub returns-clause-mended : goal.returns-clause-mended
 returns-clause-mended g c = subst
-    (λ (journal : JournalState g.row.D.Denot). OnOk c.mend_due.result ((all pending : List (List ℕ)) → KeepsRecords g.D.Disk.images journal all pending
-    → Settled (g.D.Disk.images c.mend_due.new.disk) c.self.inside.place all))
+    (λ (journal : JournalState g.row.D.Denot). OnOk c.mend_due.result ((all pending : List (List ℕ)) → KeepsRecords g.D.Disk.seen journal all pending
+    → Settled (g.D.Disk.seen c.mend_due.new.disk).images c.self.inside.place all))
     c.self.view_is c.mend_due.ensures.mended

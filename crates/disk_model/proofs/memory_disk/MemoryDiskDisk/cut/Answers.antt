@@ -1,0 +1,5 @@
+-- Time goes on by the call that was kept.
+use Rattle.disk_model.proofs.memory_disk.MemoryDiskDisk.cut.Goals as goal
+
+pub returns-clause-time : goal.returns-clause-time
+returns-clause-time c = c.cut-kept.ensures.time _ _
