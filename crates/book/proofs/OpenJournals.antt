@@ -4,7 +4,7 @@ use Rattle.std.specs.Prelude.{IfErr, IfOk, IfSome, Result, Ok, Err}
 use Rattle.std.specs.declared.alloc.Global.{Global}
 use Rattle.std.proofs.lemmas.List.{take_all}
 use Rattle.decimal_rank.specs.Causes.{Rose}
-use Rattle.disk_model.specs.Disks.{EachMoment, NoFurther}
+use Rattle.disk_model.specs.Disks.{DiskState, EachMoment, NoFurther, OnlyNow}
 use Rattle.journal.specs.declared.dues.Due.TheVariants.{Nothing}
 use Rattle.journal.specs.declared.opening.OpenFault.{OpenFault}
 use Rattle.journal.specs.declared.opening.OpenFault.TheVariants as open_fault
@@ -45,82 +45,82 @@ establishes rules frame H frame_is is image (inl (inr none)) = inl none
 establishes rules frame H frame_is is image (inr (inl none)) = inl none
 establishes rules frame H frame_is is image (inr (inr one)) = inr (refl, one ∙ ap Some (frame_is ∙ ap spellings is))
 
-module _ {D : Type 0} (images : D → List ℕ → Type 0) (clock : D → ℕ) (since : D → ℕ → List ℕ → Type 0) (faults : D → ℕ) where
+module _ {D : Type 0} (seen : D → DiskState) where
   -- a book of a journal and its entries
-  pub reopened : (journal : JournalState D) (H : History) (opening : ℕ) → IsLegal H → Settled (images journal.disk) journal.place (spellings H) → journal.due ≡ Nothing → opening ≤ faults journal.disk
-      → IsKept images clock since faults (record { journal = journal; history = H; pending = None }) opening
+  pub reopened : (journal : JournalState D) (H : History) (opening : ℕ) → IsLegal H → Settled (seen journal.disk).images journal.place (spellings H) → journal.due ≡ Nothing → opening ≤ (seen journal.disk).faults
+      → IsKept seen (record { journal = journal; history = H; pending = None }) opening
   reopened journal H opening legal settled nothing later = record {
     legal = legal;
-    keeps = settled_keeps images journal H None nothing settled;
+    keeps = settled_keeps seen journal H None nothing settled;
     accepted = λ e is. absurd (cc is);
     rose = λ some. absurd (cc some);
     opened = later;
   }
 
   -- no call was made on the disk, each of whose images gives the records
-  module _ (only_now : (disk : D) (image : List ℕ) → since disk (clock disk) image → images disk image) (rules : Rules) (payloads : List Text) (opening : ℕ) (disk : D)
-      (alone : (image : List ℕ) → images disk image → decode image ≡ Some payloads) where
-    pub records_stay : EachMoment clock since disk disk (Establishes rules payloads)
-    records_stay = started clock since disk (Establishes rules payloads) (λ image left. inl (alone image (only_now disk image left)))
+  module _ (only_now : (disk : D) → OnlyNow (seen disk)) (rules : Rules) (payloads : List Text) (opening : ℕ) (disk : D)
+      (alone : (image : List ℕ) → (seen disk).images image → decode image ≡ Some payloads) where
+    pub records_stay : EachMoment seen disk disk (Establishes rules payloads)
+    records_stay = started seen disk (Establishes rules payloads) (λ image left. inl (alone image (only_now disk image left)))
 
-    why_not : (why : BookFault) → Stops rules payloads why → WhyNot images clock since faults rules payloads opening disk disk why
+    why_not : (why : BookFault) → Stops rules payloads why → WhyNot seen rules payloads opening disk disk why
     why_not fault.Disk stops = absurd stops
     why_not fault.Header stops = absurd stops
     why_not (fault.Damaged entry) stops = stops
     why_not fault.RulesDiffer stops = stops
     why_not fault.Memory stops = tt
 
-    pub given_up : (why : BookFault) → Stops rules payloads why → GivenUp images clock since faults rules payloads opening disk disk why
+    pub given_up : (why : BookFault) → Stops rules payloads why → GivenUp seen rules payloads opening disk disk why
     given_up why stops = record { causes = why_not why stops; later = omega arith; moments = records_stay }
 
-    pub taken_up : (book : Seen D) (H : History) → book ≡ record { disk = disk; history = H; pending = None; opening = opening } → IsSound images clock since faults book → OpensWith rules payloads H
-        → TakenUp images clock since faults rules payloads opening disk book
+    pub taken_up : (book : Seen D) (H : History) → book ≡ record { disk = disk; history = H; pending = None; opening = opening } → IsSound seen book → OpensWith rules payloads H
+        → TakenUp seen rules payloads opening disk book
     taken_up book H is sound opens =
-        subst (λ (book : Seen D). TakenUp images clock since faults rules payloads opening disk book) (sym is)
-        (record { opens = opens; alone = refl; opening_is = refl; sound = subst (IsSound images clock since faults) is sound; later = omega arith; moments = records_stay })
+        subst (λ (book : Seen D). TakenUp seen rules payloads opening disk book) (sym is)
+        (record { opens = opens; alone = refl; opening_is = refl; sound = subst (IsSound seen) is sound; later = omega arith; moments = records_stay })
 
   -- the founding entry was to be added
-  module _ (rules : Rules) (opening : ℕ) (old new : D) (moments : EachMoment clock since old new (Establishes rules [])) (later : faults old ≤ faults new) where
-    pub established : (book : Seen D) (H : History) → book ≡ record { disk = new; history = H; pending = None; opening = opening } → IsSound images clock since faults book → H ≡ founding rules ∷ []
-        → TakenUp images clock since faults rules [] opening old book
+  module _ (rules : Rules) (opening : ℕ) (old new : D) (moments : EachMoment seen old new (Establishes rules [])) (later : (seen old).faults ≤ (seen new).faults) where
+    pub established : (book : Seen D) (H : History) → book ≡ record { disk = new; history = H; pending = None; opening = opening } → IsSound seen book → H ≡ founding rules ∷ []
+        → TakenUp seen rules [] opening old book
     established book H is sound founded =
-        subst (λ (book : Seen D). TakenUp images clock since faults rules [] opening old book) (sym is)
-        (record { opens = founded; alone = refl; opening_is = refl; sound = subst (IsSound images clock since faults) is sound; later = later; moments = moments })
+        subst (λ (book : Seen D). TakenUp seen rules [] opening old book) (sym is)
+        (record { opens = founded; alone = refl; opening_is = refl; sound = subst (IsSound seen) is sound; later = later; moments = moments })
 
-    pub not_established : (why : BookFault) → why ≡ fault.Disk → Rose (faults old) (faults new) → GivenUp images clock since faults rules [] opening old new why
+    pub not_established : (why : BookFault) → why ≡ fault.Disk → Rose (seen old).faults (seen new).faults → GivenUp seen rules [] opening old new why
     not_established why is rose =
-        subst (λ (why : BookFault). GivenUp images clock since faults rules [] opening old new why) (sym is) (record { causes = rose; later = later; moments = moments })
+        subst (λ (why : BookFault). GivenUp seen rules [] opening old new why) (sym is) (record { causes = rose; later = later; moments = moments })
 
 -- From the disk that is handed in to the open journal, and on to the book.
-module _ {D : Type 0} (content : D → Option (List ℕ)) (images : D → List ℕ → Type 0) (clock : D → ℕ) (since : D → ℕ → List ℕ → Type 0) (faults : D → ℕ) (rules : Rules) (disk mid : D) where
+module _ {D : Type 0} (seen : D → DiskState) (rules : Rules) (disk mid : D) where
   -- what the content gives
-  opens_to : (payloads : List Text) → Reads (content disk) payloads → (image : List ℕ) → Establishes rules payloads image → OpensTo (content disk) rules image
-  opens_to payloads reads image here = by (content disk) reads here
+  opens_to : (payloads : List Text) → Reads (seen disk).content payloads → (image : List ℕ) → Establishes rules payloads image → OpensTo (seen disk).content rules image
+  opens_to payloads reads image here = by (seen disk).content reads here
     where
       by : (told : Option (List ℕ)) → Reads told payloads → Establishes rules payloads image → OpensTo told rules image
       by None reads here = tt
       by (Some bytes) reads (inl same) = inl (same ∙ sym reads)
       by (Some bytes) reads (inr (none, founded)) = inr (reads ∙ ap Some none, founded)
 
-  pub decodes_to : (image : List ℕ) → DecodesAs (content disk) image → OpensTo (content disk) rules image
-  decodes_to image here = by (content disk) here
+  pub decodes_to : (image : List ℕ) → DecodesAs (seen disk).content image → OpensTo (seen disk).content rules image
+  decodes_to image here = by (seen disk).content here
     where
       by : (told : Option (List ℕ)) → DecodesAs told image → OpensTo told rules image
       by None here = tt
       by (Some bytes) here = inl here
 
-  turned_on : (payloads : List Text) (after : D) → Reads (content disk) payloads → Turned clock images since disk mid (DecodesAs (content disk)) → EachMoment clock since mid after (Establishes rules payloads)
-      → Turned clock images since disk after (OpensTo (content disk) rules)
+  turned_on : (payloads : List Text) (after : D) → Reads (seen disk).content payloads → Turned seen disk mid (DecodesAs (seen disk).content) → EachMoment seen mid after (Establishes rules payloads)
+      → Turned seen disk after (OpensTo (seen disk).content rules)
   turned_on payloads after reads turned moments = record {
     synced = turned.synced;
     at_entry = turned.at_entry;
-    turned = joined clock since turned.synced mid after (OpensTo (content disk) rules)
-        (weaker clock since turned.synced mid (DecodesAs (content disk)) (OpensTo (content disk) rules) decodes_to turned.turned)
-        (weaker clock since mid after (Establishes rules payloads) (OpensTo (content disk) rules) (opens_to payloads reads) moments);
+    turned = joined seen turned.synced mid after (OpensTo (seen disk).content rules)
+        (weaker seen turned.synced mid (DecodesAs (seen disk).content) (OpensTo (seen disk).content rules) decodes_to turned.turned)
+        (weaker seen mid after (Establishes rules payloads) (OpensTo (seen disk).content rules) (opens_to payloads reads) moments);
   }
 
-  opened : (payloads : List Text) (opening : ℕ) (book : Seen D) → opening ≡ faults disk → faults disk ≤ faults mid → Reads (content disk) payloads → Turned clock images since disk mid (DecodesAs (content disk))
-      → TakenUp images clock since faults rules payloads opening mid book → Opened content images clock since faults rules disk book
+  opened : (payloads : List Text) (opening : ℕ) (book : Seen D) → opening ≡ (seen disk).faults → (seen disk).faults ≤ (seen mid).faults → Reads (seen disk).content payloads → Turned seen disk mid (DecodesAs (seen disk).content)
+      → TakenUp seen rules payloads opening mid book → Opened seen rules disk book
   opened payloads opening book opening_is later reads turned taken = record {
     payloads = payloads;
     reads = reads;
@@ -132,51 +132,51 @@ module _ {D : Type 0} (content : D → Option (List ℕ)) (images : D → List �
     moments = turned_on payloads book.disk reads turned taken.moments;
   }
 
-  causes : (payloads : List Text) (opening : ℕ) (after : D) (why : BookFault) → faults disk ≤ faults mid → Reads (content disk) payloads → WhyNot images clock since faults rules payloads opening mid after why
-      → Causes content images clock since faults rules disk after why
+  causes : (payloads : List Text) (opening : ℕ) (after : D) (why : BookFault) → (seen disk).faults ≤ (seen mid).faults → Reads (seen disk).content payloads → WhyNot seen rules payloads opening mid after why
+      → Causes seen rules disk after why
   causes payloads opening after fault.Disk later reads why = omega (arith, later, why)
   causes payloads opening after fault.Header later reads why = absurd why
   causes payloads opening after (fault.Damaged entry) later reads why = (payloads, reads, why)
   causes payloads opening after fault.RulesDiffer later reads why = (payloads, reads, why)
   causes payloads opening after fault.Memory later reads why = tt
 
-  refused : (payloads : List Text) (opening : ℕ) (after : D) (why : BookFault) → faults disk ≤ faults mid → Reads (content disk) payloads → Turned clock images since disk mid (DecodesAs (content disk))
-      → GivenUp images clock since faults rules payloads opening mid after why → Refused content images clock since faults rules disk after why
+  refused : (payloads : List Text) (opening : ℕ) (after : D) (why : BookFault) → (seen disk).faults ≤ (seen mid).faults → Reads (seen disk).content payloads → Turned seen disk mid (DecodesAs (seen disk).content)
+      → GivenUp seen rules payloads opening mid after why → Refused seen rules disk after why
   refused payloads opening after why later reads turned given = record {
     causes = causes payloads opening after why later reads given.causes;
     later = omega (arith, later, given.later);
     moments = inr (turned_on payloads after reads turned given.moments);
   }
 
-  pub opened_result : (payloads : List Text) (opening : ℕ) → opening ≡ faults disk → faults disk ≤ faults mid → Reads (content disk) payloads → Turned clock images since disk mid (DecodesAs (content disk))
-      → (result : Result (Seen D) (D × BookFault)) → TakesUp images clock since faults rules payloads opening mid result → IfOk result (Opened content images clock since faults rules disk)
+  pub opened_result : (payloads : List Text) (opening : ℕ) → opening ≡ (seen disk).faults → (seen disk).faults ≤ (seen mid).faults → Reads (seen disk).content payloads → Turned seen disk mid (DecodesAs (seen disk).content)
+      → (result : Result (Seen D) (D × BookFault)) → TakesUp seen rules payloads opening mid result → IfOk result (Opened seen rules disk)
   opened_result payloads opening opening_is later reads turned (Ok book) taken = opened payloads opening book opening_is later reads turned taken
   opened_result payloads opening opening_is later reads turned (Err given) taken = tt
 
-  pub refused_result : (payloads : List Text) (opening : ℕ) → faults disk ≤ faults mid → Reads (content disk) payloads → Turned clock images since disk mid (DecodesAs (content disk))
-      → (result : Result (Seen D) (D × BookFault)) → TakesUp images clock since faults rules payloads opening mid result → IfErr result (λ given. Refused content images clock since faults rules disk given.0 given.1)
+  pub refused_result : (payloads : List Text) (opening : ℕ) → (seen disk).faults ≤ (seen mid).faults → Reads (seen disk).content payloads → Turned seen disk mid (DecodesAs (seen disk).content)
+      → (result : Result (Seen D) (D × BookFault)) → TakesUp seen rules payloads opening mid result → IfErr result (λ given. Refused seen rules disk given.0 given.1)
   refused_result payloads opening later reads turned (Ok book) taken = tt
   refused_result payloads opening later reads turned (Err given) taken = refused payloads opening given.0 given.1 later reads turned taken
 
 -- a journal that wasn't opened
-module _ {D : Type 0} (content : D → Option (List ℕ)) (images : D → List ℕ → Type 0) (clock : D → ℕ) (since : D → ℕ → List ℕ → Type 0) (faults : D → ℕ) (rules : Rules) (disk after : D) where
-  turns_on : Turns clock images since disk after (DecodesAs (content disk)) → Turns clock images since disk after (OpensTo (content disk) rules)
+module _ {D : Type 0} (seen : D → DiskState) (rules : Rules) (disk after : D) where
+  turns_on : Turns seen disk after (DecodesAs (seen disk).content) → Turns seen disk after (OpensTo (seen disk).content rules)
   turns_on (inl entry) = inl entry
   turns_on (inr turned) = inr (record {
     synced = turned.synced;
     at_entry = turned.at_entry;
-    turned = weaker clock since turned.synced after (DecodesAs (content disk)) (OpensTo (content disk) rules) (decodes_to content images clock since faults rules disk after) turned.turned;
+    turned = weaker seen turned.synced after (DecodesAs (seen disk).content) (OpensTo (seen disk).content rules) (decodes_to seen rules disk after) turned.turned;
   })
 
-  pub not_opened : (why : OpenFault) → (why ≡ open_fault.Header → IfSome (content disk) (λ bytes. decode bytes ≡ None))
-      → (why ≢ open_fault.Disk → (content after ≡ content disk) × NoFurther (images disk) (images after)) → (why ≡ open_fault.Disk → Rose (faults disk) (faults after))
-      → faults disk ≤ faults after → Turns clock images since disk after (DecodesAs (content disk)) → (told : BookFault) → told ≡ told_as why → Refused content images clock since faults rules disk after told
+  pub not_opened : (why : OpenFault) → (why ≡ open_fault.Header → IfSome (seen disk).content (λ bytes. decode bytes ≡ None))
+      → (why ≢ open_fault.Disk → ((seen after).content ≡ (seen disk).content) × NoFurther (seen disk).images (seen after).images) → (why ≡ open_fault.Disk → Rose (seen disk).faults (seen after).faults)
+      → (seen disk).faults ≤ (seen after).faults → Turns seen disk after (DecodesAs (seen disk).content) → (told : BookFault) → told ≡ told_as why → Refused seen rules disk after told
   not_opened why header untouched rose later turns told is =
-      subst (λ (told : BookFault). Refused content images clock since faults rules disk after told) (sym is) (by why header untouched rose)
+      subst (λ (told : BookFault). Refused seen rules disk after told) (sym is) (by why header untouched rose)
     where
-      by : (why : OpenFault) → (why ≡ open_fault.Header → IfSome (content disk) (λ bytes. decode bytes ≡ None))
-          → (why ≢ open_fault.Disk → (content after ≡ content disk) × NoFurther (images disk) (images after)) → (why ≡ open_fault.Disk → Rose (faults disk) (faults after))
-          → Refused content images clock since faults rules disk after (told_as why)
+      by : (why : OpenFault) → (why ≡ open_fault.Header → IfSome (seen disk).content (λ bytes. decode bytes ≡ None))
+          → (why ≢ open_fault.Disk → ((seen after).content ≡ (seen disk).content) × NoFurther (seen disk).images (seen after).images) → (why ≡ open_fault.Disk → Rose (seen disk).faults (seen after).faults)
+          → Refused seen rules disk after (told_as why)
       by open_fault.Disk header untouched rose = record { causes = rose refl; later = later; moments = turns_on turns }
       by open_fault.Header header untouched rose =
           let same = untouched (λ is. cc) in

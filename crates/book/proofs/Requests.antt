@@ -4,7 +4,7 @@ use Rattle.std.specs.Prelude.{◌&&◌, IsTrue, is_some, nat_le, sum_by}
 use Rattle.std.proofs.lemmas.List.{append-nil}
 use Rattle.std.proofs.lemmas.List.Sums.{sum_by_push, sum_by-cons}
 use Rattle.decimal_rank.specs.Causes.{Rose}
-use Rattle.disk_model.specs.Disks.{EachMoment}
+use Rattle.disk_model.specs.Disks.{DiskState, EachMoment, OnlyNow}
 use Rattle.journal.specs.Journals.{JournalState}
 use Rattle.journal.specs.Moments.{started, weaker}
 use Rattle.rulebook.specs.declared.limits.TheConstants.{MAX_ENTRY_BYTES}
@@ -67,77 +67,77 @@ room_for laws H e accepted legal = record {
   room = omega (arith, laws.fit (H ++ e ∷ []) legal, sum_by_push (λ (e : Entry). length (entry_bytes e.core) + 5) H e, sum_spellings H);
 }
 
-module _ {D : Type 0} (images : D → List ℕ → Type 0) (clock : D → ℕ) (since : D → ℕ → List ℕ → Type 0) (faults : D → ℕ) where
+module _ {D : Type 0} (seen : D → DiskState) where
   -- the parts of a book, as contracts see it
   abbrev pub seen_by : Parts D → ℕ → Seen D
   seen_by parts opening = record { disk = parts.journal.disk; history = parts.history; pending = parts.pending; opening = opening }
 
-  pub sound_of : (parts : Parts D) (opening : ℕ) → IsKept images clock since faults parts opening → StandsFor (images parts.journal.disk) parts.history parts.pending
-      → IsSound images clock since faults (seen_by parts opening)
+  pub sound_of : (parts : Parts D) (opening : ℕ) → IsKept seen parts opening → StandsFor (seen parts.journal.disk).images parts.history parts.pending
+      → IsSound seen (seen_by parts opening)
   sound_of parts opening kept stands = record { legal = kept.legal; stands = stands; accepted = kept.accepted; rose = kept.rose; opened = kept.opened }
 
   -- the journaling of an entry, by its exits
-  pub accepts_memory : ((disk : D) (image : List ℕ) → since disk (clock disk) image → images disk image) → (journal : JournalState D) (H after : History) (pending : Option Entry) (e : Entry)
-      → after ≡ H → KeepsBook images journal H pending → StandsFor (images journal.disk) H pending
-      → Accepts images clock since faults (record { journal = journal; history = H; pending = pending }) e answered.Memory (record { journal = journal; history = after; pending = pending })
+  pub accepts_memory : ((disk : D) → OnlyNow (seen disk)) → (journal : JournalState D) (H after : History) (pending : Option Entry) (e : Entry)
+      → after ≡ H → KeepsBook seen journal H pending → StandsFor (seen journal.disk).images H pending
+      → Accepts seen (record { journal = journal; history = H; pending = pending }) e answered.Memory (record { journal = journal; history = after; pending = pending })
   accepts_memory only_now journal H after pending e same keeps stands = record {
     comes = (refl, same, refl);
-    keeps = subst (λ (H : History). KeepsBook images journal H pending) (sym same) keeps;
-    moments = started clock since journal.disk (HoldsOneOf H pending (e ∷ [])) (λ image left. inl (stands image (only_now journal.disk image left)));
+    keeps = subst (λ (H : History). KeepsBook seen journal H pending) (sym same) keeps;
+    moments = started seen journal.disk (HoldsOneOf H pending (e ∷ [])) (λ image left. inl (stands image (only_now journal.disk image left)));
     later = omega arith;
   }
 
   pub accepts_reply : (old new : JournalState D) (H after : History) (pending left : Option Entry) (e : Entry) (r : Reply)
-      → after ≡ H ++ e ∷ [] → left ≡ None → r ≡ e.reply → KeepsBook images new (H ++ e ∷ []) None
-      → EachMoment clock since old.disk new.disk (HoldsOneOf H pending (e ∷ [])) → faults old.disk ≤ faults new.disk
-      → Accepts images clock since faults (record { journal = old; history = H; pending = pending }) e (answered.Reply r) (record { journal = new; history = after; pending = left })
+      → after ≡ H ++ e ∷ [] → left ≡ None → r ≡ e.reply → KeepsBook seen new (H ++ e ∷ []) None
+      → EachMoment seen old.disk new.disk (HoldsOneOf H pending (e ∷ [])) → (seen old.disk).faults ≤ (seen new.disk).faults
+      → Accepts seen (record { journal = old; history = H; pending = pending }) e (answered.Reply r) (record { journal = new; history = after; pending = left })
   accepts_reply old new H after pending left e r grown none reply keeps moments later = record {
     comes = (reply, grown, none);
-    keeps = subst (λ (H : History). KeepsBook images new H left) (sym grown) (subst (λ (p : Option Entry). KeepsBook images new (H ++ e ∷ []) p) (sym none) keeps);
+    keeps = subst (λ (H : History). KeepsBook seen new H left) (sym grown) (subst (λ (p : Option Entry). KeepsBook seen new (H ++ e ∷ []) p) (sym none) keeps);
     moments = moments;
     later = later;
   }
 
   pub accepts_fault : (old new : JournalState D) (H after : History) (pending left : Option Entry) (e : Entry)
-      → after ≡ H → (left ≡ pending) ⊎ (left ≡ Some e) → KeepsBook images new H left → Rose (faults old.disk) (faults new.disk)
-      → EachMoment clock since old.disk new.disk (HoldsOneOf H pending (e ∷ [])) → faults old.disk ≤ faults new.disk
-      → Accepts images clock since faults (record { journal = old; history = H; pending = pending }) e answered.DiskFault (record { journal = new; history = after; pending = left })
+      → after ≡ H → (left ≡ pending) ⊎ (left ≡ Some e) → KeepsBook seen new H left → Rose (seen old.disk).faults (seen new.disk).faults
+      → EachMoment seen old.disk new.disk (HoldsOneOf H pending (e ∷ [])) → (seen old.disk).faults ≤ (seen new.disk).faults
+      → Accepts seen (record { journal = old; history = H; pending = pending }) e answered.DiskFault (record { journal = new; history = after; pending = left })
   accepts_fault old new H after pending left e same either keeps rose moments later = record {
     comes = (same, either, rose);
-    keeps = subst (λ (H : History). KeepsBook images new H left) (sym same) keeps;
+    keeps = subst (λ (H : History). KeepsBook seen new H left) (sym same) keeps;
     moments = moments;
     later = later;
   }
 
-  module _ (only_now : (disk : D) (image : List ℕ) → since disk (clock disk) image → images disk image) (old : Seen D) (sound : IsSound images clock since faults old) (asked : Addressed) where
-    no_moment : EachMoment clock since old.disk old.disk (HoldsOneOf old.history old.pending (added_by old.history asked))
-    no_moment = started clock since old.disk (HoldsOneOf old.history old.pending (added_by old.history asked)) (λ image left. inl (sound.stands image (only_now old.disk image left)))
+  module _ (only_now : (disk : D) → OnlyNow (seen disk)) (old : Seen D) (sound : IsSound seen old) (asked : Addressed) where
+    no_moment : EachMoment seen old.disk old.disk (HoldsOneOf old.history old.pending (added_by old.history asked))
+    no_moment = started seen old.disk (HoldsOneOf old.history old.pending (added_by old.history asked)) (λ image left. inl (sound.stands image (only_now old.disk image left)))
 
     -- a request that adds nothing
-    pub quiet_acts : (r : Reply) → r ≡ reply_by old.history asked → added_by old.history asked ≡ [] → Acts images clock since faults old asked (answered.Reply r) old
+    pub quiet_acts : (r : Reply) → r ≡ reply_by old.history asked → added_by old.history asked ≡ [] → Acts seen old asked (answered.Reply r) old
     quiet_acts r reply none = record {
       before = sound;
       after = sound;
       told = record { legal = sound.legal; leads = (reply, sym (append-nil old.history) ∙ ap (λ more. old.history ++ more) (sym none)); later = omega arith; opening = refl };
-      leaves = subst (λ (added : History). Settles images clock since faults old added old) (sym none) refl;
+      leaves = subst (λ (added : History). Settles seen old added old) (sym none) refl;
       moments = no_moment;
-      runs = no_run images clock since faults only_now old sound;
+      runs = no_run seen only_now old sound;
     }
 
     -- want of memory
-    pub memory_acts : Acts images clock since faults old asked answered.Memory old
+    pub memory_acts : Acts seen old asked answered.Memory old
     memory_acts = record {
       before = sound;
       after = sound;
       told = record { legal = sound.legal; leads = refl; later = omega arith; opening = refl };
       leaves = refl;
       moments = no_moment;
-      runs = no_run images clock since faults only_now old sound;
+      runs = no_run seen only_now old sound;
     }
 
   -- a request that adds an entry, once that was journaled or not
-  module _ (only_now : (disk : D) (image : List ℕ) → since disk (clock disk) image → images disk image)
-      (old new : Parts D) (opening : ℕ) (kept : IsKept images clock since faults old opening) (asked : Addressed) (e : Entry)
+  module _ (only_now : (disk : D) → OnlyNow (seen disk))
+      (old new : Parts D) (opening : ℕ) (kept : IsKept seen old opening) (asked : Addressed) (e : Entry)
       (added : added_by old.history asked ≡ e ∷ []) (is : IsAdded old.history asked.who asked.number asked.ask asked.moment e) where
     next_accepted : (x : Entry) → added_by old.history asked ≡ x ∷ [] → IsAccepted old.history x
     next_accepted x is_x =
@@ -159,7 +159,7 @@ module _ {D : Type 0} (images : D → List ℕ → Type 0) (clock : D → ℕ) (
     none_accepted H pending is_none x some = let wrong : None ≡ Some x = sym is_none ∙ some in absurd (cc wrong)
 
     -- what a book keeps true
-    pub kept_after : (answer : Answer) → Accepts images clock since faults old e answer new → IsKept images clock since faults new opening
+    pub kept_after : (answer : Answer) → Accepts seen old e answer new → IsKept seen new opening
     kept_after (answered.Reply r) w = record {
       legal = subst IsLegal (sym w.comes.1) is.legal;
       keeps = w.keeps;
@@ -185,27 +185,27 @@ module _ {D : Type 0} (images : D → List ℕ → Type 0) (clock : D → ℕ) (
     seen_same : new.journal ≡ old.journal → new.history ≡ old.history → new.pending ≡ old.pending → seen_by new opening ≡ seen_by old opening
     seen_same journal history pending = rw (journal, history, pending) refl
 
-    leads : (answer : Answer) → Accepts images clock since faults old e answer new → Leads (story_of faults (seen_by old opening)) asked answer (story_of faults (seen_by new opening))
+    leads : (answer : Answer) → Accepts seen old e answer new → Leads (story_of seen (seen_by old opening)) asked answer (story_of seen (seen_by new opening))
     leads (answered.Reply r) w = (w.comes.0 ∙ sym is.reply, w.comes.1 ∙ ap (λ more. old.history ++ more) (sym added))
     leads answered.DiskFault w = ((λ none. let wrong : e ∷ [] ≡ [] = sym added ∙ none in cc), w.comes.0, w.comes.2)
     leads answered.Memory w = w.comes.1
 
-    leaves : (answer : Answer) → Accepts images clock since faults old e answer new → Leaves images clock since faults (seen_by old opening) asked answer (seen_by new opening)
-    leaves (answered.Reply r) w = subst (λ (more : History). Settles images clock since faults (seen_by old opening) more (seen_by new opening)) (sym added) w.comes.2
+    leaves : (answer : Answer) → Accepts seen old e answer new → Leaves seen (seen_by old opening) asked answer (seen_by new opening)
+    leaves (answered.Reply r) w = subst (λ (more : History). Settles seen (seen_by old opening) more (seen_by new opening)) (sym added) w.comes.2
     leaves answered.DiskFault w = (e, added, w.comes.1)
     leaves answered.Memory w = seen_same w.comes.0 w.comes.1 w.comes.2
 
-    grown : (answer : Answer) → Accepts images clock since faults old e answer new → StartsWith new.history old.history
+    grown : (answer : Answer) → Accepts seen old e answer new → StartsWith new.history old.history
     grown (answered.Reply r) w = (e ∷ [], w.comes.1)
     grown answered.DiskFault w = ([], w.comes.0 ∙ sym (append-nil old.history))
     grown answered.Memory w = ([], w.comes.1 ∙ sym (append-nil old.history))
 
-    pub ready_acts : (answer : Answer) → Accepts images clock since faults old e answer new
-        → StandsFor (images old.journal.disk) old.history old.pending → StandsFor (images new.journal.disk) new.history new.pending
-        → Acts images clock since faults (seen_by old opening) asked answer (seen_by new opening)
+    pub ready_acts : (answer : Answer) → Accepts seen old e answer new
+        → StandsFor (seen old.journal.disk).images old.history old.pending → StandsFor (seen new.journal.disk).images new.history new.pending
+        → Acts seen (seen_by old opening) asked answer (seen_by new opening)
     ready_acts answer w stands stands_after =
-        let moments : EachMoment clock since old.journal.disk new.journal.disk (HoldsOneOf old.history old.pending (added_by old.history asked))
-        = subst (λ (more : History). EachMoment clock since old.journal.disk new.journal.disk (HoldsOneOf old.history old.pending more)) (sym added) w.moments in
+        let moments : EachMoment seen old.journal.disk new.journal.disk (HoldsOneOf old.history old.pending (added_by old.history asked))
+        = subst (λ (more : History). EachMoment seen old.journal.disk new.journal.disk (HoldsOneOf old.history old.pending more)) (sym added) w.moments in
         record {
           before = sound_of old opening kept stands;
           after = sound_of new opening (kept_after answer w) stands_after;
@@ -214,7 +214,7 @@ module _ {D : Type 0} (images : D → List ℕ → Type 0) (clock : D → ℕ) (
           moments = moments;
           runs = record {
             grown = grown answer w;
-            moments = weaker clock since old.journal.disk new.journal.disk (HoldsOneOf old.history old.pending (added_by old.history asked)) (IsBetween old.history new.history)
+            moments = weaker seen old.journal.disk new.journal.disk (HoldsOneOf old.history old.pending (added_by old.history asked)) (IsBetween old.history new.history)
                 (λ image. between_of old.history new.history old.pending (added_by old.history asked) image (grown answer w) kept.accepted next_accepted) moments;
             later = w.later;
             opening = refl;
@@ -223,12 +223,12 @@ module _ {D : Type 0} (images : D → List ℕ → Type 0) (clock : D → ℕ) (
 
   -- what contracts see of a book that is opened, and of one whose state alone changed
   pub acts_before : (old : Seen D) (parts : Parts D) (opening : ℕ) (asked : Addressed) (answer : Answer) (new : Seen D) → seen_by parts opening ≡ old
-      → Acts images clock since faults (seen_by parts opening) asked answer new → Acts images clock since faults old asked answer new
-  acts_before old parts opening asked answer new is acts = subst (λ (old : Seen D). Acts images clock since faults old asked answer new) is acts
+      → Acts seen (seen_by parts opening) asked answer new → Acts seen old asked answer new
+  acts_before old parts opening asked answer new is acts = subst (λ (old : Seen D). Acts seen old asked answer new) is acts
 
   pub acts_still : (old : Seen D) (parts : Parts D) (opening : ℕ) (asked : Addressed) (answer : Answer) (after : History) → seen_by parts opening ≡ old → after ≡ parts.history
-      → Acts images clock since faults (seen_by parts opening) asked answer (seen_by parts opening)
-      → Acts images clock since faults old asked answer (record { disk = parts.journal.disk; history = after; pending = parts.pending; opening = opening })
+      → Acts seen (seen_by parts opening) asked answer (seen_by parts opening)
+      → Acts seen old asked answer (record { disk = parts.journal.disk; history = after; pending = parts.pending; opening = opening })
   acts_still old parts opening asked answer after is same acts =
       acts_before old parts opening asked answer (record { disk = parts.journal.disk; history = after; pending = parts.pending; opening = opening }) is
-      (subst (λ (H : History). Acts images clock since faults (seen_by parts opening) asked answer (record { disk = parts.journal.disk; history = H; pending = parts.pending; opening = opening })) (sym same) acts)
+      (subst (λ (H : History). Acts seen (seen_by parts opening) asked answer (record { disk = parts.journal.disk; history = H; pending = parts.pending; opening = opening })) (sym same) acts)

@@ -1,7 +1,7 @@
 -- What contracts see of a book, and what one request makes of it.
 use Rattle.std.specs.Prelude.{◌≡◌, ◌⊎◌, ℕ, ◌≤◌, List, [], ◌∷◌, Option, None, Some, IsTrue, is_some}
 use Rattle.decimal_rank.specs.Causes.{Rose}
-use Rattle.disk_model.specs.Disks.{EachMoment}
+use Rattle.disk_model.specs.Disks.{DiskState, EachMoment}
 use Rattle.rulebook.specs.declared.answer.Answer.{Answer}
 use Rattle.rulebook.specs.declared.answer.Answer.TheVariants as answered
 use Rattle.rulebook.specs.declared.ask.Addressed.{Addressed}
@@ -19,18 +19,18 @@ pub record Seen (D : Type 0) : Type 0 where
   pub opening : ℕ
 
 -- the accepted entries of a book, with its disk's count of faults
-abbrev pub story_of : {D : Type 0} → (D → ℕ) → Seen D → Story
-story_of faults book = record { list = book.history; faults = faults book.disk; opening = book.opening }
+abbrev pub story_of : {D : Type 0} → (D → DiskState) → Seen D → Story
+story_of seen book = record { list = book.history; faults = (seen book.disk).faults; opening = book.opening }
 
--- The books of a disk: its images, its clock, what it might have held since a moment, and its count of faults.
-module _ {D : Type 0} (images : D → List ℕ → Type 0) (clock : D → ℕ) (images_since : D → ℕ → List ℕ → Type 0) (faults : D → ℕ) where
+-- The books of a disk, by what it tells in each state.
+module _ {D : Type 0} (seen : D → DiskState) where
   -- Its entries can come about, and the disk stands for them, with the pending one or without it. One is pending only where the disk failed since the opening.
   pub record IsSound (book : Seen D) : Type 0 where
     pub legal : IsLegal book.history
-    pub stands : StandsFor (images book.disk) book.history book.pending
+    pub stands : StandsFor (seen book.disk).images book.history book.pending
     pub accepted : (e : Entry) → book.pending ≡ Some e → IsAccepted book.history e
-    pub rose : IsTrue (is_some book.pending) → Rose book.opening (faults book.disk)
-    pub opened : book.opening ≤ faults book.disk
+    pub rose : IsTrue (is_some book.pending) → Rose book.opening (seen book.disk).faults
+    pub opened : book.opening ≤ (seen book.disk).faults
 
   -- Nothing was added: the book is as it was, and so is its disk, on which no call was made. Or something was: then nothing is pending.
   abbrev pub Settles : Seen D → History → Seen D → Type 0
@@ -47,15 +47,15 @@ module _ {D : Type 0} (images : D → List ℕ → Type 0) (clock : D → ℕ) (
   -- From one book to a later one each image holds a part of the later entries, no shorter than the earlier ones, or it and one entry that the rules accept next.
   pub record Runs (old new : Seen D) : Type 0 where
     pub grown : StartsWith new.history old.history
-    pub moments : EachMoment clock images_since old.disk new.disk (IsBetween old.history new.history)
-    pub later : faults old.disk ≤ faults new.disk
+    pub moments : EachMoment seen old.disk new.disk (IsBetween old.history new.history)
+    pub later : (seen old.disk).faults ≤ (seen new.disk).faults
     pub opening : new.opening ≡ old.opening
 
   -- One request is answered by the rules; at each moment of it each image holds the entries, with the one that was pending or with the one that is added.
   pub record Acts (old : Seen D) (asked : Addressed) (answer : Answer) (new : Seen D) : Type 0 where
     pub before : IsSound old
     pub after : IsSound new
-    pub told : IsTold (story_of faults old) asked answer (story_of faults new)
+    pub told : IsTold (story_of seen old) asked answer (story_of seen new)
     pub leaves : Leaves old asked answer new
-    pub moments : EachMoment clock images_since old.disk new.disk (HoldsOneOf old.history old.pending (added_by old.history asked))
+    pub moments : EachMoment seen old.disk new.disk (HoldsOneOf old.history old.pending (added_by old.history asked))
     pub runs : Runs old new

@@ -1,5 +1,5 @@
 -- A book in a hall: its state as the hall has it, and what an answer says of it.
-use Rattle.std.specs.Prelude.{ℕ}
+use Rattle.disk_model.specs.Disks.{DiskState}
 use Rattle.hall.specs.declared.stories.Story.{Story as HallStory}
 use Rattle.rulebook.specs.declared.answer.Answer.{Answer}
 use Rattle.rulebook.specs.declared.ask.Addressed.{Addressed}
@@ -8,8 +8,8 @@ use Rattle.rulebook.specs.Stories.{IsAddressed, IsTold, Story}
 use Rattle.book.specs.Books.{Seen}
 
 -- the accepted entries, with the disk's counts
-abbrev pub story_in : {D : Type 0} → (D → ℕ) → Seen D → HallStory Entry
-story_in faults book = record { list = book.history; faults = faults book.disk; opening = book.opening }
+abbrev pub story_in : {D : Type 0} → (D → DiskState) → Seen D → HallStory Entry
+story_in seen book = record { list = book.history; faults = (seen book.disk).faults; opening = book.opening }
 
 -- a state as the rules speak of it
 abbrev pub seen_as : HallStory Entry → Story

@@ -1,7 +1,7 @@
 -- What a journal keeps for a book, and what the journaling of an entry comes to.
 use Rattle.std.specs.Prelude.{◌≡◌, ◌⊎◌, ℕ, ◌+◌, ◌≤◌, ◌^◌, List, [], ◌∷◌, ◌++◌, Option, None, Some, IsTrue, is_some, length}
 use Rattle.decimal_rank.specs.Causes.{Rose}
-use Rattle.disk_model.specs.Disks.{EachMoment}
+use Rattle.disk_model.specs.Disks.{DiskState, EachMoment}
 use Rattle.journal.specs.Format.{place_behind}
 use Rattle.journal.specs.Journals.{JournalState}
 use Rattle.journal.specs.Kept.{KeepsSome}
@@ -21,8 +21,9 @@ spelled None = []
 spelled (Some e) = entry_bytes e.core ∷ []
 
 -- the journal keeps these entries, and perhaps the pending one
-abbrev pub KeepsBook : {D : Type 0} → (D → List ℕ → Type 0) → JournalState D → History → Option Entry → Type 0
-KeepsBook images journal H pending = KeepsSome (images journal.disk) journal.place journal.due (spellings H) (spelled pending)
+abbrev pub KeepsBook : {D : Type 0} → (D → DiskState) → JournalState D → History → Option Entry → Type 0
+KeepsBook seen journal H pending =
+    KeepsSome (seen journal.disk).images journal.place journal.due (spellings H) (spelled pending)
 
 -- an entry that has a spelling, for whose record there is room behind these entries
 pub record HasRoom (H : History) (e : Entry) : Type 0 where
@@ -36,25 +37,26 @@ pub record Parts (D : Type 0) : Type 0 where
   pub history : History
   pub pending : Option Entry
 
-module _ {D : Type 0} (images : D → List ℕ → Type 0) (clock : D → ℕ) (images_since : D → ℕ → List ℕ → Type 0) (faults : D → ℕ) where
+module _ {D : Type 0} (seen : D → DiskState) where
   -- what a book keeps true of its parts
   pub record IsKept (parts : Parts D) (opening : ℕ) : Type 0 where
     pub legal : IsLegal parts.history
-    pub keeps : KeepsBook images parts.journal parts.history parts.pending
+    pub keeps : KeepsBook seen parts.journal parts.history parts.pending
     pub accepted : (e : Entry) → parts.pending ≡ Some e → IsAccepted parts.history e
-    pub rose : IsTrue (is_some parts.pending) → Rose opening (faults parts.journal.disk)
-    pub opened : opening ≤ faults parts.journal.disk
+    pub rose : IsTrue (is_some parts.pending) → Rose opening (seen parts.journal.disk).faults
+    pub opened : opening ≤ (seen parts.journal.disk).faults
 
   -- the entry was added; or the disk failed, and what was pending is so still or the entry is; or there was no memory
   abbrev pub Comes : Parts D → Entry → Answer → Parts D → Type 0
   Comes old e (answered.Reply reply) new = (reply ≡ e.reply) × (new.history ≡ old.history ++ e ∷ []) × (new.pending ≡ None)
   Comes old e answered.DiskFault new =
-      (new.history ≡ old.history) × ((new.pending ≡ old.pending) ⊎ (new.pending ≡ Some e)) × Rose (faults old.journal.disk) (faults new.journal.disk)
+      (new.history ≡ old.history) × ((new.pending ≡ old.pending) ⊎ (new.pending ≡ Some e))
+      × Rose (seen old.journal.disk).faults (seen new.journal.disk).faults
   Comes old e answered.Memory new = (new.journal ≡ old.journal) × (new.history ≡ old.history) × (new.pending ≡ old.pending)
 
   -- an entry that the rules add was journaled, or not
   pub record Accepts (old : Parts D) (e : Entry) (answer : Answer) (new : Parts D) : Type 0 where
     pub comes : Comes old e answer new
-    pub keeps : KeepsBook images new.journal new.history new.pending
-    pub moments : EachMoment clock images_since old.journal.disk new.journal.disk (HoldsOneOf old.history old.pending (e ∷ []))
-    pub later : faults old.journal.disk ≤ faults new.journal.disk
+    pub keeps : KeepsBook seen new.journal new.history new.pending
+    pub moments : EachMoment seen old.journal.disk new.journal.disk (HoldsOneOf old.history old.pending (e ∷ []))
+    pub later : (seen old.journal.disk).faults ≤ (seen new.journal.disk).faults

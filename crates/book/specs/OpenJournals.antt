@@ -1,7 +1,7 @@
 -- What an open journal comes to as a book.
 use Rattle.std.specs.Prelude.{◌≡◌, ◌≤◌, ℕ, List, None, Result, Ok, Err}
 use Rattle.decimal_rank.specs.Causes.{Rose}
-use Rattle.disk_model.specs.Disks.{EachMoment}
+use Rattle.disk_model.specs.Disks.{DiskState, EachMoment}
 use Rattle.journal.specs.declared.opening.OpenFault.{OpenFault}
 use Rattle.journal.specs.declared.opening.OpenFault.TheVariants as open_fault
 use Rattle.rulebook.specs.declared.rules.Rules.{Rules}
@@ -18,18 +18,18 @@ told_as open_fault.Disk = fault.Disk
 told_as open_fault.Header = fault.Header
 told_as open_fault.Memory = fault.Memory
 
-module _ {D : Type 0} (images : D → List ℕ → Type 0) (clock : D → ℕ) (images_since : D → ℕ → List ℕ → Type 0) (faults : D → ℕ) (rules : Rules) (payloads : List Text) (opening : ℕ) (disk : D) where
+module _ {D : Type 0} (seen : D → DiskState) (rules : Rules) (payloads : List Text) (opening : ℕ) (disk : D) where
   -- its entries are those of the records, or the founding one
   pub record TakenUp (book : Seen D) : Type 0 where
     pub opens : OpensWith rules payloads book.history
     pub alone : book.pending ≡ None
     pub opening_is : book.opening ≡ opening
-    pub sound : IsSound images clock images_since faults book
-    pub later : faults disk ≤ faults book.disk
-    pub moments : EachMoment clock images_since disk book.disk (Establishes rules payloads)
+    pub sound : IsSound seen book
+    pub later : (seen disk).faults ≤ (seen book.disk).faults
+    pub moments : EachMoment seen disk book.disk (Establishes rules payloads)
 
   abbrev pub WhyNot : D → BookFault → Type 0
-  WhyNot after fault.Disk = Rose (faults disk) (faults after)
+  WhyNot after fault.Disk = Rose (seen disk).faults (seen after).faults
   WhyNot after fault.Header = ⊥
   WhyNot after (fault.Damaged entry) = Stops rules payloads (fault.Damaged entry)
   WhyNot after fault.RulesDiffer = Stops rules payloads fault.RulesDiffer
@@ -37,8 +37,8 @@ module _ {D : Type 0} (images : D → List ℕ → Type 0) (clock : D → ℕ) (
 
   pub record GivenUp (after : D) (why : BookFault) : Type 0 where
     pub causes : WhyNot after why
-    pub later : faults disk ≤ faults after
-    pub moments : EachMoment clock images_since disk after (Establishes rules payloads)
+    pub later : (seen disk).faults ≤ (seen after).faults
+    pub moments : EachMoment seen disk after (Establishes rules payloads)
 
   abbrev pub TakesUp : Result (Seen D) (D × BookFault) → Type 0
   TakesUp (Ok book) = TakenUp book

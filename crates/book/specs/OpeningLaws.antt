@@ -3,6 +3,7 @@ use Rattle.std.specs.Prelude.{◌≡◌, ◌⊎◌, ℕ, zero, suc, List, [], �
 use Rattle.std.proofs.Common.{inl, inr, refl, sym, ap, subst, ◌∙◌, arith}
 use Rattle.std.proofs.lemmas.List.{take-map}
 use Rattle.decimal_rank.specs.Causes.{Rose}
+use Rattle.disk_model.specs.Disks.{DiskState}
 use Rattle.journal.specs.Format.{decode}
 use Rattle.rulebook.specs.declared.entry.Entry.{Entry}
 use Rattle.rulebook.specs.declared.rules.Rules.{Rules}
@@ -39,14 +40,14 @@ story_start (first ∷ others) (e ∷ later) (suc count) story = (
   ),
 )
 
-module _ {D : Type 0} (content : D → Option (List ℕ)) (images : D → List ℕ → Type 0) (clock : D → ℕ) (images_since : D → ℕ → List ℕ → Type 0) (faults : D → ℕ) (rules : Rules) (disk : D) where
+module _ {D : Type 0} (seen : D → DiskState) (rules : Rules) (disk : D) where
   -- A disk whose records may be opened is opened, unless memory is short or the disk fails.
-  pub opens_or_memory : (bytes : List ℕ) (payloads : List Text) → content disk ≡ Some bytes → decode bytes ≡ Some payloads → MayOpen rules payloads
-      → (after : D) (why : BookFault) → ¬ (Rose (faults disk) (faults after)) → Refused content images clock images_since faults rules disk after why → why ≡ fault.Memory
+  pub opens_or_memory : (bytes : List ℕ) (payloads : List Text) → (seen disk).content ≡ Some bytes → decode bytes ≡ Some payloads → MayOpen rules payloads
+      → (after : D) (why : BookFault) → ¬ (Rose (seen disk).faults (seen after).faults) → Refused seen rules disk after why → why ≡ fault.Memory
   opens_or_memory bytes payloads tells decodes may after why calm refused = by why refused.causes
     where
       -- what is told is what was read
-      same : (read : List Text) → Reads (content disk) read → read ≡ payloads
+      same : (read : List Text) → Reads (seen disk).content read → read ≡ payloads
       same read reads =
           let here : decode bytes ≡ Some read = subst (λ (told : Option (List ℕ)). IfSome told (λ bytes. decode bytes ≡ Some read)) tells reads in
           let both : Some read ≡ Some payloads = sym here ∙ decodes in
@@ -59,7 +60,7 @@ module _ {D : Type 0} (content : D → Option (List ℕ)) (images : D → List �
           omega (arith, some, within, ap length none)
       breaks entry at (inr (H, story, is)) = at.none (story_start payloads H entry story)
 
-      by : (why : BookFault) → Causes content images clock images_since faults rules disk after why → why ≡ fault.Memory
+      by : (why : BookFault) → Causes seen rules disk after why → why ≡ fault.Memory
       by fault.Disk rose = absurd (calm rose)
       by fault.Header none =
           let here : decode bytes ≡ None = subst (λ (told : Option (List ℕ)). IfSome told (λ bytes. decode bytes ≡ None)) tells none.0 in
@@ -76,10 +77,10 @@ module _ {D : Type 0} (content : D → Option (List ℕ)) (images : D → List �
       by fault.Memory causes = refl
 
 -- Where no call on the disk failed since the opening, it stands for the entries alone.
-pub stands_alone : {D : Type 0} (images : D → List ℕ → Type 0) (clock : D → ℕ) (images_since : D → ℕ → List ℕ → Type 0) (faults : D → ℕ) (book : Seen D) → IsSound images clock images_since faults book
-    → ¬ (Rose book.opening (faults book.disk)) → StandsFor (images book.disk) book.history None
-stands_alone images clock images_since faults book sound calm image here = by book.pending sound.rose (sound.stands image here)
+pub stands_alone : {D : Type 0} (seen : D → DiskState) (book : Seen D) → IsSound seen book
+    → ¬ (Rose book.opening (seen book.disk).faults) → StandsFor (seen book.disk).images book.history None
+stands_alone seen book sound calm image here = by book.pending sound.rose (sound.stands image here)
   where
-    by : (pending : Option Entry) → (IsTrue (is_some pending) → Rose book.opening (faults book.disk)) → HoldsWith book.history pending image → Holds book.history image
+    by : (pending : Option Entry) → (IsTrue (is_some pending) → Rose book.opening (seen book.disk).faults) → HoldsWith book.history pending image → Holds book.history image
     by None rose holds = holds
     by (Some e) rose holds = absurd (calm (rose refl))

@@ -1,7 +1,7 @@
 -- What opening a book comes to: its entries are those that the disk told, or the founding one; or why it isn't opened.
 use Rattle.std.specs.Prelude.{◌≡◌, ◌≢◌, ◌⊎◌, ℕ, ◌≤◌, List, [], ◌∷◌, Option, None, Some, IfSome}
 use Rattle.decimal_rank.specs.Causes.{Rose}
-use Rattle.disk_model.specs.Disks.{NoFurther}
+use Rattle.disk_model.specs.Disks.{DiskState, NoFurther}
 use Rattle.journal.specs.Format.{decode}
 use Rattle.journal.specs.Moments.{Turned, Turns}
 use Rattle.rulebook.specs.declared.rules.Rules.{Rules}
@@ -33,30 +33,32 @@ Establishes rules payloads image = (decode image ≡ Some payloads) ⊎ ((payloa
 
 -- the image gives what the content gives, or the founding entry where that is nothing
 abbrev pub OpensTo : Option (List ℕ) → Rules → List ℕ → Type 0
-OpensTo content rules image = IfSome content (λ start. (decode image ≡ decode start) ⊎ ((decode start ≡ Some []) × Holds (founding rules ∷ []) image))
+OpensTo content rules image =
+    IfSome content (λ start. (decode image ≡ decode start) ⊎ ((decode start ≡ Some []) × Holds (founding rules ∷ []) image))
 
 -- Opening a book of these rules on a disk.
-module _ {D : Type 0} (content : D → Option (List ℕ)) (images : D → List ℕ → Type 0) (clock : D → ℕ) (images_since : D → ℕ → List ℕ → Type 0) (faults : D → ℕ) (rules : Rules) (disk : D) where
+module _ {D : Type 0} (seen : D → DiskState) (rules : Rules) (disk : D) where
   -- Its entries are those that the disk told, or the founding one, and its disk stands for them alone.
   pub record Opened (book : Seen D) : Type 0 where
     pub payloads : List Text
-    pub reads : Reads (content disk) payloads
+    pub reads : Reads (seen disk).content payloads
     pub opens : OpensWith rules payloads book.history
     pub alone : book.pending ≡ None
-    pub opening_is : book.opening ≡ faults disk
-    pub sound : IsSound images clock images_since faults book
-    pub later : faults disk ≤ faults book.disk
-    pub moments : Turned clock images images_since disk book.disk (OpensTo (content disk) rules)
+    pub opening_is : book.opening ≡ (seen disk).faults
+    pub sound : IsSound seen book
+    pub later : (seen disk).faults ≤ (seen book.disk).faults
+    pub moments : Turned seen disk book.disk (OpensTo (seen disk).content rules)
 
   -- why a book isn't opened, and what is left of its disk
   abbrev pub Causes : D → BookFault → Type 0
-  Causes after fault.Disk = Rose (faults disk) (faults after)
-  Causes after fault.Header = IfSome (content disk) (λ bytes. decode bytes ≡ None) × (content after ≡ content disk) × NoFurther (images disk) (images after)
-  Causes after (fault.Damaged entry) = (payloads : List Text) × Reads (content disk) payloads × BreaksAt payloads entry
-  Causes after fault.RulesDiffer = (payloads : List Text) × Reads (content disk) payloads × DiffersFrom rules payloads
+  Causes after fault.Disk = Rose (seen disk).faults (seen after).faults
+  Causes after fault.Header = IfSome (seen disk).content (λ bytes. decode bytes ≡ None)
+      × ((seen after).content ≡ (seen disk).content) × NoFurther (seen disk).images (seen after).images
+  Causes after (fault.Damaged entry) = (payloads : List Text) × Reads (seen disk).content payloads × BreaksAt payloads entry
+  Causes after fault.RulesDiffer = (payloads : List Text) × Reads (seen disk).content payloads × DiffersFrom rules payloads
   Causes after fault.Memory = Unit {0}
 
   pub record Refused (after : D) (why : BookFault) : Type 0 where
     pub causes : Causes after why
-    pub later : faults disk ≤ faults after
-    pub moments : Turns clock images images_since disk after (OpensTo (content disk) rules)
+    pub later : (seen disk).faults ≤ (seen after).faults
+    pub moments : Turns seen disk after (OpensTo (seen disk).content rules)

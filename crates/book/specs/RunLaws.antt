@@ -2,6 +2,7 @@
 use Rattle.std.specs.Prelude.{ℕ, List, [], ◌∷◌, ◌++◌, Option, None, Some}
 use Rattle.std.proofs.Common.{◌≡◌, inl, inr, refl, sym, ap, ◌∙◌, arith}
 use Rattle.std.proofs.lemmas.List.{append-nil, append_assoc}
+use Rattle.disk_model.specs.Disks.{DiskState, OnlyNow}
 use Rattle.journal.specs.Moments.{joined, started, weaker}
 use Rattle.rulebook.specs.declared.entry.Entry.{Entry}
 use Rattle.rulebook.specs.Campaign.{History}
@@ -29,24 +30,24 @@ between_of H later pending added image longer accepted next (inl holds) = with_b
 between_of H later pending added image longer accepted next (inr (e, is, holds)) =
     record { part = H; no_shorter = starts_itself H; no_longer = longer; held = inr (e, next e is, holds) }
 
-module _ {D : Type 0} (images : D → List ℕ → Type 0) (clock : D → ℕ) (images_since : D → ℕ → List ℕ → Type 0) (faults : D → ℕ) where
+module _ {D : Type 0} (seen : D → DiskState) where
   -- where nothing was done
-  pub no_run : ((disk : D) (image : List ℕ) → images_since disk (clock disk) image → images disk image) → (book : Seen D) → IsSound images clock images_since faults book → Runs images clock images_since faults book book
+  pub no_run : ((disk : D) → OnlyNow (seen disk)) → (book : Seen D) → IsSound seen book → Runs seen book book
   no_run only_now book sound = record {
     grown = starts_itself book.history;
-    moments = started clock images_since book.disk (IsBetween book.history book.history)
+    moments = started seen book.disk (IsBetween book.history book.history)
         (λ image left. with_between book.history book.history book.pending image (starts_itself book.history) sound.accepted (sound.stands image (only_now book.disk image left)));
     later = omega arith;
     opening = refl;
   }
 
-  pub join_runs : (a b c : Seen D) → Runs images clock images_since faults a b → Runs images clock images_since faults b c → Runs images clock images_since faults a c
+  pub join_runs : (a b c : Seen D) → Runs seen a b → Runs seen b c → Runs seen a c
   join_runs a b c first second = record {
     grown = starts_on c.history b.history a.history second.grown first.grown;
-    moments = joined clock images_since a.disk b.disk c.disk (IsBetween a.history c.history)
-        (weaker clock images_since a.disk b.disk (IsBetween a.history b.history) (IsBetween a.history c.history)
+    moments = joined seen a.disk b.disk c.disk (IsBetween a.history c.history)
+        (weaker seen a.disk b.disk (IsBetween a.history b.history) (IsBetween a.history c.history)
         (λ image is. record { part = is.part; no_shorter = is.no_shorter; no_longer = starts_on c.history b.history is.part second.grown is.no_longer; held = is.held }) first.moments)
-        (weaker clock images_since b.disk c.disk (IsBetween b.history c.history) (IsBetween a.history c.history)
+        (weaker seen b.disk c.disk (IsBetween b.history c.history) (IsBetween a.history c.history)
         (λ image is. record { part = is.part; no_shorter = starts_on is.part b.history a.history is.no_shorter first.grown; no_longer = is.no_longer; held = is.held }) second.moments);
     later = omega (arith, first.later, second.later);
     opening = second.opening ∙ first.opening;

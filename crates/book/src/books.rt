@@ -44,8 +44,9 @@ impl<D: Disk> Model for Book<D> {
       opening = book.opening;
     } };
 
-    ghost invariant = { λ book. IsKept D.images D.clock D.images_since D.fault_count
-        (record { journal = book.journal; history = book.state.history; pending = book.pending }) book.opening };
+    ghost invariant = { λ book. IsKept D.seen
+        (record { journal = book.journal; history = book.state.history; pending = book.pending })
+        book.opening };
 }
 
 // a call of its own, so that no caller's proof takes a book apart
@@ -92,7 +93,7 @@ impl<D: Disk> Book<D> {
 
     /// What a book keeps true.
     pub fn stands(&self)
-        ensures { IsSound D.images D.clock D.images_since D.fault_count self.now }
+        ensures { IsSound D.seen self.now }
     {
         self.journal.stands();
     }
@@ -101,7 +102,7 @@ impl<D: Disk> Book<D> {
     /// mended first. All memory is taken before the first call on the disk.
     pub fn act(&mut self, asked: Addressed) -> Answer
         requires { IsAddressed asked }
-        ensures { Acts D.images D.clock D.images_since D.fault_count self.old asked result self.new }
+        ensures { Acts D.seen self.old asked result self.new }
     {
         rule_laws();
         self.journal.stands();
@@ -153,10 +154,11 @@ fn accept<D: Disk>(
     prepared: Prepared,
 ) -> Answer
     requires prepared { state.old.prepared ≡ Some prepared }
-    requires keeps { KeepsBook D.images journal.old state.old.history pending.old }
+    requires keeps { KeepsBook D.seen journal.old state.old.history pending.old }
     requires room { HasRoom state.old.history prepared }
-    ensures { Accepts D.images D.clock D.images_since D.fault_count
-        (record { journal = journal.old; history = state.old.history; pending = pending.old }) prepared result
+    ensures { Accepts D.seen
+        (record { journal = journal.old; history = state.old.history; pending = pending.old })
+        prepared result
         (record { journal = journal.new; history = state.new.history; pending = pending.new }) }
 {
     journal.stands();

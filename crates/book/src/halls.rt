@@ -13,7 +13,7 @@ impl<D: Disk> Storied for Book<D> {
 
     type Answer = Answer;
 
-    ghost story = { story_in D.fault_count };
+    ghost story = { story_in D.seen };
 
     ghost fits = { Fits };
 

@@ -28,13 +28,15 @@ pub(crate) fn frame_of(alloc: Global, core: &EntryCore) -> Result<Frame, Memory>
 
 // Mends where something is due. Then nothing is pending.
 fn mend_first<D: Disk>(journal: &mut Journal<D>, pending: &mut Pending) -> Result<(), Failed>
-    ensures keeps { (H : History) → KeepsBook D.images journal.old H pending.old → KeepsBook D.images journal.new H pending.new }
+    ensures keeps { (H : History) → KeepsBook D.seen journal.old H pending.old
+        → KeepsBook D.seen journal.new H pending.new }
     ensures none { OnOk result (pending.new ≡ None) }
     ensures same { OnErr result (pending.new ≡ pending.old) }
     ensures place { journal.new.place ≡ journal.old.place }
-    ensures any_moment { (H : History) → KeepsBook D.images journal.old H pending.old
-        → EachMoment D.clock D.images_since journal.old.disk journal.new.disk (HoldsWith H pending.old) }
-    ensures cause { HasCause (D.fault_count journal.old.disk) (D.fault_count journal.new.disk) result }
+    ensures any_moment { (H : History) → KeepsBook D.seen journal.old H pending.old
+        → EachMoment D.seen journal.old.disk journal.new.disk (HoldsWith H pending.old) }
+    ensures cause { HasCause (D.seen journal.old.disk).faults
+        (D.seen journal.new.disk).faults result }
 {
     journal.stands();
     if !journal.is_due() {
@@ -59,13 +61,18 @@ pub(crate) fn keep<D: Disk>(
 ) -> Result<(), Failed>
     requires frame { frame.now ≡ entry_bytes prepared.now.core }
     requires room { journal.old.place + 6 + length (entry_bytes prepared.now.core) ≤ 2 ^ 40 }
-    ensures added { OnOk result ((H : History) → KeepsBook D.images journal.old H pending.old → KeepsBook D.images journal.new (H ++ prepared.now ∷ []) None) }
+    ensures added { OnOk result ((H : History) → KeepsBook D.seen journal.old H pending.old
+        → KeepsBook D.seen journal.new (H ++ prepared.now ∷ []) None) }
     ensures none { OnOk result (pending.new ≡ None) }
-    ensures kept { OnErr result ((H : History) → KeepsBook D.images journal.old H pending.old → KeepsBook D.images journal.new H pending.new) }
-    ensures pending { OnErr result ((pending.new ≡ pending.old) ⊎ (pending.new ≡ Some prepared.now)) }
-    ensures any_moment { (H : History) → KeepsBook D.images journal.old H pending.old
-        → EachMoment D.clock D.images_since journal.old.disk journal.new.disk (HoldsOneOf H pending.old (prepared.now ∷ [])) }
-    ensures cause { HasCause (D.fault_count journal.old.disk) (D.fault_count journal.new.disk) result }
+    ensures kept { OnErr result ((H : History) → KeepsBook D.seen journal.old H pending.old
+        → KeepsBook D.seen journal.new H pending.new) }
+    ensures pending { OnErr result
+        ((pending.new ≡ pending.old) ⊎ (pending.new ≡ Some prepared.now)) }
+    ensures any_moment { (H : History) → KeepsBook D.seen journal.old H pending.old
+        → EachMoment D.seen journal.old.disk journal.new.disk
+        (HoldsOneOf H pending.old (prepared.now ∷ [])) }
+    ensures cause { HasCause (D.seen journal.old.disk).faults
+        (D.seen journal.new.disk).faults result }
 {
     mend_first(journal, pending)?;
     match journal.append(frame) {

@@ -32,8 +32,8 @@ impl<D: Disk> Book<D> {
     /// or none is taken.
     pub fn open(alloc: Global, disk: D, rules: Rules) -> Result<Book<D>, (D, BookFault)>
         requires rules { IsTrue (are_rules rules) }
-        ensures opened { IfOk result (λ book. Opened D.content D.images D.clock D.images_since D.fault_count rules disk book) }
-        ensures refused { IfErr result (λ fault. Refused D.content D.images D.clock D.images_since D.fault_count rules disk fault.0 fault.1) }
+        ensures opened { IfOk result (λ book. Opened D.seen rules disk book) }
+        ensures refused { IfErr result (λ fault. Refused D.seen rules disk fault.0 fault.1) }
     {
         rule_laws();
         one_spelling();
@@ -66,10 +66,11 @@ fn take_up<D: Disk>(
     requires laws { Laws }
     requires spelling { OneSpelling }
     requires rules { IsTrue (are_rules rules) }
-    requires settled { Settled (D.images journal.disk) journal.place (payloads_of records.now) }
+    requires settled { Settled (D.seen journal.disk).images journal.place
+        (payloads_of records.now) }
     requires nothing_due { journal.due ≡ Nothing }
-    requires later { opening ≤ D.fault_count journal.disk }
-    ensures { TakesUp D.images D.clock D.images_since D.fault_count rules (payloads_of records.now) opening journal.disk result }
+    requires later { opening ≤ (D.seen journal.disk).faults }
+    ensures { TakesUp D.seen rules (payloads_of records.now) opening journal.disk result }
 {
     journal.stands();
     match records {
@@ -93,12 +94,12 @@ fn establish<D: Disk>(
     frame: &Frame,
 ) -> Result<Book<D>, (D, BookFault)>
     requires short { length frame.now ≤ 2 ^ 25 }
-    requires settled { Settled (D.images journal.disk) journal.place [] }
+    requires settled { Settled (D.seen journal.disk).images journal.place [] }
     requires nothing_due { journal.due ≡ Nothing }
-    requires later { opening ≤ D.fault_count journal.disk }
+    requires later { opening ≤ (D.seen journal.disk).faults }
     requires founded { frame.now ∷ [] ≡ spellings state.history }
     ensures { (rules : CampaignRules) → state.history ≡ founding rules ∷ []
-        → TakesUp D.images D.clock D.images_since D.fault_count rules [] opening journal.disk result }
+        → TakesUp D.seen rules [] opening journal.disk result }
 {
     let mut journal = journal;
     journal.stands();
@@ -110,11 +111,12 @@ fn establish<D: Disk>(
 
 // The book of a journal and of the entries that it keeps.
 fn reopen<D: Disk>(alloc: Global, opening: u64, journal: Journal<D>, state: State) -> Book<D>
-    requires settled { Settled (D.images journal.disk) journal.place (spellings state.history) }
+    requires settled { Settled (D.seen journal.disk).images journal.place
+        (spellings state.history) }
     requires nothing_due { journal.due ≡ Nothing }
-    requires later { opening ≤ D.fault_count journal.disk }
+    requires later { opening ≤ (D.seen journal.disk).faults }
     ensures view { result ≡ record { disk = journal.disk; history = state.history; pending = None; opening = opening } }
-    ensures sound { IsSound D.images D.clock D.images_since D.fault_count result }
+    ensures sound { IsSound D.seen result }
 {
     let _legal = state.entries();
     let book = Book {

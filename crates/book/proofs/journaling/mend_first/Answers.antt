@@ -12,19 +12,19 @@ use Rattle.book.proofs.journaling.mend_first.Goals as goal
 
 pub returns-then-not-is_due-clause-keeps : goal.returns-then-not-is_due-clause-keeps
 returns-then-not-is_due-clause-keeps g c H keeps =
-    subst (λ (pending : Option Entry). KeepsBook g.D.Disk.images c.args.journal.now H pending) (sym c.settle.ensures)
-    (still_keeps g.D.Disk.images g.D.Disk.clock g.D.Disk.images_since c.args.journal.now H c.args.pending.now keeps
+    subst (λ (pending : Option Entry). KeepsBook g.D.Disk.seen c.args.journal.now H pending) (sym c.settle.ensures)
+    (still_keeps g.D.Disk.seen c.args.journal.now H c.args.pending.now keeps
     (nothing_due c.args.journal.now.due c.is_due.result c.is_due.ensures.1 c.if-not-is_due.true))
 
 pub returns-then-not-is_due-clause-any_moment : goal.returns-then-not-is_due-clause-any_moment
 returns-then-not-is_due-clause-any_moment g c H keeps =
-    still_moments g.D.Disk.images g.D.Disk.clock g.D.Disk.images_since c.args.journal.now H c.args.pending.now keeps
-    (book_holds g.D.Disk.images g.D.Disk.clock g.D.Disk.images_since c.args.journal.now H c.args.pending.now keeps c.stands.ensures.stands) (g.met.D.Disk.only_now c.args.journal.now.disk)
+    still_moments g.D.Disk.seen c.args.journal.now H c.args.pending.now keeps
+    (book_holds g.D.Disk.seen c.args.journal.now H c.args.pending.now keeps c.stands.ensures.stands) (g.met.D.Disk.only_now c.args.journal.now.disk)
 
-moments : (g : Over) (c : After-mend g) (H : History) → KeepsBook g.D.Disk.images c.args.journal.now H c.args.pending.now
-    → EachMoment g.D.Disk.clock g.D.Disk.images_since c.args.journal.now.disk c.mend.new.self.disk (HoldsWith H c.args.pending.now)
+moments : (g : Over) (c : After-mend g) (H : History) → KeepsBook g.D.Disk.seen c.args.journal.now H c.args.pending.now
+    → EachMoment g.D.Disk.seen c.args.journal.now.disk c.mend.new.self.disk (HoldsWith H c.args.pending.now)
 moments g c H keeps =
-    mend_moments g.D.Disk.images g.D.Disk.clock g.D.Disk.images_since c.args.journal.now H c.args.pending.now keeps c.mend.new.self c.mend.ensures.any_moment
+    mend_moments g.D.Disk.seen c.args.journal.now H c.args.pending.now keeps c.mend.new.self c.mend.ensures.any_moment
 
 pub returns-in-Ok-clause-any_moment : goal.returns-in-Ok-clause-any_moment
 returns-in-Ok-clause-any_moment g c = moments g (goal.at.returns-in-Ok-clause-any_moment g c).After-mend

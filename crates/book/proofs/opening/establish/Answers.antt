@@ -14,28 +14,28 @@ use Rattle.book.proofs.opening.establish.Goals.{After-append}
 use Rattle.book.proofs.opening.establish.Goals as goal
 
 -- nothing was kept before
-keeps : (g : Over) (c : After-append g) → Keeps (g.D.Disk.images c.args.journal.disk) c.args.journal.place c.args.journal.due [] []
-keeps g c = let j = c.args.journal in keeps_settled (g.D.Disk.images j.disk) j.place j.due [] c.requires.nothing_due c.requires.settled
+keeps : (g : Over) (c : After-append g) → Keeps (g.D.Disk.seen c.args.journal.disk).images c.args.journal.place c.args.journal.due [] []
+keeps g c = let j = c.args.journal in keeps_settled (g.D.Disk.seen j.disk).images j.place j.due [] c.requires.nothing_due c.requires.settled
 
 moments : (g : Over) (c : After-append g) (rules : Rules) → c.args.state.history ≡ founding rules ∷ []
-    → EachMoment g.D.Disk.clock g.D.Disk.images_since c.args.journal.disk c.append.new.self.disk (Establishes rules [])
+    → EachMoment g.D.Disk.seen c.args.journal.disk c.append.new.self.disk (Establishes rules [])
 moments g c rules founded =
-    weaker g.D.Disk.clock g.D.Disk.images_since c.args.journal.disk c.append.new.self.disk (StandsForOneOf [] [] c.args.frame.now) (Establishes rules [])
+    weaker g.D.Disk.seen c.args.journal.disk c.append.new.self.disk (StandsForOneOf [] [] c.args.frame.now) (Establishes rules [])
     (establishes rules c.args.frame.now c.args.state.history c.requires.founded founded) (c.append.ensures.any_moment [] [] (keeps g c))
 
 pub reopen-requires-clause-settled : goal.reopen-requires-clause-settled
 reopen-requires-clause-settled g c =
-    subst (λ (all : List (List ℕ)). Settled (g.D.Disk.images c.append.new.self.disk) c.append.new.self.place all) c.requires.founded
+    subst (λ (all : List (List ℕ)). Settled (g.D.Disk.seen c.append.new.self.disk).images c.append.new.self.place all) c.requires.founded
     (c.in-Ok.ensures.added [] [] (keeps g (goal.at.reopen-requires-clause-settled g c).After-append))
 
 pub returns-in-Ok : goal.returns-in-Ok
 returns-in-Ok g c rules founded =
     let D = g.D.Disk in
-    established D.images D.clock D.images_since D.fault_count rules c.args.opening c.args.journal.disk c.append.new.self.disk (moments g (goal.at.returns-in-Ok g c).After-append rules founded)
+    established D.seen rules c.args.opening c.args.journal.disk c.append.new.self.disk (moments g (goal.at.returns-in-Ok g c).After-append rules founded)
     c.append.ensures.cause.later c.reopen.result c.args.state.history c.reopen.ensures.view c.reopen.ensures.sound founded
 
 pub returns-in-Err : goal.returns-in-Err
 returns-in-Err g c rules founded =
     let D = g.D.Disk in
-    rw c.close.ensures (not_established D.images D.clock D.images_since D.fault_count rules c.args.opening c.args.journal.disk c.append.new.self.disk (moments g (goal.at.returns-in-Err g c).After-append rules founded)
+    rw c.close.ensures (not_established D.seen rules c.args.opening c.args.journal.disk c.append.new.self.disk (moments g (goal.at.returns-in-Err g c).After-append rules founded)
     c.append.ensures.cause.later fault.Disk refl c.in-Err.ensures.cause.failed)

@@ -9,20 +9,20 @@ use Rattle.book.proofs.opening.take_up.Goals as goal
 
 pub establish-requires-clause-settled : goal.establish-requires-clause-settled
 establish-requires-clause-settled g c =
-    subst (λ (all : List Text). Settled (g.D.Disk.images c.args.journal.disk) c.args.journal.place all) (sym (no_records c.args.records.now c.in-empty.len_below)) c.requires.settled
+    subst (λ (all : List Text). Settled (g.D.Disk.seen c.args.journal.disk).images c.args.journal.place all) (sym (no_records c.args.records.now c.in-empty.len_below)) c.requires.settled
 
 pub reopen-requires-clause-settled : goal.reopen-requires-clause-settled
 reopen-requires-clause-settled g c =
     let records = c.args.records.now in
     let others = payloads_of (take (length records - 1) (drop 1 records)) in
     let opens : OpensWith c.args.rules (c.deref.result.now ∷ others) c.in-Ok-replay.state.history = c.in-Ok-replay.ensures in
-    subst (λ (all : List Text). Settled (g.D.Disk.images c.args.journal.disk) c.args.journal.place all)
+    subst (λ (all : List Text). Settled (g.D.Disk.seen c.args.journal.disk).images c.args.journal.place all)
     (sym (opens.0.0.1 ∙ ap (λ (x : Text). x ∷ others) c.deref.ensures.value ∙ first_and_others records c.first-item.result c.in-len1-up.len_at_least c.first-item.is)) c.requires.settled
 
 pub returns-in-Ok : goal.returns-in-Ok
 returns-in-Ok g c =
     let D = g.D.Disk in
-    subst (λ (all : List Text). TakesUp D.images D.clock D.images_since D.fault_count c.args.rules all c.args.opening c.args.journal.disk c.establish.result)
+    subst (λ (all : List Text). TakesUp D.seen c.args.rules all c.args.opening c.args.journal.disk c.establish.result)
     (no_records c.args.records.now c.in-empty.len_below) (c.establish.ensures c.args.rules c.in-Ok.ensures.history)
 
 pub returns-in-Ok-replay : goal.returns-in-Ok-replay
@@ -32,6 +32,6 @@ returns-in-Ok-replay g c =
     let others = payloads_of (take (length records - 1) (drop 1 records)) in
     let opens : OpensWith c.args.rules (c.deref.result.now ∷ others) c.in-Ok-replay.state.history = c.in-Ok-replay.ensures in
     let all_is = ap (λ (x : Text). x ∷ others) c.deref.ensures.value ∙ first_and_others records c.first-item.result c.in-len1-up.len_at_least c.first-item.is in
-    taken_up D.images D.clock D.images_since D.fault_count g.met.D.Disk.only_now c.args.rules (payloads_of records) c.args.opening c.args.journal.disk
+    taken_up D.seen g.met.D.Disk.only_now c.args.rules (payloads_of records) c.args.opening c.args.journal.disk
     (c.stands.ensures.alone (payloads_of records) c.requires.settled) c.reopen.result c.in-Ok-replay.state.history c.reopen.ensures.view c.reopen.ensures.sound
     (subst (λ (all : List Text). OpensWith c.args.rules all c.in-Ok-replay.state.history) all_is opens)

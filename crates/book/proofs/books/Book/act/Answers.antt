@@ -15,13 +15,13 @@ use Rattle.book.proofs.books.Book.act.Goals as goal
 abbrev before : (g : Over) → After-stands g → Parts g.row.D.Denot
 before g c = record { journal = c.self.inside.journal; history = c.self.inside.state.history; pending = c.self.inside.pending }
 
-sound : (g : Over) (c : After-stands g) → IsSound g.D.Disk.images g.D.Disk.clock g.D.Disk.images_since g.D.Disk.fault_count
-    (seen_by g.D.Disk.images g.D.Disk.clock g.D.Disk.images_since g.D.Disk.fault_count (before g c) c.self.inside.opening)
+sound : (g : Over) (c : After-stands g) → IsSound g.D.Disk.seen
+    (seen_by g.D.Disk.seen (before g c) c.self.inside.opening)
 sound g c =
     let s = c.self.inside in
     let D = g.D.Disk in
-    sound_of D.images D.clock D.images_since D.fault_count (before g c) s.opening c.self.invariant
-    (book_holds D.images D.clock D.images_since s.journal s.state.history s.pending c.self.invariant.keeps c.stands.ensures.stands)
+    sound_of D.seen (before g c) s.opening c.self.invariant
+    (book_holds D.seen s.journal s.state.history s.pending c.self.invariant.keeps c.stands.ensures.stands)
 
 -- the entry that is prepared is the one that the rules add
 added : (g : Over) (c : In-Ok-Ready g) → added_by c.self.inside.state.history c.args.asked ≡ c.in-Ok-Ready.prepared ∷ []
@@ -36,13 +36,13 @@ is_added g c =
 abbrev after : (g : Over) → After-accept-answer g → Parts g.row.D.Denot
 after g c = record { journal = c.accept-answer.new.journal; history = c.accept-answer.new.state.history; pending = c.accept-answer.new.pending }
 
-accepts : (g : Over) (c : After-accept-answer g) → Accepts g.D.Disk.images g.D.Disk.clock g.D.Disk.images_since g.D.Disk.fault_count
+accepts : (g : Over) (c : After-accept-answer g) → Accepts g.D.Disk.seen
     (let p : Parts g.row.D.Denot = record { journal = c.self.inside.journal; history = c.self.inside.state.history; pending = c.self.inside.pending } in p)
     c.in-Ok-Ready.prepared c.accept-answer.result (after g c)
 accepts g c =
     let s = c.self.inside in
     let D = g.D.Disk in
-    subst (λ (H : History). Accepts D.images D.clock D.images_since D.fault_count (let p : Parts g.row.D.Denot = record { journal = s.journal; history = H; pending = s.pending } in p)
+    subst (λ (H : History). Accepts D.seen (let p : Parts g.row.D.Denot = record { journal = s.journal; history = H; pending = s.pending } in p)
     c.in-Ok-Ready.prepared c.accept-answer.result (after g c)) c.prepare.ensures.history c.accept-answer.ensures
 
 pub returns-in-Ok-Told : goal.returns-in-Ok-Told
@@ -52,8 +52,8 @@ returns-in-Ok-Told g c =
     let now = (goal.at.returns-in-Ok-Told g c).After-stands in
     let none : added_by s.state.history c.args.asked ≡ [] = search rules in
     let reply : c.in-Ok-Told.reply ≡ reply_by s.state.history c.args.asked = search rules in
-    acts_still D.images D.clock D.images_since D.fault_count c.args.self.now (before g now) s.opening c.args.asked _ c.prepare.new.self.history c.self.view_is c.prepare.ensures.history
-    (quiet_acts D.images D.clock D.images_since D.fault_count g.met.D.Disk.only_now (seen_by D.images D.clock D.images_since D.fault_count (before g now) s.opening) (sound g now) c.args.asked c.in-Ok-Told.reply reply none)
+    acts_still D.seen c.args.self.now (before g now) s.opening c.args.asked _ c.prepare.new.self.history c.self.view_is c.prepare.ensures.history
+    (quiet_acts D.seen g.met.D.Disk.only_now (seen_by D.seen (before g now) s.opening) (sound g now) c.args.asked c.in-Ok-Told.reply reply none)
 
 pub accept-answer-requires-clause-room : goal.accept-answer-requires-clause-room
 accept-answer-requires-clause-room g c =
@@ -65,7 +65,7 @@ pub invariant_of-self-in-Ok-Ready : goal.invariant_of-self-in-Ok-Ready
 invariant_of-self-in-Ok-Ready g c =
     let D = g.D.Disk in
     let at = goal.at.invariant_of-self-in-Ok-Ready g c in
-    kept_after D.images D.clock D.images_since D.fault_count g.met.D.Disk.only_now (before g at.After-stands) (after g at.After-accept-answer) c.self.inside.opening c.self.invariant c.args.asked
+    kept_after D.seen g.met.D.Disk.only_now (before g at.After-stands) (after g at.After-accept-answer) c.self.inside.opening c.self.invariant c.args.asked
     c.in-Ok-Ready.prepared (added g at.In-Ok-Ready) (is_added g at.In-Ok-Ready) c.accept-answer.result (accepts g at.After-accept-answer)
 
 pub returns-in-Ok-Ready : goal.returns-in-Ok-Ready
@@ -76,16 +76,16 @@ returns-in-Ok-Ready g c =
     let old = before g at.After-stands in
     let new = after g at.After-accept-answer in
     let done = accepts g at.After-accept-answer in
-    acts_before D.images D.clock D.images_since D.fault_count c.args.self.now old s.opening c.args.asked c.accept-answer.result
-    (seen_by D.images D.clock D.images_since D.fault_count new s.opening) c.self.view_is
-    (ready_acts D.images D.clock D.images_since D.fault_count g.met.D.Disk.only_now old new s.opening c.self.invariant c.args.asked c.in-Ok-Ready.prepared (added g at.In-Ok-Ready) (is_added g at.In-Ok-Ready) c.accept-answer.result done
-    (book_holds D.images D.clock D.images_since s.journal s.state.history s.pending c.self.invariant.keeps c.stands.ensures.stands)
-    (book_holds D.images D.clock D.images_since new.journal new.history new.pending done.keeps c.stands-in-Ok-Ready.ensures.stands))
+    acts_before D.seen c.args.self.now old s.opening c.args.asked c.accept-answer.result
+    (seen_by D.seen new s.opening) c.self.view_is
+    (ready_acts D.seen g.met.D.Disk.only_now old new s.opening c.self.invariant c.args.asked c.in-Ok-Ready.prepared (added g at.In-Ok-Ready) (is_added g at.In-Ok-Ready) c.accept-answer.result done
+    (book_holds D.seen s.journal s.state.history s.pending c.self.invariant.keeps c.stands.ensures.stands)
+    (book_holds D.seen new.journal new.history new.pending done.keeps c.stands-in-Ok-Ready.ensures.stands))
 
 pub returns : goal.returns
 returns g c =
     let s = c.self.inside in
     let D = g.D.Disk in
     let now = (goal.at.returns g c).After-stands in
-    acts_still D.images D.clock D.images_since D.fault_count c.args.self.now (before g now) s.opening c.args.asked _ c.prepare.new.self.history c.self.view_is c.prepare.ensures.history
-    (memory_acts D.images D.clock D.images_since D.fault_count g.met.D.Disk.only_now (seen_by D.images D.clock D.images_since D.fault_count (before g now) s.opening) (sound g now) c.args.asked)
+    acts_still D.seen c.args.self.now (before g now) s.opening c.args.asked _ c.prepare.new.self.history c.self.view_is c.prepare.ensures.history
+    (memory_acts D.seen g.met.D.Disk.only_now (seen_by D.seen (before g now) s.opening) (sound g now) c.args.asked)

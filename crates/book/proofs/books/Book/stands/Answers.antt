@@ -10,6 +10,6 @@ pub returns : goal.returns
 returns g c =
     let s = c.self.inside in
     let parts : Parts g.row.D.Denot = record { journal = s.journal; history = s.state.history; pending = s.pending } in
-    subst (λ (book : Seen g.row.D.Denot). IsSound g.D.Disk.images g.D.Disk.clock g.D.Disk.images_since g.D.Disk.fault_count book) c.self.view_is
-    (sound_of g.D.Disk.images g.D.Disk.clock g.D.Disk.images_since g.D.Disk.fault_count parts s.opening c.self.invariant
-    (book_holds g.D.Disk.images g.D.Disk.clock g.D.Disk.images_since s.journal s.state.history s.pending c.self.invariant.keeps c.stands.ensures.stands))
+    subst (λ (book : Seen g.row.D.Denot). IsSound g.D.Disk.seen book) c.self.view_is
+    (sound_of g.D.Disk.seen parts s.opening c.self.invariant
+    (book_holds g.D.Disk.seen s.journal s.state.history s.pending c.self.invariant.keeps c.stands.ensures.stands))

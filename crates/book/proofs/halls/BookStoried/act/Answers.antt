@@ -5,5 +5,5 @@ use Rattle.book.proofs.halls.BookStoried.act.Goals as goal
 pub returns-clause-grows : goal.returns-clause-grows
 returns-clause-grows g c =
     let acts = c.act.ensures in
-    let story = story_of g.D.Disk.fault_count in
+    let story = story_of g.D.Disk.seen in
     ((acts.runs.grown, acts.told.later, acts.told.opening), few_more (story c.args.self.now) c.args.ask c.act.result (story c.act.new.self) acts.told)
