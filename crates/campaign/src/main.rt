@@ -23,6 +23,7 @@ use sentences::{tell_status, tell_usage};
 use shelf_reports::ReportingShelf;
 use std::alloc::{AllocError, Global};
 use std::env;
+use std::io::ErrorKind;
 use std::process::ExitCode;
 
 /// The file that keeps the campaign, in the folder that the program runs in.
@@ -32,13 +33,17 @@ const JOURNAL: &str = "campaign.journal";
 const WEAKER: &str =
     "campaign: the system's random source doesn't answer; tables hash with a secret of the clocks";
 
-// The words after the program's name; none where the system doesn't tell them.
+// The words after the program's name; none where one of them isn't UTF-8.
 fn words(rt: &HostRuntime, alloc: Global) -> Result<Vec<String>, AllocError> {
     let mut words = Vec::new(alloc);
-    if let Ok(all) = env::args(rt) {
-        for word in all.skip(1) {
-            words.push(word)?;
+    match env::args(rt) {
+        Ok(all) => {
+            for word in all.skip(1) {
+                words.push(word)?;
+            }
         }
+        Err(error) if error.kind() == ErrorKind::OutOfMemory => return Err(AllocError),
+        Err(_) => {}
     }
     Ok(words)
 }
