@@ -1,40 +1,44 @@
 -- A session over a link that gives a text twice is an exchange.
-use Rattle.std.proofs.Common.{◌≡◌, ◌<◌, ◌^◌, ◌⊎◌, inl, inr, ℕ, Bool, true, false, List, [], ◌∷◌, ◌++◌, Option, None, Some, length, MatchBool, refl, sym, ap, subst, ◌∙◌}
+use Rattle.std.proofs.Common.{◌≡◌, ◌≤◌, ◌⊎◌, inl, inr, ℕ, Bool, true, false, List, [], ◌∷◌, ◌++◌, Option, Some, length, MatchBool, refl, sym, ap, subst, arith, length-append, ◌∙◌}
 use Rattle.std.proofs.lemmas.List.{append-nil}
 use Rattle.std.specs.Io.KnownBytes.{IsAtEnd}
 use Rattle.book.specs.Books.{Seen}
 use Rattle.http_wire.specs.declared.messages.HttpRequest.{HttpRequest}
-use Rattle.http_wire.specs.Messages.{Closed, Clean, End as Ending, Messages, Stays}
+use Rattle.http_wire.specs.Messages.{Closed, Clean, Cut, End as Ending, IsEnd, Messages, Refused, Stays}
 use Rattle.rulebook.specs.Stories.{StartsWith}
+use Rattle.campaign_server.specs.declared.ends.End.{End}
 use Rattle.campaign_server.specs.declared.ends.End.TheVariants as end
-use Rattle.campaign_server.specs.Chains.{Said, last_text, requests_of, texts_of}
-use Rattle.campaign_server.specs.Connections.{Ends, SpokeAll}
+use Rattle.campaign_server.specs.Chains.{last_text, requests_of, texts_of}
+use Rattle.campaign_server.specs.Connections.{Ends, Hears, SpokeAll}
 use Rattle.campaign_server.specs.MemoryLinks.{MemoryLinkState, told_by}
 use Rattle.campaign_server.specs.Sessions.{IsSession}
 use Rattle.drill.specs.Answers.{are_met}
-use Rattle.drill.specs.Exchanges.{IsExchange, IsWhole}
+use Rattle.drill.specs.Exchanges.{EndsWhole, IsExchange, IsWhole, OneReading}
 use Rattle.drill.specs.FreshLinks.{IsFresh}
 use Rattle.drill.specs.Messages.{callers}
 use Rattle.drill.proofs.Talks.{mets, moments-zero, talk-told}
 
--- requests of which the last closes are those of longer bytes too
-closed-longer : ((bytes more : List ℕ) → Stays bytes more) → (bytes more : List ℕ) (requests : List HttpRequest) → Messages bytes requests Closed → Messages (bytes ++ more) requests Closed
-closed-longer stays bytes more [] none = absurd none
-closed-longer stays bytes more (request ∷ requests) (rest, front, next) =
-    (rest ++ more, (stays bytes more).whole request rest front, step request.close next (closed-longer stays rest more requests))
+-- requests and an end that stays where more bytes come are those of longer bytes too
+longer : ((bytes more : List ℕ) → Stays bytes more) → (ending : Ending) → ((bytes more : List ℕ) → IsEnd bytes ending → IsEnd (bytes ++ more) ending)
+    → (bytes more : List ℕ) (requests : List HttpRequest) → Messages bytes requests ending → Messages (bytes ++ more) requests ending
+longer stays ending end_stays bytes more [] is = end_stays bytes more is
+longer stays ending end_stays bytes more (request ∷ requests) (rest, front, next) =
+    (rest ++ more, (stays bytes more).whole request rest front, step request.close next (longer stays ending end_stays rest more requests))
   where
-    step : (close : Bool) → MatchBool close ((requests ≡ []) × (Closed ≡ Closed)) (Messages rest requests Closed)
-        → (Messages rest requests Closed → Messages (rest ++ more) requests Closed)
-        → MatchBool close ((requests ≡ []) × (Closed ≡ Closed)) (Messages (rest ++ more) requests Closed)
+    step : (close : Bool) → MatchBool close ((requests ≡ []) × (ending ≡ Closed)) (Messages rest requests ending)
+        → (Messages rest requests ending → Messages (rest ++ more) requests ending)
+        → MatchBool close ((requests ≡ []) × (ending ≡ Closed)) (Messages (rest ++ more) requests ending)
     step true last later = last
     step false others later = later others
 
-module _ {D : Type 0} (faults : D → ℕ) (old new : Seen D) (text : List ℕ) (fresh after : MemoryLinkState) (is_fresh : IsFresh (text ++ text) fresh) (grown : StartsWith new.history old.history)
-    (met : are_met after.written ≡ true) where
-  spoken : (bytes : List ℕ) (ending : Ending) → IsWhole ending → last_text ending ≡ []
+module _ {D : Type 0} (faults : D → ℕ) (old new : Seen D) (text : List ℕ) (fresh after : MemoryLinkState) (is_fresh : IsFresh (text ++ text) fresh) where
+  given : (bytes : List ℕ) → Hears (told_by fresh) (told_by after) bytes → text ++ text ≡ bytes ++ after.left
+  given bytes heard = sym is_fresh.left_is ∙ heard.left
+
+  spoken : StartsWith new.history old.history → are_met after.written ≡ true → (bytes : List ℕ) (ending : Ending) → IsWhole ending → last_text ending ≡ []
       → (spoke : SpokeAll (IsSession faults callers old (told_by fresh).clock new (told_by after).clock) (told_by fresh) bytes (told_by after) ending)
       → Messages (text ++ text) (requests_of spoke.said) ending → IsExchange old.history text new.history after.written
-  spoken bytes ending whole no_more spoke messages =
+  spoken grown met bytes ending whole no_more spoke messages =
       let alone = spoke.talk.talk in
       let written : after.written ≡ texts_of spoke.said =
       spoke.written ∙ ap (λ front. front ++ (texts_of spoke.said ++ last_text ending)) is_fresh.written_is ∙ ap (λ last. texts_of spoke.said ++ last) no_more ∙ append-nil (texts_of spoke.said) in
@@ -50,22 +54,40 @@ module _ {D : Type 0} (faults : D → ℕ) (old new : Seen D) (text : List ℕ) 
         answers_are = written;
       }
 
-  pub exchanged : ((bytes more : List ℕ) → Stays bytes more)
+  -- Where the text sent twice is requests and nothing else, the session ends behind them, if not by a fault or for want of memory.
+  pub whole-end : ((bytes more : List ℕ) → Stays bytes more) → OneReading → (requests : List HttpRequest) → Messages (text ++ text) requests Clean → length text ≤ 16785408
+      → (e : End) → Ends (IsSession faults callers old (told_by fresh).clock new (told_by after).clock) (told_by fresh) (told_by after) e → EndsWhole e
+  whole-end stays one requests reads few end.Ended ends = tt
+  whole-end stays one requests reads few end.ReadFault ends = tt
+  whole-end stays one requests reads few end.WriteFault ends = tt
+  whole-end stays one requests reads few end.Memory ends = tt
+  whole-end stays one requests reads few end.Cut ends =
+      let spoke = ends.ends.2 in
+      let all : ends.bytes ≡ text ++ text = sym (append-nil ends.bytes) ∙ ap (λ left. ends.bytes ++ left) (sym ends.ends.1) ∙ sym (given ends.bytes ends.heard) in
+      let other = subst (λ (bytes : List ℕ). Messages bytes (requests_of spoke.said) Cut) all spoke.are_messages in
+      let wrong : Clean ≡ Cut = (one (text ++ text) requests (requests_of spoke.said) Clean Cut reads other).1 in cc
+  whole-end stays one requests reads few (end.Refused cause) ends =
+      let spoke = ends.ends.1 in
+      let all = longer stays (Refused cause) (λ bytes more. (stays bytes more).faulty cause) ends.bytes after.left (requests_of spoke.said) spoke.are_messages in
+      let other = subst (λ (bytes : List ℕ). Messages bytes (requests_of spoke.said) (Refused cause)) (sym (given ends.bytes ends.heard)) all in
+      let wrong : Clean ≡ Refused cause = (one (text ++ text) requests (requests_of spoke.said) Clean (Refused cause) reads other).1 in cc
+  whole-end stays one requests reads few end.Worn ends =
+      absurd (omega (arith, few, ends.ends.0, ap length (given ends.bytes ends.heard), length-append text text, length-append ends.bytes after.left))
+
+  pub exchanged : StartsWith new.history old.history → are_met after.written ≡ true → ((bytes more : List ℕ) → Stays bytes more)
       → Ends (IsSession faults callers old (told_by fresh).clock new (told_by after).clock) (told_by fresh) (told_by after) end.Ended
       → IsExchange old.history text new.history after.written
-  exchanged stays ends = by ends.ends.1
+  exchanged grown met stays ends = by ends.ends.1
     where
       bytes : List ℕ
       bytes = ends.bytes
-
-      given : text ++ text ≡ bytes ++ after.left
-      given = sym is_fresh.left_is ∙ ends.heard.left
 
       by : (IsAtEnd (told_by after).reading.left × SpokeAll (IsSession faults callers old (told_by fresh).clock new (told_by after).clock) (told_by fresh) bytes (told_by after) Clean)
           ⊎ SpokeAll (IsSession faults callers old (told_by fresh).clock new (told_by after).clock) (told_by fresh) bytes (told_by after) Closed
           → IsExchange old.history text new.history after.written
       by (inl (at_end, spoke)) =
-          let all : bytes ≡ text ++ text = sym (append-nil bytes) ∙ ap (λ left. bytes ++ left) (sym at_end) ∙ sym given in
-          spoken bytes Clean tt refl spoke (subst (λ (bs : List ℕ). Messages bs (requests_of spoke.said) Clean) all spoke.are_messages)
+          let all : bytes ≡ text ++ text = sym (append-nil bytes) ∙ ap (λ left. bytes ++ left) (sym at_end) ∙ sym (given bytes ends.heard) in
+          spoken grown met bytes Clean tt refl spoke (subst (λ (bs : List ℕ). Messages bs (requests_of spoke.said) Clean) all spoke.are_messages)
       by (inr spoke) =
-          spoken bytes Closed tt refl spoke (subst (λ (bs : List ℕ). Messages bs (requests_of spoke.said) Closed) (sym given) (closed-longer stays bytes after.left (requests_of spoke.said) spoke.are_messages))
+          spoken grown met bytes Closed tt refl spoke (subst (λ (bs : List ℕ). Messages bs (requests_of spoke.said) Closed) (sym (given bytes ends.heard))
+          (longer stays Closed (λ front more none. absurd none) bytes after.left (requests_of spoke.said) spoke.are_messages))

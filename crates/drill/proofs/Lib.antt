@@ -1,7 +1,16 @@
 mod Connections
+mod Counted
 mod Counts
 mod Founding
+mod HeadLines
+mod LeaseAnswers
+mod Numbered
+mod OwnAsks
+mod OwnEntries
+mod OwnRequests
 mod Places
 mod Ranges
 mod Sending
+mod SentMessages
 mod Talks
+mod VisibleTexts

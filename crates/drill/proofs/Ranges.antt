@@ -23,3 +23,12 @@ module _ (numbers : DrillNumbers) (are : IsTrue (are_numbers numbers)) where
       let topics = (and_parts front (nat_le 1 numbers.topics && nat_le numbers.topics 250)
       (and_parts (front && (nat_le 1 numbers.topics && nat_le numbers.topics 250)) (nat_le 1 numbers.docs && nat_le numbers.docs 1000) counts).0).1 in
       leb-true numbers.topics 250 (and_parts (nat_le 1 numbers.topics) (nat_le numbers.topics 250) topics).1
+
+  pub few-runs : numbers.runs ≤ 256
+  few-runs =
+      let seed = nat_le numbers.seed 2147483647 in
+      let runs = nat_le 1 numbers.runs && nat_le numbers.runs 256 in
+      let topics = nat_le 1 numbers.topics && nat_le numbers.topics 250 in
+      let docs = nat_le 1 numbers.docs && nat_le numbers.docs 1000 in
+      let parts = (and_parts seed runs (and_parts (seed && runs) topics (and_parts (seed && runs && topics) docs counts).0).0).1 in
+      leb-true numbers.runs 256 (and_parts (nat_le 1 numbers.runs) (nat_le numbers.runs 256) parts).1

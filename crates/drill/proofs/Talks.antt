@@ -1,5 +1,5 @@
 -- What is said over a link at moment 0, without a fault of the disk and want of memory, is what the rules answer.
-use Rattle.std.proofs.Common.{◌≡◌, ◌≢◌, ◌&&◌, ℕ, Bool, true, false, not, List, [], ◌∷◌, ◌++◌, Option, None, Some, codes, decimal, is_some, length, refl, sym, ap, subst, arith, append_assoc, ◌∙◌}
+use Rattle.std.proofs.Common.{◌≡◌, ℕ, Bool, true, false, not, List, [], ◌∷◌, ◌++◌, Option, Some, codes, decimal, is_some, length, refl, sym, ap, subst, arith, append_assoc, ◌∙◌}
 use Rattle.std.specs.Prelude.{IfSome}
 use Rattle.std.proofs.lemmas.Bool.{and_parts}
 use Rattle.std.proofs.lemmas.Fmt.{decimal-digits_of}
@@ -68,7 +68,7 @@ unfolding text_of
 text-whole x = refl
 
 -- the text of an answer begins with its status
-status-first : (x : Said) (status : ℕ) → status_of x.answer ≡ status → (rest : List ℕ) × (text_said x ≡ (codes "HTTP/1.1 " ++ (decimal status ++ codes " ")) ++ rest)
+pub status-first : (x : Said) (status : ℕ) → status_of x.answer ≡ status → (rest : List ℕ) × (text_said x ≡ (codes "HTTP/1.1 " ++ (decimal status ++ codes " ")) ++ rest)
 status-first x status is = (rest, same)
   where
     body : List ℕ

@@ -1,9 +1,12 @@
 -- What a message that is sent twice is answered by the rules, and what it adds to the accepted entries.
 use Rattle.std.specs.Prelude.{◌≡◌, ◌≢◌, ℕ, List, Option, [], ◌∷◌, ◌++◌}
+use Rattle.http_wire.specs.declared.messages.HttpRequest.{HttpRequest}
 use Rattle.http_wire.specs.Messages.{Messages, End, Closed, Refused, Clean, Cut}
 use Rattle.routes.specs.Answers.{status_of}
 use Rattle.routes.specs.declared.answers.Answered.{Answered}
 use Rattle.rulebook.specs.Campaign.{History}
+use Rattle.campaign_server.specs.declared.ends.End.{End as ConnectionEnd}
+use Rattle.campaign_server.specs.declared.ends.End.TheVariants as end
 use Rattle.campaign_server.specs.Chains.{Said, requests_of, texts_of}
 use Rattle.campaign_server.specs.Talks.{Says}
 use Rattle.drill.specs.Answers.{leased_doc}
@@ -25,6 +28,22 @@ IsWhole Clean = Unit {0}
 IsWhole Closed = Unit {0}
 IsWhole (Refused fault) = ⊥
 IsWhole Cut = ⊥
+
+-- a session over whole messages ends behind them, by a fault of its link, or for want of memory
+abbrev pub EndsWhole : ConnectionEnd → Type 0
+EndsWhole end.Ended = Unit {0}
+EndsWhole end.ReadFault = Unit {0}
+EndsWhole end.WriteFault = Unit {0}
+EndsWhole end.Memory = Unit {0}
+EndsWhole end.Cut = ⊥
+EndsWhole (end.Refused cause) = ⊥
+EndsWhole end.Worn = ⊥
+
+-- bytes are requests and an end in one way at most
+abbrev pub OneReading : Type 0
+OneReading =
+    (bytes : List ℕ) (requests others : List HttpRequest) (end other : End) → Messages bytes requests end → Messages bytes others other
+    → (requests ≡ others) × (end ≡ other)
 
 -- a text that comes twice in one connection, its answers by the rules behind H, and the entries that stand then
 pub record IsExchange (H : History) (text : List ℕ) (S : History) (answers : List ℕ) : Type 0 where

@@ -1,6 +1,7 @@
 pub mod Answers
 pub mod Exchanges
 pub mod Figures
+pub mod Foundings
 pub mod FreshLinks
 pub mod Messages
 pub mod Plays

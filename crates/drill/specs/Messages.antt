@@ -1,5 +1,6 @@
 -- The callers and the rules of a generated campaign, and the messages that its callers send.
-use Rattle.std.specs.Prelude.{ℕ, List, [], ◌∷◌, ◌++◌, codes, decimal, length}
+use Rattle.std.specs.Prelude.{◌≡◌, ◌<◌, ◌≤◌, ◌^◌, ℕ, Bool, true, ◌&&◌, List, [], ◌∷◌, ◌++◌, codes, decimal, length, nat_lt}
+use Rattle.std.specs.List.{list_all}
 use Rattle.routes.specs.declared.keys.KeyRow.{KeyRow}
 use Rattle.rulebook.specs.declared.rules.Role.TheVariants.{Organiser, Group, Assessor}
 use Rattle.rulebook.specs.declared.rules.Rules.{Rules}
@@ -39,6 +40,27 @@ message_text message =
     ++ codes "\r\nX-Request-Number: " ++ decimal message.number
     ++ codes "\r\nContent-Length: " ++ decimal (length message.body)
     ++ codes "\r\n\r\n" ++ message.body
+
+-- a byte of visible ASCII
+abbrev pub is_visible : ℕ → Bool
+is_visible b = nat_lt 32 b && nat_lt b 127
+
+-- visible bytes, few of them
+pub record IsWord (text : List ℕ) : Type 0 where
+  pub some : 0 < length text
+  pub few : length text ≤ 100
+  pub visible : list_all is_visible text ≡ true
+
+-- a message that a connection takes: its head is one, and its body isn't too long
+pub record IsSendable (message : Message) : Type 0 where
+  pub key : IsWord message.key
+  pub path : IsWord message.path
+  pub number : message.number < 2 ^ 32
+  pub body : length message.body ≤ 16777216
+
+-- the text of such a message
+abbrev pub IsMessage : List ℕ → Type 0
+IsMessage text = (message : Message) × IsSendable message × (text ≡ message_text message)
 
 abbrev pub topics_message : DrillNumbers → Message
 topics_message numbers = record { key = organiser_key; number = 1; path = codes "/topics"; body = topics_text numbers }

@@ -1,7 +1,9 @@
 -- How a generated campaign is played, message by message.
-use Rattle.std.specs.Prelude.{◌≡◌, ℕ, zero, suc, ◌+◌, List, [], ◌∷◌, None, Some}
+use Rattle.std.specs.Prelude.{◌≡◌, ◌<◌, ◌≤◌, ℕ, zero, suc, ◌+◌, ◌*◌, false, List, [], ◌∷◌, None, Some, codes, length}
+use Rattle.std.specs.List.{list_any}
 use Rattle.rulebook.specs.Campaign.{History}
 use Rattle.rulebook.specs.Legal.{founding}
+use Rattle.rulebook.specs.Numbers.{is_numbered}
 use Rattle.drill.specs.declared.numbers.DrillNumbers.{DrillNumbers}
 use Rattle.drill.specs.declared.plays.Sent.{Sent}
 use Rattle.drill.specs.Answers.{leased_doc}
@@ -23,6 +25,17 @@ pub record Judging : Type 0 where
 -- with what was counted of the messages so far
 abbrev pub judging : History → Sent → Judging
 judging H sent = record { history = H; number = sent.number; leases = sent.leases }
+
+-- no entry of the assessor has a greater number
+abbrev pub IsNumberedTo : ℕ → History → Type 0
+IsNumberedTo n H = (k : ℕ) → n < k → list_any (is_numbered (codes "asr") k) H ≡ false
+
+-- Before the last message for topic t: the next number is unused, the assessor sent two messages for each accepted lease and one for each topic
+-- before, and each accepted lease is an entry.
+pub record IsCounted (t : ℕ) (now : Judging) : Type 0 where
+  pub numbered : IsNumberedTo now.number now.history
+  pub messages : now.number < 2 * now.leases + t
+  pub entries : now.leases ≤ length now.history
 
 -- a lease on a topic was accepted, and the document graded
 pub record IsGraded (numbers : DrillNumbers) (t : ℕ) (old new : Judging) : Type 0 where

@@ -3,6 +3,7 @@ ghost use Rattle.std.specs.Prelude.{◌≡◌, [], ◌∷◌, IfOk, IsTrue};
 ghost use Rattle.rulebook.specs.Campaign.{History};
 ghost use Rattle.rulebook.specs.Legal.{founding};
 ghost use Rattle.drill.specs.Figures.{are_numbers};
+ghost use Rattle.drill.specs.Foundings.{RefusesEmpty};
 ghost use Rattle.drill.specs.Messages.{callers as drill_callers, rules as drill_rules};
 ghost use Rattle.drill.specs.Plays.{IsPlayed};
 ghost use Rattle.drill.specs.Summaries.{summary_of as summary_by};
@@ -11,7 +12,7 @@ use crate::messages::{callers, rules};
 use crate::numbers::DrillNumbers;
 use crate::plays::play;
 use crate::summaries::summary_of;
-use book::Book;
+use book::{Book, BookFault};
 use decimal_rank::Memory;
 use disk_model::MemoryDisk;
 use routes::Keys;
@@ -52,9 +53,20 @@ fn found(alloc: Global) -> Result<Book<MemoryDisk>, Memory>
     let disk = MemoryDisk::new(Vec::new(alloc), Vec::new(alloc));
     match Book::open(alloc, disk, rules(alloc)) {
         Ok(book) => Ok(book),
-        Err((disk, _fault)) => {
+        Err((disk, fault)) => {
             drop(disk);
-            Err(Memory)
+            Err(want_of(fault))
         }
+    }
+}
+
+/// Why an empty disk isn't opened. It holds nothing that could be refused, and it is in memory, where no call fails
+/// but for want of it.
+fn want_of(fault: BookFault) -> Memory
+    requires { RefusesEmpty fault }
+{
+    match fault {
+        BookFault::Disk | BookFault::Memory => Memory,
+        BookFault::Header | BookFault::Damaged { .. } | BookFault::RulesDiffer => unreachable!(),
     }
 }

@@ -1,17 +1,17 @@
 //! A message that is sent twice, and what its answers tell.
-ghost use Rattle.std.specs.Prelude.{◌≡◌, ◌<◌, ◌++◌, ℕ, true, List, IfOk, length};
+ghost use Rattle.std.specs.Prelude.{◌≡◌, ◌≢◌, ◌⊎◌, ◌<◌, ◌++◌, ℕ, true, false, List, IfOk, IsErr, length};
 ghost use Rattle.campaign_server.specs.declared.ends.End.TheVariants.{Ended};
 ghost use Rattle.drill.specs.FreshLinks.{IsFresh};
 ghost use Rattle.drill.specs.Answers.{are_met, leased_doc};
-ghost use Rattle.drill.specs.Exchanges.{IsExchange};
-ghost use Rattle.drill.specs.Messages.{callers};
+ghost use Rattle.drill.specs.Exchanges.{EndsWhole, IsExchange};
+ghost use Rattle.drill.specs.Messages.{IsMessage, callers};
 
 use crate::answers::{are_met, leased_doc};
 use book::Book;
 use campaign_server::{End, MemoryLink, session};
 use decimal_rank::{Memory, Text};
 use disk_model::MemoryDisk;
-use http_wire::fronts_stay;
+use http_wire::{fronts_stay, one_reading};
 use routes::Keys;
 use std::alloc::Global;
 
@@ -24,11 +24,12 @@ pub(crate) fn send<R>(
     text: Vec<u8>,
 ) -> Result<Option<u32>, Memory>
     requires keys { keys.now ≡ callers }
-    requires some { 0 < length text.items }
+    requires message { IsMessage text.items }
     ensures { IfOk result (λ doc. (answers : List ℕ) × IsExchange book.old.history text.items book.new.history answers × (doc ≡ leased_doc answers)) }
 {
-    // a request that stands at the front stays there, whatever comes behind it
+    // a request that stands at the front stays there, whatever comes behind it, and bytes are read in one way
     fronts_stay();
+    one_reading();
     let mut link = twice(alloc, text)?;
     let end = session(rt, alloc, book, &mut link, keys);
     read_answers(end, &link)
@@ -49,7 +50,9 @@ fn twice(alloc: Global, text: Vec<u8>) -> Result<MemoryLink, Memory>
 /// What the answers tell, where the session ended and there was no want of memory. The disk and the link are
 /// in memory, and fail for want of it alone.
 fn read_answers(end: End, link: &MemoryLink) -> Result<Option<u32>, Memory>
-    ensures { IfOk result (λ doc. (end ≡ Ended) × (are_met link.now.written ≡ true) × (doc ≡ leased_doc link.now.written)) }
+    requires { EndsWhole end }
+    ensures told { IfOk result (λ doc. (end ≡ Ended) × (are_met link.now.written ≡ true) × (doc ≡ leased_doc link.now.written)) }
+    ensures want { IsErr result → (end ≢ Ended) ⊎ (are_met link.now.written ≡ false) }
 {
     let is_over = is_ended(end);
     if !is_over {
@@ -63,12 +66,15 @@ fn read_answers(end: End, link: &MemoryLink) -> Result<Option<u32>, Memory>
     Ok(leased_doc(answers))
 }
 
+/// Whether the session came to the end of its messages. These are whole, and fewer than a connection takes.
 fn is_ended(end: End) -> bool
-    ensures { result ≡ true → end ≡ Ended }
+    requires { EndsWhole end }
+    ensures over { result ≡ true → end ≡ Ended }
+    ensures not_over { result ≡ false → end ≢ Ended }
 {
     match end {
         End::Ended => true,
-        End::Cut | End::Refused(_) | End::ReadFault | End::WriteFault | End::Memory | End::Worn =>
-            false,
+        End::ReadFault | End::WriteFault | End::Memory => false,
+        End::Cut | End::Refused(_) | End::Worn => unreachable!(),
     }
 }

@@ -1,10 +1,10 @@
 //! The messages of a generated campaign, in their order.
-ghost use Rattle.std.specs.Prelude.{◌≡◌, ◌+◌, ◌*◌, ◌≤◌, ◌<◌, [], ◌∷◌, IfOk, IsTrue, MatchBool, OnOk, length};
+ghost use Rattle.std.specs.Prelude.{◌≡◌, ◌+◌, ◌≤◌, [], ◌∷◌, IfOk, IsTrue, MatchBool, OnOk};
 ghost use Rattle.rulebook.specs.Legal.{founding};
 ghost use Rattle.drill.specs.Exchanges.{IsAnswered, IsSent};
 ghost use Rattle.drill.specs.Figures.{are_numbers};
-ghost use Rattle.drill.specs.Messages.{callers, rules, run_message as message_of_run};
-ghost use Rattle.drill.specs.Plays.{After, AreJudged, IsGraded, IsJudged, IsPlayed, IsRefused, judging};
+ghost use Rattle.drill.specs.Messages.{IsMessage, callers, rules, run_message as message_of_run};
+ghost use Rattle.drill.specs.Plays.{After, AreJudged, IsCounted, IsGraded, IsJudged, IsNumberedTo, IsPlayed, IsRefused, judging};
 
 use crate::exchanges::send;
 use crate::figures::grade_of;
@@ -15,7 +15,9 @@ use crate::numbers::DrillNumbers;
 use book::Book;
 use decimal_rank::Memory;
 use disk_model::MemoryDisk;
+use http_wire::{fronts_stay, one_reading};
 use routes::Keys;
+use rulebook::entries_are_few;
 use std::alloc::Global;
 
 /// Sends the messages of a generated campaign.
@@ -56,6 +58,9 @@ pub(crate) fn play<R>(
     sender.send(book, topics_message(alloc, numbers)?)?;
     sender.submit_runs(book)?;
     sender.send(book, open_message(alloc)?)?;
+    // the requests that were sent are read in one way, and none of them is the assessor's
+    fronts_stay();
+    one_reading();
     sender.judge_topics(book)?;
     sender.send(book, publish_message(alloc)?)?;
     Ok(())
@@ -65,7 +70,7 @@ impl<'a, R> Sender<'a, R> {
     /// Sends a message twice. Its answers tell the number of a document where they lease one.
     fn send(&self, book: &mut Book<MemoryDisk>, text: Vec<u8>) -> Result<Option<u32>, Memory>
         requires keys { self.now.keys.now ≡ callers }
-        requires some { 0 < length text.items }
+        requires message { IsMessage text.items }
         ensures { IfOk result (IsAnswered book.old.history text.items book.new.history) }
     {
         send(self.rt, self.alloc, book, self.keys, text)
@@ -87,6 +92,7 @@ impl<'a, R> Sender<'a, R> {
     fn judge_topics(&self, book: &mut Book<MemoryDisk>) -> Result<(), Memory>
         requires numbers { IsTrue (are_numbers self.now.numbers.now) }
         requires keys { self.now.keys.now ≡ callers }
+        requires unused { IsNumberedTo 0 book.old.history }
         ensures { OnOk result (AreJudged self.now.numbers.now book.old.history book.new.history) }
     {
         let mut sent = Sent {
@@ -99,30 +105,30 @@ impl<'a, R> Sender<'a, R> {
         Ok(())
     }
 
-    /// Leases and grades the documents of a topic, until no lease is accepted.
+    /// Leases and grades the documents of a topic, until no lease is accepted. Each accepted lease is an entry, of
+    /// which a campaign has no more than so many.
     fn judge_topic(
         &self,
         t: u32,
         book: &mut Book<MemoryDisk>,
         sent: &mut Sent,
     ) -> Result<(), Memory>
-        requires numbers { IsTrue (are_numbers self.now.numbers.now) }
         requires keys { self.now.keys.now ≡ callers }
         requires topic { t ≤ 250 }
-        requires few { sent.old.number ≤ 1000000 }
-        requires few_leases { sent.old.leases ≤ 1000000 }
+        requires counted { IsCounted t (judging book.old.history sent.old) }
         ensures judged { OnOk result (IsJudged self.now.numbers.now t (judging book.old.history sent.old) (judging book.new.history sent.new)) }
-        ensures few { sent.new.number ≤ sent.old.number + 2003 }
-        ensures few_leases { sent.new.leases ≤ sent.old.leases + 1001 }
+        ensures counted { OnOk result (IsCounted (t + 1) (judging book.new.history sent.new)) }
     {
-        for round in 0..self.numbers.docs + 1 {
+        fronts_stay();
+        one_reading();
+        entries_are_few();
+        'leases: loop {
+            book.stands();
             let is_graded = self.judge_next(t, book, sent)?;
             if !is_graded {
                 return Ok(());
             }
         }
-        // a topic has no more documents, so its leases came to an end
-        Err(Memory)
     }
 
     /// Asks for a lease on a topic, and grades its document. False is that the lease wasn't accepted.
@@ -134,13 +140,11 @@ impl<'a, R> Sender<'a, R> {
     ) -> Result<bool, Memory>
         requires keys { self.now.keys.now ≡ callers }
         requires topic { t ≤ 250 }
-        requires few { sent.old.number ≤ 2000000 }
-        requires few_leases { sent.old.leases ≤ 2000000 }
-        ensures judged { IfOk result (λ is_graded. MatchBool is_graded
+        requires few { sent.old.number ≤ 9000000 }
+        requires few_leases { sent.old.leases ≤ 9000000 }
+        ensures { IfOk result (λ is_graded. MatchBool is_graded
             (IsGraded self.now.numbers.now t (judging book.old.history sent.old) (judging book.new.history sent.new))
             (IsRefused t (judging book.old.history sent.old) (judging book.new.history sent.new))) }
-        ensures few { sent.new.number ≤ sent.old.number + 2 }
-        ensures few_leases { sent.new.leases ≤ sent.old.leases + 1 }
     {
         let lease = lease_message(self.alloc, t, sent.number + 1)?;
         match self.send(book, lease)? {

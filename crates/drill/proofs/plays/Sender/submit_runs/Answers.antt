@@ -3,14 +3,19 @@ use Rattle.drill.specs.Exchanges.{IsSent}
 use Rattle.drill.specs.Messages.{run_message}
 use Rattle.drill.specs.Plays.{After}
 use Rattle.drill.proofs.Counts.{after-more}
-use Rattle.drill.proofs.Sending.{filled, sent-as}
+use Rattle.drill.proofs.Ranges.{few-runs}
+use Rattle.drill.proofs.Sending.{sent-as}
+use Rattle.drill.proofs.SentMessages.{run-sendable}
 use Rattle.drill.proofs.plays.Sender.submit_runs.Goals as goal
 
 pub loop-before-init : goal.loop-before-init
 loop-before-init g c = refl
 
-pub send-requires-clause-some : goal.send-requires-clause-some
-send-requires-clause-some g c = filled (run_message c.args.self.now.numbers.now (c.loop-before.before + 1)) _ c.in_ok-run_message.ensures
+pub send-requires-clause-message : goal.send-requires-clause-message
+send-requires-clause-message g c =
+    let numbers = c.args.self.now.numbers.now in
+    let r = c.loop-before.before + 1 in
+    (run_message numbers r, run-sendable numbers c.requires.numbers r (omega (arith, few-runs numbers c.requires.numbers, c.loop-before-test.true)), c.in_ok-run_message.ensures)
 
 pub loop-before-preserved : goal.loop-before-preserved
 loop-before-preserved g c =
