@@ -1,5 +1,6 @@
 -- A session with a campaign on a disk: what is said in it, and which entry it may leave on the disk beside the accepted ones.
 use Rattle.std.specs.Prelude.{◌≡◌, ◌⊎◌, ◌≤◌, ℕ, true, List, [], ◌∷◌, ◌++◌, Some, Ok, filter, length}
+use Rattle.disk_model.specs.Disks.{DiskState}
 use Rattle.book.specs.Books.{Seen, story_of}
 use Rattle.routes.specs.declared.answers.Answered.TheVariants as answered
 use Rattle.routes.specs.declared.keys.KeyRow.{KeyRow}
@@ -31,10 +32,10 @@ pub record IsLeft (keys : List KeyRow) (before : Story) (clock : Clock) (after :
   pub first : IsTalkAlone keys before clock (record after { faults = count }) time front
 
 -- What was said in a session, and what is pending at its end: what was so at its start, where nothing was accepted, or an entry that was answered 503.
-pub record IsSession {D : Type 0} (faults : D → ℕ) (keys : List KeyRow) (old : Seen D) (clock : Clock) (new : Seen D) (later : Clock) (said : List Said) : Type 0 where
-  pub talk : IsTalkAlone keys (story_of faults old) clock (story_of faults new) later said
+pub record IsSession {D : Type 0} (seen : D → DiskState) (keys : List KeyRow) (old : Seen D) (clock : Clock) (new : Seen D) (later : Clock) (said : List Said) : Type 0 where
+  pub talk : IsTalkAlone keys (story_of seen old) clock (story_of seen new) later said
   pub left : (e : Entry) → new.pending ≡ Some e
-      → ((old.pending ≡ Some e) × (new.history ≡ old.history)) ⊎ IsLeft keys (story_of faults old) clock (story_of faults new) said e
+      → ((old.pending ≡ Some e) × (new.history ≡ old.history)) ⊎ IsLeft keys (story_of seen old) clock (story_of seen new) said e
 
 -- No two entries have one caller's name and one number.
 abbrev pub AreNumberedOnce : History → Type 0

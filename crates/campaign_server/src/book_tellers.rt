@@ -7,7 +7,7 @@ use rulebook::{Addressed, Answer};
 impl<D: Disk> Teller for Book<D> {
     ghost use Rattle.book.specs.Books.{Acts};
 
-    ghost tells = { Acts D.images D.clock D.images_since D.fault_count };
+    ghost tells = { Acts D.seen };
 
     ghost by_rules = { λ old asked reply new acts. (old.history, acts.before.legal, acts.told.leads.0) };
 

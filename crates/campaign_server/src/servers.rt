@@ -136,8 +136,8 @@ fn serve_owned<D: Disk + Send, R: Door, J: Opening + Send + Sync, W: Threads + W
     requires name { blank.name ≡ J.name }
     requires parts { (blank.parts ≡ J.parts) × (J.parts ≡ workers) }
     requires opening { (J.port ≡ port) × (J.faults ≡ (R.seen door).faults) × (J.limit ≡ connections) }
-    ensures history { AtMost (seen_as (story_in D.fault_count book)) (seen_as (story_in D.fault_count result.1.0)) }
-    ensures told { IfSome (R.seen result.0).told (λ told. Leaves keys.now workers connections port (seen_as (story_in D.fault_count book)) (seen_as (story_in D.fault_count result.1.0)) result.1.1 told) }
+    ensures history { AtMost (seen_as (story_in D.seen book)) (seen_as (story_in D.seen result.1.0)) }
+    ensures told { IfSome (R.seen result.0).told (λ told. Leaves keys.now workers connections port (seen_as (story_in D.seen book)) (seen_as (story_in D.seen result.1.0)) result.1.1 told) }
     ensures fault { result.1.1 ≡ DoorFault → Rose (R.seen door).faults (R.seen result.0).faults }
     ensures later { (R.seen door).faults ≤ (R.seen result.0).faults }
 {
@@ -189,8 +189,8 @@ fn serve_named<D: Disk + Send, R: Door, W: Threads + Wait + Sync>(
 ) -> (R, (Book<D>, ServeEnd))
     requires workers { 0 < workers }
     requires shut { IsShut (R.seen door) }
-    ensures history { AtMost (seen_as (story_in D.fault_count book)) (seen_as (story_in D.fault_count result.1.0)) }
-    ensures told { IfSome (R.seen result.0).told (λ told. Leaves keys.now workers connections port (seen_as (story_in D.fault_count book)) (seen_as (story_in D.fault_count result.1.0)) result.1.1 told) }
+    ensures history { AtMost (seen_as (story_in D.seen book)) (seen_as (story_in D.seen result.1.0)) }
+    ensures told { IfSome (R.seen result.0).told (λ told. Leaves keys.now workers connections port (seen_as (story_in D.seen book)) (seen_as (story_in D.seen result.1.0)) result.1.1 told) }
     ensures fault { result.1.1 ≡ DoorFault → Rose (R.seen door).faults (R.seen result.0).faults }
     ensures later { (R.seen door).faults ≤ (R.seen result.0).faults }
 {
@@ -224,9 +224,9 @@ pub fn serve<D: Disk + Send, R: Door, W: Threads + Wait + Sync>(
     requires workers { (0 < workers) × (workers ≤ 16) }
     requires connections { 0 < connections }
     requires shut { IsShut (R.seen door.old) }
-    ensures history { AtMost (seen_as (story_in D.fault_count book)) (seen_as (story_in D.fault_count result.0)) }
+    ensures history { AtMost (seen_as (story_in D.seen book)) (seen_as (story_in D.seen result.0)) }
     ensures legal { IsLegal result.0.history }
-    ensures told { IfSome (R.seen door.new).told (λ told. Leaves keys.now workers connections port (seen_as (story_in D.fault_count book)) (seen_as (story_in D.fault_count result.0)) result.1 told) }
+    ensures told { IfSome (R.seen door.new).told (λ told. Leaves keys.now workers connections port (seen_as (story_in D.seen book)) (seen_as (story_in D.seen result.0)) result.1 told) }
     ensures fault { result.1 ≡ DoorFault → Rose (R.seen door.old).faults (R.seen door.new).faults }
     ensures later { (R.seen door.old).faults ≤ (R.seen door.new).faults }
 {
@@ -235,8 +235,8 @@ pub fn serve<D: Disk + Send, R: Door, W: Threads + Wait + Sync>(
         book,
         |owned: R, book: Book<D>| -> (R, (Book<D>, ServeEnd))
             requires { IsSync W.row × (0 < workers) × IsShut (R.seen owned) }
-            ensures { AtMost (seen_as (story_in D.fault_count book)) (seen_as (story_in D.fault_count result.1.0))
-                × IfSome (R.seen result.0).told (λ told. Leaves keys.entry.now workers connections port (seen_as (story_in D.fault_count book)) (seen_as (story_in D.fault_count result.1.0)) result.1.1 told)
+            ensures { AtMost (seen_as (story_in D.seen book)) (seen_as (story_in D.seen result.1.0))
+                × IfSome (R.seen result.0).told (λ told. Leaves keys.entry.now workers connections port (seen_as (story_in D.seen book)) (seen_as (story_in D.seen result.1.0)) result.1.1 told)
                 × (result.1.1 ≡ DoorFault → Rose (R.seen owned).faults (R.seen result.0).faults)
                 × ((R.seen owned).faults ≤ (R.seen result.0).faults) }
         { serve_named(rt, alloc, keys, port, workers, connections, owned, book) },

@@ -20,9 +20,11 @@ pub fn session<R, D: Disk, I: Link>(
     link: &mut I,
     keys: &Keys,
 ) -> End
-    ensures ends { Ends (IsSession D.fault_count keys.now book.old (I.seen link.old).clock book.new (I.seen link.new).clock) (I.seen link.old) (I.seen link.new) result }
-    ensures runs { Runs D.images D.clock D.images_since D.fault_count book.old book.new }
-    ensures sound { IsSound D.images D.clock D.images_since D.fault_count book.new }
+    ensures ends { Ends
+        (IsSession D.seen keys.now book.old (I.seen link.old).clock book.new (I.seen link.new).clock)
+        (I.seen link.old) (I.seen link.new) result }
+    ensures runs { Runs D.seen book.old book.new }
+    ensures sound { IsSound D.seen book.new }
     ensures numbered { AreNumberedOnce book.new.history }
 {
     book.stands();

@@ -1,5 +1,6 @@
 -- A session with a book: what the chain of its states says at the end.
 use Rattle.std.proofs.Common.{◌≡◌, ◌⊎◌, inl, inr, ℕ, List, [], ◌∷◌, ◌++◌, true, None, Some, Ok, refl, sym, ap, subst, ◌∙◌}
+use Rattle.disk_model.specs.Disks.{DiskState, OnlyNow}
 use Rattle.book.specs.Books.{Acts, IsSound, Runs, Seen, Settles, story_of}
 use Rattle.book.specs.RunLaws.{join_runs, no_run}
 use Rattle.http_wire.specs.declared.messages.HttpRequest.{HttpRequest}
@@ -19,20 +20,20 @@ use Rattle.campaign_server.specs.Talks.{IsSeen}
 use Rattle.campaign_server.proofs.TalkSteps.Chaining.{chain_talks, chain_ticks}
 use Rattle.campaign_server.proofs.TalkSteps.TalkFacts.{ends_known}
 
-module _ {D : Type 0} (images : D → List ℕ → Type 0) (clock : D → ℕ) (since : D → ℕ → List ℕ → Type 0) (faults : D → ℕ) (keys : List KeyRow) where
+module _ {D : Type 0} (seen : D → DiskState) (keys : List KeyRow) where
   -- a book's states are seen as stories
-  book_seen : IsSeen (Acts images clock since faults) true (story_of faults) (λ (old : Seen D) (places : List ℕ) (new : Seen D). Unit {0})
+  book_seen : IsSeen (Acts seen) true (story_of seen) (λ (old : Seen D) (places : List ℕ) (new : Seen D). Unit {0})
   book_seen = record {
-    step = λ old asked answer new acts. (story_of faults old, refl, acts.told, tt);
+    step = λ old asked answer new acts. (story_of seen old, refl, acts.told, tt);
     none = λ s. tt;
     both = λ a b c places others first second. tt;
   }
 
-  chain_alone : (old : Seen D) (at : Clock) (new : Seen D) (later : Clock) (said : List Said) → Chain (Acts images clock since faults) keys old at new later said
-      → IsTalkAlone keys (story_of faults old) at (story_of faults new) later said
+  chain_alone : (old : Seen D) (at : Clock) (new : Seen D) (later : Clock) (said : List Said) → Chain (Acts seen) keys old at new later said
+      → IsTalkAlone keys (story_of seen old) at (story_of seen new) later said
   chain_alone old at new later said chain =
-      let talked = chain_talks (Acts images clock since faults) keys true (story_of faults) (λ (old : Seen D) (places : List ℕ) (new : Seen D). Unit {0}) book_seen old at new later said chain in
-      let ticked = chain_ticks (Acts images clock since faults) keys true (story_of faults) (λ (old : Seen D) (places : List ℕ) (new : Seen D). Unit {0}) book_seen old at new later said chain in
+      let talked = chain_talks (Acts seen) keys true (story_of seen) (λ (old : Seen D) (places : List ℕ) (new : Seen D). Unit {0}) book_seen old at new later said chain in
+      let ticked = chain_ticks (Acts seen) keys true (story_of seen) (λ (old : Seen D) (places : List ℕ) (new : Seen D). Unit {0}) book_seen old at new later said chain in
       (talked.places, record { talk = talked.talk; moments = ticked })
 
   -- what one answer leaves pending: what was so, with nothing accepted, or the entry that a fault of the disk kept from being added
@@ -49,11 +50,11 @@ module _ {D : Type 0} (images : D → List ℕ → Type 0) (clock : D → ℕ) (
   stays : (old mid : Seen D) (e : Entry) → mid ≡ old → mid.pending ≡ Some e → Stayed old mid e
   stays old mid e same pending = (ap (λ (s : Seen D). s.pending) (sym same) ∙ pending, ap (λ (s : Seen D). s.history) same)
 
-  settled : (old mid : Seen D) (added : History) (e : Entry) → Settles images clock since faults old added mid → mid.pending ≡ Some e → Stayed old mid e
+  settled : (old mid : Seen D) (added : History) (e : Entry) → Settles seen old added mid → mid.pending ≡ Some e → Stayed old mid e
   settled old mid [] e same pending = stays old mid e same pending
   settled old mid (x ∷ added) e none pending = let wrong : None ≡ Some e = sym none ∙ pending in absurd (cc wrong)
 
-  one_left : (old : Seen D) (request : HttpRequest) (moment : ℕ) (answer : Answered) (mid : Seen D) (e : Entry) → Answers (Acts images clock since faults) keys old request moment answer mid → mid.pending ≡ Some e
+  one_left : (old : Seen D) (request : HttpRequest) (moment : ℕ) (answer : Answered) (mid : Seen D) (e : Entry) → Answers (Acts seen) keys old request moment answer mid → mid.pending ≡ Some e
       → Stayed old mid e ⊎ Faulted old request moment answer mid e
   one_left old request moment (answered.Reply reply query) mid e (asked, reads, is, acts) pending = inl (settled old mid (added_by old.history (at_moment asked moment)) e acts.leaves pending)
   one_left old request moment (answered.Route cause) mid e (reads, same) pending = inl (stays old mid e same pending)
@@ -77,14 +78,14 @@ module _ {D : Type 0} (images : D → List ℕ → Type 0) (clock : D → ℕ) (
     split : said ≡ front ++ refused ∷ behind
     mid : Seen D
     time : Clock
-    first : Chain (Acts images clock since faults) keys old at mid time front
+    first : Chain (Acts seen) keys old at mid time front
     answer : refused.answer ≡ answered.DiskFault
     asked : Asked
     reads : Reads refused.request keys (Ok asked)
     adds : added_by mid.history (at_moment asked refused.moment) ≡ e ∷ []
     same : new.history ≡ mid.history
 
-  chain_left : (old : Seen D) (at : Clock) (new : Seen D) (later : Clock) (said : List Said) (e : Entry) → Chain (Acts images clock since faults) keys old at new later said → new.pending ≡ Some e
+  chain_left : (old : Seen D) (at : Clock) (new : Seen D) (later : Clock) (said : List Said) (e : Entry) → Chain (Acts seen) keys old at new later said → new.pending ≡ Some e
       → Stayed old new e ⊎ ChainLeft old at new said e
   chain_left old at new later [] e chain pending = inl (stays old new e chain.0 pending)
   chain_left old at new later (x ∷ said) e (mid, next, ticks, answers, chain) pending = by (chain_left mid next new later said e chain pending)
@@ -123,7 +124,7 @@ module _ {D : Type 0} (images : D → List ℕ → Type 0) (clock : D → ℕ) (
         same = w.same;
       })
 
-  left_of : (old : Seen D) (at : Clock) (new : Seen D) (said : List Said) (e : Entry) → Stayed old new e ⊎ ChainLeft old at new said e → Stayed old new e ⊎ IsLeft keys (story_of faults old) at (story_of faults new) said e
+  left_of : (old : Seen D) (at : Clock) (new : Seen D) (said : List Said) (e : Entry) → Stayed old new e ⊎ ChainLeft old at new said e → Stayed old new e ⊎ IsLeft keys (story_of seen old) at (story_of seen new) said e
   left_of old at new said e (inl stayed) = inl stayed
   left_of old at new said e (inr w) = inr (record {
     front = w.front;
@@ -134,24 +135,24 @@ module _ {D : Type 0} (images : D → List ℕ → Type 0) (clock : D → ℕ) (
     asked = w.asked;
     reads = w.reads;
     adds = subst (λ (H : History). added_by H (at_moment w.asked w.refused.moment) ≡ e ∷ []) (sym w.same) w.adds;
-    count = faults w.mid.disk;
+    count = (seen w.mid.disk).faults;
     time = w.time;
     first = talk w.same (chain_alone old at w.mid w.time w.front w.first);
   })
     where
-      talk : new.history ≡ w.mid.history → IsTalkAlone keys (story_of faults old) at (story_of faults w.mid) w.time w.front
-          → IsTalkAlone keys (story_of faults old) at (record { list = new.history; faults = faults w.mid.disk; opening = new.opening }) w.time w.front
-      talk same is = subst (λ (H : History). IsTalkAlone keys (story_of faults old) at (record { list = H; faults = faults w.mid.disk; opening = new.opening }) w.time w.front) (sym same) is
+      talk : new.history ≡ w.mid.history → IsTalkAlone keys (story_of seen old) at (story_of seen w.mid) w.time w.front
+          → IsTalkAlone keys (story_of seen old) at (record { list = new.history; faults = (seen w.mid.disk).faults; opening = new.opening }) w.time w.front
+      talk same is = subst (λ (H : History). IsTalkAlone keys (story_of seen old) at (record { list = H; faults = (seen w.mid.disk).faults; opening = new.opening }) w.time w.front) (sym same) is
 
   -- each state of the chain is sound, and the first runs to it
   abbrev Keeps : Seen D → Seen D → Type 0
-  Keeps old new = Runs images clock since faults old new × IsSound images clock since faults new
+  Keeps old new = Runs seen old new × IsSound seen new
 
-  module _ (only_now : (disk : D) (image : List ℕ) → since disk (clock disk) image → images disk image) where
-    still : (old new : Seen D) → IsSound images clock since faults old → new ≡ old → Keeps old new
-    still old new sound same = subst (Keeps old) (sym same) (no_run images clock since faults only_now old sound, sound)
+  module _ (only_now : (disk : D) → OnlyNow (seen disk)) where
+    still : (old new : Seen D) → IsSound seen old → new ≡ old → Keeps old new
+    still old new sound same = subst (Keeps old) (sym same) (no_run seen only_now old sound, sound)
 
-    one_keeps : (old : Seen D) (request : HttpRequest) (moment : ℕ) (answer : Answered) (mid : Seen D) → IsSound images clock since faults old → Answers (Acts images clock since faults) keys old request moment answer mid → Keeps old mid
+    one_keeps : (old : Seen D) (request : HttpRequest) (moment : ℕ) (answer : Answered) (mid : Seen D) → IsSound seen old → Answers (Acts seen) keys old request moment answer mid → Keeps old mid
     one_keeps old request moment (answered.Reply reply query) mid sound (asked, reads, is, acts) = (acts.runs, acts.after)
     one_keeps old request moment (answered.Route cause) mid sound (reads, same) = still old mid sound same
     one_keeps old request moment (answered.Wire cause) mid sound none = absurd none
@@ -160,17 +161,17 @@ module _ {D : Type 0} (images : D → List ℕ → Type 0) (clock : D → ℕ) (
     one_keeps old request moment answered.Memory mid sound (inr (asked, reads, inl acts)) = (acts.runs, acts.after)
     one_keeps old request moment answered.Memory mid sound (inr (asked, reads, inr (reply, query, acts))) = (acts.runs, acts.after)
 
-    chain_keeps : (old : Seen D) (at : Clock) (new : Seen D) (later : Clock) (said : List Said) → IsSound images clock since faults old → Chain (Acts images clock since faults) keys old at new later said → Keeps old new
+    chain_keeps : (old : Seen D) (at : Clock) (new : Seen D) (later : Clock) (said : List Said) → IsSound seen old → Chain (Acts seen) keys old at new later said → Keeps old new
     chain_keeps old at new later [] sound chain = still old new sound chain.0
     chain_keeps old at new later (x ∷ said) sound (mid, next, ticks, answers, chain) =
         let first = one_keeps old x.request x.moment x.answer mid sound answers in
         let rest = chain_keeps mid next new later said first.1 chain in
-        (join_runs images clock since faults old mid new first.0 rest.0, rest.1)
+        (join_runs seen old mid new first.0 rest.0, rest.1)
 
-    pub session_ends : (old new : Seen D) (was is : LinkState) (e : End) → IsSound images clock since faults old → Ends (Chain (Acts images clock since faults) keys old was.clock new is.clock) was is e
-        → Keeps old new × Ends (IsSession faults keys old was.clock new is.clock) was is e
+    pub session_ends : (old new : Seen D) (was is : LinkState) (e : End) → IsSound seen old → Ends (Chain (Acts seen) keys old was.clock new is.clock) was is e
+        → Keeps old new × Ends (IsSession seen keys old was.clock new is.clock) was is e
     session_ends old new was is e sound ends =
-        ends_known {I = Keeps old new} (Chain (Acts images clock since faults) keys old was.clock new is.clock) (λ kept said. IsSession faults keys old was.clock new is.clock said)
+        ends_known {I = Keeps old new} (Chain (Acts seen) keys old was.clock new is.clock) (λ kept said. IsSession seen keys old was.clock new is.clock said)
         (λ said chain. (
           chain_keeps old was.clock new is.clock said sound chain,
           record {

@@ -12,23 +12,23 @@ use Rattle.campaign_server.proofs.servers.serve_owned.Goals as goal
 
 pub returns-in_default-clause-told : goal.returns-in_default-clause-told
 returns-in_default-clause-told g c =
-    let story = seen_as (story_in g.D.Disk.fault_count c.args.book) in
+    let story = seen_as (story_in g.D.Disk.seen c.args.book) in
     leaves_shut c.args.keys.now c.args.workers c.args.connections c.args.port story story serve_end.Memory (g.R.Door.seen c.args.door).told (λ wrong. cc wrong) c.requires.shut
 
 pub returns-in_default-with_capacity-clause-told : goal.returns-in_default-with_capacity-clause-told
 returns-in_default-with_capacity-clause-told g c =
-    let story = seen_as (story_in g.D.Disk.fault_count c.args.book) in
+    let story = seen_as (story_in g.D.Disk.seen c.args.book) in
     leaves_shut c.args.keys.now c.args.workers c.args.connections c.args.port story story serve_end.Memory (g.R.Door.seen c.args.door).told (λ wrong. cc wrong) c.requires.shut
 
 pub returns-in-Err-clause-told : goal.returns-in-Err-clause-told
 returns-in-Err-clause-told g c =
-    let story = story_in g.D.Disk.fault_count in
+    let story = story_in g.D.Disk.seen in
     leaves_shut c.args.keys.now c.args.workers c.args.connections c.args.port (seen_as (story c.args.book)) (seen_as (story c.in-Err.book)) serve_end.Memory (g.R.Door.seen c.args.door).told (λ wrong. cc wrong)
     c.requires.shut
 
 pub returns-in-Err-open-clause-told : goal.returns-in-Err-open-clause-told
 returns-in-Err-open-clause-told g c =
-    let story = story_in g.D.Disk.fault_count in
+    let story = story_in g.D.Disk.seen in
     let same : (g.R.Door.seen c.open.new.self).told ≡ (g.R.Door.seen c.args.door).told = search rules in
     leaves_shut c.args.keys.now c.args.workers c.args.connections c.args.port (seen_as (story c.args.book)) (seen_as (story c.close.result)) serve_end.DoorFault (g.R.Door.seen c.open.new.self).told (λ wrong. cc wrong)
     (subst (λ told. IfSome told (λ t. (t.port ≡ None) × (t.accepted ≡ 0) × (t.served ≡ []))) (sym same) c.requires.shut)
@@ -36,11 +36,11 @@ returns-in-Err-open-clause-told g c =
 pub returns-in-Err-clause-history : goal.returns-in-Err-clause-history
 returns-in-Err-clause-history g c =
     let same : c.in-Err.book ≡ c.args.book = search rules in
-    most_same (seen_as (story_in g.D.Disk.fault_count c.args.book)) (seen_as (story_in g.D.Disk.fault_count c.in-Err.book)) (ap (λ b. seen_as (story_in g.D.Disk.fault_count b)) same)
+    most_same (seen_as (story_in g.D.Disk.seen c.args.book)) (seen_as (story_in g.D.Disk.seen c.in-Err.book)) (ap (λ b. seen_as (story_in g.D.Disk.seen b)) same)
 
 pub returns-clause-told : goal.returns-clause-told
 returns-clause-told g c =
-    let book = story_in g.D.Disk.fault_count in
+    let book = story_in g.D.Disk.seen in
     let keys = c.args.keys.now in
     let start = seen_as (book c.args.book) in
     let seen = c.work_together-short.new.first.seen in
@@ -60,7 +60,7 @@ returns-clause-told g c =
 
 pub returns-clause-history : goal.returns-clause-history
 returns-clause-history g c =
-    let book = story_in g.D.Disk.fault_count in
+    let book = story_in g.D.Disk.seen in
     let start = seen_as (book c.args.book) in
     let seen = c.work_together-short.new.first.seen in
     let mine = c.work_together-short.new.first.mine in
