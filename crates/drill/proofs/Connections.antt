@@ -2,6 +2,7 @@
 use Rattle.std.proofs.Common.{◌≡◌, ◌≤◌, ◌⊎◌, inl, inr, ℕ, Bool, true, false, List, [], ◌∷◌, ◌++◌, Option, Some, length, MatchBool, refl, sym, ap, subst, arith, length-append, ◌∙◌}
 use Rattle.std.proofs.lemmas.List.{append-nil}
 use Rattle.std.specs.Io.KnownBytes.{IsAtEnd}
+use Rattle.disk_model.specs.Disks.{DiskState}
 use Rattle.book.specs.Books.{Seen}
 use Rattle.http_wire.specs.declared.messages.HttpRequest.{HttpRequest}
 use Rattle.http_wire.specs.Messages.{Closed, Clean, Cut, End as Ending, IsEnd, Messages, Refused, Stays}
@@ -31,12 +32,12 @@ longer stays ending end_stays bytes more (request ∷ requests) (rest, front, ne
     step true last later = last
     step false others later = later others
 
-module _ {D : Type 0} (faults : D → ℕ) (old new : Seen D) (text : List ℕ) (fresh after : MemoryLinkState) (is_fresh : IsFresh (text ++ text) fresh) where
+module _ {D : Type 0} (seen : D → DiskState) (old new : Seen D) (text : List ℕ) (fresh after : MemoryLinkState) (is_fresh : IsFresh (text ++ text) fresh) where
   given : (bytes : List ℕ) → Hears (told_by fresh) (told_by after) bytes → text ++ text ≡ bytes ++ after.left
   given bytes heard = sym is_fresh.left_is ∙ heard.left
 
   spoken : StartsWith new.history old.history → are_met after.written ≡ true → (bytes : List ℕ) (ending : Ending) → IsWhole ending → last_text ending ≡ []
-      → (spoke : SpokeAll (IsSession faults callers old (told_by fresh).clock new (told_by after).clock) (told_by fresh) bytes (told_by after) ending)
+      → (spoke : SpokeAll (IsSession seen callers old (told_by fresh).clock new (told_by after).clock) (told_by fresh) bytes (told_by after) ending)
       → Messages (text ++ text) (requests_of spoke.said) ending → IsExchange old.history text new.history after.written
   spoken grown met bytes ending whole no_more spoke messages =
       let alone = spoke.talk.talk in
@@ -50,13 +51,13 @@ module _ {D : Type 0} (faults : D → ℕ) (old new : Seen D) (text : List ℕ) 
         ending = ending;
         are_messages = messages;
         whole = whole;
-        told = talk-told (length old.history) (faults old.disk) (faults new.disk) alone.0 spoke.said old.history new.history refl grown zero all_met alone.1.talk;
+        told = talk-told (length old.history) (seen old.disk).faults (seen new.disk).faults alone.0 spoke.said old.history new.history refl grown zero all_met alone.1.talk;
         answers_are = written;
       }
 
   -- Where the text sent twice is requests and nothing else, the session ends behind them, if not by a fault or for want of memory.
   pub whole-end : ((bytes more : List ℕ) → Stays bytes more) → OneReading → (requests : List HttpRequest) → Messages (text ++ text) requests Clean → length text ≤ 16785408
-      → (e : End) → Ends (IsSession faults callers old (told_by fresh).clock new (told_by after).clock) (told_by fresh) (told_by after) e → EndsWhole e
+      → (e : End) → Ends (IsSession seen callers old (told_by fresh).clock new (told_by after).clock) (told_by fresh) (told_by after) e → EndsWhole e
   whole-end stays one requests reads few end.Ended ends = tt
   whole-end stays one requests reads few end.ReadFault ends = tt
   whole-end stays one requests reads few end.WriteFault ends = tt
@@ -75,15 +76,15 @@ module _ {D : Type 0} (faults : D → ℕ) (old new : Seen D) (text : List ℕ) 
       absurd (omega (arith, few, ends.ends.0, ap length (given ends.bytes ends.heard), length-append text text, length-append ends.bytes after.left))
 
   pub exchanged : StartsWith new.history old.history → are_met after.written ≡ true → ((bytes more : List ℕ) → Stays bytes more)
-      → Ends (IsSession faults callers old (told_by fresh).clock new (told_by after).clock) (told_by fresh) (told_by after) end.Ended
+      → Ends (IsSession seen callers old (told_by fresh).clock new (told_by after).clock) (told_by fresh) (told_by after) end.Ended
       → IsExchange old.history text new.history after.written
   exchanged grown met stays ends = by ends.ends.1
     where
       bytes : List ℕ
       bytes = ends.bytes
 
-      by : (IsAtEnd (told_by after).reading.left × SpokeAll (IsSession faults callers old (told_by fresh).clock new (told_by after).clock) (told_by fresh) bytes (told_by after) Clean)
-          ⊎ SpokeAll (IsSession faults callers old (told_by fresh).clock new (told_by after).clock) (told_by fresh) bytes (told_by after) Closed
+      by : (IsAtEnd (told_by after).reading.left × SpokeAll (IsSession seen callers old (told_by fresh).clock new (told_by after).clock) (told_by fresh) bytes (told_by after) Clean)
+          ⊎ SpokeAll (IsSession seen callers old (told_by fresh).clock new (told_by after).clock) (told_by fresh) bytes (told_by after) Closed
           → IsExchange old.history text new.history after.written
       by (inl (at_end, spoke)) =
           let all : bytes ≡ text ++ text = sym (append-nil bytes) ∙ ap (λ left. bytes ++ left) (sym at_end) ∙ sym (given bytes ends.heard) in
