@@ -1,4 +1,5 @@
-//! `check`: tells what the campaign on the disk is, and changes nothing of it.
+//! `check`: opens the campaign on the disk, and tells what it is. The opening mends the journal, and founds a campaign
+//! where there is none; then no further call is made on the disk.
 ghost use Rattle.std.specs.Prelude.{◌≡◌, IfOk};
 ghost use Rattle.campaign_server.specs.Doors.{DoorState};
 ghost use Rattle.campaign_server.specs.Links.{LinkState};
@@ -92,17 +93,19 @@ fn table_of<D: Disk>(alloc: Global, book: &mut Book<D>) -> Result<Reply, Memory>
         moment: 0,
     }) {
         Answer::Reply(reply) => Ok(reply),
-        Answer::DiskFault => Err(Memory),
+        // a query adds nothing
+        Answer::DiskFault => unreachable!(),
         Answer::Memory => Err(Memory),
     }
 }
 
 // The text of a page.
 fn page_of(reply: &Reply) -> &[u8]
+    requires { (page : PageText) × (reply.now ≡ PageReply page) }
     ensures { (page : PageText) → reply.now ≡ PageReply page → result.now ≡ page }
 {
     let Reply::Page { text } = reply else {
-        return &[];
+        unreachable!()
     };
     text.bytes()
 }
