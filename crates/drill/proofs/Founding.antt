@@ -1,6 +1,7 @@
 -- A book on an empty disk has the founding entry alone, and only a call on the disk that failed and want of memory keep it from being opened.
 use Rattle.std.proofs.Common.{◌≡◌, ℕ, List, [], ◌∷◌, None, Option, Some, ap, arith, length, subst, sym}
 use Rattle.std.specs.Prelude.{IfSome}
+use Rattle.disk_model.specs.Disks.{DiskState}
 use Rattle.book.specs.Openings.{Causes, OpensWith, Reads, Refused}
 use Rattle.book.specs.declared.faults.BookFault.{BookFault}
 use Rattle.book.specs.declared.faults.BookFault.TheVariants as fault
@@ -20,16 +21,15 @@ no_payloads content payloads empty reads =
 pub founded : (content : Option (List ℕ)) (payloads : List Text) (rules : Rules) (H : History) → content ≡ Some [] → Reads content payloads → OpensWith rules payloads H → H ≡ founding rules ∷ []
 founded content payloads rules H empty reads opens = subst (λ (ps : List Text). OpensWith rules ps H) (no_payloads content payloads empty reads) opens
 
-module _ {D : Type 0} (content : D → Option (List ℕ)) (images : D → List ℕ → Type 0) (clock : D → ℕ) (images_since : D → ℕ → List ℕ → Type 0) (faults : D → ℕ)
-    (rules : Rules) (disk after : D) (empty : content disk ≡ Some []) where
-  causes_empty : (why : BookFault) → Causes content images clock images_since faults rules disk after why → RefusesEmpty why
+module _ {D : Type 0} (seen : D → DiskState) (rules : Rules) (disk after : D) (empty : (seen disk).content ≡ Some []) where
+  causes_empty : (why : BookFault) → Causes seen rules disk after why → RefusesEmpty why
   causes_empty fault.Disk causes = tt
   causes_empty fault.Memory causes = tt
   causes_empty fault.Header causes =
       let wrong : decode [] ≡ None = subst (λ (o : Option (List ℕ)). IfSome o (λ bytes. decode bytes ≡ None)) empty causes.0 in cc wrong
   causes_empty (fault.Damaged entry) (payloads, reads, breaks) =
-      absurd (omega (arith, breaks.some, breaks.within, ap length (no_payloads (content disk) payloads empty reads)))
-  causes_empty fault.RulesDiffer (payloads, reads, differs) = absurd (differs.0 (no_payloads (content disk) payloads empty reads))
+      absurd (omega (arith, breaks.some, breaks.within, ap length (no_payloads (seen disk).content payloads empty reads)))
+  causes_empty fault.RulesDiffer (payloads, reads, differs) = absurd (differs.0 (no_payloads (seen disk).content payloads empty reads))
 
-  pub refused_empty : (why : BookFault) → Refused content images clock images_since faults rules disk after why → RefusesEmpty why
+  pub refused_empty : (why : BookFault) → Refused seen rules disk after why → RefusesEmpty why
   refused_empty why refused = causes_empty why refused.causes
