@@ -1,9 +1,10 @@
 -- What each status says, from the way in which a command ended.
-use Rattle.std.proofs.Common.{◌≡◌, ◌≤◌, ◌⊎◌, ◌==◌, inl, inr, ℕ, List, Option, Some, None, refl, sym, ap, subst, ◌∙◌, arith, cond}
+use Rattle.std.proofs.Common.{◌≡◌, ◌≤◌, ◌⊎◌, ◌==◌, inl, inr, ℕ, List, Some, None, refl, sym, ap, subst, ◌∙◌, arith, cond}
 use Rattle.std.specs.Io.KnownBytes.{Appends}
 use Rattle.decimal_rank.specs.Causes.{Rose}
 use Rattle.decimal_rank.specs.KnownBytes.{AppendsPart}
 use Rattle.decimal_rank.specs.Writings.{Writing}
+use Rattle.disk_model.specs.Disks.{DiskState}
 use Rattle.book.specs.declared.faults.BookFault.{BookFault}
 use Rattle.book.specs.declared.faults.BookFault.TheVariants as fault
 use Rattle.book.specs.Openings.{Refused}
@@ -83,18 +84,18 @@ fault_later (fault.Damaged entry) old new status (inr none) = same_out old new n
 fault_later fault.RulesDiffer old new status prints = prints.later
 fault_later fault.Memory old new status tells = same_out old new tells.0
 
-module _ {D : Type 0} (content : D → Option (List ℕ)) (images : D → List ℕ → Type 0) (clock : D → ℕ) (since : D → ℕ → List ℕ → Type 0) (faults : D → ℕ) where
+module _ {D : Type 0} (seen : D → DiskState) where
   -- the status is that of a cause that holds
   abbrev Told : Request → Outside D → Outside D → ℕ → Type 0
-  Told request old new status = (cause : Cause) × (status ≡ number_of cause) × Says content images clock since faults cause request old new
+  Told request old new status = (cause : Cause) × (status ≡ number_of cause) × Says seen cause request old new
 
-  says : (request : Request) (old new : Outside D) (status : ℕ) → Told request old new status → (cause : Cause) → status ≡ number_of cause → Says content images clock since faults cause request old new
-  says request old new status w cause e = subst (λ c. Says content images clock since faults c request old new) (same_cause w.0 cause (sym w.1 ∙ e)) w.2
+  says : (request : Request) (old new : Outside D) (status : ℕ) → Told request old new status → (cause : Cause) → status ≡ number_of cause → Says seen cause request old new
+  says request old new status w cause e = subst (λ c. Says seen c request old new) (same_cause w.0 cause (sym w.1 ∙ e)) w.2
 
   -- a text was printed, or a part of it was
   printed : (request : Request) (old new : Outside D) (status : ℕ) (text : List ℕ) (cause : Cause) → Prints old.streams.out new.streams.out text (number_of cause) status
-      → IsSaid content images clock since faults request old new text
-      → (Appends old.streams.out.written new.streams.out.written text → Says content images clock since faults cause request old new) → Told request old new status
+      → IsSaid seen request old new text
+      → (Appends old.streams.out.written new.streams.out.written text → Says seen cause request old new) → Told request old new status
   printed request old new status text cause prints said whole = by prints.either
     where
       by : ((status ≡ number_of cause) × Appends old.streams.out.written new.streams.out.written text)
@@ -114,8 +115,8 @@ module _ {D : Type 0} (content : D → Option (List ℕ)) (images : D → List �
   -- why there is no campaign, where the command keeps one
   unopened_told : (request : Request) (old new : Outside D) (status : ℕ) → NeedsBook request
       → (Misses old.streams.shelf new.streams.shelf settings_file → IsMissing request old.streams.shelf new.streams.shelf)
-      → ((text : List ℕ) → IsBookRefusal content images clock since faults request old new text → IsRefusal content images clock since faults request old new text)
-      → Unopened content images clock since faults old new status → Told request old new status
+      → ((text : List ℕ) → IsBookRefusal seen request old new text → IsRefusal seen request old new text)
+      → Unopened seen old new status → Told request old new status
   unopened_told request old new status needs misses refusal (settings_refused text gives none prints kept) =
       let is = refusal settings_line (inl ((refl, (text, gives, none)), kept)) in
       printed request old new status settings_line Input prints (inr (inl is)) (λ all. (settings_line, is, all))
@@ -123,10 +124,10 @@ module _ {D : Type 0} (content : D → Option (List ℕ)) (images : D → List �
   unopened_told request old new status needs misses refusal (not_begun same kept e) = (Memory, e, same)
   unopened_told request old new status needs misses refusal (not_opened text settings gives is given_up) = by given_up.why given_up.refused given_up.told
     where
-      none : (why : BookFault) → Refused content images clock since faults settings.rules old.disk new.disk why → IsUnopened content images clock since faults request old new why
+      none : (why : BookFault) → Refused seen settings.rules old.disk new.disk why → IsUnopened seen request old new why
       none why r = (needs, (text, settings, gives, is, r))
 
-      by : (why : BookFault) → Refused content images clock since faults settings.rules old.disk new.disk why → TellsFault why old.streams.out new.streams.out status → Told request old new status
+      by : (why : BookFault) → Refused seen settings.rules old.disk new.disk why → TellsFault why old.streams.out new.streams.out status → Told request old new status
       by fault.Disk r tells = (Disk, tells.1, (none fault.Disk r, tells.0))
       by fault.Header r prints =
           printed request old new status header_line Damaged prints (inr (inr (inl (inl (refl, none fault.Header r))))) (λ all. (header_line, inl (refl, none fault.Header r), all))
@@ -138,13 +139,13 @@ module _ {D : Type 0} (content : D → Option (List ℕ)) (images : D → List �
           printed request old new status rules_line Input prints (inr (inl is_other)) (λ all. (rules_line, is_other, all))
       by fault.Memory r tells = (Memory, tells.1, tells.0)
 
-  session_told : (old new : Outside D) (status : ℕ) → SessionWay content images clock since faults old new status → Told Session old new status
+  session_told : (old new : Outside D) (status : ℕ) → SessionWay seen old new status → Told Session old new status
   session_told old new status (held text settings how gives is holds same e) = by how holds e
     where
-      comes_to : (h : End) → Holds content images clock since faults settings old new h → SessionComesTo content images clock since faults Session old new h
+      comes_to : (h : End) → Holds seen settings old new h → SessionComesTo seen Session old new h
       comes_to h w = (refl, same, (text, settings, gives, is, w))
 
-      by : (h : End) → Holds content images clock since faults settings old new h → status ≡ status_of h → Told Session old new status
+      by : (h : End) → Holds seen settings old new h → status ≡ status_of h → Told Session old new status
       by end.Ended w is_status = (Done, is_status, inr (inl (comes_to end.Ended w)))
       by end.Cut w is_status = (Cut, is_status, inl (comes_to end.Cut w))
       by (end.Refused cause) w is_status = (Cut, is_status, inr (inl (cause, comes_to (end.Refused cause) w)))
@@ -154,19 +155,19 @@ module _ {D : Type 0} (content : D → Option (List ℕ)) (images : D → List �
       by end.Worn w is_status = (Cut, is_status, inr (inr (comes_to end.Worn w)))
   session_told old new status (unheld none own) = unopened_told Session old new status tt (λ missed. missed) (λ text is. is) none
 
-  serve_told : (numbers : ServerNumbers) (old new : Outside D) (status : ℕ) → ServeWay content images clock since faults numbers old new status → Told (Serve numbers) old new status
+  serve_told : (numbers : ServerNumbers) (old new : Outside D) (status : ℕ) → ServeWay seen numbers old new status → Told (Serve numbers) old new status
   serve_told numbers old new status (served text settings how gives is serves same e) = by how serves e
     where
-      comes_to : (h : ServeEnd) → Served content images clock since faults settings numbers old new h → ServerComesTo content images clock since faults (Serve numbers) old new h
+      comes_to : (h : ServeEnd) → Served seen settings numbers old new h → ServerComesTo seen (Serve numbers) old new h
       comes_to h w = (numbers, refl, same, (text, settings, gives, is, w))
 
-      by : (h : ServeEnd) → Served content images clock since faults settings numbers old new h → status ≡ serve_status h → Told (Serve numbers) old new status
+      by : (h : ServeEnd) → Served seen settings numbers old new h → status ≡ serve_status h → Told (Serve numbers) old new status
       by serve_end.Ended w is_status = (Done, is_status, inr (inr (comes_to serve_end.Ended w)))
       by serve_end.DoorFault w is_status = (Door, is_status, (comes_to serve_end.DoorFault w, w.fault refl))
       by serve_end.Memory w is_status = (Memory, is_status, same)
   serve_told numbers old new status (unserved none door) = unopened_told (Serve numbers) old new status tt (λ missed. missed) (λ text is. is) none
 
-  check_told : (old new : Outside D) (status : ℕ) → CheckWay content images clock since faults old new status → Told Check old new status
+  check_told : (old new : Outside D) (status : ℕ) → CheckWay seen old new status → Told Check old new status
   check_told old new status (checked text settings book gives is shows prints) =
       printed Check old new status (check_text book.history) Done prints (inl (text, settings, gives, is, (book, shows, refl))) (λ all. inl (check_text book.history, (text, settings, gives, is, (book, shows, refl)), all))
   check_told old new status (untold text settings book gives is shows same e) = (Memory, e, same)
@@ -177,8 +178,8 @@ module _ {D : Type 0} (content : D → Option (List ℕ)) (images : D → List �
       printed (Drill numbers) old new status (summary_of numbers H) Done prints (inl (H, plays, refl)) (λ all. inl (summary_of numbers H, (H, plays, refl), all))
   drill_told numbers old new status (unplayed same e) = (Memory, e, same)
 
-  drill_complete : (numbers : DrillNumbers) (old new : Outside D) (status : ℕ) → IsCalm content images clock since faults old new → DrillWay numbers old.streams new.streams status
-      → (status ≡ 0) ⊎ ((status ≡ 7) ⊎ ((status ≡ 11) × IsCut content images clock since faults (Drill numbers) old new))
+  drill_complete : (numbers : DrillNumbers) (old new : Outside D) (status : ℕ) → IsCalm seen old new → DrillWay numbers old.streams new.streams status
+      → (status ≡ 0) ⊎ ((status ≡ 7) ⊎ ((status ≡ 11) × IsCut seen (Drill numbers) old new))
   drill_complete numbers old new status calm (played H plays prints) = inl (prints_whole old.streams.out new.streams.out (summary_of numbers H) 0 status prints calm.out)
   drill_complete numbers old new status calm (unplayed same e) = inr (inl e)
 
@@ -189,10 +190,10 @@ module _ {D : Type 0} (content : D → Option (List ℕ)) (images : D → List �
 
   -- where its files and its disk are told and within their grammars, a command is done or memory is short; a session may be cut
   abbrev IsComplete : Request → Outside D → Outside D → ℕ → Type 0
-  IsComplete request old new status = (status ≡ 0) ⊎ ((status ≡ 7) ⊎ ((status ≡ 11) × IsCut content images clock since faults request old new))
+  IsComplete request old new status = (status ≡ 0) ⊎ ((status ≡ 7) ⊎ ((status ≡ 11) × IsCut seen request old new))
 
   module _ (exclusive : AreExclusive) where
-    eval_complete : (run qrels : List ℕ) (old new : Outside D) (status : ℕ) → CanDo content images clock since faults (Eval run qrels) old → IsCalm content images clock since faults old new → EvalWay run qrels old.streams new.streams status
+    eval_complete : (run qrels : List ℕ) (old new : Outside D) (status : ℕ) → CanDo seen (Eval run qrels) old → IsCalm seen old new → EvalWay run qrels old.streams new.streams status
         → IsComplete (Eval run qrels) old new status
     eval_complete run qrels old new status can calm (scored r q text gr gq report prints) = inl (prints_whole old.streams.out new.streams.out text 0 status prints calm.out)
     eval_complete run qrels old new status can calm (refused r q line gr gq fault prints) =
@@ -202,7 +203,7 @@ module _ {D : Type 0} (content : D → Option (List ℕ)) (images : D → List �
         absurd (not_both_missed old.streams.shelf new.streams.shelf run qrels (λ r q. (text : List ℕ) × IsReport run r q text) can calm.shelf missed)
     eval_complete run qrels old new status can calm (short same e) = inr (inl e)
 
-    eval_refused : (run qrels : List ℕ) (old new : Outside D) (status : ℕ) → HasToRefuse content images clock since faults (Eval run qrels) old → IsCalm content images clock since faults old new → EvalWay run qrels old.streams new.streams status
+    eval_refused : (run qrels : List ℕ) (old new : Outside D) (status : ℕ) → HasToRefuse seen (Eval run qrels) old → IsCalm seen old new → EvalWay run qrels old.streams new.streams status
         → (status ≡ 3) ⊎ (status ≡ 7)
     eval_refused run qrels old new status has calm (scored r q text gr gq report prints) =
         let fault = told_both old.streams.shelf run qrels r q (λ r q. (line : List ℕ) × IsInputFault run qrels r q line) has gr gq in
@@ -213,36 +214,36 @@ module _ {D : Type 0} (content : D → Option (List ℕ)) (images : D → List �
     eval_refused run qrels old new status has calm (short same e) = inr e
 
   -- a disk that may be opened is, or memory is short
-  pub unopened_complete : (old new : Outside D) (status : ℕ) → CanOpen content images clock since faults old → IsCalm content images clock since faults old new → Unopened content images clock since faults old new status → status ≡ 7
+  pub unopened_complete : (old new : Outside D) (status : ℕ) → CanOpen seen old → IsCalm seen old new → Unopened seen old new status → status ≡ 7
   unopened_complete old new status can calm (settings_refused text gives none prints kept) =
-      let read = (told_settings old.streams.shelf text (λ bytes. (settings : Settings) × (settings_of bytes ≡ Some settings) × ((payloads : List Text) × TellsRecords (content old.disk) payloads × MayOpen settings.rules payloads)) can gives) in
+      let read = (told_settings old.streams.shelf text (λ bytes. (settings : Settings) × (settings_of bytes ≡ Some settings) × ((payloads : List Text) × TellsRecords (seen old.disk).content payloads × MayOpen settings.rules payloads)) can gives) in
       let both : None ≡ Some read.0 = sym none ∙ read.1 in
       absurd (cc both)
   unopened_complete old new status can calm (settings_unread missed same kept e) =
       absurd (not_missed old.streams.shelf new.streams.shelf settings_file can.1 can.0 can.2 can.3 calm.shelf missed)
   unopened_complete old new status can calm (not_begun same kept e) = e
   unopened_complete old new status can calm (not_opened text settings gives is given_up) =
-      by (told_settings old.streams.shelf text (λ bytes. (settings : Settings) × (settings_of bytes ≡ Some settings) × ((payloads : List Text) × TellsRecords (content old.disk) payloads × MayOpen settings.rules payloads)) can gives)
+      by (told_settings old.streams.shelf text (λ bytes. (settings : Settings) × (settings_of bytes ≡ Some settings) × ((payloads : List Text) × TellsRecords (seen old.disk).content payloads × MayOpen settings.rules payloads)) can gives)
     where
       memory_told : (why : BookFault) → why ≡ fault.Memory → TellsFault why old.streams.out new.streams.out status → status ≡ 7
       memory_told why is_memory tells =
           let here : TellsFault fault.Memory old.streams.out new.streams.out status = subst (λ (why : BookFault). TellsFault why old.streams.out new.streams.out status) is_memory tells in
           here.1
 
-      by : (found : Settings) × (settings_of text ≡ Some found) × ((payloads : List Text) × TellsRecords (content old.disk) payloads × MayOpen found.rules payloads) → status ≡ 7
+      by : (found : Settings) × (settings_of text ≡ Some found) × ((payloads : List Text) × TellsRecords (seen old.disk).content payloads × MayOpen found.rules payloads) → status ≡ 7
       by (found, reads, (payloads, (bytes, tells, decodes), may)) =
           let same : found ≡ settings = cc (reads, is) in
           memory_told given_up.why
-          (opens_or_memory content images clock since faults settings.rules old.disk bytes payloads tells decodes (subst (λ (s : Settings). MayOpen s.rules payloads) same may) new.disk given_up.why calm.disk given_up.refused)
+          (opens_or_memory seen settings.rules old.disk bytes payloads tells decodes (subst (λ (s : Settings). MayOpen s.rules payloads) same may) new.disk given_up.why calm.disk given_up.refused)
           given_up.told
 
-  session_complete : (old new : Outside D) (status : ℕ) → CanOpen content images clock since faults old → IsCalm content images clock since faults old new → SessionWay content images clock since faults old new status → IsComplete Session old new status
+  session_complete : (old new : Outside D) (status : ℕ) → CanOpen seen old → IsCalm seen old new → SessionWay seen old new status → IsComplete Session old new status
   session_complete old new status can calm (held text settings how gives is holds same e) = by how holds e
     where
-      comes_to : (h : End) → Holds content images clock since faults settings old new h → SessionComesTo content images clock since faults Session old new h
+      comes_to : (h : End) → Holds seen settings old new h → SessionComesTo seen Session old new h
       comes_to h w = (refl, same, (text, settings, gives, is, w))
 
-      by : (h : End) → Holds content images clock since faults settings old new h → status ≡ status_of h → IsComplete Session old new status
+      by : (h : End) → Holds seen settings old new h → status ≡ status_of h → IsComplete Session old new status
       by end.Ended w is_status = inl is_status
       by end.Cut w is_status = inr (inr (is_status, inl (comes_to end.Cut w)))
       by (end.Refused cause) w is_status = inr (inr (is_status, inr (inl (cause, comes_to (end.Refused cause) w))))
@@ -252,16 +253,16 @@ module _ {D : Type 0} (content : D → Option (List ℕ)) (images : D → List �
       by end.Worn w is_status = inr (inr (is_status, inr (inr (comes_to end.Worn w))))
   session_complete old new status can calm (unheld none own) = inr (inl (unopened_complete old new status can calm none))
 
-  serve_complete : (numbers : ServerNumbers) (old new : Outside D) (status : ℕ) → CanOpen content images clock since faults old → IsCalm content images clock since faults old new → ServeWay content images clock since faults numbers old new status → IsComplete (Serve numbers) old new status
+  serve_complete : (numbers : ServerNumbers) (old new : Outside D) (status : ℕ) → CanOpen seen old → IsCalm seen old new → ServeWay seen numbers old new status → IsComplete (Serve numbers) old new status
   serve_complete numbers old new status can calm (served text settings how gives is serves same e) = by how serves e
     where
-      by : (h : ServeEnd) → Served content images clock since faults settings numbers old new h → status ≡ serve_status h → IsComplete (Serve numbers) old new status
+      by : (h : ServeEnd) → Served seen settings numbers old new h → status ≡ serve_status h → IsComplete (Serve numbers) old new status
       by serve_end.Ended w is_status = inl is_status
       by serve_end.DoorFault w is_status = absurd (calm.door (w.fault refl))
       by serve_end.Memory w is_status = inr (inl is_status)
   serve_complete numbers old new status can calm (unserved none door) = inr (inl (unopened_complete old new status can calm none))
 
-  check_complete : (old new : Outside D) (status : ℕ) → CanOpen content images clock since faults old → IsCalm content images clock since faults old new → CheckWay content images clock since faults old new status → IsComplete Check old new status
+  check_complete : (old new : Outside D) (status : ℕ) → CanOpen seen old → IsCalm seen old new → CheckWay seen old new status → IsComplete Check old new status
   check_complete old new status can calm (checked text settings book gives is shows prints) = inl (prints_whole old.streams.out new.streams.out (check_text book.history) 0 status prints calm.out)
   check_complete old new status can calm (untold text settings book gives is shows same e) = inr (inl e)
   check_complete old new status can calm (unshown none) = inr (inl (unopened_complete old new status can calm none))
@@ -273,7 +274,7 @@ module _ {D : Type 0} (content : D → Option (List ℕ)) (images : D → List �
       let both : None ≡ Some settings = sym none ∙ is in
       cc both
 
-  unopened_refused : (old new : Outside D) (status : ℕ) → TellsSettings old.streams.shelf (λ bytes. settings_of bytes ≡ None) → IsCalm content images clock since faults old new → Unopened content images clock since faults old new status
+  unopened_refused : (old new : Outside D) (status : ℕ) → TellsSettings old.streams.shelf (λ bytes. settings_of bytes ≡ None) → IsCalm seen old new → Unopened seen old new status
       → (status ≡ 3) ⊎ (status ≡ 7)
   unopened_refused old new status has calm (settings_refused text gives none prints kept) = inl (prints_whole old.streams.out new.streams.out settings_line 3 status prints calm.out)
   unopened_refused old new status has calm (settings_unread missed same kept e) =
@@ -281,43 +282,43 @@ module _ {D : Type 0} (content : D → Option (List ℕ)) (images : D → List �
   unopened_refused old new status has calm (not_begun same kept e) = inr e
   unopened_refused old new status has calm (not_opened text settings gives is given_up) = absurd (not_read old.streams.shelf text settings has gives is)
 
-  session_refused : (old new : Outside D) (status : ℕ) → TellsSettings old.streams.shelf (λ bytes. settings_of bytes ≡ None) → IsCalm content images clock since faults old new → SessionWay content images clock since faults old new status
+  session_refused : (old new : Outside D) (status : ℕ) → TellsSettings old.streams.shelf (λ bytes. settings_of bytes ≡ None) → IsCalm seen old new → SessionWay seen old new status
       → (status ≡ 3) ⊎ (status ≡ 7)
   session_refused old new status has calm (held text settings how gives is holds same e) = absurd (not_read old.streams.shelf text settings has gives is)
   session_refused old new status has calm (unheld none own) = unopened_refused old new status has calm none
 
-  serve_refused : (numbers : ServerNumbers) (old new : Outside D) (status : ℕ) → TellsSettings old.streams.shelf (λ bytes. settings_of bytes ≡ None) → IsCalm content images clock since faults old new → ServeWay content images clock since faults numbers old new status
+  serve_refused : (numbers : ServerNumbers) (old new : Outside D) (status : ℕ) → TellsSettings old.streams.shelf (λ bytes. settings_of bytes ≡ None) → IsCalm seen old new → ServeWay seen numbers old new status
       → (status ≡ 3) ⊎ (status ≡ 7)
   serve_refused numbers old new status has calm (served text settings how gives is serves same e) = absurd (not_read old.streams.shelf text settings has gives is)
   serve_refused numbers old new status has calm (unserved none door) = unopened_refused old new status has calm none
 
-  check_refused : (old new : Outside D) (status : ℕ) → TellsSettings old.streams.shelf (λ bytes. settings_of bytes ≡ None) → IsCalm content images clock since faults old new → CheckWay content images clock since faults old new status
+  check_refused : (old new : Outside D) (status : ℕ) → TellsSettings old.streams.shelf (λ bytes. settings_of bytes ≡ None) → IsCalm seen old new → CheckWay seen old new status
       → (status ≡ 3) ⊎ (status ≡ 7)
   check_refused old new status has calm (checked text settings book gives is shows prints) = absurd (not_read old.streams.shelf text settings has gives is)
   check_refused old new status has calm (untold text settings book gives is shows same e) = absurd (not_read old.streams.shelf text settings has gives is)
   check_refused old new status has calm (unshown none) = unopened_refused old new status has calm none
 
-  unopened_later : (old new : Outside D) (status : ℕ) → Unopened content images clock since faults old new status → old.streams.out.faults ≤ new.streams.out.faults
+  unopened_later : (old new : Outside D) (status : ℕ) → Unopened seen old new status → old.streams.out.faults ≤ new.streams.out.faults
   unopened_later old new status (settings_refused text gives none prints kept) = prints.later
   unopened_later old new status (settings_unread missed same kept e) = same_out old.streams.out new.streams.out same
   unopened_later old new status (not_begun same kept e) = same_out old.streams.out new.streams.out same
   unopened_later old new status (not_opened text settings gives is given_up) = fault_later given_up.why old.streams.out new.streams.out status given_up.told
 
-  session_later : (old new : Outside D) (status : ℕ) → SessionWay content images clock since faults old new status → old.streams.out.faults ≤ new.streams.out.faults
+  session_later : (old new : Outside D) (status : ℕ) → SessionWay seen old new status → old.streams.out.faults ≤ new.streams.out.faults
   session_later old new status (held text settings how gives is holds same e) = same_out old.streams.out new.streams.out same
   session_later old new status (unheld none own) = unopened_later old new status none
 
-  serve_later : (numbers : ServerNumbers) (old new : Outside D) (status : ℕ) → ServeWay content images clock since faults numbers old new status → old.streams.out.faults ≤ new.streams.out.faults
+  serve_later : (numbers : ServerNumbers) (old new : Outside D) (status : ℕ) → ServeWay seen numbers old new status → old.streams.out.faults ≤ new.streams.out.faults
   serve_later numbers old new status (served text settings how gives is serves same e) = same_out old.streams.out new.streams.out same
   serve_later numbers old new status (unserved none door) = unopened_later old new status none
 
-  check_later : (old new : Outside D) (status : ℕ) → CheckWay content images clock since faults old new status → old.streams.out.faults ≤ new.streams.out.faults
+  check_later : (old new : Outside D) (status : ℕ) → CheckWay seen old new status → old.streams.out.faults ≤ new.streams.out.faults
   check_later old new status (checked text settings book gives is shows prints) = prints.later
   check_later old new status (untold text settings book gives is shows same e) = same_out old.streams.out new.streams.out same
   check_later old new status (unshown none) = unopened_later old new status none
 
   -- what each status says, by what was asked
-  pub by_status : AreExclusive → (request : Request) (old new : Outside D) (status : ℕ) → Ends content images clock since faults request old new status → Statuses content images clock since faults request old new status
+  pub by_status : AreExclusive → (request : Request) (old new : Outside D) (status : ℕ) → Ends seen request old new status → Statuses seen request old new status
   by_status exclusive (Eval run qrels) old new status (ends, kept) =
       let w = eval_told run qrels old new status ends.way kept in
       record {
@@ -341,8 +342,8 @@ module _ {D : Type 0} (content : D → Option (List ℕ)) (images : D → List �
         says = says Session old new status w;
         complete = λ can calm. session_complete old new status can calm ends.way;
         refused = λ has calm. session_refused old new status has calm ends.way;
-        damaged = λ has calm. damage_told content images clock since faults old new status calm has.1 (opening_of content images clock since faults Session old new status tt ends);
-        differs = λ has calm. others_told content images clock since faults old new status calm has.1 (opening_of content images clock since faults Session old new status tt ends);
+        damaged = λ has calm. damage_told seen old new status calm has.1 (opening_of seen Session old new status tt ends);
+        differs = λ has calm. others_told seen old new status calm has.1 (opening_of seen Session old new status tt ends);
         shelf = ends.shelf;
         write_faults = session_later old new status ends.way;
         own = λ other. absurd (other refl);
@@ -357,8 +358,8 @@ module _ {D : Type 0} (content : D → Option (List ℕ)) (images : D → List �
         says = says (Serve numbers) old new status w;
         complete = λ can calm. serve_complete numbers old new status can calm ends.way;
         refused = λ has calm. serve_refused numbers old new status has calm ends.way;
-        damaged = λ has calm. damage_told content images clock since faults old new status calm has.1 (opening_of content images clock since faults (Serve numbers) old new status tt ends);
-        differs = λ has calm. others_told content images clock since faults old new status calm has.1 (opening_of content images clock since faults (Serve numbers) old new status tt ends);
+        damaged = λ has calm. damage_told seen old new status calm has.1 (opening_of seen (Serve numbers) old new status tt ends);
+        differs = λ has calm. others_told seen old new status calm has.1 (opening_of seen (Serve numbers) old new status tt ends);
         shelf = ends.shelf;
         write_faults = serve_later numbers old new status ends.way;
         own = λ other. ends.own;
@@ -394,8 +395,8 @@ module _ {D : Type 0} (content : D → Option (List ℕ)) (images : D → List �
         says = says Check old new status w;
         complete = λ can calm. check_complete old new status can calm ends.way;
         refused = λ has calm. check_refused old new status has calm ends.way;
-        damaged = λ has calm. damage_told content images clock since faults old new status calm has.1 (opening_of content images clock since faults Check old new status tt ends);
-        differs = λ has calm. others_told content images clock since faults old new status calm has.1 (opening_of content images clock since faults Check old new status tt ends);
+        damaged = λ has calm. damage_told seen old new status calm has.1 (opening_of seen Check old new status tt ends);
+        differs = λ has calm. others_told seen old new status calm has.1 (opening_of seen Check old new status tt ends);
         shelf = ends.shelf;
         write_faults = check_later old new status ends.way;
         own = λ other. ends.own;

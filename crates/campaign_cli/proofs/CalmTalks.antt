@@ -1,6 +1,7 @@
 -- A session in which no call failed: no answer of it tells a fault of the disk, and it ended by no failed call.
-use Rattle.std.proofs.Common.{◌≡◌, ◌≤◌, ◌⊎◌, ◌++◌, inl, inr, ℕ, Bool, true, List, [], ◌∷◌, Option, length, sym, subst, arith}
+use Rattle.std.proofs.Common.{◌≡◌, ◌≤◌, ◌⊎◌, ◌++◌, inl, inr, ℕ, Bool, true, List, [], ◌∷◌, length, sym, subst, arith}
 use Rattle.decimal_rank.specs.Causes.{Rose}
+use Rattle.disk_model.specs.Disks.{DiskState}
 use Rattle.http_wire.specs.Messages.{End as Ending}
 use Rattle.routes.specs.declared.keys.KeyRow.{KeyRow}
 use Rattle.rulebook.specs.Campaign.{History}
@@ -60,20 +61,20 @@ calm_end old new talks bytes end.WriteFault reading writing ends = writing (elim
 calm_end old new talks bytes end.Memory reading writing ends = tt
 calm_end old new talks bytes end.Worn reading writing ends = tt
 
-module _ {D : Type 0} (content : D → Option (List ℕ)) (images : D → List ℕ → Type 0) (clock : D → ℕ) (since : D → ℕ → List ℕ → Type 0) (faults : D → ℕ) where
-  pub calm_sessions : CalmSessionsAreAnswered content images clock since faults
+module _ {D : Type 0} (seen : D → DiskState) where
+  pub calm_sessions : CalmSessionsAreAnswered seen
   calm_sessions old new status ends can calm = by ends.way
     where
-      by : SessionWay content images clock since faults old new status → ((status ≡ 7) × (new.streams.own ≡ old.streams.own)) ⊎ IsAnswered content images clock since faults old new status
-      by (unheld none own) = inl (unopened_complete content images clock since faults old new status can calm none, own)
+      by : SessionWay seen old new status → ((status ≡ 7) × (new.streams.own ≡ old.streams.own)) ⊎ IsAnswered seen old new status
+      by (unheld none own) = inl (unopened_complete seen old new status can calm none, own)
       by (held text settings how gives is holds same status_is) =
           let before = old.streams.own in
           let after = new.streams.own in
-          let talks : List Said → Type 0 = IsSession faults settings.callers holds.opened before.clock holds.closed after.clock in
+          let talks : List Said → Type 0 = IsSession seen settings.callers holds.opened before.clock holds.closed after.clock in
           let quiet = calm_end before after talks holds.talk.bytes how calm.reading calm.writing holds.talk.ends in
-          let still : ¬ (Rose (faults old.disk) (faults holds.closed.disk)) = λ rose. calm.disk (subst (λ (disk : D). Rose (faults old.disk) (faults disk)) (sym holds.closes) rose) in
+          let still : ¬ (Rose (seen old.disk).faults (seen holds.closed.disk).faults) = λ rose. calm.disk (subst (λ (disk : D). Rose (seen old.disk).faults (seen disk).faults) (sym holds.closes) rose) in
           let also : (said : List Said) → talks said → talks said × HasNoDiskFault said = λ said session.
-          (session, no_fault (faults old.disk) (faults holds.closed.disk) still true settings.callers (length holds.opened.history) (faults holds.opened.disk) holds.closed.history session.talk.0 said holds.opens.later session.talk.1.talk) in
+          (session, no_fault (seen old.disk).faults (seen holds.closed.disk).faults still true settings.callers (length holds.opened.history) (seen holds.opened.disk).faults holds.closed.history session.talk.0 said holds.opens.later session.talk.1.talk) in
           inr (record {
             text = text;
             settings = settings;

@@ -1,8 +1,9 @@
 -- The ways in which the commands end.
-use Rattle.std.proofs.Common.{◌≡◌, ◌≤◌, ◌⊎◌, inl, inr, ℕ, List, Option, Some, None, refl, sym, ap, subst, ◌∙◌, arith}
+use Rattle.std.proofs.Common.{◌≡◌, ◌≤◌, ◌⊎◌, inl, inr, ℕ, List, Some, None, refl, sym, ap, subst, ◌∙◌, arith}
 use Rattle.std.specs.Prelude.{IfErr, IfSome, Result, Ok, Err}
 use Rattle.decimal_rank.specs.Causes.{Rose}
 use Rattle.decimal_rank.specs.Writings.{Writing}
+use Rattle.disk_model.specs.Disks.{DiskState}
 use Rattle.book.specs.Books.{Seen, story_of}
 use Rattle.book.specs.Images.{StandsFor}
 use Rattle.book.specs.OpeningLaws.{stands_alone}
@@ -94,44 +95,44 @@ pub drill_played : (numbers : DrillNumbers) (a : ShelfState) (o p : Writing) (ow
     → Prints o p text 0 status → DrillEnds numbers (outside a o own door) (outside a p own door) status
 drill_played numbers a o p own door H text status plays is prints = record { way = played H plays (subst (λ (t : List ℕ). Prints o p t 0 status) is prints); rest = refl }
 
-module _ {D : Type 0} (content : D → Option (List ℕ)) (images : D → List ℕ → Type 0) (clock : D → ℕ) (since : D → ℕ → List ℕ → Type 0) (faults : D → ℕ) where
+module _ {D : Type 0} (seen : D → DiskState) where
   -- the outside, with its disk
   abbrev pub with_disk : Streams → D → Outside D
   with_disk streams disk = record { streams = streams; disk = disk }
 
   -- the settings weren't read
   pub unread_settings : (a b : ShelfState) (o : Writing) (disk : D) (status : ℕ) → IsUnread a b settings_file status → (own : LinkState) (door : DoorState)
-      → Unopened content images clock since faults (with_disk (outside a o own door) disk) (with_disk (outside b o own door) disk) status
+      → Unopened seen (with_disk (outside a o own door) disk) (with_disk (outside b o own door) disk) status
   unread_settings a b o disk status (inl missed) own door = settings_unread missed.1 refl refl missed.0
   unread_settings a b o disk status (inr is) own door = not_begun refl refl is
 
   -- a disk that wasn't opened
   pub refused_disk : (text : List ℕ) (settings : Settings) (a b : ShelfState) (o p : Writing) (disk after : D) (status : ℕ) → Gives a settings_file text → settings_of text ≡ Some settings
-      → IsRefused content images clock since faults settings.rules disk after o p status → (own : LinkState) (door : DoorState)
-      → Unopened content images clock since faults (with_disk (outside a o own door) disk) (with_disk (outside b p own door) after) status
+      → IsRefused seen settings.rules disk after o p status → (own : LinkState) (door : DoorState)
+      → Unopened seen (with_disk (outside a o own door) disk) (with_disk (outside b p own door) after) status
   refused_disk text settings a b o p disk after status gives is given_up own door = not_opened text settings gives is given_up
 
   pub refused_result : {T : Type 0} (text : List ℕ) (settings : Settings) (a b : ShelfState) (o p : Writing) (disk : D) → Gives a settings_file text → settings_of text ≡ Some settings → (result : Result T (Status × D))
-      → IfErr result (λ ended. IsRefused content images clock since faults settings.rules disk ended.1 o p ended.0.0)
-      → IfErr result (λ ended. (own : LinkState) (door : DoorState) → Unopened content images clock since faults (with_disk (outside a o own door) disk) (with_disk (outside b p own door) ended.1) ended.0.0)
+      → IfErr result (λ ended. IsRefused seen settings.rules disk ended.1 o p ended.0.0)
+      → IfErr result (λ ended. (own : LinkState) (door : DoorState) → Unopened seen (with_disk (outside a o own door) disk) (with_disk (outside b p own door) ended.1) ended.0.0)
   refused_result text settings a b o p disk gives is (Ok found) none = tt
   refused_result text settings a b o p disk gives is (Err ended) given_up = refused_disk text settings a b o p disk ended.1 ended.0.0 gives is given_up
 
   -- settings that are refused
   pub refused_settings : (text : List ℕ) (a b : ShelfState) (o p : Writing) (disk : D) (status : ℕ) → Gives a settings_file text → settings_of text ≡ None → Prints o p settings_line 3 status → (own : LinkState) (door : DoorState)
-      → Unopened content images clock since faults (with_disk (outside a o own door) disk) (with_disk (outside b p own door) disk) status
+      → Unopened seen (with_disk (outside a o own door) disk) (with_disk (outside b p own door) disk) status
   refused_settings text a b o p disk status gives none prints own door = settings_refused text gives none prints refl
 
   -- a campaign that was opened answers a link
   pub held_session : (a b : ShelfState) (o p : Writing) (own later : LinkState) (door : DoorState) (disk after : D) (book : Seen D) (callers : List KeyRow) (status : ℕ) → Follows a b → p ≡ o
-      → IsOpened content images clock since faults a disk book callers → Answers images clock since faults callers book own later after status
-      → SessionEnds content images clock since faults (with_disk (outside a o own door) disk) (with_disk (outside b p later door) after) status
+      → IsOpened seen a disk book callers → Answers seen callers book own later after status
+      → SessionEnds seen (with_disk (outside a o own door) disk) (with_disk (outside b p later door) after) status
   held_session a b o p own later door disk after book callers status follows same opened answers = record {
     way = held opened.text opened.settings answers.how opened.given opened.read (record {
       opened = book;
       closed = answers.closed;
       opens = opened.opened;
-      talk = subst (λ (callers : List KeyRow). Ends (IsSession faults callers book own.clock answers.closed later.clock) own later answers.how) opened.callers_are answers.talk;
+      talk = subst (λ (callers : List KeyRow). Ends (IsSession seen callers book own.clock answers.closed later.clock) own later answers.how) opened.callers_are answers.talk;
       runs = answers.runs;
       sound = answers.sound;
       closes = answers.closes;
@@ -141,21 +142,21 @@ module _ {D : Type 0} (content : D → Option (List ℕ)) (images : D → List �
   }
 
   pub unheld_session : (a b : ShelfState) (o p : Writing) (own : LinkState) (door : DoorState) (disk after : D) (status : ℕ) → Follows a b
-      → Unopened content images clock since faults (with_disk (outside a o own door) disk) (with_disk (outside b p own door) after) status
-      → SessionEnds content images clock since faults (with_disk (outside a o own door) disk) (with_disk (outside b p own door) after) status
+      → Unopened seen (with_disk (outside a o own door) disk) (with_disk (outside b p own door) after) status
+      → SessionEnds seen (with_disk (outside a o own door) disk) (with_disk (outside b p own door) after) status
   unheld_session a b o p own door disk after status follows none = record { way = unheld none refl; shelf = follows; door = refl }
 
   -- a campaign that was opened takes the links of a door
   pub served_links : (numbers : ServerNumbers) (a b : ShelfState) (o p : Writing) (own : LinkState) (door later : DoorState) (disk after : D) (book : Seen D) (callers : List KeyRow) (status : ℕ) → Follows a b → p ≡ o
-      → IsOpened content images clock since faults a disk book callers → Closes images clock since faults callers numbers book door later after status
-      → ServeEnds content images clock since faults numbers (with_disk (outside a o own door) disk) (with_disk (outside b p own later) after) status
+      → IsOpened seen a disk book callers → Closes seen callers numbers book door later after status
+      → ServeEnds seen numbers (with_disk (outside a o own door) disk) (with_disk (outside b p own later) after) status
   served_links numbers a b o p own door later disk after book callers status follows same opened closes = record {
     way = served opened.text opened.settings closes.how opened.given opened.read (record {
       opened = book;
       closed = closes.closed;
       opens = opened.opened;
       grown = closes.grown;
-      links = subst (λ (callers : List KeyRow). IfSome later.told (λ told. Leaves callers numbers.workers numbers.connections numbers.port (story_of faults book) (story_of faults closes.closed) closes.how told)) opened.callers_are closes.links;
+      links = subst (λ (callers : List KeyRow). IfSome later.told (λ told. Leaves callers numbers.workers numbers.connections numbers.port (story_of seen book) (story_of seen closes.closed) closes.how told)) opened.callers_are closes.links;
       fault = closes.fault;
       later = closes.later;
       sound = closes.sound;
@@ -166,44 +167,44 @@ module _ {D : Type 0} (content : D → Option (List ℕ)) (images : D → List �
   }
 
   pub unserved_links : (numbers : ServerNumbers) (a b : ShelfState) (o p : Writing) (own : LinkState) (door : DoorState) (disk after : D) (status : ℕ) → Follows a b
-      → Unopened content images clock since faults (with_disk (outside a o own door) disk) (with_disk (outside b p own door) after) status
-      → ServeEnds content images clock since faults numbers (with_disk (outside a o own door) disk) (with_disk (outside b p own door) after) status
+      → Unopened seen (with_disk (outside a o own door) disk) (with_disk (outside b p own door) after) status
+      → ServeEnds seen numbers (with_disk (outside a o own door) disk) (with_disk (outside b p own door) after) status
   unserved_links numbers a b o p own door disk after status follows none = record { way = unserved none refl; shelf = follows; own = refl }
 
   -- a campaign that was opened is shown
   pub shown_campaign : (a b : ShelfState) (o p q : Writing) (own : LinkState) (door : DoorState) (disk after : D) (book : Seen D) (callers : List KeyRow) (status : ℕ) → Follows a b → p ≡ o
-      → IsOpened content images clock since faults a disk book callers → Tells book.history p q status → after ≡ book.disk
-      → CheckEnds content images clock since faults (with_disk (outside a o own door) disk) (with_disk (outside b q own door) after) status
+      → IsOpened seen a disk book callers → Tells book.history p q status → after ≡ book.disk
+      → CheckEnds seen (with_disk (outside a o own door) disk) (with_disk (outside b q own door) after) status
   shown_campaign a b o p q own door disk after book callers status follows same opened tells closes =
       record { way = by (subst (λ (o : Writing). Tells book.history o q status) same tells); shelf = follows; own = refl; door = refl }
     where
-      by : Tells book.history o q status → CheckWay content images clock since faults (with_disk (outside a o own door) disk) (with_disk (outside b q own door) after) status
+      by : Tells book.history o q status → CheckWay seen (with_disk (outside a o own door) disk) (with_disk (outside b q own door) after) status
       by (inl prints) = checked opened.text opened.settings book opened.given opened.read (record { opens = opened.opened; closes = closes }) prints
       by (inr none) = untold opened.text opened.settings book opened.given opened.read (record { opens = opened.opened; closes = closes }) none.0 none.1
 
   pub unshown_campaign : (a b : ShelfState) (o p : Writing) (own : LinkState) (door : DoorState) (disk after : D) (status : ℕ) → Follows a b
-      → Unopened content images clock since faults (with_disk (outside a o own door) disk) (with_disk (outside b p own door) after) status
-      → CheckEnds content images clock since faults (with_disk (outside a o own door) disk) (with_disk (outside b p own door) after) status
+      → Unopened seen (with_disk (outside a o own door) disk) (with_disk (outside b p own door) after) status
+      → CheckEnds seen (with_disk (outside a o own door) disk) (with_disk (outside b p own door) after) status
   unshown_campaign a b o p own door disk after status follows none = record { way = unshown none; shelf = follows; own = refl; door = refl }
 
   -- what the disk stands for at the end of a session, where no call on it failed
-  pub session_stands : SessionsStand content images clock since faults
+  pub session_stands : SessionsStand seen
   session_stands settings old new how session calm =
-      let same_opening : session.closed.opening ≡ faults old.disk = session.runs.opening ∙ session.opens.opening_is in
-      let alone = stands_alone images clock since faults session.closed session.sound
-      (λ rose. calm (subst (λ (disk : D). Rose (faults old.disk) (faults disk)) (sym session.closes) (subst (λ n. Rose n (faults session.closed.disk)) same_opening rose))) in
-      subst (λ (disk : D). StandsFor (images disk) session.closed.history None) (sym session.closes) alone
+      let same_opening : session.closed.opening ≡ (seen old.disk).faults = session.runs.opening ∙ session.opens.opening_is in
+      let alone = stands_alone seen session.closed session.sound
+      (λ rose. calm (subst (λ (disk : D). Rose (seen old.disk).faults (seen disk).faults) (sym session.closes) (subst (λ n. Rose n (seen session.closed.disk).faults) same_opening rose))) in
+      subst (λ (disk : D). StandsFor (seen disk).images session.closed.history None) (sym session.closes) alone
 
   -- and at the end of a server
-  pub server_stands : ServersStand content images clock since faults
+  pub server_stands : ServersStand seen
   server_stands settings numbers old new how server calm =
-      let same_opening : server.closed.opening ≡ faults old.disk = sym server.grown.opening ∙ server.opens.opening_is in
-      let alone = stands_alone images clock since faults server.closed server.sound
-      (λ rose. calm (subst (λ (disk : D). Rose (faults old.disk) (faults disk)) (sym server.closes) (subst (λ n. Rose n (faults server.closed.disk)) same_opening rose))) in
-      subst (λ (disk : D). StandsFor (images disk) server.closed.history None) (sym server.closes) alone
+      let same_opening : server.closed.opening ≡ (seen old.disk).faults = sym server.grown.opening ∙ server.opens.opening_is in
+      let alone = stands_alone seen server.closed server.sound
+      (λ rose. calm (subst (λ (disk : D). Rose (seen old.disk).faults (seen disk).faults) (sym server.closes) (subst (λ n. Rose n (seen server.closed.disk).faults) same_opening rose))) in
+      subst (λ (disk : D). StandsFor (seen disk).images server.closed.history None) (sym server.closes) alone
 
   -- there was no memory to read the words: nothing was done, whatever they ask for
-  pub without_memory : (request : Request) (old : Outside D) → Finishes content images clock since faults request old old 7
+  pub without_memory : (request : Request) (old : Outside D) → Finishes seen request old old 7
   without_memory (Eval run qrels) old = (record { way = short refl refl; shelf = record { files = refl; faults = omega arith; misses = omega arith }; rest = refl }, refl)
   without_memory Session old = record { way = unheld (not_begun refl refl refl) refl; shelf = record { files = refl; faults = omega arith; misses = omega arith }; door = refl }
   without_memory (Serve numbers) old = record { way = unserved (not_begun refl refl refl) refl; shelf = record { files = refl; faults = omega arith; misses = omega arith }; own = refl }

@@ -1,6 +1,7 @@
 -- How a command ends that didn't get the campaign of the settings from the disk.
-use Rattle.std.specs.Prelude.{◌≡◌, ◌⊎◌, ℕ, List, ◌++◌, Option, Some, None, codes, decimal}
+use Rattle.std.specs.Prelude.{◌≡◌, ◌⊎◌, ℕ, List, ◌++◌, Some, None, codes, decimal}
 use Rattle.decimal_rank.specs.Writings.{Writing}
+use Rattle.disk_model.specs.Disks.{DiskState}
 use Rattle.book.specs.declared.faults.BookFault.{BookFault}
 use Rattle.book.specs.declared.faults.BookFault.TheVariants as fault
 use Rattle.book.specs.Books.{Seen}
@@ -38,7 +39,7 @@ TellsFault (fault.Damaged entry) old new status = Prints old new (entry_line ent
 TellsFault fault.RulesDiffer old new status = Prints old new rules_line 3 status
 TellsFault fault.Memory old new status = (new ≡ old) × (status ≡ 7)
 
-module _ {D : Type 0} (content : D → Option (List ℕ)) (images : D → List ℕ → Type 0) (clock : D → ℕ) (images_since : D → ℕ → List ℕ → Type 0) (faults : D → ℕ) where
+module _ {D : Type 0} (seen : D → DiskState) where
   -- the shelf gives the settings, and the disk was opened under their rules
   pub record IsOpened (shelf : ShelfState) (disk : D) (book : Seen D) (callers : List KeyRow) : Type 0 where
     pub text : List ℕ
@@ -46,12 +47,12 @@ module _ {D : Type 0} (content : D → Option (List ℕ)) (images : D → List �
     pub given : Gives shelf settings_file text
     pub read : settings_of text ≡ Some settings
     pub callers_are : callers ≡ settings.callers
-    pub opened : Opened content images clock images_since faults settings.rules disk book
+    pub opened : Opened seen settings.rules disk book
 
   -- a disk wasn't opened under these rules, and that is told
   pub record IsRefused (rules : Rules) (disk after : D) (old new : Writing) (status : ℕ) : Type 0 where
     pub why : BookFault
-    pub refused : Refused content images clock images_since faults rules disk after why
+    pub refused : Refused seen rules disk after why
     pub told : TellsFault why old new status
 
   -- the ways in which there is no campaign

@@ -1,5 +1,6 @@
 -- What a session comes to in which no call on the outside failed.
-use Rattle.std.specs.Prelude.{◌≡◌, ◌≢◌, ◌⊎◌, ℕ, List, [], ◌∷◌, Option, Some}
+use Rattle.std.specs.Prelude.{◌≡◌, ◌≢◌, ◌⊎◌, ℕ, List, [], ◌∷◌, Some}
+use Rattle.disk_model.specs.Disks.{DiskState}
 use Rattle.book.specs.Books.{Seen}
 use Rattle.book.specs.Openings.{Opened}
 use Rattle.routes.specs.declared.answers.Answered.TheVariants as answered
@@ -31,7 +32,7 @@ IsCalmEnd end.WriteFault = ⊥
 IsCalmEnd end.Memory = Unit {0}
 IsCalmEnd end.Worn = Unit {0}
 
-module _ {D : Type 0} (content : D → Option (List ℕ)) (images : D → List ℕ → Type 0) (clock : D → ℕ) (images_since : D → ℕ → List ℕ → Type 0) (faults : D → ℕ) where
+module _ {D : Type 0} (seen : D → DiskState) where
   -- The campaign of the settings was opened, and each whole request up to the end was answered by the rules, by its own fault or by want of memory: by no fault of the disk.
   pub record IsAnswered (old new : Outside D) (status : ℕ) : Type 0 where
     pub text : List ℕ
@@ -40,14 +41,14 @@ module _ {D : Type 0} (content : D → Option (List ℕ)) (images : D → List �
     pub read : settings_of text ≡ Some settings
     pub opened : Seen D
     pub closed : Seen D
-    pub opens : Opened content images clock images_since faults settings.rules old.disk opened
+    pub opens : Opened seen settings.rules old.disk opened
     pub how : End
     pub calm : IsCalmEnd how
     pub status_is : status ≡ status_of how
-    pub talk : Ends (λ said. IsSession faults settings.callers opened old.streams.own.clock closed new.streams.own.clock said × HasNoDiskFault said) old.streams.own new.streams.own how
+    pub talk : Ends (λ said. IsSession seen settings.callers opened old.streams.own.clock closed new.streams.own.clock said × HasNoDiskFault said) old.streams.own new.streams.own how
 
   -- With its files and its disk told and within their grammars, and no count risen, the requests of a session are answered, or memory was short before the first one was read.
   abbrev pub CalmSessionsAreAnswered : Type 0
-  CalmSessionsAreAnswered = (old new : Outside D) (status : ℕ) → SessionEnds content images clock images_since faults old new status
-      → CanOpen content images clock images_since faults old → IsCalm content images clock images_since faults old new
+  CalmSessionsAreAnswered = (old new : Outside D) (status : ℕ) → SessionEnds seen old new status
+      → CanOpen seen old → IsCalm seen old new
       → ((status ≡ 7) × (new.streams.own ≡ old.streams.own)) ⊎ IsAnswered old new status

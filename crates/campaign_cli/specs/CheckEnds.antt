@@ -1,6 +1,7 @@
 -- How `check` ends.
-use Rattle.std.specs.Prelude.{◌≡◌, ◌⊎◌, ℕ, List, ◌++◌, Option, Some, codes, decimal, length}
+use Rattle.std.specs.Prelude.{◌≡◌, ◌⊎◌, ℕ, List, ◌++◌, Some, codes, decimal, length}
 use Rattle.decimal_rank.specs.Writings.{Writing}
+use Rattle.disk_model.specs.Disks.{DiskState}
 use Rattle.book.specs.Books.{Seen}
 use Rattle.book.specs.Openings.{Opened}
 use Rattle.rulebook.specs.declared.rules.Phase.{Phase}
@@ -26,10 +27,10 @@ check_text H = codes "entries " ++ decimal (length H) ++ codes "\nphase " ++ pha
 abbrev pub Tells : History → Writing → Writing → ℕ → Type 0
 Tells H old new status = Prints old new (check_text H) 0 status ⊎ ((new ≡ old) × (status ≡ 7))
 
-module _ {D : Type 0} (content : D → Option (List ℕ)) (images : D → List ℕ → Type 0) (clock : D → ℕ) (images_since : D → ℕ → List ℕ → Type 0) (faults : D → ℕ) where
+module _ {D : Type 0} (seen : D → DiskState) where
   -- The campaign of these settings was opened from the disk, and no further call was made on it.
   pub record Shows (settings : Settings) (old new : Outside D) (book : Seen D) : Type 0 where
-    pub opens : Opened content images clock images_since faults settings.rules old.disk book
+    pub opens : Opened seen settings.rules old.disk book
     pub closes : new.disk ≡ book.disk
 
   -- the ways in which `check` ends
@@ -41,7 +42,7 @@ module _ {D : Type 0} (content : D → Option (List ℕ)) (images : D → List �
     untold : (text : List ℕ) (settings : Settings) (book : Seen D) → Gives old.streams.shelf settings_file text → settings_of text ≡ Some settings
         → Shows settings old new book → new.streams.out ≡ old.streams.out → status ≡ 7 → CheckWay old new status
     -- there is no campaign
-    unshown : Unopened content images clock images_since faults old new status → CheckWay old new status
+    unshown : Unopened seen old new status → CheckWay old new status
 
   pub record CheckEnds (old new : Outside D) (status : ℕ) : Type 0 where
     pub way : CheckWay old new status

@@ -1,6 +1,7 @@
 -- How `serve` ends.
-use Rattle.std.specs.Prelude.{◌≡◌, ℕ, ◌≤◌, List, Option, None, Some, IfSome}
+use Rattle.std.specs.Prelude.{◌≡◌, ℕ, ◌≤◌, List, None, Some, IfSome}
 use Rattle.decimal_rank.specs.Causes.{Rose}
+use Rattle.disk_model.specs.Disks.{DiskState}
 use Rattle.book.specs.Books.{IsSound, Seen, story_of}
 use Rattle.book.specs.Images.{StandsFor}
 use Rattle.book.specs.Openings.{Opened}
@@ -24,34 +25,34 @@ status_of serve_end.DoorFault = 6
 status_of serve_end.Memory = 7
 
 -- What a campaign on a disk comes to where its server takes the links of a door: the end, the campaign then, and its disk.
-pub record Closes {D : Type 0} (images : D → List ℕ → Type 0) (clock : D → ℕ) (images_since : D → ℕ → List ℕ → Type 0) (faults : D → ℕ) (callers : List KeyRow)
+pub record Closes {D : Type 0} (seen : D → DiskState) (callers : List KeyRow)
     (numbers : ServerNumbers) (opened : Seen D) (old new : DoorState) (disk : D) (status : ℕ) : Type 0 where
   pub how : ServeEnd
   pub closed : Seen D
-  pub grown : AtMost (story_of faults opened) (story_of faults closed)
-  pub links : IfSome new.told (λ told. Leaves callers numbers.workers numbers.connections numbers.port (story_of faults opened) (story_of faults closed) how told)
+  pub grown : AtMost (story_of seen opened) (story_of seen closed)
+  pub links : IfSome new.told (λ told. Leaves callers numbers.workers numbers.connections numbers.port (story_of seen opened) (story_of seen closed) how told)
   pub fault : how ≡ serve_end.DoorFault → Rose old.faults new.faults
   pub later : old.faults ≤ new.faults
-  pub sound : IsSound images clock images_since faults closed
+  pub sound : IsSound seen closed
   pub closes : disk ≡ closed.disk
   pub status_is : status ≡ status_of how
 
-module _ {D : Type 0} (content : D → Option (List ℕ)) (images : D → List ℕ → Type 0) (clock : D → ℕ) (images_since : D → ℕ → List ℕ → Type 0) (faults : D → ℕ) where
+module _ {D : Type 0} (seen : D → DiskState) where
   -- A server of these settings came to this end.
   pub record Served (settings : Settings) (numbers : ServerNumbers) (old new : Outside D) (how : ServeEnd) : Type 0 where
     -- a campaign, as it was opened and as it was closed
     pub opened : Seen D
     pub closed : Seen D
     -- it began with the entries that the disk told, or with the founding one
-    pub opens : Opened content images clock images_since faults settings.rules old.disk opened
+    pub opens : Opened seen settings.rules old.disk opened
     -- the entries only grow
-    pub grown : AtMost (story_of faults opened) (story_of faults closed)
+    pub grown : AtMost (story_of seen opened) (story_of seen closed)
     -- each link that was taken has its record: what was written is the answers of the rules after the entries so far, which begin with all that was seen on it
-    pub links : IfSome new.streams.door.told (λ told. Leaves settings.callers numbers.workers numbers.connections numbers.port (story_of faults opened) (story_of faults closed) how told)
+    pub links : IfSome new.streams.door.told (λ told. Leaves settings.callers numbers.workers numbers.connections numbers.port (story_of seen opened) (story_of seen closed) how told)
     pub fault : how ≡ serve_end.DoorFault → Rose old.streams.door.faults new.streams.door.faults
     pub later : old.streams.door.faults ≤ new.streams.door.faults
     -- at the end the disk stands for the entries, with the pending one or without it
-    pub sound : IsSound images clock images_since faults closed
+    pub sound : IsSound seen closed
     pub closes : new.disk ≡ closed.disk
 
   -- the ways in which `serve` ends
@@ -60,7 +61,7 @@ module _ {D : Type 0} (content : D → Option (List ℕ)) (images : D → List �
     served : (text : List ℕ) (settings : Settings) (how : ServeEnd) → Gives old.streams.shelf settings_file text → settings_of text ≡ Some settings
         → Served settings numbers old new how → new.streams.out ≡ old.streams.out → status ≡ status_of how → ServeWay numbers old new status
     -- there is no campaign, and the door is as it was
-    unserved : Unopened content images clock images_since faults old new status → new.streams.door ≡ old.streams.door → ServeWay numbers old new status
+    unserved : Unopened seen old new status → new.streams.door ≡ old.streams.door → ServeWay numbers old new status
 
   pub record ServeEnds (numbers : ServerNumbers) (old new : Outside D) (status : ℕ) : Type 0 where
     pub way : ServeWay numbers old new status
@@ -71,4 +72,4 @@ module _ {D : Type 0} (content : D → Option (List ℕ)) (images : D → List �
   -- Where no call on the disk failed, each of its images holds the entries at the end, and no other.
   abbrev pub ServersStand : Type 0
   ServersStand = (settings : Settings) (numbers : ServerNumbers) (old new : Outside D) (how : ServeEnd) (server : Served settings numbers old new how)
-      → ¬ (Rose (faults old.disk) (faults new.disk)) → StandsFor (images new.disk) server.closed.history None
+      → ¬ (Rose (seen old.disk).faults (seen new.disk).faults) → StandsFor (seen new.disk).images server.closed.history None

@@ -1,6 +1,7 @@
 -- How `session` ends.
-use Rattle.std.specs.Prelude.{◌≡◌, ℕ, List, Option, None, Some}
+use Rattle.std.specs.Prelude.{◌≡◌, ℕ, List, None, Some}
 use Rattle.decimal_rank.specs.Causes.{Rose}
+use Rattle.disk_model.specs.Disks.{DiskState}
 use Rattle.book.specs.Books.{IsSound, Runs, Seen}
 use Rattle.book.specs.Images.{StandsFor}
 use Rattle.book.specs.Openings.{Opened}
@@ -27,30 +28,30 @@ status_of end.Memory = 7
 status_of end.Worn = 11
 
 -- what a campaign on a disk comes to where it answers a link: the end, the campaign then, and its disk
-pub record Answers {D : Type 0} (images : D → List ℕ → Type 0) (clock : D → ℕ) (images_since : D → ℕ → List ℕ → Type 0) (faults : D → ℕ) (callers : List KeyRow)
+pub record Answers {D : Type 0} (seen : D → DiskState) (callers : List KeyRow)
     (opened : Seen D) (old new : LinkState) (disk : D) (status : ℕ) : Type 0 where
   pub how : End
   pub closed : Seen D
-  pub talk : Ends (IsSession faults callers opened old.clock closed new.clock) old new how
-  pub runs : Runs images clock images_since faults opened closed
-  pub sound : IsSound images clock images_since faults closed
+  pub talk : Ends (IsSession seen callers opened old.clock closed new.clock) old new how
+  pub runs : Runs seen opened closed
+  pub sound : IsSound seen closed
   pub closes : disk ≡ closed.disk
   pub status_is : status ≡ status_of how
 
-module _ {D : Type 0} (content : D → Option (List ℕ)) (images : D → List ℕ → Type 0) (clock : D → ℕ) (images_since : D → ℕ → List ℕ → Type 0) (faults : D → ℕ) where
+module _ {D : Type 0} (seen : D → DiskState) where
   -- A session of these settings came to this end.
   pub record Holds (settings : Settings) (old new : Outside D) (how : End) : Type 0 where
     -- a campaign, as it was opened and as it was closed
     pub opened : Seen D
     pub closed : Seen D
     -- it began with the entries that the disk told, or with the founding one
-    pub opens : Opened content images clock images_since faults settings.rules old.disk opened
+    pub opens : Opened seen settings.rules old.disk opened
     -- each answer is what the rules give after the entries so far, and an accepted command is added to them
-    pub talk : Ends (IsSession faults settings.callers opened old.streams.own.clock closed new.streams.own.clock) old.streams.own new.streams.own how
+    pub talk : Ends (IsSession seen settings.callers opened old.streams.own.clock closed new.streams.own.clock) old.streams.own new.streams.own how
     -- the entries only grow; a crash at any moment leaves a part of them from their start, with each one from before, or it and one entry that the rules accept next
-    pub runs : Runs images clock images_since faults opened closed
+    pub runs : Runs seen opened closed
     -- at the end the disk stands for the entries, with the pending one or without it
-    pub sound : IsSound images clock images_since faults closed
+    pub sound : IsSound seen closed
     pub closes : new.disk ≡ closed.disk
 
   -- the ways in which `session` ends
@@ -59,7 +60,7 @@ module _ {D : Type 0} (content : D → Option (List ℕ)) (images : D → List �
     held : (text : List ℕ) (settings : Settings) (how : End) → Gives old.streams.shelf settings_file text → settings_of text ≡ Some settings
         → Holds settings old new how → new.streams.out ≡ old.streams.out → status ≡ status_of how → SessionWay old new status
     -- there is no campaign
-    unheld : Unopened content images clock images_since faults old new status → new.streams.own ≡ old.streams.own → SessionWay old new status
+    unheld : Unopened seen old new status → new.streams.own ≡ old.streams.own → SessionWay old new status
 
   pub record SessionEnds (old new : Outside D) (status : ℕ) : Type 0 where
     pub way : SessionWay old new status
@@ -70,4 +71,4 @@ module _ {D : Type 0} (content : D → Option (List ℕ)) (images : D → List �
   -- Where no call on the disk failed, each of its images holds the entries at the end, and no other.
   abbrev pub SessionsStand : Type 0
   SessionsStand = (settings : Settings) (old new : Outside D) (how : End) (session : Holds settings old new how)
-      → ¬ (Rose (faults old.disk) (faults new.disk)) → StandsFor (images new.disk) session.closed.history None
+      → ¬ (Rose (seen old.disk).faults (seen new.disk).faults) → StandsFor (seen new.disk).images session.closed.history None

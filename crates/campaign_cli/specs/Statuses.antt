@@ -4,6 +4,7 @@ use Rattle.std.specs.Io.KnownBytes.{Appends}
 use Rattle.decimal_rank.specs.Causes.{Rose}
 use Rattle.decimal_rank.specs.KnownBytes.{AppendsPart}
 use Rattle.decimal_rank.specs.Writings.{Writing}
+use Rattle.disk_model.specs.Disks.{DiskState}
 use Rattle.book.specs.declared.faults.BookFault.{BookFault}
 use Rattle.book.specs.declared.faults.BookFault.TheVariants as fault
 use Rattle.book.specs.Books.{Seen}
@@ -142,11 +143,11 @@ IsDamaged rules bytes = (decode bytes ≡ None) ⊎ ((payloads : List Text) × (
 abbrev pub IsOfOthers : Rules → List ℕ → Type 0
 IsOfOthers rules bytes = (payloads : List Text) × (decode bytes ≡ Some payloads) × DiffersFrom rules payloads
 
-module _ {D : Type 0} (content : D → Option (List ℕ)) (images : D → List ℕ → Type 0) (clock : D → ℕ) (images_since : D → ℕ → List ℕ → Type 0) (faults : D → ℕ) where
+module _ {D : Type 0} (seen : D → DiskState) where
   -- the disk wasn't opened under the rules of the settings, for this fault
   abbrev pub IsUnopened : Request → Outside D → Outside D → BookFault → Type 0
   IsUnopened request old new why =
-      NeedsBook request × GivesSettings old.streams.shelf (λ settings. Refused content images clock images_since faults settings.rules old.disk new.disk why)
+      NeedsBook request × GivesSettings old.streams.shelf (λ settings. Refused seen settings.rules old.disk new.disk why)
 
   -- the text is what a command prints when its work is done; a session and a server print nothing
   abbrev pub IsOutput : Request → Outside D → Outside D → List ℕ → Type 0
@@ -155,7 +156,7 @@ module _ {D : Type 0} (content : D → Option (List ℕ)) (images : D → List �
   IsOutput (Serve numbers) old new text = ⊥
   IsOutput (Drill numbers) old new text = (H : History) × IsPlayed numbers H × (text ≡ summary_of numbers H)
   IsOutput Check old new text =
-      GivesSettings old.streams.shelf (λ settings. (book : Seen D) × Shows content images clock images_since faults settings old new book × (text ≡ check_text book.history))
+      GivesSettings old.streams.shelf (λ settings. (book : Seen D) × Shows seen settings old new book × (text ≡ check_text book.history))
   IsOutput Nothing old new text = ⊥
 
   -- the settings are refused, and the text names their file; or the disk is another campaign's, and the text says so
@@ -185,12 +186,12 @@ module _ {D : Type 0} (content : D → Option (List ℕ)) (images : D → List �
   -- the session of the settings that the shelf may give came to this end, and nothing was printed
   abbrev pub SessionComesTo : Request → Outside D → Outside D → End → Type 0
   SessionComesTo request old new how = (request ≡ Session) × (new.streams.out ≡ old.streams.out)
-      × GivesSettings old.streams.shelf (λ settings. Holds content images clock images_since faults settings old new how)
+      × GivesSettings old.streams.shelf (λ settings. Holds seen settings old new how)
 
   -- the server of the settings that the shelf may give came to this end, and nothing was printed
   abbrev pub ServerComesTo : Request → Outside D → Outside D → ServeEnd → Type 0
   ServerComesTo request old new how = (numbers : ServerNumbers) × (request ≡ Serve numbers) × (new.streams.out ≡ old.streams.out)
-      × GivesSettings old.streams.shelf (λ settings. Served content images clock images_since faults settings numbers old new how)
+      × GivesSettings old.streams.shelf (λ settings. Served seen settings numbers old new how)
 
   -- the session ended inside a message, at a refused one, or after as many bytes as it takes
   abbrev pub IsCut : Request → Outside D → Outside D → Type 0
@@ -214,7 +215,7 @@ module _ {D : Type 0} (content : D → Option (List ℕ)) (images : D → List �
   -- the settings are told and accepted, and the disk tells records with a story under their rules, or none
   abbrev pub CanOpen : Outside D → Type 0
   CanOpen old = TellsSettings old.streams.shelf (λ bytes. (settings : Settings) × (settings_of bytes ≡ Some settings)
-      × ((payloads : List Text) × TellsRecords (content old.disk) payloads × MayOpen settings.rules payloads))
+      × ((payloads : List Text) × TellsRecords (seen old.disk).content payloads × MayOpen settings.rules payloads))
 
   -- the command can do its work: its files are told, and within their grammars, and so is the disk
   abbrev pub CanDo : Request → Outside D → Type 0
@@ -237,7 +238,7 @@ module _ {D : Type 0} (content : D → Option (List ℕ)) (images : D → List �
   -- the settings are told and accepted, and the disk tells bytes that have this property under their rules
   abbrev pub TellsDisk : Outside D → (Rules → List ℕ → Type 0) → Type 0
   TellsDisk old P = TellsSettings old.streams.shelf (λ text. (settings : Settings) × (settings_of text ≡ Some settings)
-      × ((bytes : List ℕ) × (content old.disk ≡ Some bytes) × P settings.rules bytes))
+      × ((bytes : List ℕ) × ((seen old.disk).content ≡ Some bytes) × P settings.rules bytes))
 
   -- the command has to tell its disk as damaged, or as another campaign's
   abbrev pub HasDamage : Request → Outside D → Type 0
@@ -253,7 +254,7 @@ module _ {D : Type 0} (content : D → Option (List ℕ)) (images : D → List �
     pub reading : ¬ (Rose old.streams.own.reading.faults new.streams.own.reading.faults)
     pub writing : ¬ (Rose old.streams.own.writing.faults new.streams.own.writing.faults)
     pub door : ¬ (Rose old.streams.door.faults new.streams.door.faults)
-    pub disk : ¬ (Rose (faults old.disk) (faults new.disk))
+    pub disk : ¬ (Rose (seen old.disk).faults (seen new.disk).faults)
 
   -- what a status says of what was asked
   pub record Statuses (request : Request) (old new : Outside D) (status : ℕ) : Type 0 where

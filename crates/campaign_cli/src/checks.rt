@@ -28,7 +28,7 @@ pub(crate) fn show_campaign<F: Shelf, O: Sink, D: Disk>(
     out: &mut O,
     disk: D,
 ) -> (Status, D)
-    ensures { (own : LinkState) (door : DoorState) → CheckEnds D.content D.images D.clock D.images_since D.fault_count
+    ensures { (own : LinkState) (door : DoorState) → CheckEnds D.seen
         (record { streams = record { shelf = F.seen shelf.old; out = O.writing out.old; own = own; door = door }; disk = disk })
         (record { streams = record { shelf = F.seen shelf.new; out = O.writing out.new; own = own; door = door }; disk = result.1 }) result.0.0 }
 {

@@ -14,8 +14,9 @@ use eval::never_both;
 /// However the program ends, its status is that of a cause that holds; with its files there and within
 /// their grammars, and so its disk, the work is done; and what the words don't need is as it was.
 pub fn each_status_says<D: Disk>()
-    ensures { (request : Request) (old new : Outside D) (status : ℕ) → Ends D.content D.images D.clock D.images_since D.fault_count request old new status
-        → Statuses D.content D.images D.clock D.images_since D.fault_count request old new status }
+    ensures { (request : Request) (old new : Outside D) (status : ℕ)
+        → Ends D.seen request old new status
+        → Statuses D.seen request old new status }
 {
     never_both();
 }
@@ -23,17 +24,17 @@ pub fn each_status_says<D: Disk>()
 /// Where its files and its disk are told and within their grammars and no call failed, each whole request of a
 /// session is answered by the rules, by its own fault or by want of memory.
 pub fn calm_sessions_are_answered<D: Disk>()
-    ensures { CalmSessionsAreAnswered D.content D.images D.clock D.images_since D.fault_count }
+    ensures { CalmSessionsAreAnswered D.seen }
 {}
 
 /// Where no call on the disk failed in a session, the disk stands at its end for the accepted entries
 /// alone.
 pub fn sessions_stand<D: Disk>()
-    ensures { SessionsStand D.content D.images D.clock D.images_since D.fault_count }
+    ensures { SessionsStand D.seen }
 {}
 
 /// Where no call on the disk failed while a server ran, the disk stands at its end for the accepted
 /// entries alone.
 pub fn servers_stand<D: Disk>()
-    ensures { ServersStand D.content D.images D.clock D.images_since D.fault_count }
+    ensures { ServersStand D.seen }
 {}

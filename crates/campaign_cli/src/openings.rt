@@ -37,10 +37,11 @@ pub(crate) fn open_book<F: Shelf, O: Sink, D: Disk>(
     out: &mut O,
     disk: D,
 ) -> Result<(Book<D>, Keys), (Status, D)>
-    ensures opened { IfOk result (λ found. IsOpened D.content D.images D.clock D.images_since D.fault_count (F.seen shelf.old) disk found.0 found.1) }
+    ensures opened { IfOk result
+        (λ found. IsOpened D.seen (F.seen shelf.old) disk found.0 found.1) }
     ensures out { OnOk result (O.writing out.new ≡ O.writing out.old) }
     ensures follows { Follows (F.seen shelf.old) (F.seen shelf.new) }
-    ensures unopened { IfErr result (λ given. (own : LinkState) (door : DoorState) → Unopened D.content D.images D.clock D.images_since D.fault_count
+    ensures unopened { IfErr result (λ given. (own : LinkState) (door : DoorState) → Unopened D.seen
         (record { streams = record { shelf = F.seen shelf.old; out = O.writing out.old; own = own; door = door }; disk = disk })
         (record { streams = record { shelf = F.seen shelf.new; out = O.writing out.new; own = own; door = door }; disk = given.1 }) given.0.0) }
 {
@@ -63,10 +64,10 @@ fn open_settings<O: Sink, D: Disk>(
     disk: D,
 ) -> Result<(Book<D>, Keys), (Status, D)>
     requires { IsTrue (are_rules settings.rules) }
-    ensures opened { IfOk result (λ found. Opened D.content D.images D.clock D.images_since D.fault_count settings.rules disk found.0) }
+    ensures opened { IfOk result (λ found. Opened D.seen settings.rules disk found.0) }
     ensures callers { IfOk result (λ found. found.1 ≡ settings.callers) }
     ensures out { OnOk result (O.writing out.new ≡ O.writing out.old) }
-    ensures refused { IfErr result (λ given. IsRefused D.content D.images D.clock D.images_since D.fault_count settings.rules disk given.1
+    ensures refused { IfErr result (λ given. IsRefused D.seen settings.rules disk given.1
         (O.writing out.old) (O.writing out.new) given.0.0) }
 {
     let Settings { rules, callers } = settings;

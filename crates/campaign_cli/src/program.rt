@@ -35,7 +35,7 @@ pub fn campaign<W: Threads + Wait + Sync, F: Shelf, O: Sink, I: Link, D: Disk + 
     door: &mut R,
 ) -> (Status, D)
     requires { IsShut (R.seen door.old) }
-    ensures { Ends D.content D.images D.clock D.images_since D.fault_count (asked words.now)
+    ensures { Ends D.seen (asked words.now)
         (record { streams = record { shelf = F.seen shelf.old; out = O.writing out.old; own = I.seen own.old; door = R.seen door.old }; disk = disk })
         (record { streams = record { shelf = F.seen shelf.new; out = O.writing out.new; own = I.seen own.new; door = R.seen door.new }; disk = result.1 }) result.0.0 }
 {

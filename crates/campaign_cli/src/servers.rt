@@ -31,7 +31,7 @@ pub(crate) fn run_server<W: Threads + Wait + Sync, F: Shelf, O: Sink, D: Disk + 
     requires workers { (1 ≤ workers) × (workers ≤ 16) }
     requires connections { 1 ≤ connections }
     requires shut { IsShut (R.seen door.old) }
-    ensures { (own : LinkState) → ServeEnds D.content D.images D.clock D.images_since D.fault_count
+    ensures { (own : LinkState) → ServeEnds D.seen
         (record { port = port; workers = workers; connections = connections })
         (record { streams = record { shelf = F.seen shelf.old; out = O.writing out.old; own = own; door = R.seen door.old }; disk = disk })
         (record { streams = record { shelf = F.seen shelf.new; out = O.writing out.new; own = own; door = R.seen door.new }; disk = result.1 }) result.0.0 }
@@ -58,7 +58,7 @@ fn serve_links<W: Threads + Wait + Sync, D: Disk + Send, R: Door>(
     requires workers { (1 ≤ workers) × (workers ≤ 16) }
     requires connections { 1 ≤ connections }
     requires shut { IsShut (R.seen door.old) }
-    ensures { Closes D.images D.clock D.images_since D.fault_count callers.now
+    ensures { Closes D.seen callers.now
         (record { port = port; workers = workers; connections = connections }) book (R.seen door.old) (R.seen door.new) result.1 result.0.0 }
 {
     let (book, end) = serve(rt, alloc, book, callers, door, port, workers, connections);

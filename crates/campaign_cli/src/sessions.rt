@@ -24,7 +24,7 @@ pub(crate) fn hold_session<R, F: Shelf, O: Sink, I: Link, D: Disk>(
     own: &mut I,
     disk: D,
 ) -> (Status, D)
-    ensures { (door : DoorState) → SessionEnds D.content D.images D.clock D.images_since D.fault_count
+    ensures { (door : DoorState) → SessionEnds D.seen
         (record { streams = record { shelf = F.seen shelf.old; out = O.writing out.old; own = I.seen own.old; door = door }; disk = disk })
         (record { streams = record { shelf = F.seen shelf.new; out = O.writing out.new; own = I.seen own.new; door = door }; disk = result.1 }) result.0.0 }
 {
@@ -42,7 +42,8 @@ fn answer_link<R, I: Link, D: Disk>(
     callers: &Keys,
     own: &mut I,
 ) -> (Status, D)
-    ensures { Answers D.images D.clock D.images_since D.fault_count callers.now book (I.seen own.old) (I.seen own.new) result.1 result.0.0 }
+    ensures { Answers D.seen callers.now book (I.seen own.old) (I.seen own.new)
+        result.1 result.0.0 }
 {
     let mut book = book;
     let end = session(rt, alloc, &mut book, own, callers);

@@ -2,4 +2,4 @@ use Rattle.campaign_cli.proofs.CalmTalks.{calm_sessions}
 use Rattle.campaign_cli.proofs.laws.calm_sessions_are_answered.Goals as goal
 
 pub returns : goal.returns
-returns g c = calm_sessions g.D.Disk.content g.D.Disk.images g.D.Disk.clock g.D.Disk.images_since g.D.Disk.fault_count
+returns g c = calm_sessions g.D.Disk.seen

@@ -2,4 +2,4 @@ use Rattle.campaign_cli.proofs.ByStatus.{by_status}
 use Rattle.campaign_cli.proofs.laws.each_status_says.Goals as goal
 
 pub returns : goal.returns
-returns g c = by_status g.D.Disk.content g.D.Disk.images g.D.Disk.clock g.D.Disk.images_since g.D.Disk.fault_count c.never_both.ensures
+returns g c = by_status g.D.Disk.seen c.never_both.ensures

@@ -2,4 +2,4 @@ use Rattle.campaign_cli.proofs.Ways.{session_stands}
 use Rattle.campaign_cli.proofs.laws.sessions_stand.Goals as goal
 
 pub returns : goal.returns
-returns g c = session_stands g.D.Disk.content g.D.Disk.images g.D.Disk.clock g.D.Disk.images_since g.D.Disk.fault_count
+returns g c = session_stands g.D.Disk.seen

@@ -10,7 +10,7 @@ use Rattle.campaign_cli.proofs.openings.open_book.Goals as goal
 pub returns-in-Err-clause-unopened : goal.returns-in-Err-clause-unopened
 returns-in-Err-clause-unopened g c =
     let D = g.D.Disk in
-    unread_settings D.content D.images D.clock D.images_since D.fault_count (g.F.Shelf.seen c.args.shelf.now) (g.F.Shelf.seen c.read.new.shelf) (g.O.Output.writing c.args.out.now) c.args.disk c.in-Err.status.0 c.in-Err.ensures.unread
+    unread_settings D.seen (g.F.Shelf.seen c.args.shelf.now) (g.F.Shelf.seen c.read.new.shelf) (g.O.Output.writing c.args.out.now) c.args.disk c.in-Err.status.0 c.in-Err.ensures.unread
 
 pub returns-in-Ok-read_settings-clause-unopened : goal.returns-in-Ok-read_settings-clause-unopened
 returns-in-Ok-read_settings-clause-unopened g c =
@@ -19,7 +19,7 @@ returns-in-Ok-read_settings-clause-unopened g c =
     let settings = c.in-Ok-read_settings.settings in
     let given : Gives old settings_file c.in-Ok.text.items = search rules in
     let read : settings_of c.in-Ok.text.items ≡ Some settings = search rules in
-    refused_result D.content D.images D.clock D.images_since D.fault_count c.in-Ok.text.items settings old (g.F.Shelf.seen c.read.new.shelf) (g.O.Output.writing c.args.out.now) (g.O.Output.writing c.open_settings.new.out)
+    refused_result D.seen c.in-Ok.text.items settings old (g.F.Shelf.seen c.read.new.shelf) (g.O.Output.writing c.args.out.now) (g.O.Output.writing c.open_settings.new.out)
     c.args.disk given read c.open_settings.result c.open_settings.ensures.refused
 
 pub returns-in-Err-Refused-clause-unopened : goal.returns-in-Err-Refused-clause-unopened
@@ -28,5 +28,5 @@ returns-in-Err-Refused-clause-unopened g c =
     let old = g.F.Shelf.seen c.args.shelf.now in
     let given : Gives old settings_file c.in-Ok.text.items = search rules in
     let none : settings_of c.in-Ok.text.items ≡ None = search rules in
-    refused_settings D.content D.images D.clock D.images_since D.fault_count c.in-Ok.text.items old (g.F.Shelf.seen c.read.new.shelf) (g.O.Output.writing c.args.out.now) (g.O.Output.writing c.print.new.out)
+    refused_settings D.seen c.in-Ok.text.items old (g.F.Shelf.seen c.read.new.shelf) (g.O.Output.writing c.args.out.now) (g.O.Output.writing c.print.new.out)
     c.args.disk c.print.result.0 given none c.print.ensures

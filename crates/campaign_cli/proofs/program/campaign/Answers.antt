@@ -33,4 +33,4 @@ pub run_drill-requires : goal.run_drill-requires
 run_drill-requires g c = rw c.in-Ok-Drill.field-0-is at c.in-Ok-Drill.ensures.in_range
 
 pub returns-in-Err : goal.returns-in-Err
-returns-in-Err g c = without_memory g.D.Disk.content g.D.Disk.images g.D.Disk.clock g.D.Disk.images_since g.D.Disk.fault_count (asked c.args.words.now) _
+returns-in-Err g c = without_memory g.D.Disk.seen (asked c.args.words.now) _
