@@ -5,10 +5,13 @@ use Rattle.decimal_rank.specs.Causes.{Rose}
 use Rattle.http_wire.specs.declared.messages.HttpRequest.{HttpRequest}
 use Rattle.http_wire.specs.declared.messages.WireFault.{WireFault}
 use Rattle.http_wire.specs.Messages.{Whole, IsFront, Behind, Messages, End as Ending, Closed, Refused, Clean, Cut}
+use Rattle.routes.specs.declared.keys.KeyRow.{KeyRow}
+use Rattle.rulebook.specs.declared.answer.Answer.{Answer}
+use Rattle.rulebook.specs.declared.ask.Addressed.{Addressed}
 use Rattle.campaign_server.specs.declared.ends.End.{End}
 use Rattle.campaign_server.specs.declared.ends.End.TheVariants as end
 use Rattle.campaign_server.specs.Links.{LinkState}
-use Rattle.campaign_server.specs.Chains.{Said, requests_of, text_said, texts_of, last_text}
+use Rattle.campaign_server.specs.Chains.{Chain, Said, requests_of, text_said, texts_of, last_text}
 
 -- these bytes were read
 pub record Hears (old new : LinkState) (bytes : List ℕ) : Type 0 where
@@ -92,3 +95,7 @@ module _ (talks : List Said → Type 0) where
     pub heard : Hears old new bytes
     pub ends : EndsOn bytes old new e
     pub no_more : ReadsNoMore old new bytes
+
+-- What a connection to a teller comes to: each of its states leads to the next by one request of the bytes, at one moment of the clock.
+abbrev pub Converses : {S : Type 0} → (S → Addressed → Answer → S → Type 0) → List KeyRow → S → LinkState → S → LinkState → End → Type 0
+Converses tells keys old was new is how = Ends (Chain tells keys old was.clock new is.clock) was is how

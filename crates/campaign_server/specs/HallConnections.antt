@@ -8,12 +8,12 @@ use Rattle.rulebook.specs.declared.answer.Answer.{Answer}
 use Rattle.rulebook.specs.declared.ask.Addressed.{Addressed}
 use Rattle.rulebook.specs.declared.entry.Entry.{Entry}
 use Rattle.rulebook.specs.Campaign.{History}
-use Rattle.rulebook.specs.Stories.{AtMost, Story}
-use Rattle.book.specs.Halls.{Tells}
+use Rattle.rulebook.specs.Stories.{AtMost}
+use Rattle.book.specs.Halls.{Tells, seen_as}
 use Rattle.campaign_server.specs.declared.ends.End.{End}
 use Rattle.campaign_server.specs.Chains.{Said}
 use Rattle.campaign_server.specs.Connections.{Ends}
-use Rattle.campaign_server.specs.Links.{Clock, LinkState}
+use Rattle.campaign_server.specs.Links.{Alike, Clock, LinkState}
 use Rattle.campaign_server.specs.Talks.{Talks}
 
 -- one request of a caller: it was told in a state that begins with all that the caller had seen
@@ -43,11 +43,12 @@ pub record IsTalkAmong (keys : List KeyRow) (n c : ℕ) (clock : Clock) (S : His
   pub told_is : told ≡ disk_faults said
 
 -- What a connection comes to: what the caller had seen begins what is seen at the end, over which the talk is; the places of what it added,
--- from 1, are the caller's own; and each disk fault that it told has a rise of the count of its own.
-pub record Serves (keys : List KeyRow) (seen later : Story) (mine more : List ℕ) (was is : LinkState) (how : End) : Type 0 where
-  pub grown : AtMost seen later
+-- from 1, are the caller's own; and each disk fault that it told has a rise of the count of its own. The link tells the same parts at the end as before.
+pub record Serves (keys : List KeyRow) (pass later : Known Entry) (was is : LinkState) (how : End) : Type 0 where
+  pub grown : AtMost (seen_as pass.seen) (seen_as later.seen)
+  pub alike : Alike was is
   pub places : List ℕ
-  pub gained : more ≡ mine ++ map suc places
+  pub gained : later.mine ≡ pass.mine ++ map suc places
   pub told : ℕ
-  pub ends : Ends (IsTalkAmong keys (length seen.list) seen.faults was.clock later.list later.faults is.clock places told) was is how
-  pub licensed : Licensed told seen.faults later.faults
+  pub ends : Ends (IsTalkAmong keys (length pass.seen.list) pass.seen.faults was.clock later.seen.list later.seen.faults is.clock places told) was is how
+  pub licensed : Licensed told pass.seen.faults later.seen.faults

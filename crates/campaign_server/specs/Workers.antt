@@ -1,8 +1,10 @@
 -- What the workers of a server did.
-use Rattle.std.specs.Prelude.{◌≡◌, ◌⊎◌, ℕ, suc, Bool, ◌-◌, ◌*◌, ◌^◌, ◌≤◌, false, List, [], length}
+use Rattle.std.specs.Prelude.{◌≡◌, ◌⊎◌, ℕ, suc, ◌+◌, ◌-◌, ◌*◌, ◌^◌, ◌≤◌, Bool, false, ◌||◌, List, [], ◌++◌, length}
 use Rattle.std.specs.List.{Contains}
 use Rattle.atomic_table.specs.Seated.{TableId}
 use Rattle.hall.specs.Acts.{Known}
+use Rattle.hall.specs.Places.{Apart, merged}
+use Rattle.hall.specs.Stories.{AtMost as MostOf}
 use Rattle.routes.specs.declared.keys.KeyRow.{KeyRow}
 use Rattle.rulebook.specs.declared.entry.Entry.{Entry}
 use Rattle.rulebook.specs.Stories.{AtMost, Story}
@@ -25,23 +27,57 @@ pub record Worked (keys : List KeyRow) (start : Story) (workers : ℕ) (seen : S
   pub licensed : (told ≤ workers * (seen.faults - start.faults)) ⊎ (2 ^ 64 - 1 ≤ seen.faults)
   pub none_short : short ≡ false → NoneShort records
 
--- one worker went on: whatever it did since a start, it did more
-pub record GoesOn (keys : List KeyRow) (pass : Known Entry) (records : List Ended) (short : Bool) (later : Known Entry) (more : List Ended) (shorter : Bool) : Type 0 where
-  pub on : (start : Story) → Worked keys start 1 (seen_as pass.seen) pass.mine records short → Worked keys start 1 (seen_as later.seen) later.mine more shorter
+-- what contracts see of a worker: its pass, its parts of the ledger, what the records of its links tell, and whether memory was short for it
+pub record WorkState : Type 0 where
+  pub pass : Known Entry
+  pub parts : ℕ
+  pub records : List Ended
+  pub short : Bool
+
+-- what one or more workers did, over what their pass has seen
+abbrev pub Works : List KeyRow → Story → ℕ → WorkState → Type 0
+Works keys start workers work = Worked keys start workers (seen_as work.pass.seen) work.pass.mine work.records work.short
 
 -- a worker that did nothing yet: its pass is of the hall and has seen the start, and it has one part of the ledger
-pub record IsFresh (hall : TableId) (start : Story) (pass : Known Entry) (parts amount count : ℕ) (short : Bool) (records : List Ended) : Type 0 where
-  pub of : pass.hall ≡ hall
-  pub seen : seen_as pass.seen ≡ start
-  pub part : parts ≡ 1
-  pub none : amount ≡ 0
-  pub nothing : count ≡ 0
-  pub not_short : short ≡ false
-  pub no_records : records ≡ []
+pub record IsFresh (hall : TableId) (start : Story) (work : WorkState) : Type 0 where
+  pub of : work.pass.hall ≡ hall
+  pub seen : seen_as work.pass.seen ≡ start
+  pub part : work.parts ≡ 1
+  pub no_records : work.records ≡ []
+  pub not_short : work.short ≡ false
 
--- a worker that served: the ledger counts its records, which are over what its pass has seen
-pub record HasServed (keys : List KeyRow) (hall : TableId) (start : Story) (pass : Known Entry) (parts amount count : ℕ) (short : Bool) (records : List Ended) : Type 0 where
-  pub of : pass.hall ≡ hall
-  pub part : parts ≡ 1
-  pub counted : amount ≡ count
-  pub worked : Worked keys start 1 (seen_as pass.seen) pass.mine records short
+-- nothing was gathered yet: a pass of the hall, and no part of the ledger
+pub record IsEmpty (hall : TableId) (work : WorkState) : Type 0 where
+  pub of : work.pass.hall ≡ hall
+  pub none : work.parts ≡ 0
+  pub no_records : work.records ≡ []
+  pub not_short : work.short ≡ false
+
+-- a worker went on: whatever it did since a start, it did more
+pub record GoesOn (keys : List KeyRow) (work later : WorkState) : Type 0 where
+  pub of : later.pass.hall ≡ work.pass.hall
+  pub part : later.parts ≡ work.parts
+  pub on : (start : Story) → Works keys start 1 work → Works keys start 1 later
+
+-- a worker that served: it has its pass and its part still
+pub record HasServed (keys : List KeyRow) (hall : TableId) (start : Story) (work : WorkState) : Type 0 where
+  pub of : work.pass.hall ≡ hall
+  pub part : work.parts ≡ 1
+  pub worked : Works keys start 1 work
+
+-- what was gathered of some workers, and the number of others for which there is room
+pub record GatheredState : Type 0 where
+  pub done : WorkState
+  pub room : ℕ
+
+-- what one worker did was gathered with what others did
+pub record TakesIn (all : GatheredState) (work : WorkState) (later : GatheredState) : Type 0 where
+  pub of : later.done.pass.hall ≡ all.done.pass.hall
+  pub grown : MostOf all.done.pass.seen later.done.pass.seen
+  pub other : MostOf work.pass.seen later.done.pass.seen
+  pub apart : Apart all.done.pass.mine work.pass.mine
+  pub mine : later.done.pass.mine ≡ merged all.done.pass.mine work.pass.mine
+  pub parts : later.done.parts ≡ all.done.parts + work.parts
+  pub records : later.done.records ≡ all.done.records ++ work.records
+  pub short : later.done.short ≡ (all.done.short || work.short)
+  pub room : suc later.room ≡ all.room

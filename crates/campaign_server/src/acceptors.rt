@@ -46,9 +46,19 @@ impl<R: Door, J: Opening> Model for Acceptor<R, J> {
 
     ghost Value = { AcceptorState };
 
-    ghost view = { λ acceptor. record { door = R.seen acceptor.door; accepted = acceptor.accepted; ended = acceptor.ended; failed = acceptor.failed } };
+    ghost view = { λ acceptor. record {
+      door = R.seen acceptor.door;
+      accepted = acceptor.accepted;
+      ended = acceptor.ended;
+      failed = acceptor.failed;
+    } };
 
-    ghost invariant = { λ acceptor. IsAcceptor J.port J.faults J.limit (record { door = R.seen acceptor.door; accepted = acceptor.accepted; ended = acceptor.ended; failed = acceptor.failed })
+    ghost invariant = { λ acceptor. IsAcceptor J.port J.faults J.limit (record {
+      door = R.seen acceptor.door;
+      accepted = acceptor.accepted;
+      ended = acceptor.ended;
+      failed = acceptor.failed;
+    })
         × (acceptor.limit ≡ J.limit) × (acceptor.count.total ≡ acceptor.accepted) };
 }
 
@@ -57,7 +67,8 @@ impl<R: Door, J: Opening> Acceptor<R, J> {
     pub(crate) fn new(door: R, limit: u32, count: Book<J>) -> Acceptor<R, J>
         requires limit { limit ≡ J.limit }
         requires count { count.total ≡ 0 }
-        requires acceptor { IsAcceptor J.port J.faults J.limit (record { door = R.seen door; accepted = 0; ended = false; failed = false }) }
+        requires acceptor { IsAcceptor J.port J.faults J.limit
+            (record { door = R.seen door; accepted = 0; ended = false; failed = false }) }
     {
         Acceptor {
             door,
@@ -74,9 +85,11 @@ impl<R: Door, J: Opening> Acceptor<R, J> {
     pub(crate) fn next(&mut self, mine: &mut Share<J>) -> Option<R::Line>
         requires { 0 < mine.old.parts }
         ensures parts { mine.new.parts ≡ mine.old.parts }
-        ensures some { IfSome result (λ line. IsNew (R.Line.seen line) × (mine.new.amount ≡ mine.old.amount + 1)) }
+        ensures some { IfSome result (λ line. IsNew (R.Line.seen line)
+            × (mine.new.amount ≡ mine.old.amount + 1)) }
         ensures none { IfNone result (mine.new.amount ≡ mine.old.amount) }
-        ensures why { IfNone result ((self.new.failed ≡ true) ⊎ ((self.new.ended ≡ true) ⊎ (self.new.accepted ≡ J.limit))) }
+        ensures why { IfNone result ((self.new.failed ≡ true)
+            ⊎ ((self.new.ended ≡ true) ⊎ (self.new.accepted ≡ J.limit))) }
     {
         if self.failed || self.ended || self.accepted >= self.limit {
             return None;

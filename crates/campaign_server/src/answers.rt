@@ -67,8 +67,10 @@ pub(crate) fn answer<T: Teller, I: Link>(
     close: bool,
 ) -> Result<(), Failed>
     requires { MayBeAsked reading }
-    ensures turn { IsTurn T.tells teller.old (I.seen link.old) reading close result teller.new (I.seen link.new) }
-    ensures cause { HasCause (I.seen link.old).writing.faults (I.seen link.new).writing.faults result }
+    ensures turn { IsTurn T.tells teller.old (I.seen link.old) reading close result teller.new
+        (I.seen link.new) }
+    ensures cause { HasCause (I.seen link.old).writing.faults (I.seen link.new).writing.faults
+        result }
     ensures reading_kept { (I.seen link.new).reading ≡ (I.seen link.old).reading }
 {
     let moment = link.moment();
@@ -83,9 +85,12 @@ pub(crate) fn refuse<I: Link>(
     buffer: &mut Buffer,
     fault: WireFault,
 ) -> Result<(), Failed>
-    ensures all { OnOk result (Appends (I.seen link.old).writing.written (I.seen link.new).writing.written (last_text (Refused fault))) }
-    ensures part { OnErr result (AppendsPart (I.seen link.old).writing.written (I.seen link.new).writing.written (last_text (Refused fault))) }
-    ensures cause { HasCause (I.seen link.old).writing.faults (I.seen link.new).writing.faults result }
+    ensures all { OnOk result (Appends (I.seen link.old).writing.written
+        (I.seen link.new).writing.written (last_text (Refused fault))) }
+    ensures part { OnErr result (AppendsPart (I.seen link.old).writing.written
+        (I.seen link.new).writing.written (last_text (Refused fault))) }
+    ensures cause { HasCause (I.seen link.old).writing.faults (I.seen link.new).writing.faults
+        result }
     ensures reading_kept { (I.seen link.new).reading ≡ (I.seen link.old).reading }
     ensures clock_kept { (I.seen link.new).clock ≡ (I.seen link.old).clock }
 {

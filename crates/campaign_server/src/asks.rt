@@ -47,14 +47,14 @@ enum Turn {
 }
 
 /// The bytes of a connection that were fed and not yet given, and the request that they began, which contracts
-/// see.
-pub(crate) struct AskStream {
+/// see. The table of the paths is lent.
+pub(crate) struct AskStream<'a> {
     wire: Wire,
     present: Present,
-    paths: Paths,
+    paths: &'a Paths,
 }
 
-impl Model for AskStream {
+impl<'a> Model for AskStream<'a> {
     ghost use Rattle.campaign_server.specs.Asking.{Fits, StreamState};
 
     ghost Value = { StreamState };
@@ -65,7 +65,7 @@ impl Model for AskStream {
 }
 
 // a call of its own, so that no caller's proof takes a stream apart
-impl Drop for AskStream {
+impl<'a> Drop for AskStream<'a> {
     fn drop(self) {
         let AskStream {
             wire: _,
@@ -132,8 +132,10 @@ fn take_step(
     present: &mut Present,
 ) -> Result<Turn, Memory>
     requires { Fits present.old wire.old }
-    ensures goes { IfOk result (λ turn. Goes keys.now (stream_at wire.old present.old) turn (stream_at wire.new present.new)) }
-    ensures shorter { IfOk result (λ turn. GoesShorter (stream_at wire.old present.old) turn (stream_at wire.new present.new)) }
+    ensures goes { IfOk result (λ turn. Goes keys.now (stream_at wire.old present.old) turn
+        (stream_at wire.new present.new)) }
+    ensures shorter { IfOk result (λ turn. GoesShorter (stream_at wire.old present.old) turn
+        (stream_at wire.new present.new)) }
     ensures fits { IfOk result (λ turn. GoesFit turn present.new wire.new) }
     ensures memory { OnErr result (Fits present.new wire.new) }
 {
@@ -163,9 +165,11 @@ fn step_on(
     present: &mut Present,
 ) -> Result<AskStep, Memory>
     requires { Fits present.old wire.old }
-    ensures asks { IfOk result (λ step. AsksNext keys.now (stream_at wire.old present.old) step (stream_at wire.new present.new)) }
+    ensures asks { IfOk result (λ step. AsksNext keys.now (stream_at wire.old present.old) step
+        (stream_at wire.new present.new)) }
     ensures askable { IfOk result IsAskable }
-    ensures shorter { IfOk result (λ step. IsShorter (stream_at wire.old present.old) step (stream_at wire.new present.new)) }
+    ensures shorter { IfOk result (λ step. IsShorter (stream_at wire.old present.old) step
+        (stream_at wire.new present.new)) }
     ensures fits { Fits present.new wire.new }
 {
     'steps: loop {
@@ -179,16 +183,15 @@ fn step_on(
     }
 }
 
-impl AskStream {
-    pub(crate) fn new(alloc: Global) -> Result<AskStream, Memory>
-        ensures { IfOk result (λ stream. stream ≡ fresh) }
+impl<'a> AskStream<'a> {
+    pub(crate) fn new(alloc: Global, paths: &'a Paths) -> AskStream<'a>
+        ensures { result ≡ fresh }
     {
-        let paths = Paths::new(alloc)?;
-        Ok(AskStream {
+        AskStream {
             wire: Wire::new(alloc),
             present: Present::Nothing,
             paths,
-        })
+        }
     }
 
     /// Adds the bytes that came next.
@@ -205,6 +208,6 @@ impl AskStream {
         ensures askable { IfOk result IsAskable }
         ensures shorter { IfOk result (λ step. IsShorter self.old step self.new) }
     {
-        step_on(alloc, &self.paths, keys, &mut self.wire, &mut self.present)
+        step_on(alloc, self.paths, keys, &mut self.wire, &mut self.present)
     }
 }

@@ -9,7 +9,8 @@ impl<D: Disk> Teller for Book<D> {
 
     ghost tells = { Acts D.seen };
 
-    ghost by_rules = { λ old asked reply new acts. (old.history, acts.before.legal, acts.told.leads.0) };
+    ghost by_rules = { λ old asked reply new acts.
+        (old.history, acts.before.legal, acts.told.leads.0) };
 
     fn tell(&mut self, asked: Addressed) -> Answer {
         self.act(asked)

@@ -31,8 +31,10 @@ impl Model for Buffer {
 // none for it.
 fn put_text(text: &mut Vec<u8>, answered: &Answered, close: bool)
     requires { 4096 ≤ vec_capacity text.old }
-    ensures text { (text.new.items ≡ text_of answered.now close) ⊎ (text.new.items ≡ text_of answered_as.Memory close) }
-    ensures fits { IsTrue (is_plain answered.now) → IsTrue (is_short answered.now) → text.new.items ≡ text_of answered.now close }
+    ensures text { (text.new.items ≡ text_of answered.now close)
+        ⊎ (text.new.items ≡ text_of answered_as.Memory close) }
+    ensures fits { IsTrue (is_plain answered.now) → IsTrue (is_short answered.now)
+        → text.new.items ≡ text_of answered.now close }
     ensures capacity { 4096 ≤ vec_capacity text.new }
 {
     text.clear();
@@ -71,8 +73,10 @@ impl Buffer {
     /// Puts the text of an answer, or that of want of memory where there is none for it. There is
     /// memory for each answer that is short.
     pub(crate) fn put(&mut self, answered: &Answered, close: bool)
-        ensures text { (self.new ≡ text_of answered.now close) ⊎ (self.new ≡ text_of answered_as.Memory close) }
-        ensures fits { IsTrue (is_plain answered.now) → IsTrue (is_short answered.now) → self.new ≡ text_of answered.now close }
+        ensures text { (self.new ≡ text_of answered.now close)
+            ⊎ (self.new ≡ text_of answered_as.Memory close) }
+        ensures fits { IsTrue (is_plain answered.now) → IsTrue (is_short answered.now)
+            → self.new ≡ text_of answered.now close }
     {
         put_text(&mut self.text, answered, close);
     }

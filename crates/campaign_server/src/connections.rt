@@ -2,8 +2,7 @@
 //! order, and then more is read.
 ghost use Rattle.std.specs.Prelude.{◌≡◌, ◌<◌, ◌≤◌, ◌^◌, IfOk, IfErr};
 ghost use Rattle.campaign_server.specs.Asking.{fresh};
-ghost use Rattle.campaign_server.specs.Chains.{Chain};
-ghost use Rattle.campaign_server.specs.Connections.{Ends};
+ghost use Rattle.campaign_server.specs.Connections.{Converses};
 ghost use Rattle.campaign_server.specs.LoopParts.{EndsFrom, Pauses, ReadsPiece, RefusesWith, at_end, last_end, worn};
 
 use crate::answers::{answer, refuse};
@@ -14,7 +13,7 @@ use crate::links::Link;
 use crate::tellers::Teller;
 use decimal_rank::{Failed, Memory};
 use http_wire::{WireFault, fronts_are_messages, pieces_go_on, readings_go_on};
-use routes::Keys;
+use routes::{Keys, Paths};
 use std::alloc::Global;
 
 /// The most bytes that a connection takes.
@@ -32,8 +31,10 @@ fn answer_all<T: Teller, I: Link>(
     stream: &mut AskStream,
     buffer: &mut Buffer,
 ) -> Result<bool, End>
-    ensures pause { IfOk result (λ clean. Pauses T.tells keys.now teller.old (I.seen link.old) stream.old clean teller.new (I.seen link.new) stream.new) }
-    ensures ends { IfErr result (λ end. EndsFrom T.tells keys.now teller.old (I.seen link.old) stream.old end teller.new (I.seen link.new)) }
+    ensures pause { IfOk result (λ clean. Pauses T.tells keys.now teller.old (I.seen link.old)
+        stream.old clean teller.new (I.seen link.new) stream.new) }
+    ensures ends { IfErr result (λ end. EndsFrom T.tells keys.now teller.old (I.seen link.old)
+        stream.old end teller.new (I.seen link.new)) }
     ensures reading_kept { (I.seen link.new).reading ≡ (I.seen link.old).reading }
 {
     readings_go_on();
@@ -83,7 +84,8 @@ fn read_piece<I: Link>(
     taken: usize,
 ) -> Result<usize, ReadFault>
     requires { taken < 2 ^ 40 }
-    ensures piece { ReadsPiece (I.seen link.old) (I.seen link.new) stream.old taken result stream.new }
+    ensures piece { ReadsPiece (I.seen link.old) (I.seen link.new) stream.old taken result
+        stream.new }
     ensures later { (I.seen link.old).reading.faults ≤ (I.seen link.new).reading.faults }
     ensures writing_kept { (I.seen link.new).writing ≡ (I.seen link.old).writing }
     ensures clock_kept { (I.seen link.new).clock ≡ (I.seen link.old).clock }
@@ -133,7 +135,8 @@ fn converse_by<T: Teller, I: Link>(
     buffer: &mut Buffer,
 ) -> End
     requires { stream.old ≡ fresh }
-    ensures { Ends (Chain T.tells keys.now teller.old (I.seen link.old).clock teller.new (I.seen link.new).clock) (I.seen link.old) (I.seen link.new) result }
+    ensures { Converses T.tells keys.now teller.old (I.seen link.old) teller.new (I.seen link.new)
+        result }
 {
     pieces_go_on();
     readings_go_on();
@@ -156,13 +159,29 @@ fn converse_by<T: Teller, I: Link>(
 
 /// Answers the requests of a link as they come. An answer is written before more is read.
 pub fn converse<T: Teller, I: Link>(alloc: Global, teller: &mut T, link: &mut I, keys: &Keys) -> End
-    ensures { Ends (Chain T.tells keys.now teller.old (I.seen link.old).clock teller.new (I.seen link.new).clock) (I.seen link.old) (I.seen link.new) result }
+    ensures { Converses T.tells keys.now teller.old (I.seen link.old) teller.new (I.seen link.new)
+        result }
+{
+    let Ok(paths) = Paths::new(alloc) else {
+        return End::Memory;
+    };
+    converse_with(alloc, teller, link, &paths, keys)
+}
+
+/// The same by a table of the paths that was made before.
+pub(crate) fn converse_with<T: Teller, I: Link>(
+    alloc: Global,
+    teller: &mut T,
+    link: &mut I,
+    paths: &Paths,
+    keys: &Keys,
+) -> End
+    ensures { Converses T.tells keys.now teller.old (I.seen link.old) teller.new (I.seen link.new)
+        result }
 {
     let Ok(mut buffer) = Buffer::new(alloc) else {
         return End::Memory;
     };
-    let Ok(mut stream) = AskStream::new(alloc) else {
-        return End::Memory;
-    };
+    let mut stream = AskStream::new(alloc, paths);
     converse_by(alloc, teller, link, keys, &mut stream, &mut buffer)
 }

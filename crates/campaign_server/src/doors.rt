@@ -34,7 +34,8 @@ pub trait Door: Send {
     /// The next link. None is the end for good.
     fn accept(&mut self) -> Result<Option<Self::Line>, Failed>
         requires { IsOpen (seen self.old) }
-        ensures taken { IfOk result (λ link. Takes (seen self.old).told (option_map Self.Line.seen link) (seen self.new).told) }
+        ensures taken { IfOk result (λ link. Takes (seen self.old).told
+            (option_map Self.Line.seen link) (seen self.new).told) }
         ensures is_new { IfOk result (λ link. IfSome link (λ line. IsNew (Self.Line.seen line))) }
         ensures same { OnErr result ((seen self.new).told ≡ (seen self.old).told) }
         ensures cause { HasCause (seen self.old).faults (seen self.new).faults result };
@@ -45,7 +46,8 @@ pub trait Door: Send {
 
     /// Takes the record of a link and its end.
     fn done(&mut self, ended: Self::Record, end: End) -> Result<(), Memory>
-        ensures added { OnOk result (HandsOver (seen self.old).told ((kept ended, end) ∷ []) (seen self.new).told) }
+        ensures added { OnOk result (HandsOver (seen self.old).told ((kept ended, end) ∷ [])
+            (seen self.new).told) }
         ensures same { OnErr result ((seen self.new).told ≡ (seen self.old).told) }
         ensures faults { (seen self.new).faults ≡ (seen self.old).faults };
 

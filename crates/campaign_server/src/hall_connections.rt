@@ -1,17 +1,16 @@
 //! A connection to a campaign in a hall, on which others act too: the loop of a connection over a teller that holds
 //! the hall, a pass of its own and the handle by which it waits.
 ghost use Rattle.std.specs.Prelude.{◌≡◌};
-ghost use Rattle.book.specs.Halls.{seen_as};
 ghost use Rattle.campaign_server.specs.HallConnections.{Serves, TellsInHall};
 
-use crate::connections::converse;
+use crate::connections::converse_with;
 use crate::ends::End;
 use crate::links::Link;
 use crate::tellers::Teller;
 use book::Book;
 use disk_model::Disk;
 use hall::{Hall, Pass};
-use routes::Keys;
+use routes::{Keys, Paths};
 use rulebook::{Addressed, Answer};
 use std::alloc::Global;
 use std::sync::Wait;
@@ -27,7 +26,8 @@ struct HallTeller<'a, D: Disk, W: Wait> {
 impl<'a, D: Disk, W: Wait> Teller for HallTeller<'a, D, W> {
     ghost tells = { λ old asked answer new. TellsInHall old.pass asked answer new.pass };
 
-    ghost by_rules = { λ old asked reply new tells. (tells.0.0.list, tells.0.3.legal, tells.0.3.leads.0) };
+    ghost by_rules = { λ old asked reply new tells.
+        (tells.0.0.list, tells.0.3.legal, tells.0.3.leads.0) };
 
     fn tell(&mut self, asked: Addressed) -> Answer {
         self.hall.act(self.rt, &mut self.pass, asked)
@@ -46,7 +46,27 @@ pub fn serve_connection<D: Disk, I: Link, W: Wait>(
 ) -> End
     requires { pass.old.hall ≡ hall.now }
     ensures hall { pass.new.hall ≡ pass.old.hall }
-    ensures serves { Serves keys.now (seen_as pass.old.seen) (seen_as pass.new.seen) pass.old.mine pass.new.mine (I.seen link.old) (I.seen link.new) result }
+    ensures serves { Serves keys.now pass.old pass.new (I.seen link.old) (I.seen link.new) result }
+{
+    let Ok(paths) = Paths::new(alloc) else {
+        return End::Memory;
+    };
+    serve_link(rt, alloc, hall, pass, link, &paths, keys)
+}
+
+/// The same by a table of the paths that was made before.
+pub(crate) fn serve_link<D: Disk, I: Link, W: Wait>(
+    rt: &W,
+    alloc: Global,
+    hall: &Hall<Book<D>>,
+    pass: &mut Pass<Book<D>>,
+    link: &mut I,
+    paths: &Paths,
+    keys: &Keys,
+) -> End
+    requires { pass.old.hall ≡ hall.now }
+    ensures hall { pass.new.hall ≡ pass.old.hall }
+    ensures serves { Serves keys.now pass.old pass.new (I.seen link.old) (I.seen link.new) result }
 {
     pass.places_rise();
     let own = hall.split(pass);
@@ -55,7 +75,7 @@ pub fn serve_connection<D: Disk, I: Link, W: Wait>(
         hall,
         pass: own,
     };
-    let end = converse(alloc, &mut teller, link, keys);
+    let end = converse_with(alloc, &mut teller, link, paths, keys);
     let HallTeller {
         rt: _,
         hall: _,

@@ -7,6 +7,6 @@ ghost use Rattle.campaign_server.specs.Talks.{TalkLaws};
 
 /// A talk stays one over a longer list of entries, and from an earlier start.
 pub fn talks_go_on()
-    ensures { (keys : List KeyRow) (n c : ℕ) (S : History) (last : ℕ) (places : List ℕ) (said : List Said)
-        → TalkLaws keys n c S last places said }
+    ensures { (keys : List KeyRow) (n c : ℕ) (S : History) (last : ℕ) (places : List ℕ)
+        (said : List Said) → TalkLaws keys n c S last places said }
 {}

@@ -19,10 +19,13 @@ pub trait Link {
     fn read(&mut self, out: &mut [u8]) -> Result<usize, Failed>
         requires { 0 < length out.old }
         ensures bound { ReadsAtMost result out.new }
-        ensures left { ReadConsumes (seen self.old).reading.left (seen self.new).reading.left result out.new }
-        ensures taken { ReadTakes (seen self.old).reading.taken (seen self.new).reading.taken result out.new }
+        ensures left { ReadConsumes (seen self.old).reading.left (seen self.new).reading.left result
+            out.new }
+        ensures taken { ReadTakes (seen self.old).reading.taken (seen self.new).reading.taken result
+            out.new }
         ensures last { ReadGives (seen self.new).reading.last result }
-        ensures cause { HasCause (seen self.old).reading.faults (seen self.new).reading.faults result }
+        ensures cause { HasCause (seen self.old).reading.faults (seen self.new).reading.faults
+            result }
         ensures writing_kept { (seen self.new).writing ≡ (seen self.old).writing }
         ensures clock_kept { (seen self.new).clock ≡ (seen self.old).clock };
 
@@ -31,8 +34,10 @@ pub trait Link {
     fn write(&mut self, piece: &[u8]) -> Result<usize, Failed>
         ensures bound { IfOk result (λ count. count ≤ length piece.now) }
         ensures some { IfOk result (λ count. 0 < length piece.now → 0 < count) }
-        ensures bytes { WriteAppends (seen self.old).writing.written (seen self.new).writing.written result piece.now }
-        ensures cause { HasCause (seen self.old).writing.faults (seen self.new).writing.faults result }
+        ensures bytes { WriteAppends (seen self.old).writing.written (seen self.new).writing.written
+            result piece.now }
+        ensures cause { HasCause (seen self.old).writing.faults (seen self.new).writing.faults
+            result }
         ensures reading_kept { (seen self.new).reading ≡ (seen self.old).reading }
         ensures clock_kept { (seen self.new).clock ≡ (seen self.old).clock };
 
@@ -48,9 +53,12 @@ pub trait Link {
 
 /// Writes the whole text, in as many writes as it takes. A write that fails ends it.
 pub fn write_all<I: Link>(link: &mut I, text: &[u8]) -> Result<(), Failed>
-    ensures all { OnOk result (Appends (I.seen link.old).writing.written (I.seen link.new).writing.written text.now) }
-    ensures part { OnErr result (AppendsPart (I.seen link.old).writing.written (I.seen link.new).writing.written text.now) }
-    ensures cause { HasCause (I.seen link.old).writing.faults (I.seen link.new).writing.faults result }
+    ensures all { OnOk result (Appends (I.seen link.old).writing.written
+        (I.seen link.new).writing.written text.now) }
+    ensures part { OnErr result (AppendsPart (I.seen link.old).writing.written
+        (I.seen link.new).writing.written text.now) }
+    ensures cause { HasCause (I.seen link.old).writing.faults (I.seen link.new).writing.faults
+        result }
     ensures reading_kept { (I.seen link.new).reading ≡ (I.seen link.old).reading }
     ensures clock_kept { (I.seen link.new).clock ≡ (I.seen link.old).clock }
 {
@@ -65,7 +73,8 @@ impl<I: Link> Output for Going<'_, I> {
     ghost writing = { λ going. (I.seen going.0.now).writing };
 
     ghost Keeps = { λ a b. (b.0.ghost_name ≡ a.0.ghost_name)
-        × ((I.seen b.0.now).reading ≡ (I.seen a.0.now).reading) × ((I.seen b.0.now).clock ≡ (I.seen a.0.now).clock) };
+        × ((I.seen b.0.now).reading ≡ (I.seen a.0.now).reading)
+        × ((I.seen b.0.now).clock ≡ (I.seen a.0.now).clock) };
 
     ghost keeps_itself = { λ a. (refl, refl, refl) };
 

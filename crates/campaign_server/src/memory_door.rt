@@ -38,7 +38,8 @@ impl<I: Link + Drop> Model for MemoryDoor<I> {
       faults = door.faults;
     } };
 
-    ghost invariant = { λ door. (length door.links.items ≤ door.all) × All (λ link. IsNew (I.seen link)) door.links.items };
+    ghost invariant = { λ door. (length door.links.items ≤ door.all)
+        × All (λ link. IsNew (I.seen link)) door.links.items };
 }
 
 // a call of its own, so that no caller's proof takes a door apart
@@ -122,9 +123,11 @@ impl<I: Link + Send + Drop> Door for MemoryDoor<I> {
     fn accept(&mut self) -> Result<Option<I>, Failed>
         requires { IsOpen (told_by self.old) }
         ensures failed { IsErr result ↔ IsTrue (fails_next self.old.plan) }
-        ensures taken { IfOk result (λ link. Takes (told_by self.old).told (option_map I.seen link) (told_by self.new).told) }
+        ensures taken { IfOk result (λ link. Takes (told_by self.old).told (option_map I.seen link)
+            (told_by self.new).told) }
         ensures is_new { IfOk result (λ link. IfSome link (λ line. IsNew (I.seen line))) }
-        ensures after { IfOk result (λ link. self.new ≡ after_accept self.old (option_map I.seen link)) }
+        ensures after { IfOk result (λ link. self.new
+            ≡ after_accept self.old (option_map I.seen link)) }
         ensures unaccepted { OnErr result (self.new ≡ after_fault self.old) }
     {
         if self.plan.call() {

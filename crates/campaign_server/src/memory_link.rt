@@ -169,7 +169,8 @@ impl Link for MemoryLink {
         moment
     }
 
-    ghost tells_alike = { λ _ _. record { taken = refl; left = refl; last = refl; written = refl; moments = refl } };
+    ghost tells_alike = { λ _ _.
+        record { taken = refl; left = refl; last = refl; written = refl; moments = refl } };
 }
 
 /// The moment at a place; the last one stays, and without any it is 0.
@@ -210,7 +211,8 @@ fn give(pieces: &[Text], at: &mut usize, within: &mut usize, out: &mut [u8]) -> 
     ensures end { result ≡ 0 → left_of pieces.now at.old within.old ≡ [] }
     ensures taken { let given = take result (left_of pieces.now at.old within.old) in
         taken_of pieces.now at.new within.new ≡ taken_of pieces.now at.old within.old ++ given }
-    ensures left { left_of pieces.now at.new within.new ≡ drop result (left_of pieces.now at.old within.old) }
+    ensures left { left_of pieces.now at.new within.new
+        ≡ drop result (left_of pieces.now at.old within.old) }
 {
     let Some(piece) = piece_at(pieces, *at) else {
         return 0;

@@ -20,7 +20,12 @@ impl Model for MemoryWrites {
 
     ghost Value = { Written };
 
-    ghost view = { λ writes. record { written = writes.written.items; plan = writes.plan; faults = writes.faults; wants = writes.wants } };
+    ghost view = { λ writes. record {
+      written = writes.written.items;
+      plan = writes.plan;
+      faults = writes.faults;
+      wants = writes.wants;
+    } };
 }
 
 // a call of its own, so that no caller's proof takes writes apart

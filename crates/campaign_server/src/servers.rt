@@ -3,43 +3,44 @@
 //!
 //! ```text
 //! opening     room for the team and its records, the hall, and then the door; a ledger for the links
-//! workers     each with its own pass and share: the next link of the acceptor, its connection, its record
+//! workers     each with its own pass, share and table of the paths: the next link of the acceptor, its connection, its record
 //! joining     the passes are joined, the shares merged; so the number of records is that of the links
 //! settling    each record is handed to the door, and the book is taken out of the hall
 //! ```
-ghost use Rattle.std.specs.Prelude.{◌≡◌, ◌<◌, ◌≤◌, [], IfSome, OnOk, length, vec_capacity};
+ghost use Rattle.std.specs.Prelude.{◌≡◌, ◌<◌, ◌≤◌, ◌++◌, [], All, OnOk, vec_len};
 ghost use Rattle.std.specs.Thread.{IsSync};
-ghost use Rattle.decimal_rank.specs.Causes.{Rose};
 ghost use Rattle.rulebook.specs.Legal.{IsLegal};
-ghost use Rattle.rulebook.specs.Stories.{AtMost};
-ghost use Rattle.book.specs.Halls.{seen_as, story_in};
-ghost use Rattle.campaign_server.specs.declared.ends.ServeEnd.TheVariants.{DoorFault};
+ghost use Rattle.book.specs.Halls.{seen_as};
 ghost use Rattle.campaign_server.specs.Doors.{HandsOver, IsShut};
 ghost use Rattle.campaign_server.specs.Records.{HandsPart, ended_all, ended_of};
-ghost use Rattle.campaign_server.specs.Servers.{Leaves, Settles};
-ghost use Rattle.campaign_server.specs.Workers.{Worked};
+ghost use Rattle.campaign_server.specs.Servers.{ServesBook, Settles};
+ghost use Rattle.campaign_server.specs.Workers.{IsEmpty, IsFresh, Works};
 
 use crate::acceptors::{Acceptor, Opening};
 use crate::doors::Door;
 use crate::ends::{End, ServeEnd};
-use crate::teams::{fill_team, take_in};
+use crate::numbers::ServerNumbers;
+use crate::sites::Site;
+use crate::teams::{Gathered, fill_team, take_in};
 use crate::workers::{Work, serve_by};
 use book::Book;
 use core::mem::replace_with;
 use decimal_rank::{Failed, Memory};
 use disk_model::Disk;
-use hall::{Hall, Pass};
+use hall::Hall;
 use routes::Keys;
 use std::alloc::Global;
 use std::marker::Brand;
-use std::sync::ledger::{Blank, Share};
+use std::sync::ledger::Blank;
 use std::sync::{Mutex, Wait};
 use std::thread::Threads;
 
 /// Hands the records of one worker to the door, in order. Where memory is short the later ones are lost.
 fn hand_over<R: Door>(door: &mut R, records: Vec<(R::Record, End)>) -> Result<(), Memory>
-    ensures all { OnOk result (HandsOver (R.seen door.old).told (ended_of R.kept records.items) (R.seen door.new).told) }
-    ensures part { HandsPart (R.seen door.old).told (ended_of R.kept records.items) (R.seen door.new).told }
+    ensures all { OnOk result (HandsOver (R.seen door.old).told (ended_of R.kept records.items)
+        (R.seen door.new).told) }
+    ensures part { HandsPart (R.seen door.old).told (ended_of R.kept records.items)
+        (R.seen door.new).told }
     ensures faults { (R.seen door.new).faults ≡ (R.seen door.old).faults }
 {
     for (record, end) in records {
@@ -50,8 +51,10 @@ fn hand_over<R: Door>(door: &mut R, records: Vec<(R::Record, End)>) -> Result<()
 
 /// Hands the records of all workers to the door.
 fn hand_all<R: Door>(door: &mut R, all: Vec<Vec<(R::Record, End)>>) -> Result<(), Memory>
-    ensures all { OnOk result (HandsOver (R.seen door.old).told (ended_all (λ v. v.items) R.kept all.items) (R.seen door.new).told) }
-    ensures part { HandsPart (R.seen door.old).told (ended_all (λ v. v.items) R.kept all.items) (R.seen door.new).told }
+    ensures all { OnOk result (HandsOver (R.seen door.old).told
+        (ended_all (λ v. v.items) R.kept all.items) (R.seen door.new).told) }
+    ensures part { HandsPart (R.seen door.old).told (ended_all (λ v. v.items) R.kept all.items)
+        (R.seen door.new).told }
     ensures faults { (R.seen door.new).faults ≡ (R.seen door.old).faults }
 {
     for records in all {
@@ -60,40 +63,27 @@ fn hand_all<R: Door>(door: &mut R, all: Vec<Vec<(R::Record, End)>>) -> Result<()
     Ok(())
 }
 
-/// The workers serve, and are taken apart again. The first pass has then seen all that they had, and the share is
-/// that of all links. Tells whether memory was short for one.
+/// The workers serve, and are taken apart again. What they had is gathered then.
 fn work_together<D: Disk + Send, R: Door, J: Opening + Send + Sync, W: Threads + Wait + Sync>(
     rt: &W,
     alloc: Global,
-    hall: &Hall<Book<D>>,
-    acceptor: &Mutex<Acceptor<R, J>>,
-    keys: &Keys,
-    limit: u32,
-    workers: u32,
-    first: &mut Pass<Book<D>>,
-    whole: &mut Share<J>,
+    site: &Site<D, R, J>,
     team: Vec<Work<D, R, J>>,
-    all: &mut Vec<Vec<(R::Record, End)>>,
-) -> bool
-    requires workers { 0 < workers }
-    requires pass { first.old.hall ≡ hall.now }
-    requires parts { whole.old.parts ≡ workers }
-    requires amount { whole.old.amount ≡ 0 }
-    requires team { (team.items ≡ []) × (workers ≤ vec_capacity team) }
-    requires all { (all.old.items ≡ []) × (workers ≤ vec_capacity all.old) }
-    ensures hall { first.new.hall ≡ first.old.hall }
-    ensures parts { whole.new.parts ≡ workers }
-    ensures amount { whole.new.amount ≡ length (ended_all (λ v. v.items) R.kept all.new.items) }
-    ensures worked { Worked keys.now (seen_as first.old.seen) workers (seen_as first.new.seen) first.new.mine (ended_all (λ v. v.items) R.kept all.new.items) result }
+    all: &mut Gathered<D, R, J>,
+)
+    requires none { IsEmpty site.now.hall all.old.done }
+    requires team { (0 < vec_len team) × (vec_len team ≤ all.old.room) }
+    requires fresh { All (IsFresh site.now.hall (seen_as all.old.done.pass.seen)) team.items }
+    ensures hall { all.new.done.pass.hall ≡ site.now.hall }
+    ensures parts { all.new.done.parts ≡ vec_len team }
+    ensures worked { Works site.now.keys.now (seen_as all.old.done.pass.seen) (vec_len team)
+        all.new.done }
 {
     let mut team = team;
-    fill_team(alloc, hall, first, whole, workers, &mut team);
-    serve_by(rt, alloc, hall, acceptor, keys, limit, team.as_mut_slice());
-    let mut short = false;
+    serve_by(rt, alloc, site, team.as_mut_slice());
     'workers: while let Some(work) = team.pop() {
-        short = take_in(hall, first, whole, all, short, work);
+        take_in(&site.hall, all, work);
     }
-    short
 }
 
 /// Hands all records to the door that was closed with this end. Where a record is lost, or memory was short for a
@@ -104,7 +94,8 @@ fn settle<R: Door>(
     short: bool,
     end: ServeEnd,
 ) -> (R, ServeEnd)
-    ensures settled { Settles (R.seen door).told (ended_all (λ v. v.items) R.kept all.items) short end (R.seen result.0).told result.1 }
+    ensures settled { Settles (R.seen door).told (ended_all (λ v. v.items) R.kept all.items) short
+        end (R.seen result.0).told result.1 }
     ensures faults { (R.seen result.0).faults ≡ (R.seen door).faults }
 {
     let mut door = door;
@@ -124,56 +115,72 @@ fn serve_owned<D: Disk + Send, R: Door, J: Opening + Send + Sync, W: Threads + W
     rt: &W,
     alloc: Global,
     keys: &Keys,
-    port: u16,
-    workers: u32,
-    connections: u32,
+    numbers: ServerNumbers,
     blank: Blank,
     door: R,
     book: Book<D>,
 ) -> (R, (Book<D>, ServeEnd))
-    requires workers { 0 < workers }
+    requires workers { 0 < numbers.workers }
     requires shut { IsShut (R.seen door) }
     requires name { blank.name ≡ J.name }
-    requires parts { (blank.parts ≡ J.parts) × (J.parts ≡ workers) }
-    requires opening { (J.port ≡ port) × (J.faults ≡ (R.seen door).faults) × (J.limit ≡ connections) }
-    ensures history { AtMost (seen_as (story_in D.seen book)) (seen_as (story_in D.seen result.1.0)) }
-    ensures told { IfSome (R.seen result.0).told (λ told. Leaves keys.now workers connections port (seen_as (story_in D.seen book)) (seen_as (story_in D.seen result.1.0)) result.1.1 told) }
-    ensures fault { result.1.1 ≡ DoorFault → Rose (R.seen door).faults (R.seen result.0).faults }
-    ensures later { (R.seen door).faults ≤ (R.seen result.0).faults }
+    requires parts { (blank.parts ≡ J.parts) × (J.parts ≡ numbers.workers) }
+    requires opening { (J.port ≡ numbers.port) × (J.faults ≡ (R.seen door).faults)
+        × (J.limit ≡ numbers.connections) }
+    ensures { ServesBook D.seen keys.now numbers book result.1.0
+        (R.seen door) (R.seen result.0) result.1.1 }
 {
-    let Ok(team) = Vec::with_capacity(alloc, workers as usize) else {
+    let Ok(mut team) = Vec::with_capacity(alloc, numbers.workers as usize) else {
         return (door, (book, ServeEnd::Memory));
     };
-    let Ok(mut all) = Vec::with_capacity(alloc, workers as usize) else {
+    let Ok(records) = Vec::with_capacity(alloc, numbers.workers as usize) else {
         return (door, (book, ServeEnd::Memory));
     };
-    let (hall, mut first) = match Hall::new(alloc, book) {
+    let (hall, mut pass) = match Hall::new(alloc, book) {
         Ok(made) => made,
         Err((book, Memory)) => return (door, (book, ServeEnd::Memory)),
     };
     let mut door = door;
-    match door.open(port) {
+    match door.open(numbers.port) {
         Ok(()) => {}
-        Err(Failed) => return (door, (hall.close(rt, first), ServeEnd::DoorFault)),
+        Err(Failed) => return (door, (hall.close(rt, pass), ServeEnd::DoorFault)),
     }
-    let (count, mut whole) = blank.open::<J>();
-    let acceptor = Mutex::new(Acceptor::new(door, connections, count));
-    let short = work_together(
-        rt,
+    let (count, mut share) = blank.open::<J>();
+    fill_team(
         alloc,
         &hall,
-        &acceptor,
-        keys,
-        connections,
-        workers,
-        &mut first,
-        &mut whole,
-        team,
-        &mut all,
+        &mut pass,
+        &mut share,
+        numbers.workers,
+        &mut team,
     );
-    let (door, end) = acceptor.into_inner().close(whole);
-    let (door, end) = settle(door, all, short, end);
-    (door, (hall.close(rt, first), end))
+    let site = Site {
+        hall,
+        acceptor: Mutex::new(Acceptor::new(door, numbers.connections, count)),
+        keys,
+        limit: numbers.connections,
+    };
+    let mut all = Gathered {
+        pass,
+        share,
+        records,
+        short: false,
+    };
+    work_together(rt, alloc, &site, team, &mut all);
+    let Site {
+        hall,
+        acceptor,
+        keys: _,
+        limit: _,
+    } = site;
+    let Gathered {
+        pass,
+        share,
+        records,
+        short,
+    } = all;
+    let (door, end) = acceptor.into_inner().close(share);
+    let (door, end) = settle(door, records, short, end);
+    (door, (hall.close(rt, pass), end))
 }
 
 /// Serves with a door of one's own.
@@ -181,31 +188,17 @@ fn serve_named<D: Disk + Send, R: Door, W: Threads + Wait + Sync>(
     rt: &W,
     alloc: Global,
     keys: &Keys,
-    port: u16,
-    workers: u32,
-    connections: u32,
+    numbers: ServerNumbers,
     door: R,
     book: Book<D>,
 ) -> (R, (Book<D>, ServeEnd))
-    requires workers { 0 < workers }
+    requires workers { 0 < numbers.workers }
     requires shut { IsShut (R.seen door) }
-    ensures history { AtMost (seen_as (story_in D.seen book)) (seen_as (story_in D.seen result.1.0)) }
-    ensures told { IfSome (R.seen result.0).told (λ told. Leaves keys.now workers connections port (seen_as (story_in D.seen book)) (seen_as (story_in D.seen result.1.0)) result.1.1 told) }
-    ensures fault { result.1.1 ≡ DoorFault → Rose (R.seen door).faults (R.seen result.0).faults }
-    ensures later { (R.seen door).faults ≤ (R.seen result.0).faults }
+    ensures { ServesBook D.seen keys.now numbers book result.1.0
+        (R.seen door) (R.seen result.0) result.1.1 }
 {
-    let blank = Blank::new(workers as u64);
-    serve_owned::<D, R, Brand, W>(
-        rt,
-        alloc,
-        keys,
-        port,
-        workers,
-        connections,
-        blank,
-        door,
-        book,
-    )
+    let blank = Blank::new(numbers.workers as u64);
+    serve_owned::<D, R, Brand, W>(rt, alloc, keys, numbers, blank, door, book)
 }
 
 /// Serves a campaign through a door, by so many workers at the same time, until the door gives no further link or
@@ -224,22 +217,24 @@ pub fn serve<D: Disk + Send, R: Door, W: Threads + Wait + Sync>(
     requires workers { (0 < workers) × (workers ≤ 16) }
     requires connections { 0 < connections }
     requires shut { IsShut (R.seen door.old) }
-    ensures history { AtMost (seen_as (story_in D.seen book)) (seen_as (story_in D.seen result.0)) }
     ensures legal { IsLegal result.0.history }
-    ensures told { IfSome (R.seen door.new).told (λ told. Leaves keys.now workers connections port (seen_as (story_in D.seen book)) (seen_as (story_in D.seen result.0)) result.1 told) }
-    ensures fault { result.1 ≡ DoorFault → Rose (R.seen door.old).faults (R.seen door.new).faults }
-    ensures later { (R.seen door.old).faults ≤ (R.seen door.new).faults }
+    ensures serves { ServesBook D.seen keys.now
+        (record { port = port; workers = workers; connections = connections }) book result.0
+        (R.seen door.old) (R.seen door.new) result.1 }
 {
+    let numbers = ServerNumbers {
+        port,
+        workers,
+        connections,
+    };
     let (book, end) = replace_with(
         door,
         book,
         |owned: R, book: Book<D>| -> (R, (Book<D>, ServeEnd))
-            requires { IsSync W.row × (0 < workers) × IsShut (R.seen owned) }
-            ensures { AtMost (seen_as (story_in D.seen book)) (seen_as (story_in D.seen result.1.0))
-                × IfSome (R.seen result.0).told (λ told. Leaves keys.entry.now workers connections port (seen_as (story_in D.seen book)) (seen_as (story_in D.seen result.1.0)) result.1.1 told)
-                × (result.1.1 ≡ DoorFault → Rose (R.seen owned).faults (R.seen result.0).faults)
-                × ((R.seen owned).faults ≤ (R.seen result.0).faults) }
-        { serve_named(rt, alloc, keys, port, workers, connections, owned, book) },
+            requires { IsSync W.row × (0 < numbers.workers) × IsShut (R.seen owned) }
+            ensures { ServesBook D.seen keys.entry.now numbers book result.1.0
+                (R.seen owned) (R.seen result.0) result.1.1 }
+        { serve_named(rt, alloc, keys, numbers, owned, book) },
     );
     book.stands();
     (book, end)

@@ -61,5 +61,6 @@ impl<R: Input + Print + Clock + Drop> Link for StreamLink<R> {
         self.watch.moment(&self.runtime)
     }
 
-    ghost tells_alike = { λ _ _. record { taken = refl; left = refl; last = refl; written = refl; moments = refl } };
+    ghost tells_alike = { λ _ _.
+        record { taken = refl; left = refl; last = refl; written = refl; moments = refl } };
 }

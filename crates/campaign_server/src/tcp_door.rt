@@ -55,7 +55,8 @@ impl<R: Clock + Drop> Link for TcpLink<R> {
         self.watch.moment(&self.runtime)
     }
 
-    ghost tells_alike = { λ _ _. record { taken = refl; left = refl; last = refl; written = refl; moments = refl } };
+    ghost tells_alike = { λ _ _.
+        record { taken = refl; left = refl; last = refl; written = refl; moments = refl } };
 }
 
 // Ends the sending side, and drops what the peer still sends, for a second at most: a connection that is closed with

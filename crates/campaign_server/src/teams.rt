@@ -1,10 +1,7 @@
 //! A team of workers: made with a pass and a share for each, and taken apart again.
-ghost use Rattle.std.specs.Prelude.{◌≡◌, ◌+◌, ◌<◌, ◌≤◌, ◌||◌, ◌∷◌, ◌++◌, [], All, vec_capacity, vec_len};
-ghost use Rattle.hall.specs.Places.{Apart, merged};
-ghost use Rattle.hall.specs.Stories.{AtMost, joined};
+ghost use Rattle.std.specs.Prelude.{◌≡◌, ◌<◌, ◌≤◌, [], All, vec_capacity, vec_len};
 ghost use Rattle.book.specs.Halls.{seen_as};
-ghost use Rattle.campaign_server.specs.Records.{ended_of};
-ghost use Rattle.campaign_server.specs.Workers.{IsFresh};
+ghost use Rattle.campaign_server.specs.Workers.{IsFresh, TakesIn};
 
 use crate::acceptors::Opening;
 use crate::doors::Door;
@@ -14,7 +11,40 @@ use book::Book;
 use disk_model::Disk;
 use hall::{Hall, Pass};
 use std::alloc::Global;
+use std::marker::Model;
 use std::sync::ledger::Share;
+
+/// What the workers had that were taken apart, each one's records apart from the others'. Contracts see it as what
+/// one worker has, and how many more may be taken apart.
+#[derive(Drop)]
+pub(crate) struct Gathered<D: Disk, R: Door, J: Opening> {
+    pub(crate) pass: Pass<Book<D>>,
+    pub(crate) share: Share<J>,
+    pub(crate) records: Vec<Vec<(R::Record, End)>>,
+    /// Memory was short for one.
+    pub(crate) short: bool,
+}
+
+impl<D: Disk, R: Door, J: Opening> Model for Gathered<D, R, J> {
+    ghost use Rattle.std.specs.Prelude.{◌≡◌, ◌-◌, length, vec_capacity, vec_len};
+    ghost use Rattle.campaign_server.specs.Records.{ended_all};
+    ghost use Rattle.campaign_server.specs.Workers.{GatheredState};
+
+    ghost Value = { GatheredState };
+
+    ghost view = { λ all. record {
+      done = record {
+        pass = all.pass;
+        parts = all.share.parts;
+        records = ended_all (λ v. v.items) R.kept all.records.items;
+        short = all.short;
+      };
+      room = vec_capacity all.records - vec_len all.records;
+    } };
+
+    ghost invariant = { λ all. all.share.amount
+        ≡ length (ended_all (λ v. v.items) R.kept all.records.items) };
+}
 
 /// Fills a team with so many workers that did nothing yet. The ledger's parts go to them.
 pub(crate) fn fill_team<D: Disk, R: Door, J: Opening>(
@@ -34,7 +64,7 @@ pub(crate) fn fill_team<D: Disk, R: Door, J: Opening>(
     ensures parts { whole.new.parts ≡ 0 }
     ensures amount { whole.new.amount ≡ 0 }
     ensures len { vec_len team.new ≡ workers }
-    ensures fresh { All (λ work. IsFresh hall.now (seen_as first.old.seen) work.pass work.share.parts work.share.amount (vec_len work.records) work.short (ended_of R.kept work.records.items)) team.new.items }
+    ensures fresh { All (IsFresh hall.now (seen_as first.old.seen)) team.new.items }
 {
     for _ in 0..workers {
         team.push_reserved(Work {
@@ -46,36 +76,25 @@ pub(crate) fn fill_team<D: Disk, R: Door, J: Opening>(
     }
 }
 
-/// Takes a worker apart: its pass is joined, its share is merged, and its records are kept. Tells whether
-/// memory was short for it or before.
+/// Takes a worker apart: its pass is joined, its share is merged, and its records are kept.
 pub(crate) fn take_in<D: Disk, R: Door, J: Opening>(
     hall: &Hall<Book<D>>,
-    first: &mut Pass<Book<D>>,
-    whole: &mut Share<J>,
-    all: &mut Vec<Vec<(R::Record, End)>>,
-    short: bool,
+    all: &mut Gathered<D, R, J>,
     work: Work<D, R, J>,
-) -> bool
-    requires first { first.old.hall ≡ hall.now }
-    requires pass { work.pass.hall ≡ hall.now }
-    requires room { vec_len all.old < vec_capacity all.old }
-    ensures hall { first.new.hall ≡ first.old.hall }
-    ensures grown { AtMost first.old.seen first.new.seen × AtMost work.pass.seen first.new.seen }
-    ensures mine { Apart first.old.mine work.pass.mine × (first.new.mine ≡ merged first.old.mine work.pass.mine) }
-    ensures parts { whole.new.parts ≡ whole.old.parts + work.share.parts }
-    ensures amount { whole.new.amount ≡ whole.old.amount + work.share.amount }
-    ensures all { all.new.items ≡ all.old.items ++ work.records ∷ [] }
-    ensures capacity { vec_capacity all.new ≡ vec_capacity all.old }
-    ensures short { result ≡ (short || work.short) }
+)
+    requires pass { all.old.done.pass.hall ≡ hall.now }
+    requires other { work.pass.hall ≡ hall.now }
+    requires room { 0 < all.old.room }
+    ensures { TakesIn all.old work all.new }
 {
     let Work {
         pass,
         share,
         records,
-        short: this_short,
+        short,
     } = work;
-    hall.join(pass, first);
-    whole.merge(share);
-    all.push_reserved(records);
-    short || this_short
+    hall.join(pass, &mut all.pass);
+    all.share.merge(share);
+    all.records.push_reserved(records);
+    all.short |= short;
 }

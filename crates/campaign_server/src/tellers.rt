@@ -19,5 +19,6 @@ pub trait Teller {
         ensures { tells self.old asked result self.new };
 
     /// A reply is the rules'.
-    ghost by_rules: { (old : Self) (asked : Addressed) (reply : Reply) (new : Self) → tells old asked (answers.Reply reply) new → IsByRules asked reply };
+    ghost by_rules: { (old : Self) (asked : Addressed) (reply : Reply) (new : Self)
+        → tells old asked (answers.Reply reply) new → IsByRules asked reply };
 }

@@ -1,26 +1,28 @@
-//! The workers of a server. Each has a pass of its own and a share of the ledger of links; it takes the next link
-//! of the acceptor, serves it, and keeps its record.
-ghost use Rattle.std.specs.Prelude.{◌≡◌, ◌≢◌, ◌<◌, ◌⊎◌, All, false, length, true, vec_len};
+//! The workers of a server. Each has a pass of its own and a share of the ledger of links, and makes a table of the
+//! paths; then it takes one link after another of the acceptor, serves it, and keeps its record.
+ghost use Rattle.std.specs.Prelude.{◌≡◌, ◌≢◌, ◌<◌, ◌⊎◌, All, false, length, true};
 ghost use Rattle.rulebook.specs.Stories.{Story};
 ghost use Rattle.campaign_server.specs.declared.ends.End.TheVariants.{Memory as EndMemory};
-ghost use Rattle.campaign_server.specs.Records.{ended_of};
 ghost use Rattle.campaign_server.specs.Workers.{GoesOn, HasServed, IsFresh};
 
-use crate::acceptors::{Acceptor, Opening};
+use crate::acceptors::Opening;
 use crate::doors::Door;
 use crate::ends::End;
-use crate::hall_connections::serve_connection;
+use crate::hall_connections::serve_link;
+use crate::sites::Site;
 use book::Book;
 use disk_model::Disk;
-use hall::{Hall, Pass};
-use routes::Keys;
+use hall::Pass;
+use routes::Paths;
 use std::alloc::Global;
+use std::marker::Model;
+use std::sync::Wait;
 use std::sync::ledger::Share;
-use std::sync::{Mutex, Wait};
 use std::thread;
 use std::thread::Threads;
 
-/// What one worker has, and the records of its links.
+/// What one worker has, and the records of its links, each of which counts in its share. Contracts see the pass, the
+/// parts of the share, what the records tell, and whether memory was short.
 #[derive(Drop)]
 pub(crate) struct Work<D: Disk, R: Door, J: Opening> {
     pub(crate) pass: Pass<Book<D>>,
@@ -28,6 +30,23 @@ pub(crate) struct Work<D: Disk, R: Door, J: Opening> {
     pub(crate) records: Vec<(R::Record, End)>,
     /// Memory was short; it takes no further link.
     pub(crate) short: bool,
+}
+
+impl<D: Disk, R: Door, J: Opening> Model for Work<D, R, J> {
+    ghost use Rattle.std.specs.Prelude.{◌≡◌, vec_len};
+    ghost use Rattle.campaign_server.specs.Records.{ended_of};
+    ghost use Rattle.campaign_server.specs.Workers.{WorkState};
+
+    ghost Value = { WorkState };
+
+    ghost view = { λ work. record {
+      pass = work.pass;
+      parts = work.share.parts;
+      records = ended_of R.kept work.records.items;
+      short = work.short;
+    } };
+
+    ghost invariant = { λ work. work.share.amount ≡ vec_len work.records };
 }
 
 fn is_memory(end: End) -> bool
@@ -46,31 +65,35 @@ fn is_memory(end: End) -> bool
 fn serve_next<D: Disk, R: Door, J: Opening, W: Wait>(
     rt: &W,
     alloc: Global,
-    hall: &Hall<Book<D>>,
-    acceptor: &Mutex<Acceptor<R, J>>,
-    keys: &Keys,
+    site: &Site<D, R, J>,
+    paths: &Paths,
     work: &mut Work<D, R, J>,
 ) -> bool
-    requires hall { work.old.pass.hall ≡ hall.now }
-    requires parts { 0 < work.old.share.parts }
-    requires counted { work.old.share.amount ≡ vec_len work.old.records }
+    requires hall { work.old.pass.hall ≡ site.now.hall }
+    requires parts { 0 < work.old.parts }
     requires not_short { work.old.short ≡ false }
-    ensures hall { work.new.pass.hall ≡ work.old.pass.hall }
-    ensures parts { work.new.share.parts ≡ work.old.share.parts }
-    ensures counted { work.new.share.amount ≡ vec_len work.new.records }
-    ensures goes_on { GoesOn keys.now work.old.pass (ended_of R.kept work.old.records.items) work.old.short work.new.pass (ended_of R.kept work.new.records.items) work.new.short }
+    ensures goes_on { GoesOn site.now.keys.now work.old work.new }
     ensures not_short { result ≡ true → work.new.short ≡ false }
-    ensures stops { result ≡ false → (work.new.short ≡ true) ⊎ (work.new.share.amount ≡ work.old.share.amount) }
+    ensures stops { result ≡ false
+        → (work.new.short ≡ true) ⊎ (work.new.records ≡ work.old.records) }
 {
     if work.records.reserve(1).is_err() {
         work.short = true;
         return false;
     }
-    let next = acceptor.lock(rt).next(&mut work.share);
+    let next = site.acceptor.lock(rt).next(&mut work.share);
     let Some(mut line) = next else {
         return false;
     };
-    let end = serve_connection(rt, alloc, hall, &mut work.pass, &mut line, keys);
+    let end = serve_link(
+        rt,
+        alloc,
+        &site.hall,
+        &mut work.pass,
+        &mut line,
+        paths,
+        site.keys,
+    );
     work.pass.places_rise();
     work.records.push_reserved((R::finish(line), end));
     let short = is_memory(end);
@@ -83,60 +106,53 @@ fn serve_next<D: Disk, R: Door, J: Opening, W: Wait>(
 fn serve_all<D: Disk, R: Door, J: Opening, W: Wait>(
     rt: &W,
     alloc: Global,
-    hall: &Hall<Book<D>>,
-    acceptor: &Mutex<Acceptor<R, J>>,
-    keys: &Keys,
-    limit: u32,
+    site: &Site<D, R, J>,
+    paths: &Paths,
     work: &mut Work<D, R, J>,
 )
-    requires hall { work.old.pass.hall ≡ hall.now }
-    requires parts { 0 < work.old.share.parts }
-    requires counted { work.old.share.amount ≡ vec_len work.old.records }
+    requires hall { work.old.pass.hall ≡ site.now.hall }
+    requires parts { 0 < work.old.parts }
     requires not_short { work.old.short ≡ false }
-    ensures hall { work.new.pass.hall ≡ work.old.pass.hall }
-    ensures parts { work.new.share.parts ≡ work.old.share.parts }
-    ensures counted { work.new.share.amount ≡ vec_len work.new.records }
-    ensures goes_on { GoesOn keys.now work.old.pass (ended_of R.kept work.old.records.items) work.old.short work.new.pass (ended_of R.kept work.new.records.items) work.new.short }
+    ensures { GoesOn site.now.keys.now work.old work.new }
 {
-    for _ in 0..limit {
-        if !serve_next(rt, alloc, hall, acceptor, keys, work) {
+    for _ in 0..site.limit {
+        if !serve_next(rt, alloc, site, paths, work) {
             break;
         }
     }
 }
 
-/// Serves links as a worker that did nothing yet.
+/// Serves links as a worker that did nothing yet. It makes its own table of the paths, in its own thread: no proof says
+/// that threads may share one of `matchit`'s routers.
 fn serve_first<D: Disk, R: Door, J: Opening, W: Wait>(
     rt: &W,
     alloc: Global,
-    hall: &Hall<Book<D>>,
-    acceptor: &Mutex<Acceptor<R, J>>,
-    keys: &Keys,
-    limit: u32,
+    site: &Site<D, R, J>,
     work: &mut Work<D, R, J>,
 )
-    requires { (start : Story) × IsFresh hall.now start work.old.pass work.old.share.parts work.old.share.amount (vec_len work.old.records) work.old.short (ended_of R.kept work.old.records.items) }
-    ensures { (start : Story) → IsFresh hall.now start work.old.pass work.old.share.parts work.old.share.amount (vec_len work.old.records) work.old.short (ended_of R.kept work.old.records.items)
-        → HasServed keys.now hall.now start work.new.pass work.new.share.parts work.new.share.amount (vec_len work.new.records) work.new.short (ended_of R.kept work.new.records.items) }
+    requires { (start : Story) × IsFresh site.now.hall start work.old }
+    ensures { (start : Story) → IsFresh site.now.hall start work.old
+        → HasServed site.now.keys.now site.now.hall start work.new }
 {
-    serve_all(rt, alloc, hall, acceptor, keys, limit, work)
+    let Ok(paths) = Paths::new(alloc) else {
+        work.short = true;
+        return;
+    };
+    serve_all(rt, alloc, site, &paths, work)
 }
 
 /// All workers of a team serve at the same time, until the acceptor gives no link.
 pub(crate) fn serve_by<D: Disk + Send, R: Door, J: Opening + Send + Sync, W: Threads + Wait + Sync>(
     rt: &W,
     alloc: Global,
-    hall: &Hall<Book<D>>,
-    acceptor: &Mutex<Acceptor<R, J>>,
-    keys: &Keys,
-    limit: u32,
+    site: &Site<D, R, J>,
     team: &mut [Work<D, R, J>],
 )
     requires some { 0 < length team.old }
-    requires fresh { (start : Story) × All (λ work. IsFresh hall.now start work.pass work.share.parts work.share.amount (vec_len work.records) work.short (ended_of R.kept work.records.items)) team.old }
+    requires fresh { (start : Story) × All (IsFresh site.now.hall start) team.old }
     ensures len { length team.new ≡ length team.old }
-    ensures served { (start : Story) → All (λ work. IsFresh hall.now start work.pass work.share.parts work.share.amount (vec_len work.records) work.short (ended_of R.kept work.records.items)) team.old
-        → All (λ work. HasServed keys.now hall.now start work.pass work.share.parts work.share.amount (vec_len work.records) work.short (ended_of R.kept work.records.items)) team.new }
+    ensures served { (start : Story) → All (IsFresh site.now.hall start) team.old
+        → All (HasServed site.now.keys.now site.now.hall start) team.new }
 {
     let workers = team.len();
     thread::for_each_mut(
@@ -144,9 +160,9 @@ pub(crate) fn serve_by<D: Disk + Send, R: Door, J: Opening + Send + Sync, W: Thr
         team,
         workers,
         &|_: usize, work: &mut Work<D, R, J>|
-            requires { (start : Story) × IsFresh hall.now start work.old.pass work.old.share.parts work.old.share.amount (vec_len work.old.records) work.old.short (ended_of R.kept work.old.records.items) }
-            ensures { (start : Story) → IsFresh hall.entry.now start work.old.pass work.old.share.parts work.old.share.amount (vec_len work.old.records) work.old.short (ended_of R.kept work.old.records.items)
-                → HasServed keys.entry.now hall.entry.now start work.new.pass work.new.share.parts work.new.share.amount (vec_len work.new.records) work.new.short (ended_of R.kept work.new.records.items) }
-        { serve_first(rt, alloc, hall, acceptor, keys, limit, work) },
+            requires { (start : Story) × IsFresh site.now.hall start work.old }
+            ensures { (start : Story) → IsFresh site.entry.now.hall start work.old
+                → HasServed site.entry.now.keys.now site.entry.now.hall start work.new }
+        { serve_first(rt, alloc, site, work) },
     );
 }

@@ -5,7 +5,6 @@ use Rattle.std.proofs.lemmas.List.{map-append}
 use Rattle.atomic_table.specs.Seated.{TableId}
 use Rattle.hall.specs.Acts.{Known}
 use Rattle.hall.specs.Places.{Apart, Rises, merged}
-use Rattle.hall.specs.Stories.{AtMost as MostOf}
 use Rattle.routes.specs.declared.keys.KeyRow.{KeyRow}
 use Rattle.rulebook.specs.declared.entry.Entry.{Entry}
 use Rattle.book.specs.Halls.{seen_as}
@@ -16,10 +15,10 @@ use Rattle.campaign_server.specs.declared.ends.End.TheVariants as end
 use Rattle.campaign_server.specs.Chains.{Said}
 use Rattle.campaign_server.specs.Connections.{Ends}
 use Rattle.campaign_server.specs.Doors.{Ended, IsNew}
-use Rattle.campaign_server.specs.Links.{Alike, Clock, LinkState}
+use Rattle.campaign_server.specs.Links.{Clock, LinkState}
 use Rattle.campaign_server.specs.HallConnections.{IsTalkAmong, Licensed, Serves}
 use Rattle.campaign_server.specs.Records.{AreServed, IsServed, NoneShort, ended_of}
-use Rattle.campaign_server.specs.Workers.{AreOwn, GoesOn, HasServed, IsFresh, Worked}
+use Rattle.campaign_server.specs.Workers.{AreOwn, GatheredState, GoesOn, HasServed, IsEmpty, IsFresh, TakesIn, WorkState, Worked, Works}
 use Rattle.campaign_server.proofs.ServerEnds.PlaceLemmas.{both_apart, gained_apart, none_apart, own_apart, own_both, own_more, own_none, rest_apart}
 use Rattle.campaign_server.proofs.TalkSteps.TalkFacts.{ends_known}
 use Rattle.campaign_server.proofs.TalkSteps.TalkLemmas.{talk_laws}
@@ -128,37 +127,38 @@ licensed_more start seen later told more first second (inl few) (inr great) = in
 licensed_more start seen later told more first second (inr great) others = inr (omega (arith, great, second))
 
 -- one link more
-pub works_more : (keys : List KeyRow) (start seen later : Story) (records : List Ended) (kept : Option LinkState) (how : End) (short shorter : Bool) (mine more : List ℕ) (was is : LinkState)
-    → IsNew was → Alike was is → IfSome kept (λ state. state ≡ is) → Serves keys seen later mine more was is how → Rises 0 more (length later.list)
-    → (shorter ≡ false → (short ≡ false) × (how ≢ end.Memory)) → Worked keys start 1 seen mine records short
-    → Worked keys start 1 later more (records ++ (kept, how) ∷ []) shorter
-works_more keys start seen later records kept how short shorter mine more was is new alike tells serves rises known worked =
+works_more : (keys : List KeyRow) (start : Story) (pass later : Known Entry) (records : List Ended) (kept : Option LinkState) (how : End) (short shorter : Bool) (was is : LinkState)
+    → IsNew was → IfSome kept (λ state. state ≡ is) → Serves keys pass later was is how → Rises 0 later.mine (length later.seen.list)
+    → (shorter ≡ false → (short ≡ false) × (how ≢ end.Memory)) → Worked keys start 1 (seen_as pass.seen) pass.mine records short
+    → Worked keys start 1 (seen_as later.seen) later.mine (records ++ (kept, how) ∷ []) shorter
+works_more keys start pass later records kept how short shorter was is new tells serves rises known worked =
     let (rest, longer) = worked.grown.longer in
-    let fewer : length start.list ≤ length seen.list = omega (arith, ap length longer, length-append start.list rest) in
+    let n = length start.list in
+    let c = start.faults in
+    let S = later.seen.list in
+    let last = later.seen.faults in
+    let fewer : n ≤ length pass.seen.list = omega (arith, ap length longer, length-append start.list rest) in
     let told_there =
-    ends_on keys (length seen.list) seen.faults (length start.list) start.faults later.list [] later.faults later.faults serves.places serves.told was is how fewer
-    worked.grown.later (omega arith) serves.ends in
-    let one : IsServed keys (length start.list) start.faults later.list later.faults (kept, how) serves.told serves.places = record {
+    ends_on keys (length pass.seen.list) pass.seen.faults n c S [] last last serves.places serves.told was is how fewer worked.grown.later (omega arith) serves.ends in
+    let one : IsServed keys n c S last (kept, how) serves.told serves.places = record {
       was = was;
       is = is;
       new = new;
-      alike = alike;
+      alike = serves.alike;
       tells = tells;
-      ends =
-          subst (λ S. Ends (IsTalkAmong keys (length start.list) start.faults was.clock S later.faults is.clock serves.places serves.told) was is how)
-          (append-nil later.list) told_there;
+      ends = subst (λ list. Ends (IsTalkAmong keys n c was.clock list last is.clock serves.places serves.told) was is how) (append-nil S) told_there;
     } in
     record {
-      grown = most_on start seen later worked.grown serves.grown;
+      grown = most_on start (seen_as pass.seen) (seen_as later.seen) worked.grown serves.grown;
       told = worked.told + serves.told;
       places = worked.places ++ serves.places;
       served =
-          served_both keys (length start.list) start.faults later.list later.faults records ((kept, how) ∷ []) worked.told serves.told worked.places serves.places
-          (served_later keys (length start.list) start.faults seen later records worked.told worked.places serves.grown worked.served)
+          served_both keys n c S last records ((kept, how) ∷ []) worked.told serves.told worked.places serves.places
+          (served_later keys n c (seen_as pass.seen) (seen_as later.seen) records worked.told worked.places serves.grown worked.served)
           (serves.told, 0, serves.places, [], one, (refl, refl), omega arith, sym (append-nil serves.places), none_apart serves.places)
-          (gained_apart mine worked.places serves.places (length later.list) worked.own (subst (λ ps. Rises 0 ps (length later.list)) serves.gained rises));
-      own = subst (λ ps. AreOwn ps (worked.places ++ serves.places)) (sym serves.gained) (own_more mine worked.places serves.places worked.own);
-      licensed = licensed_more start.faults seen.faults later.faults worked.told serves.told worked.grown.later serves.grown.later worked.licensed serves.licensed;
+          (gained_apart pass.mine worked.places serves.places (length S) worked.own (subst (λ ps. Rises 0 ps (length S)) serves.gained rises));
+      own = subst (λ ps. AreOwn ps (worked.places ++ serves.places)) (sym serves.gained) (own_more pass.mine worked.places serves.places worked.own);
+      licensed = licensed_more c pass.seen.faults last worked.told serves.told worked.grown.later serves.grown.later worked.licensed serves.licensed;
       none_short = λ e. none_both records ((kept, how) ∷ []) (worked.none_short (known e).0) ((known e).1, tt);
     }
 
@@ -167,14 +167,30 @@ pub ended_more : {R : Type 0} (kept : R → Option LinkState) (records : List (R
 ended_more kept records r how = map-append (λ (one : _ × End). (kept one.0, one.1)) records ((r, how) ∷ [])
 
 -- nothing was done
-pub goes_still : (keys : List KeyRow) (pass : Known Entry) (records : List Ended) (short : Bool) → GoesOn keys pass records short pass records short
-goes_still keys pass records short = record { on = λ start worked. worked }
+pub goes_still : (keys : List KeyRow) (work : WorkState) → GoesOn keys work work
+goes_still keys work = record { of = refl; part = refl; on = λ start worked. worked }
 
-pub goes_short : (keys : List KeyRow) (pass : Known Entry) (records : List Ended) (short : Bool) → GoesOn keys pass records short pass records true
-goes_short keys pass records short = record { on = λ start worked. works_short keys start 1 (seen_as pass.seen) pass.mine records short worked }
+pub goes_short : (keys : List KeyRow) (work : WorkState) → GoesOn keys work (record work { short = true })
+goes_short keys work = record {
+  of = refl;
+  part = refl;
+  on = λ start worked. works_short keys start 1 (seen_as work.pass.seen) work.pass.mine work.records work.short worked;
+}
 
-pub goes_both : (keys : List KeyRow) (a b c : Known Entry) (x y z : List Ended) (r s t : Bool) → GoesOn keys a x r b y s → GoesOn keys b y s c z t → GoesOn keys a x r c z t
-goes_both keys a b c x y z r s t first second = record { on = λ start worked. second.on start (first.on start worked) }
+pub goes_both : (keys : List KeyRow) (a b c : WorkState) → GoesOn keys a b → GoesOn keys b c → GoesOn keys a c
+goes_both keys a b c first second = record { of = second.of ∙ first.of; part = second.part ∙ first.part; on = λ start worked. second.on start (first.on start worked) }
+
+-- one link more was served, and its record kept
+pub goes_more : (keys : List KeyRow) (work later : WorkState) (kept : Option LinkState) (how : End) (was is : LinkState) → later.pass.hall ≡ work.pass.hall → later.parts ≡ work.parts
+    → later.records ≡ work.records ++ (kept, how) ∷ [] → IsNew was → IfSome kept (λ state. state ≡ is) → Serves keys work.pass later.pass was is how
+    → Rises 0 later.pass.mine (length later.pass.seen.list) → work.short ≡ false → (later.short ≡ false → how ≢ end.Memory) → GoesOn keys work later
+goes_more keys work later kept how was is hall parts records new tells serves rises not_short known = record {
+  of = hall;
+  part = parts;
+  on = λ start worked.
+      subst (λ more. Worked keys start 1 (seen_as later.pass.seen) later.pass.mine more later.short) (sym records)
+      (works_more keys start work.pass later.pass work.records kept how work.short later.short was is new tells serves rises (λ e. (not_short, known e)) worked);
+}
 
 -- what a worker did over a later state
 pub works_later : (keys : List KeyRow) (start : Story) (workers : ℕ) (seen later : Story) (mine : List ℕ) (records : List Ended) (short : Bool) → AtMost seen later
@@ -238,22 +254,41 @@ works_none keys start workers mine = record {
   none_short = λ e. tt;
 }
 
-pub works_fresh : (keys : List KeyRow) (hall : TableId) (start : Story) (pass : Known Entry) (parts amount count : ℕ) (short : Bool) (records : List Ended)
-    → IsFresh hall start pass parts amount count short records → Worked keys start 1 (seen_as pass.seen) pass.mine records short
-works_fresh keys hall start pass parts amount count short records fresh =
-    subst (λ s. Worked keys start 1 s pass.mine records short) (sym fresh.seen)
-    (subst (λ rs. Worked keys start 1 start pass.mine rs short) (sym fresh.no_records)
-    (subst (λ b. Worked keys start 1 start pass.mine [] b) (sym fresh.not_short) (works_none keys start 1 pass.mine)))
+nothing_done : (keys : List KeyRow) (start : Story) (workers : ℕ) (work : WorkState) → seen_as work.pass.seen ≡ start → work.records ≡ [] → work.short ≡ false → Works keys start workers work
+nothing_done keys start workers work seen none not_short =
+    subst (λ s. Worked keys start workers s work.pass.mine work.records work.short) (sym seen)
+    (subst (λ rs. Worked keys start workers start work.pass.mine rs work.short) (sym none)
+    (subst (λ b. Worked keys start workers start work.pass.mine [] b) (sym not_short) (works_none keys start workers work.pass.mine)))
 
--- one worker more, whose pass is joined
-pub works_in : (keys : List KeyRow) (start : Story) (workers : ℕ) (first later : Known Entry) (hall : TableId) (pass : Known Entry) (parts amount count : ℕ) (records more : List Ended) (short shorter : Bool)
-    → MostOf first.seen later.seen → MostOf pass.seen later.seen → Apart first.mine pass.mine → later.mine ≡ merged first.mine pass.mine
-    → Worked keys start workers (seen_as first.seen) first.mine records short → HasServed keys hall start pass parts amount count shorter more
-    → Worked keys start (workers + 1) (seen_as later.seen) later.mine (records ++ more) (short || shorter)
-works_in keys start workers first later hall pass parts amount count records more short shorter one other apart both worked served =
-    subst (λ mine. Worked keys start (workers + 1) (seen_as later.seen) mine (records ++ more) (short || shorter)) (sym both)
-    (works_both keys start workers (seen_as first.seen) (seen_as pass.seen) (seen_as later.seen) first.mine pass.mine records more short shorter
-    (record { longer = one.0; later = one.1; opening = one.2 }) (record { longer = other.0; later = other.1; opening = other.2 }) apart worked served.worked)
+-- a worker that did nothing yet, and went on
+pub has_served : (keys : List KeyRow) (hall : TableId) (start : Story) (work later : WorkState) → IsFresh hall start work → GoesOn keys work later → HasServed keys hall start later
+has_served keys hall start work later fresh goes = record {
+  of = goes.of ∙ fresh.of;
+  part = goes.part ∙ fresh.part;
+  worked = goes.on start (nothing_done keys start 1 work fresh.seen fresh.no_records fresh.not_short);
+}
+
+pub works_empty : (keys : List KeyRow) (hall : TableId) (workers : ℕ) (work : WorkState) → IsEmpty hall work → Works keys (seen_as work.pass.seen) workers work
+works_empty keys hall workers work empty = nothing_done keys (seen_as work.pass.seen) workers work refl empty.no_records empty.not_short
+
+-- the same of what is seen of both
+pub as_seen : {all seen later : GatheredState} {work known : WorkState} → seen ≡ all → known ≡ work → TakesIn seen known later → TakesIn all work later
+as_seen {seen = seen} {later = later} {work = work} all_is work_is takes = subst (λ a. TakesIn a work later) all_is (subst (λ w. TakesIn seen w later) work_is takes)
+
+-- one worker more, each of which has a part of the ledger
+pub works_in : (keys : List KeyRow) (hall : TableId) (start : Story) (all : GatheredState) (work : WorkState) (later : GatheredState)
+    → TakesIn all work later → Works keys start all.done.parts all.done → HasServed keys hall start work → Works keys start later.done.parts later.done
+works_in keys hall start all work later takes worked served =
+    let n : later.done.parts ≡ all.done.parts + 1 = takes.parts ∙ ap (λ p. all.done.parts + p) served.part in
+    let both =
+    works_both keys start all.done.parts (seen_as all.done.pass.seen) (seen_as work.pass.seen) (seen_as later.done.pass.seen) all.done.pass.mine work.pass.mine
+    all.done.records work.records all.done.short work.short (record { longer = takes.grown.0; later = takes.grown.1; opening = takes.grown.2 })
+    (record { longer = takes.other.0; later = takes.other.1; opening = takes.other.2 }) takes.apart worked served.worked in
+    let seen = seen_as later.done.pass.seen in
+    subst (λ parts. Works keys start parts later.done) (sym n)
+    (subst (λ mine. Worked keys start (all.done.parts + 1) seen mine later.done.records later.done.short) (sym takes.mine)
+    (subst (λ records. Worked keys start (all.done.parts + 1) seen (merged all.done.pass.mine work.pass.mine) records later.done.short) (sym takes.records)
+    (subst (λ short. Worked keys start (all.done.parts + 1) seen (merged all.done.pass.mine work.pass.mine) (all.done.records ++ work.records) short) (sym takes.short) both)))
 
 pub most_same : (a b : Story) → b ≡ a → AtMost a b
 most_same a b same = record {

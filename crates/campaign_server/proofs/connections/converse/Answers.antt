@@ -5,8 +5,5 @@ use Rattle.campaign_server.proofs.connections.converse.Goals as goal
 
 pub returns-in_default : goal.returns-in_default
 returns-in_default g c =
-    ends_before (Chain g.T.Teller.tells c.args.keys.now c.args.teller.now (g.I.Link.seen c.args.link.now).clock c.args.teller.now (g.I.Link.seen c.args.link.now).clock) (g.I.Link.seen c.args.link.now) (refl, refl)
-
-pub returns-in_default-new : goal.returns-in_default-new
-returns-in_default-new g c =
-    ends_before (Chain g.T.Teller.tells c.args.keys.now c.args.teller.now (g.I.Link.seen c.args.link.now).clock c.args.teller.now (g.I.Link.seen c.args.link.now).clock) (g.I.Link.seen c.args.link.now) (refl, refl)
+    let clock = (g.I.Link.seen c.args.link.now).clock in
+    ends_before (Chain g.T.Teller.tells c.args.keys.now c.args.teller.now clock c.args.teller.now clock) (g.I.Link.seen c.args.link.now) (refl, refl)

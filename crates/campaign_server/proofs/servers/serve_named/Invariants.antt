@@ -5,4 +5,4 @@ abbrev pub ghosts-serve_owned-J-Ledger : goal.ghosts-serve_owned-J-Ledger
 ghosts-serve_owned-J-Ledger g a = record { name = a.blank.name; parts = a.blank.parts }
 
 abbrev pub ghosts-serve_owned-J-Opening : goal.ghosts-serve_owned-J-Opening
-ghosts-serve_owned-J-Opening g a = record { port = a.port; faults = (g.R.Door.seen a.door).faults; limit = a.connections }
+ghosts-serve_owned-J-Opening g a = record { port = a.numbers.port; faults = (g.R.Door.seen a.door).faults; limit = a.numbers.connections }

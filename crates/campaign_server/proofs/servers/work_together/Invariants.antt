@@ -1,19 +1,16 @@
--- The workers not yet taken apart have served, and the share, the records and what was seen are those of the others.
-use Rattle.std.proofs.Common.{◌≡◌, ◌+◌, ◌≤◌, All, length, vec_capacity, vec_len}
+-- The workers not yet taken apart have served, and what was gathered is of the others, of which each gave its part of the ledger.
+use Rattle.std.proofs.Common.{◌≡◌, ◌+◌, ◌≤◌, All, vec_len}
 use Rattle.book.specs.Halls.{seen_as}
-use Rattle.campaign_server.specs.Records.{ended_all, ended_of}
-use Rattle.campaign_server.specs.Workers.{HasServed, Worked}
+use Rattle.campaign_server.specs.Workers.{HasServed, Works}
 use Rattle.campaign_server.proofs.servers.work_together.Given as goal
 
 abbrev pub invariant-workers : goal.invariant-workers
 invariant-workers g l = record {
-  hall : l.first.hall ≡ l.hall;
-  left : All (λ work. HasServed l.keys l.hall (seen_as l.fn.first.seen) work.pass work.share.parts work.share.amount (vec_len work.records) work.short (ended_of g.R.Door.kept work.records.items)) l.team.items;
-  parts : l.whole.parts ≡ vec_len l.all;
-  count : vec_len l.all + vec_len l.team ≡ l.workers;
-  amount : l.whole.amount ≡ length (ended_all (λ v. v.items) g.R.Door.kept l.all.items);
-  room : l.workers ≤ vec_capacity l.all;
-  worked : Worked l.keys (seen_as l.fn.first.seen) (vec_len l.all) (seen_as l.first.seen) l.first.mine (ended_all (λ v. v.items) g.R.Door.kept l.all.items) l.short;
+  hall : l.all.done.pass.hall ≡ l.site.hall;
+  left : All (HasServed l.site.keys.now l.site.hall (seen_as l.fn.all.done.pass.seen)) l.team.items;
+  parts : l.all.done.parts + vec_len l.team ≡ vec_len l.fn.team;
+  room : vec_len l.team ≤ l.all.room;
+  worked : Works l.site.keys.now (seen_as l.fn.all.done.pass.seen) l.all.done.parts l.all.done;
 }
 
 abbrev pub decreases-workers : goal.decreases-workers

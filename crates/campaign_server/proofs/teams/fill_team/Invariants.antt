@@ -1,7 +1,6 @@
 -- The workers so far are fresh, the first pass is as it was, and the ledger's parts are those of the workers to come.
 use Rattle.std.proofs.Common.{◌≡◌, ◌+◌, ◌≤◌, All, vec_capacity, vec_len}
 use Rattle.book.specs.Halls.{seen_as}
-use Rattle.campaign_server.specs.Records.{ended_of}
 use Rattle.campaign_server.specs.Workers.{IsFresh}
 use Rattle.campaign_server.proofs.teams.fill_team.Given as goal
 
@@ -12,5 +11,5 @@ invariant-loop g l = record {
   amount : l.whole.amount ≡ 0;
   len : vec_len l.team ≡ l.counter;
   room : l.workers ≤ vec_capacity l.team;
-  fresh : All (λ work. IsFresh l.hall (seen_as l.initial.first.seen) work.pass work.share.parts work.share.amount (vec_len work.records) work.short (ended_of g.R.Door.kept work.records.items)) l.team.items;
+  fresh : All (IsFresh l.hall (seen_as l.initial.first.seen)) l.team.items;
 }

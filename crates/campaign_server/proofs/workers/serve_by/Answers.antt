@@ -2,12 +2,11 @@ use denote.Param.{param}
 use denote.Param.Send.{IsSend, IsSync, sendable}
 use Rattle.core.proofs.ledger.Share.TheSendSync.{the_send as share_send}
 use Rattle.std.proofs.Crossing.{crosses}
-use Rattle.std.proofs.Common.{rules, ◌≡◌, ◌<◌, length, subst, sym, vec_len}
+use Rattle.std.proofs.Common.{rules, ◌≡◌, ◌<◌, length, subst, sym}
 use Rattle.hall.proofs.halls.Hall.TheSendSync.{the_sync as hall_sync}
 use Rattle.hall.proofs.passes.Pass.TheSendSync.{the_send as pass_send}
 use Rattle.book.proofs.Sending.{book_send}
 use Rattle.routes.proofs.keys.Keys.TheSendSync.{the_sync as keys_sync}
-use Rattle.campaign_server.specs.Records.{ended_of}
 use Rattle.campaign_server.specs.Workers.{HasServed, IsFresh}
 use Rattle.campaign_server.proofs.acceptors.Acceptor.TheSendSync.{the_send as acceptor_send}
 use Rattle.campaign_server.proofs.ends.End.TheSendSync.{the_send as end_send}
@@ -36,11 +35,5 @@ returns-clause-served g c = λ start all k d less.
     let same : length c.for_each_mut.new.s ≡ length c.args.team.now = search rules in
     let within : k < length c.args.team.now = subst (λ n. k < n) same less in
     let x = (c.for_each_mut.ensures k d within).1 in
-    let kept = g.R.Door.kept in
-    let hall = c.args.hall.now in
-    subst
-    (λ work. HasServed c.args.keys.now hall start work.pass work.share.parts work.share.amount (vec_len work.records) work.short (ended_of kept work.records.items))
-    x.left
-    (x.call start
-    (subst (λ work. IsFresh hall start work.pass work.share.parts work.share.amount (vec_len work.records) work.short (ended_of kept work.records.items)) (sym x.argument_is)
-    (all k d within)))
+    let hall = c.args.site.now.hall in
+    subst (HasServed c.args.site.now.keys.now hall start) x.left (x.call start (subst (IsFresh hall start) (sym x.argument_is) (all k d within)))

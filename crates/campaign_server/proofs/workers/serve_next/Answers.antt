@@ -1,26 +1,34 @@
-use Rattle.std.proofs.Common.{◌≡◌, ◌∙◌, ◌++◌, ◌∷◌, [], IfSome, ap, subst, sym}
-use Rattle.book.specs.Halls.{seen_as}
-use Rattle.campaign_server.specs.Doors.{IsNew}
+use Rattle.std.proofs.Common.{◌≡◌, ◌∙◌, ◌++◌, ◌∷◌, [], ap, subst, sym, true}
 use Rattle.campaign_server.specs.Records.{ended_of}
-use Rattle.campaign_server.specs.Workers.{Worked}
-use Rattle.campaign_server.proofs.ServerEnds.WorkerLemmas.{ended_more, works_more}
+use Rattle.campaign_server.specs.Workers.{GoesOn, WorkState}
+use Rattle.campaign_server.proofs.ServerEnds.WorkerLemmas.{ended_more, goes_more, goes_short}
 use Rattle.campaign_server.proofs.workers.serve_next.Goals as goal
 
+pub returns-then-is_err-clause-goes_on : goal.returns-then-is_err-clause-goes_on
+returns-then-is_err-clause-goes_on g c =
+    let keys = c.args.site.now.keys.now in
+    let seen = ended_of g.R.Door.kept in
+    let inside = c.work.inside in
+    let work : WorkState = record { pass = inside.pass; parts = inside.share.parts; records = seen inside.records.items; short = inside.short } in
+    let later : WorkState = record { pass = inside.pass; parts = inside.share.parts; records = seen c.reserve.new.self.items; short = true } in
+    subst (λ was. GoesOn keys was later) c.work.view_is
+    (subst (λ more. GoesOn keys work (record { pass = inside.pass; parts = inside.share.parts; records = more; short = true })) (sym (ap seen c.reserve.ensures.items)) (goes_short keys work))
+
 pub returns-clause-goes_on : goal.returns-clause-goes_on
-returns-clause-goes_on g c = record {
-  on = λ start worked.
-      let end = c.serve_connection-end.result in
-      let pass = c.serve_connection-end.new.pass in
-      let later = seen_as pass.seen in
-      let before = c.args.work.now.records.items in
-      let new : IsNew (g.R.Line.Link.seen c.in-Some.line) = c.in-Some.ensures.some.0 in
-      let tells : IfSome (g.R.Door.kept c.finish.result) (λ state. state ≡ g.R.Line.Link.seen c.serve_connection-end.new.link) = c.finish.ensures in
-      let records : ended_of g.R.Door.kept c.push_reserved.new.self.items ≡ ended_of g.R.Door.kept before ++ (g.R.Door.kept c.finish.result, end) ∷ [] =
-      ap (ended_of g.R.Door.kept) (c.push_reserved.ensures.items ∙ ap (λ items. items ++ (c.finish.result, end) ∷ []) c.reserve.ensures.items)
-      ∙ ended_more g.R.Door.kept before c.finish.result end in
-      subst (λ more. Worked c.args.keys.now start 1 later pass.mine more c.is_memory-short.result) (sym records)
-      (works_more c.args.keys.now start (seen_as c.args.work.now.pass.seen) later (ended_of g.R.Door.kept before) (g.R.Door.kept c.finish.result) end c.args.work.now.short c.is_memory-short.result
-      c.args.work.now.pass.mine pass.mine (g.R.Line.Link.seen c.in-Some.line) (g.R.Line.Link.seen c.serve_connection-end.new.link) new
-      ((g.met.R.Line.Link g.world.𝓛 g.world.𝓜 g.world.𝓡 ((λ s x. x), (λ x. x), (λ x. x), λ x. x)).tells_alike c.in-Some.line c.serve_connection-end.new.link) tells
-      c.serve_connection-end.ensures.serves c.places_rise.ensures (λ e. (c.requires.not_short, c.is_memory-short.ensures e)) worked);
-}
+returns-clause-goes_on g c =
+    let kept = g.R.Door.kept in
+    let seen = g.R.Line.Link.seen in
+    let end = c.serve_link-end.result in
+    let before = c.work.inside.records.items in
+    let work : WorkState = record { pass = c.work.inside.pass; parts = c.work.inside.share.parts; records = ended_of kept before; short = c.work.inside.short } in
+    let later : WorkState = record {
+      pass = c.serve_link-end.new.pass;
+      parts = c.next-next.new.mine.parts;
+      records = ended_of kept c.push_reserved.new.self.items;
+      short = c.is_memory-short.result;
+    } in
+    let records : later.records ≡ work.records ++ (kept c.finish.result, end) ∷ [] =
+    ap (ended_of kept) (c.push_reserved.ensures.items ∙ ap (λ items. items ++ (c.finish.result, end) ∷ []) c.reserve.ensures.items) ∙ ended_more kept before c.finish.result end in
+    subst (λ was. GoesOn c.args.site.now.keys.now was later) c.work.view_is
+    (goes_more c.args.site.now.keys.now work later (kept c.finish.result) end (seen c.in-Some.line) (seen c.serve_link-end.new.link) c.serve_link-end.ensures.hall c.next-next.ensures.parts records
+    c.in-Some.ensures.some.0 c.finish.ensures c.serve_link-end.ensures.serves c.places_rise.ensures (ap (λ (w : WorkState). w.short) c.work.view_is ∙ c.requires.not_short) c.is_memory-short.ensures)
