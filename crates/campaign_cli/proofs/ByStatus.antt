@@ -13,6 +13,7 @@ use Rattle.campaign_server.specs.declared.ends.End.{End}
 use Rattle.campaign_server.specs.declared.ends.End.TheVariants as end
 use Rattle.campaign_server.specs.declared.ends.ServeEnd.{ServeEnd}
 use Rattle.campaign_server.specs.declared.ends.ServeEnd.TheVariants as serve_end
+use Rattle.campaign_server.specs.declared.numbers.ServerNumbers.{ServerNumbers}
 use Rattle.drill.specs.Summaries.{summary_of}
 use Rattle.drill.specs.declared.numbers.DrillNumbers.{DrillNumbers}
 use Rattle.rulebook.specs.Words.{Text}
@@ -25,7 +26,7 @@ use Rattle.campaign_cli.specs.DrillEnds.{DrillWay, played, unplayed}
 use Rattle.campaign_cli.specs.Endings.{Ends}
 use Rattle.campaign_cli.specs.EvalEnds.{EvalWay, scored, refused, unread, short}
 use Rattle.campaign_cli.specs.Outside.{Outside, Streams, Prints, Misses}
-use Rattle.campaign_cli.specs.Requests.{Request, Eval, Session, Serve, Drill, Check, Nothing, ServerNumbers, usage_line}
+use Rattle.campaign_cli.specs.Requests.{Request, Eval, Session, Serve, Drill, Check, Nothing, usage_line}
 use Rattle.campaign_cli.specs.ServeEnds.{Served, ServeWay, served, unserved}
 use Rattle.campaign_cli.specs.ServeEnds.{status_of as serve_status}
 use Rattle.campaign_cli.specs.SessionEnds.{Holds, SessionWay, held, unheld, status_of}
@@ -163,7 +164,7 @@ module _ {D : Type 0} (seen : D → DiskState) where
 
       by : (h : ServeEnd) → Served seen settings numbers old new h → status ≡ serve_status h → Told (Serve numbers) old new status
       by serve_end.Ended w is_status = (Done, is_status, inr (inr (comes_to serve_end.Ended w)))
-      by serve_end.DoorFault w is_status = (Door, is_status, (comes_to serve_end.DoorFault w, w.fault refl))
+      by serve_end.DoorFault w is_status = (Door, is_status, (comes_to serve_end.DoorFault w, w.serves.fault refl))
       by serve_end.Memory w is_status = (Memory, is_status, same)
   serve_told numbers old new status (unserved none door) = unopened_told (Serve numbers) old new status tt (λ missed. missed) (λ text is. is) none
 
@@ -258,7 +259,7 @@ module _ {D : Type 0} (seen : D → DiskState) where
     where
       by : (h : ServeEnd) → Served seen settings numbers old new h → status ≡ serve_status h → IsComplete (Serve numbers) old new status
       by serve_end.Ended w is_status = inl is_status
-      by serve_end.DoorFault w is_status = absurd (calm.door (w.fault refl))
+      by serve_end.DoorFault w is_status = absurd (calm.door (w.serves.fault refl))
       by serve_end.Memory w is_status = inr (inl is_status)
   serve_complete numbers old new status can calm (unserved none door) = inr (inl (unopened_complete old new status can calm none))
 

@@ -8,10 +8,11 @@ use Rattle.book.specs.Books.{Seen, story_of}
 use Rattle.book.specs.Images.{StandsFor}
 use Rattle.book.specs.OpeningLaws.{stands_alone}
 use Rattle.campaign_server.specs.declared.ends.ServeEnd.{ServeEnd}
+use Rattle.campaign_server.specs.declared.numbers.ServerNumbers.{ServerNumbers}
 use Rattle.campaign_server.specs.Connections.{Ends}
 use Rattle.campaign_server.specs.Doors.{DoorState}
 use Rattle.campaign_server.specs.Links.{LinkState}
-use Rattle.campaign_server.specs.Servers.{Leaves}
+use Rattle.campaign_server.specs.Servers.{ServesBook}
 use Rattle.campaign_server.specs.Sessions.{IsSession}
 use Rattle.eval.specs.Evaluations.{IsReport, IsInputFault}
 use Rattle.routes.specs.declared.keys.KeyRow.{KeyRow}
@@ -27,7 +28,7 @@ use Rattle.campaign_cli.specs.DrillEnds.{DrillEnds, played, unplayed}
 use Rattle.campaign_cli.specs.EvalEnds.{EvalWay, EvalEnds, scored, refused, unread, short}
 use Rattle.campaign_cli.specs.Outside.{Outside, Streams, Prints, Misses, IsUnread}
 use Rattle.campaign_cli.specs.Endings.{Ends as Finishes}
-use Rattle.campaign_cli.specs.Requests.{Request, Eval, Session, Serve, Drill, Check, Nothing, ServerNumbers}
+use Rattle.campaign_cli.specs.Requests.{Request, Eval, Session, Serve, Drill, Check, Nothing}
 use Rattle.campaign_cli.specs.UsageEnds.{untold as unasked}
 use Rattle.campaign_cli.specs.ServeEnds.{Closes, ServeEnds, ServersStand, served, unserved}
 use Rattle.campaign_cli.specs.SessionEnds.{Answers, SessionEnds, SessionsStand, held, unheld}
@@ -155,10 +156,7 @@ module _ {D : Type 0} (seen : D → DiskState) where
       opened = book;
       closed = closes.closed;
       opens = opened.opened;
-      grown = closes.grown;
-      links = subst (λ (callers : List KeyRow). IfSome later.told (λ told. Leaves callers numbers.workers numbers.connections numbers.port (story_of seen book) (story_of seen closes.closed) closes.how told)) opened.callers_are closes.links;
-      fault = closes.fault;
-      later = closes.later;
+      serves = subst (λ (callers : List KeyRow). ServesBook seen callers numbers book closes.closed door later closes.how) opened.callers_are closes.serves;
       sound = closes.sound;
       closes = closes.closes;
     }) same closes.status_is;
@@ -198,7 +196,7 @@ module _ {D : Type 0} (seen : D → DiskState) where
   -- and at the end of a server
   pub server_stands : ServersStand seen
   server_stands settings numbers old new how server calm =
-      let same_opening : server.closed.opening ≡ (seen old.disk).faults = sym server.grown.opening ∙ server.opens.opening_is in
+      let same_opening : server.closed.opening ≡ (seen old.disk).faults = sym server.serves.grown.opening ∙ server.opens.opening_is in
       let alone = stands_alone seen server.closed server.sound
       (λ rose. calm (subst (λ (disk : D). Rose (seen old.disk).faults (seen disk).faults) (sym server.closes) (subst (λ n. Rose n (seen server.closed.disk).faults) same_opening rose))) in
       subst (λ (disk : D). StandsFor (seen disk).images server.closed.history None) (sym server.closes) alone

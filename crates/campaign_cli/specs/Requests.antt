@@ -4,16 +4,11 @@ use Rattle.std.specs.Option.{option_map_or}
 use Rattle.std.specs.declared.alloc.Global.{Global}
 use Rattle.command_words.specs.Numbers.{number_in}
 use Rattle.command_words.specs.Words.{Form, given_by}
+use Rattle.campaign_server.specs.declared.numbers.ServerNumbers.{ServerNumbers}
 use Rattle.drill.specs.Figures.{are_numbers}
 use Rattle.drill.specs.declared.numbers.DrillNumbers.{DrillNumbers}
 use Rattle.campaign_cli.specs.declared.words.Command.{Command}
 use Rattle.campaign_cli.specs.declared.words.Command.TheVariants as command
-
--- the port of a server, how many workers it has, and the most connections that it takes
-pub record ServerNumbers : Type 0 where
-  pub port : ℕ
-  pub workers : ℕ
-  pub connections : ℕ
 
 -- the request, with the words that name its files or its numbers; nothing, where the words are no command
 pub data Request : Type 0 where

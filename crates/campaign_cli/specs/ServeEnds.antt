@@ -1,20 +1,19 @@
 -- How `serve` ends.
-use Rattle.std.specs.Prelude.{◌≡◌, ℕ, ◌≤◌, List, None, Some, IfSome}
+use Rattle.std.specs.Prelude.{◌≡◌, ℕ, List, Option, None, Some}
 use Rattle.decimal_rank.specs.Causes.{Rose}
 use Rattle.disk_model.specs.Disks.{DiskState}
-use Rattle.book.specs.Books.{IsSound, Seen, story_of}
+use Rattle.book.specs.Books.{IsSound, Seen}
 use Rattle.book.specs.Images.{StandsFor}
 use Rattle.book.specs.Openings.{Opened}
 use Rattle.campaign_server.specs.declared.ends.ServeEnd.{ServeEnd}
 use Rattle.campaign_server.specs.declared.ends.ServeEnd.TheVariants as serve_end
+use Rattle.campaign_server.specs.declared.numbers.ServerNumbers.{ServerNumbers}
 use Rattle.campaign_server.specs.Doors.{DoorState}
-use Rattle.campaign_server.specs.Servers.{Leaves}
+use Rattle.campaign_server.specs.Servers.{ServesBook}
 use Rattle.routes.specs.declared.keys.KeyRow.{KeyRow}
-use Rattle.rulebook.specs.Stories.{AtMost}
 use Rattle.campaign_settings.specs.declared.settings.Settings.{Settings}
 use Rattle.campaign_cli.specs.BookEnds.{Unopened, settings_file}
 use Rattle.campaign_cli.specs.Outside.{Outside}
-use Rattle.campaign_cli.specs.Requests.{ServerNumbers}
 use Rattle.campaign_settings.specs.Settings.{settings_of}
 use Rattle.campaign_cli.specs.Shelves.{Gives, Follows}
 
@@ -29,10 +28,7 @@ pub record Closes {D : Type 0} (seen : D → DiskState) (callers : List KeyRow)
     (numbers : ServerNumbers) (opened : Seen D) (old new : DoorState) (disk : D) (status : ℕ) : Type 0 where
   pub how : ServeEnd
   pub closed : Seen D
-  pub grown : AtMost (story_of seen opened) (story_of seen closed)
-  pub links : IfSome new.told (λ told. Leaves callers numbers.workers numbers.connections numbers.port (story_of seen opened) (story_of seen closed) how told)
-  pub fault : how ≡ serve_end.DoorFault → Rose old.faults new.faults
-  pub later : old.faults ≤ new.faults
+  pub serves : ServesBook seen callers numbers opened closed old new how
   pub sound : IsSound seen closed
   pub closes : disk ≡ closed.disk
   pub status_is : status ≡ status_of how
@@ -45,12 +41,9 @@ module _ {D : Type 0} (seen : D → DiskState) where
     pub closed : Seen D
     -- it began with the entries that the disk told, or with the founding one
     pub opens : Opened seen settings.rules old.disk opened
-    -- the entries only grow
-    pub grown : AtMost (story_of seen opened) (story_of seen closed)
-    -- each link that was taken has its record: what was written is the answers of the rules after the entries so far, which begin with all that was seen on it
-    pub links : IfSome new.streams.door.told (λ told. Leaves settings.callers numbers.workers numbers.connections numbers.port (story_of seen opened) (story_of seen closed) how told)
-    pub fault : how ≡ serve_end.DoorFault → Rose old.streams.door.faults new.streams.door.faults
-    pub later : old.streams.door.faults ≤ new.streams.door.faults
+    -- The entries only grow, and each link that was taken has its record: what was written is the answers of the rules after the entries so far,
+    -- which begin with all that was seen on it. A fault of the door is counted.
+    pub serves : ServesBook seen settings.callers numbers opened closed old.streams.door new.streams.door how
     -- at the end the disk stands for the entries, with the pending one or without it
     pub sound : IsSound seen closed
     pub closes : new.disk ≡ closed.disk

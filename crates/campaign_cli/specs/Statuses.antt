@@ -18,6 +18,7 @@ use Rattle.rulebook.specs.declared.rules.Rules.{Rules}
 use Rattle.rulebook.specs.Words.{Text}
 use Rattle.drill.specs.Plays.{IsPlayed}
 use Rattle.drill.specs.Summaries.{summary_of}
+use Rattle.campaign_server.specs.declared.numbers.ServerNumbers.{ServerNumbers}
 use Rattle.campaign_server.specs.declared.ends.End.{End}
 use Rattle.campaign_server.specs.declared.ends.End.TheVariants as end
 use Rattle.campaign_server.specs.declared.ends.ServeEnd.{ServeEnd}
@@ -27,7 +28,7 @@ use Rattle.campaign_settings.specs.declared.settings.Settings.{Settings}
 use Rattle.campaign_cli.specs.BookEnds.{entry_line, header_line, rules_line, settings_file, settings_line}
 use Rattle.campaign_cli.specs.CheckEnds.{Shows, check_text}
 use Rattle.campaign_cli.specs.Outside.{Outside, Misses}
-use Rattle.campaign_cli.specs.Requests.{Request, Eval, Session, Serve, Drill, Check, Nothing, ServerNumbers, usage_line}
+use Rattle.campaign_cli.specs.Requests.{Request, Eval, Session, Serve, Drill, Check, Nothing, usage_line}
 use Rattle.campaign_cli.specs.ServeEnds.{Served}
 use Rattle.campaign_cli.specs.SessionEnds.{Holds}
 use Rattle.campaign_settings.specs.Settings.{settings_of}

@@ -14,7 +14,7 @@ use crate::statuses::Status;
 use crate::usage::tell_usage;
 use crate::words::{Command, read_words};
 use book::Disk;
-use campaign_server::{Door, Link};
+use campaign_server::{Door, Link, ServerNumbers};
 use decimal_rank::{Memory, Output as Sink};
 use std::alloc::Global;
 use std::sync::Wait;
@@ -48,17 +48,14 @@ pub fn campaign<W: Threads + Wait + Sync, F: Shelf, O: Sink, I: Link, D: Disk + 
                 workers,
                 connections,
             },
-        ) => run_server(
-            rt,
-            alloc,
-            port,
-            workers,
-            connections,
-            shelf,
-            out,
-            disk,
-            door,
-        ),
+        ) => {
+            let numbers = ServerNumbers {
+                port,
+                workers,
+                connections,
+            };
+            run_server(rt, alloc, numbers, shelf, out, disk, door)
+        }
         Ok(Command::Drill(numbers)) => (run_drill(rt, alloc, numbers, out), disk),
         Ok(Command::Check) => show_campaign(alloc, shelf, out, disk),
         Ok(Command::Usage) => (tell_usage(out), disk),

@@ -8,7 +8,7 @@ use crate::openings::open_book;
 use crate::shelves::Shelf;
 use crate::statuses::Status;
 use book::{Book, Disk};
-use campaign_server::{Door, ServeEnd, serve};
+use campaign_server::{Door, ServeEnd, ServerNumbers, serve};
 use decimal_rank::Output as Sink;
 use routes::Keys;
 use std::alloc::Global;
@@ -20,26 +20,22 @@ use std::thread::Threads;
 pub(crate) fn run_server<W: Threads + Wait + Sync, F: Shelf, O: Sink, D: Disk + Send, R: Door>(
     rt: &W,
     alloc: Global,
-    port: u16,
-    workers: u32,
-    connections: u32,
+    numbers: ServerNumbers,
     shelf: &mut F,
     out: &mut O,
     disk: D,
     door: &mut R,
 ) -> (Status, D)
-    requires workers { (1 ≤ workers) × (workers ≤ 16) }
-    requires connections { 1 ≤ connections }
+    requires workers { (1 ≤ numbers.workers) × (numbers.workers ≤ 16) }
+    requires connections { 1 ≤ numbers.connections }
     requires shut { IsShut (R.seen door.old) }
     ensures { (own : LinkState) → ServeEnds D.seen
-        (record { port = port; workers = workers; connections = connections })
+        numbers
         (record { streams = record { shelf = F.seen shelf.old; out = O.writing out.old; own = own; door = R.seen door.old }; disk = disk })
         (record { streams = record { shelf = F.seen shelf.new; out = O.writing out.new; own = own; door = R.seen door.new }; disk = result.1 }) result.0.0 }
 {
     match open_book(alloc, shelf, out, disk) {
-        Ok((book, callers)) => {
-            serve_links(rt, alloc, port, workers, connections, book, &callers, door)
-        }
+        Ok((book, callers)) => serve_links(rt, alloc, numbers, book, &callers, door),
         Err(given) => given,
     }
 }
@@ -48,19 +44,22 @@ pub(crate) fn run_server<W: Threads + Wait + Sync, F: Shelf, O: Sink, D: Disk + 
 fn serve_links<W: Threads + Wait + Sync, D: Disk + Send, R: Door>(
     rt: &W,
     alloc: Global,
-    port: u16,
-    workers: u32,
-    connections: u32,
+    numbers: ServerNumbers,
     book: Book<D>,
     callers: &Keys,
     door: &mut R,
 ) -> (Status, D)
-    requires workers { (1 ≤ workers) × (workers ≤ 16) }
-    requires connections { 1 ≤ connections }
+    requires workers { (1 ≤ numbers.workers) × (numbers.workers ≤ 16) }
+    requires connections { 1 ≤ numbers.connections }
     requires shut { IsShut (R.seen door.old) }
-    ensures { Closes D.seen callers.now
-        (record { port = port; workers = workers; connections = connections }) book (R.seen door.old) (R.seen door.new) result.1 result.0.0 }
+    ensures { Closes D.seen callers.now numbers book
+        (R.seen door.old) (R.seen door.new) result.1 result.0.0 }
 {
+    let ServerNumbers {
+        port,
+        workers,
+        connections,
+    } = numbers;
     let (book, end) = serve(rt, alloc, book, callers, door, port, workers, connections);
     book.stands();
     (status_of(end), book.close())
