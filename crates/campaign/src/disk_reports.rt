@@ -20,15 +20,7 @@ impl<D: Disk, E: Eprint> ReportingDisk<D, E> {
 }
 
 impl<D: Disk, E: Eprint> Disk for ReportingDisk<D, E> {
-    ghost content = { λ it. D.content it.disk };
-
-    ghost images = { λ it. D.images it.disk };
-
-    ghost clock = { λ it. D.clock it.disk };
-
-    ghost images_since = { λ it. D.images_since it.disk };
-
-    ghost fault_count = { λ it. D.fault_count it.disk };
+    ghost seen = { λ it. D.seen it.disk };
 
     fn len(&mut self) -> Result<u64, Failed> {
         self.disk.len()
