@@ -6,19 +6,19 @@ use Rattle.std.proofs.Math.Dec.{eqb-suc-suc, eqb-suc-zero, eqb-zero-suc}
 use Rattle.decimal_rank.specs.declared.naming.DocId.{DocId}
 use Rattle.depth_pool.specs.declared.runs.RunId.{RunId}
 use Rattle.qrels_view.specs.declared.grades.Graded.{Graded}
-use Rattle.score_index.specs.Scores.{Scores, TopicScores, docs_at, docs_in, new_topic as new_scores}
+use Rattle.score_index.specs.Scores.{Scores, TopicScores, docs_at, docs_in, levels_of, no_topic}
 use Rattle.assessment.specs.RunLists.{RankedLists, each_with_list, unless_empty, with_lists}
 use Rattle.assessment.specs.TopicFacts.{TopicFacts, TopicView, facts_of, graded_of, with_list, without_list}
 use Rattle.assessment.specs.TopicsFacts.{TopicsFacts, at_place, told_by}
 
 -- what topics and a board tell, from its parts
-pub told-is : (topics : List TopicView) (board : Scores) (all : TopicsFacts) → map facts_of topics ≡ all.topics → ((run : RunId) (on : ℕ) → docs_at board run on ≡ all.lists run on) → board.level ≡ all.level → told_by topics board ≡ all
-told-is topics board all same_topics same_lists same_level = λ i. record { topics = same_topics i; lists = λ run on. same_lists run on i; level = same_level i }
+pub told-is : (topics : List TopicView) (board : Scores) (all : TopicsFacts) → map facts_of topics ≡ all.topics → ((run : RunId) (on : ℕ) → docs_at board run on ≡ all.lists run on) → levels_of board ≡ all.levels → told_by topics board ≡ all
+told-is topics board all same_topics same_lists same_levels = λ i. record { topics = same_topics i; lists = λ run on. same_lists run on i; levels = same_levels i }
 
 -- topics and a board that tell the same
-pub told-same : (topics others : List TopicView) (board other : Scores) → map facts_of topics ≡ map facts_of others → board.topics ≡ other.topics → board.level ≡ other.level → told_by topics board ≡ told_by others other
-told-same topics others board other same_facts same_topics same_level =
-    told-is topics board (told_by others other) same_facts (λ run on. ap (λ (ts : List TopicScores). docs_in run (slice_index_or ts on new_scores)) same_topics) same_level
+pub told-same : (topics others : List TopicView) (board other : Scores) → map facts_of topics ≡ map facts_of others → board.topics ≡ other.topics → told_by topics board ≡ told_by others other
+told-same topics others board other same_facts same_topics =
+    told-is topics board (told_by others other) same_facts (λ run on. ap (λ (ts : List TopicScores). docs_in run (slice_index_or ts on no_topic)) same_topics) (ap (map (λ (topic : TopicScores). topic.level)) same_topics)
 
 -- one more topic gets its list
 pub each-more : (run : RunId) (lists : List (List DocId)) (docs : List DocId) (topics : List TopicFacts) → length lists < length topics

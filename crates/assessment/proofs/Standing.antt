@@ -12,8 +12,8 @@ use Rattle.depth_pool.specs.declared.runs.RunId.{RunId}
 use Rattle.labels.specs.Marked.{effective_at}
 use Rattle.qrels_view.specs.Grades.{as_number, effective_in, is_non_relevant, is_relevant, with_grade}
 use Rattle.qrels_view.specs.declared.grades.Graded.{Graded}
-use Rattle.score_index.specs.Scores.{Scores, TopicScores, docs_at, steps_of, topic_at}
-use Rattle.score_index.specs.Standing.{StandsFor, StandsWith, StaysSmall, TopicStandsFor, grades_at, non_relevant_of, relevant_of}
+use Rattle.score_index.specs.Scores.{Scores, TopicScores, docs_at, levels_of, steps_of, topic_at}
+use Rattle.score_index.specs.Standing.{StandsAt, StandsFor, StandsWith, StaysSmall, grades_at, non_relevant_of, relevant_of}
 use Rattle.assessment.specs.Costs.{grade_steps, pool_size}
 use Rattle.assessment.specs.RunLists.{unless_empty}
 use Rattle.assessment.specs.TopicFacts.{AwaitsMark, AwaitsRun, MayMark, TopicFacts, TopicView, doc_of, facts_of, graded_of, new_topic, with_list, with_mark}
@@ -27,7 +27,7 @@ use Rattle.assessment.proofs.RunSteps.{grades-by, through, told-is}
 
 -- it has as many topics
 pub as-long : (board : Scores) (topics : List TopicView) → StandsFor board (map graded_of topics) → length board.topics ≡ length topics
-as-long board topics stands = sym (AllZip-long (TopicStandsFor board.level) board.topics (map graded_of topics) stands) ∙ length-map topics graded_of
+as-long board topics stands = sym (AllZip-long StandsAt board.topics (map graded_of topics) stands) ∙ length-map topics graded_of
 
 -- the grades of a topic
 pub graded-at : (topics : List TopicView) (i : ℕ) (T : TopicView) → i < length topics → T ≡ get_or topics i T → grades_at (map graded_of topics) i ≡ T.facts.graded
@@ -121,23 +121,23 @@ module _ {board : Scores} {topics : List TopicView} {m : Mark} {i : ℕ} {doc : 
       let there = ap (λ n. get_or (map facts_of topics) n T.facts) (sym at.i_is) ∙ get_or-map facts_of topics i T T.facts mark-within ∙ ap facts_of (sym at.there) in
       few-grades m T.facts (subst (MayMark m) there (some-at (MayMark m) (map facts_of topics) (topic_of m) T.facts at.may).1)
 
-  pub stands-with : TopicStandsFor board.level (topic_at board i) graded → StandsWith board.level (topic_at board i) doc old
+  pub stands-with : StandsAt (topic_at board i) graded → StandsWith (topic_at board i) doc old
   stands-with stands = record {
     graded = T.facts.graded;
-    stands = subst (TopicStandsFor board.level (topic_at board i)) here stands;
+    stands = subst (StandsAt (topic_at board i)) here stands;
     grade_is = sym at.old_is;
   }
 
-  pub stays-small : TopicStandsFor board.level (topic_at board i) graded → (new : Option ℕ) → StaysSmall board.level (topic_at board i) old new
-  stays-small stands new = record {
-    relevant = omega (arith, stands.relevant_is, ap (relevant_of board.level) here, count_by-le-length (λ (one : Graded). is_relevant board.level one.grade) T.facts.graded, few-topic, at-most-one (is_relevant board.level new));
-    non_relevant = omega (arith, stands.non_relevant_is, ap (non_relevant_of board.level) here, count_by-le-length (λ (one : Graded). is_non_relevant board.level one.grade) T.facts.graded, few-topic, at-most-one (is_non_relevant board.level new));
+  pub stays-small : StandsAt (topic_at board i) graded → (new : Option ℕ) → StaysSmall (topic_at board i).level (topic_at board i) old new
+  stays-small stands new = let level = (topic_at board i).level in record {
+    relevant = omega (arith, stands.relevant_is, ap (relevant_of level) here, count_by-le-length (λ (one : Graded). is_relevant level one.grade) T.facts.graded, few-topic, at-most-one (is_relevant level new));
+    non_relevant = omega (arith, stands.non_relevant_is, ap (non_relevant_of level) here, count_by-le-length (λ (one : Graded). is_non_relevant level one.grade) T.facts.graded, few-topic, at-most-one (is_non_relevant level new));
   }
 
-  pub marked-facts : (later : Scores) → ((run : RunId) (on : ℕ) → docs_at later run on ≡ docs_at board run on) → later.level ≡ board.level
+  pub marked-facts : (later : Scores) → ((run : RunId) (on : ℕ) → docs_at later run on ≡ docs_at board run on) → levels_of later ≡ levels_of board
       → told_by (set topics i U) later ≡ after_mark m (told_by topics board)
-  marked-facts later lists level =
-      told-is (set topics i U) later (record (told_by topics board) { topics = at_place i (with_mark m) (map facts_of topics) }) (facts-then (with_mark m) topics i T U mark-within at.there at.marked) lists level
+  marked-facts later lists levels =
+      told-is (set topics i U) later (record (told_by topics board) { topics = at_place i (with_mark m) (map facts_of topics) }) (facts-then (with_mark m) topics i T U mark-within at.there at.marked) lists levels
       ∙ ap (λ n. let all : TopicsFacts = record (told_by topics board) { topics = at_place n (with_mark m) (map facts_of topics) } in all) at.i_is
       ∙ sym (after-mark m (told_by topics board))
 
@@ -191,14 +191,14 @@ module _ {board : Scores} {topics : List TopicView} {number : ℕ} {run : RunId}
   entered-within = omega (arith, at.within, as-long board topics at.standing.stands)
 
   -- the board stands for the topic's grades, which stay
-  pub stands-entered : {seen : List Graded} → seen ≡ U.facts.graded → TopicStandsFor board.level (topic_at board number) (grades_at (map graded_of topics) number) → TopicStandsFor board.level (topic_at board number) seen
+  pub stands-entered : {seen : List Graded} → seen ≡ U.facts.graded → StandsAt (topic_at board number) (grades_at (map graded_of topics) number) → StandsAt (topic_at board number) seen
   stands-entered seen_is stands =
-      subst (TopicStandsFor board.level (topic_at board number)) (graded-at topics number T at.within at.there ∙ sym (ap (λ (facts : TopicFacts). facts.graded) at.entered) ∙ sym seen_is) stands
+      subst (StandsAt (topic_at board number)) (graded-at topics number T at.within at.there ∙ sym (ap (λ (facts : TopicFacts). facts.graded) at.entered) ∙ sym seen_is) stands
 
-  pub entered-facts : (later : Scores) → ((other : RunId) (on : ℕ) → docs_at later other on ≡ (if (run.0 == other.0) && (number == on) then unless_empty docs else docs_at board other on)) → later.level ≡ board.level
+  pub entered-facts : (later : Scores) → ((other : RunId) (on : ℕ) → docs_at later other on ≡ (if (run.0 == other.0) && (number == on) then unless_empty docs else docs_at board other on)) → levels_of later ≡ levels_of board
       → told_by (set topics number U) later ≡ after_list number run docs (told_by topics board)
-  entered-facts later lists level =
-      told-is (set topics number U) later (after_list number run docs (told_by topics board)) (facts-then (with_list run docs) topics number T U at.within at.there at.entered) lists level
+  entered-facts later lists levels =
+      told-is (set topics number U) later (after_list number run docs (told_by topics board)) (facts-then (with_list run docs) topics number T U at.within at.there at.entered) lists levels
 
   -- with its list on the board
   pub entered-standing : (later : Scores) {seen : List Graded} → seen ≡ U.facts.graded → ((grades : List (List Graded)) → StandsFor board grades → StandsFor later (set grades number seen)) → IsStanding (set topics number U) later
@@ -231,13 +231,12 @@ module _ {board : Scores} {topics : List TopicView} {number : ℕ} {run : RunId}
       step false _ t _ = refl
 
 -- topics that keep their facts, with a board that keeps its topics
-pub standing-same : (topics others : List TopicView) (board other : Scores) → map facts_of topics ≡ map facts_of others → board.topics ≡ other.topics → board.level ≡ other.level → IsStanding others other → IsStanding topics board
-standing-same topics others board other same_facts same_topics same_level standing = record {
+pub standing-same : (topics others : List TopicView) (board other : Scores) → map facts_of topics ≡ map facts_of others → board.topics ≡ other.topics → IsStanding others other → IsStanding topics board
+standing-same topics others board other same_facts same_topics standing = record {
   few = omega (arith, sym (length-map topics facts_of) ∙ ap length same_facts ∙ length-map others facts_of, standing.few);
   stands =
-      subst (λ (l : ℕ). AllZip (TopicStandsFor l) board.topics (map graded_of topics)) (sym same_level)
-      (subst (λ (ts : List TopicScores). AllZip (TopicStandsFor other.level) ts (map graded_of topics)) (sym same_topics)
-      (subst (StandsFor other) (sym (grades-by topics others (ap (map (λ (facts : TopicFacts). facts.graded)) same_facts))) standing.stands));
+      subst (λ (ts : List TopicScores). AllZip StandsAt ts (map graded_of topics)) (sym same_topics)
+      (subst (StandsFor other) (sym (grades-by topics others (ap (map (λ (facts : TopicFacts). facts.graded)) same_facts))) standing.stands);
 }
 
 -- topics before any run have no grades

@@ -4,7 +4,7 @@ use Rattle.std.specs.Option.{IsSomeAnd}
 use Rattle.decimal_rank.specs.declared.naming.DocId.{DocId}
 use Rattle.depth_pool.specs.declared.runs.RunId.{RunId}
 use Rattle.depth_pool.specs.Holdings.{has_run}
-use Rattle.score_index.specs.Scores.{Scores, docs_at, rooms_for}
+use Rattle.score_index.specs.Scores.{Scores, docs_at, levels_of, rooms_for}
 use Rattle.score_index.specs.Standing.{StandsFor}
 use Rattle.assessment.specs.RunLists.{RankedLists, each_with_list, has_length, unless_empty, with_lists, without_lists}
 use Rattle.assessment.specs.TopicFacts.{AwaitsRun, TopicFacts, TopicView, facts_of, graded_of, new_topic, with_label, with_list, with_ruling, without_list}
@@ -19,15 +19,15 @@ pub record TopicsView : Type 0 where
   pub topics : List TopicView
   pub board : Scores
 
--- the topics by number, the ranked lists of the runs, and the level of the board
+-- the topics by number, the ranked lists of the runs, and the levels of the board's topics
 pub record TopicsFacts : Type 0 where
   pub topics : List TopicFacts
   pub lists : RankedLists
-  pub level : ℕ
+  pub levels : List ℕ
 
 -- what topics and a board tell
 abbrev pub told_by : List TopicView → Scores → TopicsFacts
-told_by topics board = record { topics = map facts_of topics; lists = docs_at board; level = board.level }
+told_by topics board = record { topics = map facts_of topics; lists = docs_at board; levels = levels_of board }
 
 abbrev pub told : TopicsView → TopicsFacts
 told all = told_by all.topics all.board
@@ -83,9 +83,9 @@ pub record IsNewOn (number : ℕ) (run : RunId) (all : TopicsFacts) : Type 0 whe
 abbrev pub IsEntered : RunId → TopicsFacts → Type 0
 IsEntered run all = All (λ topic. IsTrue (has_run run topic.pool)) all.topics
 
--- the topics before any run, with the level of their board
-abbrev pub new_topics : List TopicRules → ℕ → TopicsFacts
-new_topics rules level = record { topics = map new_topic rules; lists = λ run on. None; level = level }
+-- the topics before any run
+abbrev pub new_topics : List TopicRules → TopicsFacts
+new_topics rules = record { topics = map new_topic rules; lists = λ run on. None; levels = map (λ one. one.level) rules }
 
 -- there are few topics, and the board stands for their grades
 pub record IsStanding (topics : List TopicView) (board : Scores) : Type 0 where

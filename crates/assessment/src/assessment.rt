@@ -51,12 +51,12 @@ impl Drop for Assessment {
 }
 
 impl Assessment {
-    /// No topic and no lease yet, on a board of this level.
-    pub fn new(alloc: Global, level: u8) -> Result<Assessment, Memory>
-        ensures facts { IfOk result (λ all. facts all ≡ record { topics = new_topics [] level; leases = [] }) }
+    /// No topic and no lease yet.
+    pub fn new(alloc: Global) -> Result<Assessment, Memory>
+        ensures facts { IfOk result (λ all. facts all ≡ record { topics = new_topics []; leases = [] }) }
         ensures pending { IfOk result (λ all. all.pending ≡ None) }
     {
-        let topics = Topics::new(alloc, Vec::new(alloc), level)?;
+        let topics = Topics::new(alloc, Vec::new(alloc))?;
         Ok(Assessment {
             topics,
             desk: Desk::new(alloc),

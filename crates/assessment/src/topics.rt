@@ -37,12 +37,13 @@ impl Model for Topics {
 }
 
 impl Topics {
-    /// These topics before any run, and a board of this level.
-    pub fn new(alloc: Global, rules: Vec<TopicRules>, level: u8) -> Result<Topics, Memory>
+    /// These topics before any run, and a board of their levels.
+    pub fn new(alloc: Global, rules: Vec<TopicRules>) -> Result<Topics, Memory>
         requires { vec_len rules < 2 ^ 16 }
-        ensures { IfOk result (IsAtRest (new_topics rules.items level)) }
+        ensures { IfOk result (IsAtRest (new_topics rules.items)) }
     {
-        let board = Board::new(alloc, rules.len() as u16, level)?;
+        let levels = levels_of(alloc, &rules)?;
+        let board = Board::new(alloc, &levels)?;
         let topics = each_new(alloc, rules)?;
         Ok(Topics { topics, board })
     }
@@ -134,6 +135,17 @@ impl Topics {
         let new = topic.grades().effective(doc);
         self.board.regrade(number, doc, old, new, steps);
     }
+}
+
+// The level of each topic.
+fn levels_of(alloc: Global, rules: &[TopicRules]) -> Result<Vec<u8>, Memory>
+    ensures { IfOk result (λ levels. levels.items ≡ map (λ one. one.level) rules.now) }
+{
+    let mut levels = Vec::with_capacity(alloc, rules.len())?;
+    for one in rules {
+        levels.push(one.level)?;
+    }
+    Ok(levels)
 }
 
 // The topics before any run.

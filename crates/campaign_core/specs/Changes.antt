@@ -53,9 +53,9 @@ pub record IsPlacedAt (ids : List Text) (names : List Text) (topic doc : Text) (
   pub listed : IsTrue (contains_text ids topic)
   pub doc_named : IsTrue (contains_text names doc)
 
--- the board of new topics has the level of the rules, no list and no room for one
-pub record IsNewBoard (level : ℕ) (all : TopicsFacts) (rooms : List ℕ) : Type 0 where
-  pub level_is : all.level ≡ level
+-- the board of new topics has these levels, no list and no room for one
+pub record IsNewBoard (levels : List ℕ) (all : TopicsFacts) (rooms : List ℕ) : Type 0 where
+  pub levels_are : all.levels ≡ levels
   pub empty : all.lists ≡ (λ run on. None)
   pub no_room : rooms ≡ []
 
@@ -64,7 +64,7 @@ abbrev pub CarriesOut : History → List Text → List TopicFacts → List DeskL
 CarriesOut H names topics desk e change.Nothing = (e.core.command ≡ command.Open) ⊎ (e.core.command ≡ command.Publish)
 CarriesOut H names topics desk e (change.Topics made) =
     (given : List Topic) × (e.core.command ≡ command.Topics given) × (map kept (map facts_of made.topics) ≡ map (λ topic. empty_topic (rules_of H) topic.id) given)
-    × (map labelled_of (map facts_of made.topics) ≡ map (λ topic. unlabelled topic.id) given) × IsNewBoard (rules_of H).level (told made) made.board.rooms
+    × (map labelled_of (map facts_of made.topics) ≡ map (λ topic. unlabelled topic.id) given) × IsNewBoard (map (λ topic. (rules_of H).level) given) (told made) made.board.rooms
 CarriesOut H names topics desk e (change.Run run lists) =
     (name : Text) × (given : List TopicList) × (e.core.command ≡ command.Submit name given) × (run.0 ≡ length (runs H)) × (lists.items ≡ map (λ topic. docs_in names (docs_on given topic.id)) topics)
 CarriesOut H names topics desk e (change.Withdraw run) = (name : Text) × (e.core.command ≡ command.Withdraw name) × (Some run.0 ≡ position (λ run. bytes_eq run.name name) (runs H))

@@ -70,7 +70,7 @@ pub record IsFew (entries : ℕ) (topic : LabelledTopic) : Type 0 where
 pub record IsAssessmentOf (H : History) (known : Facts) : Type 0 where
   pub knows : KnowsAll H known.topics.topics known.leases
   pub few : All (IsFew (length H)) (map labelled_of known.topics.topics)
-  pub level_is : known.topics.level ≡ (rules_of H).level
+  pub levels_are : known.topics.levels ≡ map (λ id. (rules_of H).level) (topic_ids H)
   pub lists_are : (run : RunId) (on : ℕ) → known.topics.lists run on ≡ list_in (names_of H) (topic_ids H) (run_at H run) on
 
 -- What is known of a campaign is what its history says, which is legal and within the limits.

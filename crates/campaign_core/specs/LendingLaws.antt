@@ -10,6 +10,7 @@ use Rattle.rulebook.specs.JudgingOrder.{comes_before, relevance}
 use Rattle.rulebook.specs.Legal.{IsLegal}
 use Rattle.rulebook.specs.Scores.{cell_on}
 use Rattle.rulebook.specs.Words.{Text, contains_text}
+use Rattle.measures.specs.declared.cells.Cell.{Cell}
 use Rattle.qrels_view.specs.declared.grades.Graded.{Graded}
 use Rattle.score_index.specs.Scores.{Scores, topic_at}
 use Rattle.score_index.specs.Standing.{StandsFor, cell_from, grades_at, listed_in}
@@ -38,12 +39,16 @@ pub record IsInRulesOrder (H : History) (topic : Text) (queue : QueueView) : Typ
 abbrev pub QueuesAreInTheRulesOrder : Type 0
 QueuesAreInTheRulesOrder = (H : History) (number : ℕ) (topic : Text) (queue : QueueView) → IsQueueOf H number queue → slice_get (topic_ids H) number ≡ Some topic → IsInRulesOrder H topic queue
 
+-- the cell of a run on a topic of a board, by these grades of its topics
+abbrev pub cell_by : Scores → List (List Graded) → RunId → ℕ → Cell
+cell_by board grades run topic = cell_from (topic_at board topic).level (grades_at grades topic) (listed_in run (topic_at board topic))
+
 -- The board stands for grades by which the cell of each live run on each topic is that of the rules.
 pub record HasRulesCells (H : History) (board : Scores) : Type 0 where
   pub grades : List (List Graded)
   pub stands : StandsFor board grades
   pub cells : (number : RunId) (run : Run) (topic : Text) → run_at H number ≡ Some run → IsTrue (contains_text (topic_ids H) topic)
-      → cell_from board.level (grades_at grades (topic_in (topic_ids H) topic)) (listed_in number (topic_at board (topic_in (topic_ids H) topic))) ≡ cell_on H run topic
+      → cell_by board grades number (topic_in (topic_ids H) topic) ≡ cell_on H run topic
 
 -- What a state lends as the board.
 abbrev pub BoardsScoreByTheRules : Type 0

@@ -1,5 +1,5 @@
 -- What the runs' ranked lists and scores that are kept have to do with the history.
-use Rattle.std.specs.Prelude.{◌≡◌, ◌<◌, ℕ, List, Option, None, Some, if◌then◌else◌, length, slice_get}
+use Rattle.std.specs.Prelude.{◌≡◌, ◌<◌, ℕ, List, Option, None, Some, if◌then◌else◌, length, map, slice_get}
 use Rattle.std.proofs.Common.{get_or}
 use Rattle.std.specs.Option.{option_and_then, option_map_or}
 use Rattle.decimal_rank.specs.declared.naming.DocId.{DocId}
@@ -9,7 +9,7 @@ use Rattle.assessment.specs.RunLists.{RankedLists, unless_empty}
 use Rattle.assessment.specs.TopicFacts.{TopicFacts}
 use Rattle.rulebook.specs.Words.{Text}
 use Rattle.rulebook.specs.Campaign.{History, Run, docs_on, is_withdrawn, rules_of, runs}
-use Rattle.score_index.specs.Scores.{Scores, docs_at}
+use Rattle.score_index.specs.Scores.{Scores, docs_at, levels_of}
 use Rattle.score_index.specs.Standing.{StandsFor}
 use Rattle.campaign_core.specs.Numbers.{docs_in}
 use Rattle.campaign_core.specs.Topics.{topic_ids}
@@ -42,8 +42,8 @@ list_in names ids run on = option_map_or (λ id. option_map_or (ranked_on names 
 abbrev pub AreListed : History → List Text → RankedLists → Type 0
 AreListed H names lists = (run : RunId) (topic : ℕ) (d : Text) → topic < length (topic_ids H) → lists run topic ≡ option_map_or (ranked_on names (get_or (topic_ids H) topic d)) (run_at H run) None
 
--- The board has the level, stands for the grades of each topic, and has the ranked list of each live run on each topic, and no other.
+-- The board has the levels of the topics, stands for the grades of each topic, and has the ranked list of each live run on each topic, and no other.
 pub record IsScored (H : History) (names : List Text) (grades : List (List Graded)) (board : Scores) : Type 0 where
-  pub level_is : board.level ≡ (rules_of H).level
+  pub levels_are : levels_of board ≡ map (λ id. (rules_of H).level) (topic_ids H)
   pub stands : StandsFor board grades
   pub lists_are : AreListed H names (docs_at board)

@@ -48,14 +48,13 @@ impl Campaign {
         ensures known { IfOk result IsKnown }
         ensures idle { IfOk result (λ campaign. campaign.assessment.pending ≡ None) }
     {
-        let level = rules.level;
         let core = founding_core(alloc, rules)?;
         let mut history = Vec::new(alloc);
         history.push(Entry {
             core,
             reply: Reply::Done,
         })?;
-        let assessment = Assessment::new(alloc, level)?;
+        let assessment = Assessment::new(alloc)?;
         Ok(Campaign {
             history,
             phase: Phase::Collecting,

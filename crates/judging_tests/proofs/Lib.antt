@@ -1,1 +1,2 @@
+pub mod BoardShapes
 mod QueuedTopicSteps

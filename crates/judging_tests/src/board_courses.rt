@@ -189,7 +189,7 @@ fn step(alloc: Global, scored: &mut Scored, told: &mut Told, dice: &mut Pcg32) -
 
 #[test]
 fn a_random_course_agrees_with_cells_from_scratch(rt: HostRuntime) -> Result<(), Fail> {
-    let mut scored = Scored::new(rt.alloc(), 1)?;
+    let mut scored = Scored::new(rt.alloc(), 1, 1)?;
     let mut told = Told::new(rt.alloc());
     play_course(&rt, rt.alloc(), &mut scored, &mut told)
 }

@@ -124,9 +124,9 @@ fn rows_of_level_two() -> [Row; 4] {
     ]
 }
 
-// That the cell of X on topic 0 is so after each call, on a board of this level.
+// That the cell of X on topic 0, which has this level, is so after each call.
 fn expect_cells(rt: &impl Abort, alloc: Global, level: u8, rows: &[Row]) -> Result<(), Fail> {
-    let mut scored = Scored::new(alloc, level)?;
+    let mut scored = Scored::new(alloc, level, 1)?;
     expect_cells_on(rt, alloc, &mut scored, rows)
 }
 
@@ -150,6 +150,25 @@ fn the_cell_after_each_change(rt: HostRuntime) -> Result<(), Fail> {
     expect_cells(&rt, alloc, 1, &rows_of_a_ruling())?;
     expect_cells(&rt, alloc, 1, &rows_of_two_runs())?;
     expect_cells(&rt, alloc, 2, &rows_of_level_two())
+}
+
+// A document of grade 1 is relevant on topic 1 alone, where topic 0 has the level 2.
+#[test]
+fn each_topic_has_its_level(rt: HostRuntime) -> Result<(), Fail> {
+    let mut scored = Scored::new(rt.alloc(), 2, 1)?;
+    expect_levels(&rt, rt.alloc(), &mut scored)
+}
+
+fn expect_levels(rt: &impl Abort, alloc: Global, scored: &mut Scored) -> Result<(), Fail> {
+    for topic in [0, 1] {
+        assert!(rt; scored.submit(alloc, X, topic, &[A, B])?);
+        assert!(rt; scored.grade(topic, A, Some(1))?);
+    }
+    let below = Some((2, 0, 0, 0, 0, 0, (0, 1)));
+    let relevant = Some((2, 1, 1, 1, 1, ONE, (1, 1)));
+    assert_eq!(rt; figures_of(scored, X, 0), below);
+    assert_eq!(rt; figures_of(scored, X, 1), relevant);
+    Ok(())
 }
 
 // What a summary has: the counted topics, the counts, and the means but for those at cutoffs.
@@ -211,7 +230,7 @@ fn mean_rows() -> [(Call, Means); 9] {
 
 #[test]
 fn the_summary_after_each_change(rt: HostRuntime) -> Result<(), Fail> {
-    let mut scored = Scored::new(rt.alloc(), 1)?;
+    let mut scored = Scored::new(rt.alloc(), 1, 1)?;
     expect_means(&rt, rt.alloc(), &mut scored)
 }
 
@@ -242,7 +261,7 @@ fn held_rows() -> [(Call, [Option<u32>; 4]); 5] {
 
 #[test]
 fn the_rankings_after_each_change(rt: HostRuntime) -> Result<(), Fail> {
-    let mut scored = Scored::new(rt.alloc(), 1)?;
+    let mut scored = Scored::new(rt.alloc(), 1, 1)?;
     expect_lengths(&rt, rt.alloc(), &mut scored)
 }
 

@@ -4,7 +4,7 @@ ghost use Rattle.std.specs.Bool.{OnFalse};
 ghost use Rattle.qrels_view.specs.Grades.{effective_in, with_grade};
 ghost use Rattle.qrels_view.specs.declared.grades.Graded.{Graded};
 ghost use Rattle.score_index.specs.Scores.{KeepsScores, KeepsShape, topic_at};
-ghost use Rattle.score_index.specs.Standing.{StandsFor, StandsWith, StaysSmall, TopicStandsFor, grades_at};
+ghost use Rattle.score_index.specs.Standing.{StandsAt, StandsFor, StandsWith, StaysSmall, grades_at};
 
 use decimal_rank::{DocId, Ranking, Steps};
 use depth_pool::RunId;
@@ -25,26 +25,30 @@ pub(crate) struct Scored {
 }
 
 impl Model for Scored {
-    ghost use Rattle.std.specs.Prelude.{ℕ};
+    ghost use Rattle.std.specs.Prelude.{ℕ, List};
     ghost use Rattle.judging_tests.specs.ScoredBoard.{IsScored};
+    ghost use Rattle.score_index.specs.Scores.{levels_of};
 
-    ghost Value = { ℕ };
+    ghost Value = { List ℕ };
 
-    ghost view = { λ scored. scored.board.level };
+    ghost view = { λ scored. levels_of scored.board };
 
     ghost invariant = { λ scored. IsScored scored.board scored.first scored.second };
 }
 
 impl Scored {
-    pub(crate) fn new(alloc: Global, level: u8) -> Result<Scored, Fail> {
+    /// The topics have these levels.
+    #[tactic(auto, using(crate::proofs::BoardShapes::two_topics))]
+    pub(crate) fn new(alloc: Global, first: u8, second: u8) -> Result<Scored, Fail> {
         Ok(Scored {
-            board: Board::new(alloc, 2, level)?,
-            first: View::new(alloc, level),
-            second: View::new(alloc, level),
+            board: Board::new(alloc, &[first, second])?,
+            first: View::new(alloc, first),
+            second: View::new(alloc, second),
         })
     }
 
     /// Adds the list of a run, of each document once. False where it has one there.
+    #[tactic(auto, using(crate::proofs::BoardShapes::as_many))]
     pub(crate) fn submit(
         &mut self,
         alloc: Global,
@@ -66,11 +70,13 @@ impl Scored {
         reserve_and_drop(&mut self.board, &ranking)
     }
 
+    #[tactic(auto, using(crate::proofs::BoardShapes::as_many))]
     pub(crate) fn withdraw(&mut self, run: u16) {
         self.board.drop_run(RunId(run));
     }
 
     /// Gives a document a grade, or takes its grade away.
+    #[tactic(auto, using(crate::proofs::BoardShapes::as_many))]
     pub(crate) fn grade(&mut self, topic: u16, doc: u32, grade: Option<u8>) -> Result<bool, Fail> {
         let doc = DocId(doc);
         match topic {
@@ -117,7 +123,7 @@ fn add(
     view: &View,
 ) -> Result<bool, Fail>
     requires topic { topic < length board.old.topics }
-    requires grades { TopicStandsFor board.old.level (topic_at board.old topic) view.now.graded }
+    requires grades { StandsAt (topic_at board.old topic) view.now.graded }
     ensures stands { (grades : List (List Graded)) → StandsFor board.old grades → grades_at grades topic ≡ view.now.graded → StandsFor board.new grades }
     ensures shape { KeepsShape board.old board.new }
 {
@@ -138,7 +144,7 @@ fn regrade(
     grade: Option<u8>,
 ) -> Result<bool, Fail>
     requires topic { topic < length board.old.topics }
-    requires grades { TopicStandsFor board.old.level (topic_at board.old topic) view.old.graded }
+    requires grades { StandsAt (topic_at board.old topic) view.old.graded }
     ensures stands { (grades : List (List Graded)) → StandsFor board.old grades → grades_at grades topic ≡ view.old.graded → StandsFor board.new (slice_set grades topic view.new.graded) }
     ensures shape { KeepsShape board.old board.new }
 {
@@ -164,8 +170,8 @@ fn regrade_counted<L: Ledger>(
     requires parts { blank.parts ≡ L.parts }
     requires some { 0 < L.parts }
     requires topic { topic < length board.old.topics }
-    requires grade_now { StandsWith board.old.level (topic_at board.old topic) doc old }
-    requires few { StaysSmall board.old.level (topic_at board.old topic) old new }
+    requires grade_now { StandsWith (topic_at board.old topic) doc old }
+    requires few { StaysSmall (topic_at board.old topic).level (topic_at board.old topic) old new }
     ensures stands { (grades : List (List Graded)) → StandsFor board.old grades → effective_in (grades_at grades topic) doc ≡ old
         → StandsFor board.new (slice_set grades topic (with_grade doc new (grades_at grades topic))) }
     ensures shape { KeepsShape board.old board.new }

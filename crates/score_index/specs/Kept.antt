@@ -15,7 +15,7 @@ use Rattle.score_index.specs.declared.topics.Topic.{Topic}
 
 -- a topic as contracts see it
 abbrev pub seen : Topic → TopicScores
-seen topic = record { relevant = topic.relevant; non_relevant = topic.non_relevant; lists = topic.lists.items }
+seen topic = record { level = topic.level; relevant = topic.relevant; non_relevant = topic.non_relevant; lists = topic.lists.items }
 
 -- for how many more lists a topic has room
 abbrev pub spare : Topic → ℕ
@@ -40,12 +40,12 @@ pub record IsTopicKept (topic : TopicScores) : Type 0 where
   pub by_run : AreByRun topic.lists
 
 -- a topic keeps the cell of the empty list
-abbrev pub HasEmptyCell : ℕ → Topic → Type 0
-HasEmptyCell level topic = topic.empty ≡ cell_of [] topic.relevant topic.non_relevant level
+abbrev pub HasEmptyCell : Topic → Type 0
+HasEmptyCell topic = topic.empty ≡ cell_of [] topic.relevant topic.non_relevant topic.level
 
 -- the topics keep the cells of the empty list, and have no less room
 pub record KeepsPlaces (old new : List Topic) : Type 0 where
-  pub empties : (level : ℕ) → All (HasEmptyCell level) old → All (HasEmptyCell level) new
+  pub empties : All HasEmptyCell old → All HasEmptyCell new
   pub places : (least : ℕ) → All (λ topic. least ≤ spare topic) old → All (λ topic. least ≤ spare topic) new
 
 -- a document with this grade is counted on a topic
@@ -54,10 +54,10 @@ pub record IsCounted (level : ℕ) (grade : Option ℕ) (topic : TopicScores) : 
   pub non_relevant : as_number (is_non_relevant level grade) ≤ topic.non_relevant
 
 -- each topic is kept so, and has a place for each list that has room
-pub record IsKept (level : ℕ) (topics : List Topic) (rooms : ℕ) : Type 0 where
+pub record IsKept (topics : List Topic) (rooms : ℕ) : Type 0 where
   pub few : length topics < 2 ^ 16
   pub topics_are : All (λ topic. IsTopicKept (seen topic)) topics
-  pub empties : All (HasEmptyCell level) topics
+  pub empties : All HasEmptyCell topics
   pub places : All (λ topic. rooms ≤ spare topic) topics
 
 -- a room for a list has no place that is judged
@@ -107,7 +107,7 @@ placed list (one ∷ lists) = if nat_lt one.run.0 list.run.0 then one ∷ placed
 
 -- a topic with one more list
 abbrev pub with_list : ScoreList → TopicScores → TopicScores
-with_list list topic = record { relevant = topic.relevant; non_relevant = topic.non_relevant; lists = placed list topic.lists }
+with_list list topic = record { level = topic.level; relevant = topic.relevant; non_relevant = topic.non_relevant; lists = placed list topic.lists }
 
 -- a count after one document was counted or not, and now is or not
 abbrev pub recounted_from : ℕ → Bool → Bool → ℕ
@@ -116,6 +116,7 @@ recounted_from count was is = count + as_number is - as_number was
 -- a topic after a document's grade `old` becomes `new`
 abbrev pub with_regrade : ℕ → DocId → Option ℕ → Option ℕ → TopicScores → TopicScores
 with_regrade level doc old new topic = record {
+  level = topic.level;
   relevant = recounted_from topic.relevant (is_relevant level old) (is_relevant level new);
   non_relevant = recounted_from topic.non_relevant (is_non_relevant level old) (is_non_relevant level new);
   lists = map (remarked doc (is_relevant level new) (is_non_relevant level new)
@@ -129,7 +130,7 @@ without run lists = filter (λ list. not (is_of run list)) lists
 
 -- a topic without the lists of a run
 abbrev pub without_lists : RunId → TopicScores → TopicScores
-without_lists run topic = record { relevant = topic.relevant; non_relevant = topic.non_relevant; lists = without run topic.lists }
+without_lists run topic = record { level = topic.level; relevant = topic.relevant; non_relevant = topic.non_relevant; lists = without run topic.lists }
 
 -- the relevant places of a run's list, and none where it has no list
 abbrev pub relevant_in : RunId → TopicScores → List Bool

@@ -1,5 +1,5 @@
 -- What contracts see of a board.
-use Rattle.std.specs.Prelude.{◌≡◌, ℕ, ◌+◌, ◌*◌, ◌==◌, Bool, List, [], Option, None, Some, Contains, count_by, find, length, slice_index_or, sum_by}
+use Rattle.std.specs.Prelude.{◌≡◌, ℕ, ◌+◌, ◌*◌, ◌==◌, Bool, List, [], Option, None, Some, Contains, count_by, find, length, map, slice_index_or, sum_by}
 use Rattle.std.specs.Option.{option_map}
 use Rattle.decimal_rank.specs.Places.{levels}
 use Rattle.decimal_rank.specs.declared.naming.DocId.{DocId}
@@ -14,27 +14,29 @@ pub record ScoreList : Type 0 where
   pub rel : ℕ
   pub low : ℕ
 
--- a topic: how many documents are relevant, how many have a grade and aren't, and the lists of the runs
+-- a topic: the grade from which on a document is relevant, how many documents are, how many have a grade and aren't, and the lists of the runs
 pub record TopicScores : Type 0 where
+  pub level : ℕ
   pub relevant : ℕ
   pub non_relevant : ℕ
   pub lists : List ScoreList
 
--- a board: its level, its topics, and the lengths of the lists for which there is room
+-- a board: its topics, and the lengths of the lists for which there is room
 pub record Scores : Type 0 where
-  pub level : ℕ
   pub topics : List TopicScores
   pub rooms : List ℕ
 
--- a board keeps its level, its topics and their lists: only its room changes
-pub record KeepsScores (old new : Scores) : Type 0 where
-  pub level : new.level ≡ old.level
-  pub topics : new.topics ≡ old.topics
+-- the levels of a board's topics
+abbrev pub levels_of : Scores → List ℕ
+levels_of scores = map (λ topic. topic.level) scores.topics
 
--- a board keeps its level, and how many topics it has
-pub record KeepsShape (old new : Scores) : Type 0 where
-  pub level : new.level ≡ old.level
-  pub topics : length new.topics ≡ length old.topics
+-- a board keeps its topics and their lists: only its room changes
+abbrev pub KeepsScores : Scores → Scores → Type 0
+KeepsScores old new = new.topics ≡ old.topics
+
+-- a board keeps its topics' levels, so as many topics too
+abbrev pub KeepsShape : Scores → Scores → Type 0
+KeepsShape old new = levels_of new ≡ levels_of old
 
 -- whether a list is a run's
 abbrev pub is_of : RunId → ScoreList → Bool
@@ -44,12 +46,15 @@ is_of run list = list.run.0 == run.0
 abbrev pub docs_in : RunId → TopicScores → Option (List DocId)
 docs_in run topic = option_map (λ list. list.docs) (find (is_of run) topic.lists)
 
--- a topic without grades and lists
-abbrev pub new_topic : TopicScores
-new_topic = record { relevant = 0; non_relevant = 0; lists = [] }
+-- a topic of a level without grades and lists
+abbrev pub new_topic : ℕ → TopicScores
+new_topic level = record { level = level; relevant = 0; non_relevant = 0; lists = [] }
+
+abbrev pub no_topic : TopicScores
+no_topic = new_topic 0
 
 abbrev pub topic_at : Scores → ℕ → TopicScores
-topic_at scores topic = slice_index_or scores.topics topic new_topic
+topic_at scores topic = slice_index_or scores.topics topic no_topic
 
 -- the documents of a run on a topic by rank: none where it has no list there
 abbrev pub docs_at : Scores → RunId → ℕ → Option (List DocId)

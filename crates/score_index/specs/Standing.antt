@@ -32,18 +32,22 @@ pub record TopicStandsFor (level : ℕ) (topic : TopicScores) (graded : List Gra
   pub non_relevant_is : topic.non_relevant ≡ non_relevant_of level graded
   pub lists_are : All (ListStandsFor level graded) topic.lists
 
+-- so it is by the topic's own level
+abbrev pub StandsAt : TopicScores → List Graded → Type 0
+StandsAt topic graded = TopicStandsFor topic.level topic graded
+
 -- so it is for each topic, and there are grades for as many topics
 abbrev pub StandsFor : Scores → List (List Graded) → Type 0
-StandsFor scores grades = AllZip (TopicStandsFor scores.level) scores.topics grades
+StandsFor scores grades = AllZip StandsAt scores.topics grades
 
 -- the grades on a topic
 abbrev pub grades_at : List (List Graded) → ℕ → List Graded
 grades_at grades topic = slice_index_or grades topic []
 
 -- a topic stands for grades in which a document has this grade
-pub record StandsWith (level : ℕ) (topic : TopicScores) (doc : DocId) (grade : Option ℕ) : Type 0 where
+pub record StandsWith (topic : TopicScores) (doc : DocId) (grade : Option ℕ) : Type 0 where
   pub graded : List Graded
-  pub stands : TopicStandsFor level topic graded
+  pub stands : StandsAt topic graded
   pub grade_is : effective_in graded doc ≡ grade
 
 -- a topic still has few documents that are relevant, and few that are judged lower, where a document's grade `old` becomes `new`
@@ -64,5 +68,5 @@ abbrev pub is_counted : ℕ → List Graded → Bool
 is_counted level graded = nat_lt 0 (relevant_of level graded + non_relevant_of level graded)
 
 -- the cells of a run on the counted topics
-abbrev pub cells_of : ℕ → RunId → List TopicScores → List (List Graded) → List Cell
-cells_of level run topics grades = map (λ p. cell_from level p.1 (listed_in run p.0)) (filter (λ p. is_counted level p.1) (zip topics grades))
+abbrev pub cells_of : RunId → List TopicScores → List (List Graded) → List Cell
+cells_of run topics grades = map (λ p. cell_from p.0.level p.1 (listed_in run p.0)) (filter (λ p. is_counted p.0.level p.1) (zip topics grades))

@@ -1,13 +1,13 @@
 //! The board of a campaign's scores: the cell of each run on each topic, and the summary of each run.
-ghost use Rattle.std.specs.Prelude.{◌≡◌, ℕ, ◌+◌, ◌-◌, ◌<◌, ◌≤◌, ◌==◌, ◌&&◌, [], None, Some, List, IfOk, OnOk, OnErr, if◌then◌else◌, length, map, replicate, slice_set};
+ghost use Rattle.std.specs.Prelude.{◌≡◌, ℕ, ◌+◌, ◌-◌, ◌<◌, ◌≤◌, ◌^◌, ◌==◌, ◌&&◌, [], None, Some, List, IfOk, OnOk, OnErr, if◌then◌else◌, length, map, replicate, slice_set};
 ghost use Rattle.std.specs.Option.{option_copied};
 ghost use Rattle.depth_pool.specs.declared.runs.RunId.{RunId};
 ghost use Rattle.measures.specs.Cells.{IsSound};
 ghost use Rattle.measures.specs.Means.{IsProper, summary_of};
 ghost use Rattle.qrels_view.specs.Grades.{effective_in, with_grade};
 ghost use Rattle.qrels_view.specs.declared.grades.Graded.{Graded};
-ghost use Rattle.score_index.specs.Scores.{HasRuns, KeepsScores, KeepsShape, docs_at, rooms_for, steps_of, topic_at};
-ghost use Rattle.score_index.specs.Standing.{StandsFor, StandsWith, StaysSmall, TopicStandsFor, cell_from, cells_of, grades_at, listed_in};
+ghost use Rattle.score_index.specs.Scores.{HasRuns, KeepsScores, KeepsShape, docs_at, levels_of, rooms_for, steps_of, topic_at};
+ghost use Rattle.score_index.specs.Standing.{StandsAt, StandsFor, StandsWith, StaysSmall, cell_from, cells_of, grades_at, listed_in};
 
 use crate::lists::{RunList, list_of, take_room};
 use crate::topics::{
@@ -26,7 +26,6 @@ use std::sync::ledger::{Blank, Ledger};
 /// from 0. A board keeps no map of grades: contracts say which grades it stands for.
 #[derive(Drop)]
 pub struct Board {
-    level: u8,
     topics: Vec<Topic>,
     // the places, none of them judged yet, of each list for which there is room
     rooms: Vec<Trees>,
@@ -40,27 +39,25 @@ impl Model for Board {
     ghost Value = { Scores };
 
     ghost view = { λ board. record {
-      level = board.level;
       topics = map seen board.topics.items;
       rooms = map (λ room. length room.relevant) board.rooms.items;
     } };
 
-    ghost invariant = { λ board. IsKept board.level board.topics.items (length board.rooms.items) × All IsRoom board.rooms.items };
+    ghost invariant = { λ board. IsKept board.topics.items (length board.rooms.items) × All IsRoom board.rooms.items };
 }
 
 impl Board {
-    /// So many topics, without grades and lists. A document is relevant where its grade is at least
-    /// the level.
-    pub fn new(alloc: Global, topics: u16, level: u8) -> Result<Board, Memory>
-        ensures level { IfOk result (λ board. board.level ≡ level) }
-        ensures topics { IfOk result (λ board. length board.topics ≡ topics) }
+    /// A topic for each of these levels, without grades and lists. A document is relevant where its
+    /// grade is at least its topic's level.
+    pub fn new(alloc: Global, levels: &[u8]) -> Result<Board, Memory>
+        requires { length levels.now < 2 ^ 16 }
+        ensures levels { IfOk result (λ board. levels_of board ≡ levels.now) }
         ensures lists { IfOk result (λ board. (run : RunId) (topic : ℕ) → docs_at board run topic ≡ None) }
         ensures rooms { IfOk result (λ board. (len : ℕ) → rooms_for len board ≡ 0) }
-        ensures stands { IfOk result (λ board. StandsFor board (replicate topics [])) }
+        ensures stands { IfOk result (λ board. StandsFor board (replicate (length levels.now) [])) }
     {
         Ok(Board {
-            level,
-            topics: new_topics(alloc, topics, level)?,
+            topics: new_topics(alloc, levels)?,
             rooms: Vec::new(alloc),
         })
     }
@@ -95,7 +92,7 @@ impl Board {
         requires topic { topic < length self.old.topics }
         requires room { 0 < rooms_for (length ranking) self.old }
         requires is_new { docs_at self.old run topic ≡ None }
-        requires grades { TopicStandsFor self.old.level (topic_at self.old topic) view.now.graded }
+        requires grades { StandsAt (topic_at self.old topic) view.now.graded }
         ensures stands { (grades : List (List Graded)) → StandsFor self.old grades → StandsFor self.new (slice_set grades topic view.now.graded) }
         ensures lists { (other : RunId) (on : ℕ) → docs_at self.new other on ≡ (if (run.0 == other.0) && (topic == on) then Some ranking else docs_at self.old other on) }
         ensures rooms { (len : ℕ) → rooms_for len self.new ≡ rooms_for len self.old - (if length ranking == len then 1 else 0) }
@@ -104,7 +101,7 @@ impl Board {
         let room = take_room(&mut self.rooms, ranking.len() as usize);
         let topic = &mut self.topics[topic as usize];
         let counts = (topic.relevant, topic.non_relevant);
-        let level = self.level;
+        let level = topic.level;
         let list = RunList::listed::<Brand>(run, ranking, room, view, level, counts, Blank::new(1));
         add_list(topic, list);
     }
@@ -131,8 +128,8 @@ impl Board {
         steps: &mut Steps<L>,
     )
         requires topic { topic < length self.old.topics }
-        requires grade_now { StandsWith self.old.level (topic_at self.old topic) doc old }
-        requires few { StaysSmall self.old.level (topic_at self.old topic) old new }
+        requires grade_now { StandsWith (topic_at self.old topic) doc old }
+        requires few { StaysSmall (topic_at self.old topic).level (topic_at self.old topic) old new }
         ensures stands { (grades : List (List Graded)) → StandsFor self.old grades → effective_in (grades_at grades topic) doc ≡ old
             → StandsFor self.new (slice_set grades topic (with_grade doc new (grades_at grades topic))) }
         ensures lists { (run : RunId) (on : ℕ) → docs_at self.new run on ≡ docs_at self.old run on }
@@ -140,30 +137,29 @@ impl Board {
         ensures shape { KeepsShape self.old self.new }
         ensures cost { (runs : List RunId) → HasRuns runs (topic_at self.old topic) → steps.new ≤ steps.old + steps_of runs (topic_at self.old topic) }
     {
-        let level = self.level;
         let topic = &mut self.topics[topic as usize];
-        regrade(topic, level, doc, old, new, steps);
+        regrade(topic, doc, old, new, steps);
     }
 
     /// The cell of a run on a topic. Without a list there it is that of the empty list.
     pub fn cell(&self, run: RunId, topic: u16) -> &Cell
         requires { topic < length self.now.topics }
         ensures cell { (grades : List (List Graded)) → StandsFor self.now grades
-            → result.now ≡ cell_from self.now.level (grades_at grades topic) (listed_in run (topic_at self.now topic)) }
+            → result.now ≡ cell_from (topic_at self.now topic).level (grades_at grades topic) (listed_in run (topic_at self.now topic)) }
         ensures sound { IsSound result.now }
     {
-        cell_in(&self.topics[topic as usize], self.level, run)
+        cell_in(&self.topics[topic as usize], run)
     }
 
     /// The summary of a run over the counted topics: those where some document has a grade.
     pub fn summary(&self, run: RunId) -> Summary
         ensures summary { (grades : List (List Graded)) → StandsFor self.now grades
-            → result ≡ summary_of (cells_of self.now.level run self.now.topics grades) }
+            → result ≡ summary_of (cells_of run self.now.topics grades) }
         ensures proper { IsProper result }
     {
         let mut totals = Totals::new();
         for topic in &self.topics {
-            add_cell(&mut totals, topic, self.level, run);
+            add_cell(&mut totals, topic, run);
         }
         totals.mean()
     }

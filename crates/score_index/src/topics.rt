@@ -1,4 +1,4 @@
-//! One topic of a board: how many documents are relevant and how many judged lower, and the lists of its runs.
+//! One topic of a board: its level, how many documents are relevant and how many judged lower, and the lists of its runs.
 ghost use Rattle.std.specs.Prelude.{◌≡◌, ℕ, ◌+◌, ◌-◌, ◌<◌, ◌≤◌, ◌^◌, ◌++◌, ◌∷◌, [], All, IfOk, OnOk, List, length, map, if◌then◌else◌, sum_by};
 ghost use Rattle.measures.specs.Cells.{IsSound};
 ghost use Rattle.measures.specs.Totals.{sums_of};
@@ -17,10 +17,11 @@ use measures::{Cell, Totals, scratch};
 use std::alloc::Global;
 use std::sync::ledger::Ledger;
 
-// A topic: how many documents are relevant, how many have a grade and aren't, the cell of a run that
-// has no list, and the runs' lists.
+// A topic: the grade from which on a document is relevant, how many documents are relevant, how
+// many have a grade and aren't, the cell of a run that has no list, and the runs' lists.
 #[derive(Drop)]
 pub(crate) struct Topic {
+    pub(crate) level: u8,
     pub(crate) relevant: u32,
     pub(crate) non_relevant: u32,
     // the cell of the empty list
@@ -28,22 +29,29 @@ pub(crate) struct Topic {
     pub(crate) lists: Vec<RunList>,
 }
 
-// Topics without grades and lists.
-pub(crate) fn new_topics(alloc: Global, count: u16, level: u8) -> Result<Vec<Topic>, Memory>
-    ensures empties { IfOk result (λ topics. All (HasEmptyCell level) topics.items) }
-    ensures topics { IfOk result (λ topics. All (λ topic. seen topic ≡ new_topic) topics.items) }
-    ensures count { IfOk result (λ topics. length topics.items ≡ count) }
+// Topics of these levels, without grades and lists.
+pub(crate) fn new_topics(alloc: Global, levels: &[u8]) -> Result<Vec<Topic>, Memory>
+    ensures empties { IfOk result (λ topics. All HasEmptyCell topics.items) }
+    ensures topics { IfOk result (λ topics. map seen topics.items ≡ map new_topic levels.now) }
 {
-    let mut topics = Vec::with_capacity(alloc, count as usize)?;
-    for _ in 0..count {
-        topics.push(Topic {
-            relevant: 0,
-            non_relevant: 0,
-            empty: scratch(&[], 0, 0, level),
-            lists: Vec::new(alloc),
-        })?;
+    let mut topics = Vec::with_capacity(alloc, levels.len())?;
+    for level in levels {
+        topics.push(new_topic(alloc, *level))?;
     }
     Ok(topics)
+}
+
+fn new_topic(alloc: Global, level: u8) -> Topic
+    ensures empty { HasEmptyCell result }
+    ensures topic { seen result ≡ new_topic level }
+{
+    Topic {
+        level,
+        relevant: 0,
+        non_relevant: 0,
+        empty: scratch(&[], 0, 0, level),
+        lists: Vec::new(alloc),
+    }
 }
 
 // Makes room for so many more lists on each topic.
@@ -92,21 +100,21 @@ fn recount(count: u32, was: bool, is: bool) -> u32
 // Gives a document, whose grade now is `old`, the grade `new`, or takes its grade away.
 pub(crate) fn regrade<L: Ledger>(
     topic: &mut Topic,
-    level: u8,
     doc: DocId,
     old: Option<u8>,
     new: Option<u8>,
     steps: &mut Steps<L>,
 )
-    requires counted { IsCounted level old (seen topic.old) }
-    requires few { StaysSmall level (seen topic.old) old new }
-    requires lists { All (CanRemark doc (is_relevant level old) (is_non_relevant level old)
-        (with_regrade level doc old new (seen topic.old)).relevant (with_regrade level doc old new (seen topic.old)).non_relevant) topic.old.lists.items }
-    ensures seen { seen topic.new ≡ with_regrade level doc old new (seen topic.old) }
-    ensures empty { HasEmptyCell level topic.new }
+    requires counted { IsCounted topic.old.level old (seen topic.old) }
+    requires few { StaysSmall topic.old.level (seen topic.old) old new }
+    requires lists { All (CanRemark doc (is_relevant topic.old.level old) (is_non_relevant topic.old.level old)
+        (with_regrade topic.old.level doc old new (seen topic.old)).relevant (with_regrade topic.old.level doc old new (seen topic.old)).non_relevant) topic.old.lists.items }
+    ensures seen { seen topic.new ≡ with_regrade topic.old.level doc old new (seen topic.old) }
+    ensures empty { HasEmptyCell topic.new }
     ensures places { spare topic.new ≡ spare topic.old }
     ensures cost { steps.new ≤ steps.old + sum_by (λ list. list_steps (Some list.docs)) topic.old.lists.items }
 {
+    let level = topic.level;
     topic.relevant = recount(
         topic.relevant,
         is_relevant(level, old),
@@ -125,9 +133,9 @@ pub(crate) fn regrade<L: Ledger>(
 }
 
 // The cell of a run, which without a list is that of the empty list.
-pub(crate) fn cell_in(topic: &Topic, level: u8, run: RunId) -> &Cell
+pub(crate) fn cell_in(topic: &Topic, run: RunId) -> &Cell
     requires kept { IsTopicKept (seen topic.now) }
-    requires empty { HasEmptyCell level topic.now }
+    requires empty { HasEmptyCell topic.now }
     ensures cell { result.now ≡ kept_cell run (seen topic.now) }
     ensures sound { IsSound result.now }
 {
@@ -138,15 +146,15 @@ pub(crate) fn cell_in(topic: &Topic, level: u8, run: RunId) -> &Cell
 }
 
 // Adds the cell of a run where the topic has a document with a grade.
-pub(crate) fn add_cell(totals: &mut Totals, topic: &Topic, level: u8, run: RunId)
+pub(crate) fn add_cell(totals: &mut Totals, topic: &Topic, run: RunId)
     requires few { totals.old.topics + 1 < 2 ^ 32 }
     requires kept { IsTopicKept (seen topic.now) }
-    requires empty { HasEmptyCell level topic.now }
+    requires empty { HasEmptyCell topic.now }
     ensures sums { (cells : List OneCell) → totals.old ≡ sums_of cells
         → totals.new ≡ sums_of (cells ++ (if has_grades (seen topic.now) then kept_cell run (seen topic.now) ∷ [] else [])) }
     ensures topics { totals.new.topics ≤ totals.old.topics + 1 }
 {
     if topic.relevant + topic.non_relevant > 0 {
-        totals.add(cell_in(topic, level, run));
+        totals.add(cell_in(topic, run));
     }
 }

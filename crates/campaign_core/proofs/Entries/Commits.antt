@@ -33,7 +33,7 @@ use Rattle.rulebook.specs.Leases.{Lease, ends, lease_in, leases}
 use Rattle.rulebook.specs.Spelling.{differ}
 use Rattle.campaign_core.specs.Growth.{BeginsWith, lists_in}
 use Rattle.campaign_core.specs.Kept.{IsAssessmentOf, IsFew, IsKnown, IsReady, IsUnjudged}
-use Rattle.campaign_core.specs.Labelling.{IsLabelled, graded_in}
+use Rattle.campaign_core.specs.Labelling.{IsLabelled}
 use Rattle.campaign_core.specs.Leasing.{IsLeased, is_known, topic_in}
 use Rattle.campaign_core.specs.Numbers.{doc_in, docs_in, names_of}
 use Rattle.campaign_core.specs.Changes.{CarriesOut, phase_after}
@@ -56,7 +56,7 @@ use Rattle.campaign_core.proofs.Entries.LabelSteps.{GivenFollow, GivenStay, Ruli
 use Rattle.campaign_core.proofs.Entries.GrowingNames.{labelled-grows, leased-grows}
 use Rattle.campaign_core.proofs.Entries.LeaseSteps.{leased-ended, leased-granted}
 use Rattle.campaign_core.proofs.Entries.Legality.{IsLegal-push, moment_after-push}
-use Rattle.assessment.proofs.ListFacts.{each_cons}
+use Rattle.assessment.proofs.ListFacts.{each_cons, map-map}
 use Rattle.campaign_core.proofs.Lists.Elements.{both_true, get-map, map-at_place, map-at_same}
 use Rattle.campaign_core.proofs.Entries.FittingChanges.{as-many, some-topic, topic-at, within-topics}
 use Rattle.campaign_core.proofs.Entries.ListSteps.{lists-without, none-listed, run-lists}
@@ -320,8 +320,11 @@ module _ (laws : Laws) where
   new-few n [] = λ k d within. absurd (omega (arith, within))
   new-few n (t ∷ given) = each_cons (IsFew n) (unlabelled t.id) (map (λ (topic : Topic). unlabelled topic.id) given) (record { few_labels = λ doc. omega arith; few_grades = omega arith }) (new-few n given)
 
-  same-level : (s : Campaign) (e : Entry) → IsKnown s → (facts s.assessment).topics.level ≡ (rules_of (s.history.items ++ e ∷ [])).level
-  same-level s e kept_s = kept_s.assessed.level_is ∙ ap (λ (r : Rules). r.level) (sym (rules-stay s.history.items e kept_s.legal))
+  same-levels : (s : Campaign) (e : Entry) → IsKnown s → topic_ids (s.history.items ++ e ∷ []) ≡ topic_ids s.history.items
+      → (facts s.assessment).topics.levels ≡ map (λ id. (rules_of (s.history.items ++ e ∷ [])).level) (topic_ids (s.history.items ++ e ∷ []))
+  same-levels s e kept_s ids_are =
+      kept_s.assessed.levels_are ∙ ap (λ (r : Rules). map (λ (id : Text). r.level) (topic_ids s.history.items)) (sym (rules-stay s.history.items e kept_s.legal))
+      ∙ ap (map (λ (id : Text). (rules_of (s.history.items ++ e ∷ [])).level)) (sym ids_are)
 
   same-lists : (s : Campaign) (e : Entry) → IsKnown s → IsPlain e.core.command → (run : RunId) (on : ℕ)
       → (facts s.assessment).topics.lists run on ≡ list_in (names_of (s.history.items ++ e ∷ [])) (topic_ids (s.history.items ++ e ∷ [])) (run_at (s.history.items ++ e ∷ []) run) on
@@ -349,7 +352,7 @@ module _ (laws : Laws) where
           topics_fit = rw ids_are kept_s.assessed.knows.topics_fit;
         };
         few = subst (λ n. All (IsFew n) (map labelled_of (topics_of s))) (one-longer H e) (all-few (length H) (map labelled_of (topics_of s)) kept_s.assessed.few);
-        level_is = same-level s e kept_s;
+        levels_are = same-levels s e kept_s ids_are;
         lists_are = same-lists s e kept_s plain;
       }
 
@@ -374,7 +377,7 @@ module _ (laws : Laws) where
           topics_fit = rw ids_are kept_s.assessed.knows.topics_fit;
         };
         few = subst (λ n. All (IsFew n) now) (one-longer H e) (labels.1 now now_is);
-        level_is = same-level s e kept_s;
+        levels_are = same-levels s e kept_s ids_are;
         lists_are = same-lists s e kept_s plain;
       }
 
@@ -436,7 +439,8 @@ module _ (laws : Laws) where
             topics_fit = rw ids_are (omega (arith, length-map given (λ (t : Topic). t.id), topics-few H given e.reply ruled));
           };
           few = subst (All (IsFew (length J))) (sym labelled_is) (new-few (length J) given);
-          level_is = is_new.level_is ∙ ap (λ (r : Rules). r.level) (sym rules_are);
+          levels_are = is_new.levels_are ∙ ap (λ (r : Rules). map (λ (topic : Topic). r.level) given) (sym rules_are)
+              ∙ sym (map-map (λ (id : Text). (rules_of J).level) (λ (topic : Topic). topic.id) given) ∙ ap (map (λ (id : Text). (rules_of J).level)) (sym ids_are);
           lists_are = λ run on.
               ap (λ (lists : RankedLists). lists run on) is_new.empty ∙ sym (ap (λ (rs : List Run). list_in (names_of J) (topic_ids J) (option_and_then (unless_withdrawn J) (slice_get rs run.0)) on) none_run ∙ none-listed (names_of J) (topic_ids J) on);
         };
@@ -480,7 +484,7 @@ module _ (laws : Laws) where
             topics_fit = rw ids_are kept_s.assessed.knows.topics_fit;
           };
           few = subst (All (IsFew (length J))) (sym labelled_is) (subst (λ n. All (IsFew n) (map labelled_of ts)) (one-longer H e) (all-few (length H) (map labelled_of ts) kept_s.assessed.few));
-          level_is = same-level s e kept_s;
+          levels_are = same-levels s e kept_s ids_are;
           lists_are = λ other on.
               ap (λ (ls : List (List DocId)). with_lists run ls (facts s.assessment).topics.lists other on) listed
               ∙ run-lists H J new run ts (facts s.assessment).topics.lists number run_is withdrawn_are live grown (state-ids H ts (topic_ids H) kept_s.assessed.knows.topics_are) ids_are kept_s.assessed.lists_are other on;
@@ -521,7 +525,7 @@ module _ (laws : Laws) where
             topics_fit = rw ids_are kept_s.assessed.knows.topics_fit;
           };
           few = subst (All (IsFew (length J))) (sym labelled_is) (subst (λ n. All (IsFew n) (map labelled_of ts)) (one-longer H e) (all-few (length H) (map labelled_of ts) kept_s.assessed.few));
-          level_is = same-level s e kept_s;
+          levels_are = same-levels s e kept_s ids_are;
           lists_are = lists-without H J name run (facts s.assessment).topics.lists runs_are withdrawn_are kept_s.runs_known.names_differ place names_are ids_are kept_s.assessed.lists_are;
         };
         unjudged = λ collecting.

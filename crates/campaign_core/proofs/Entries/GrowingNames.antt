@@ -1,12 +1,11 @@
 -- The labels and the leases where an entry gives none, and documents join the names.
-use Rattle.std.proofs.Common.{◌≡◌, ◌||◌, ◌&&◌, ◌<◌, ◌≤◌, ◌+◌, ℕ, suc, Bool, true, false, cond, not, List, [], ◌∷◌, ◌++◌, None, drop, length, length-append, map, subst, refl, sym, ap, ◌∙◌, arith}
+use Rattle.std.proofs.Common.{◌≡◌, ◌||◌, ◌<◌, ◌≤◌, ◌+◌, ℕ, suc, Bool, true, false, cond, not, List, [], ◌∷◌, ◌++◌, drop, length, length-append, map, subst, refl, sym, ap, ◌∙◌, arith}
 use Rattle.std.specs.List.{list_all, list_any, position_or_len}
 use Rattle.std.specs.Str.{bytes_eq}
 use Rattle.std.proofs.lemmas.List.{take-append-drop}
 use Rattle.std.proofs.lemmas.List.Folds.{list_any-append}
 use Rattle.decimal_rank.specs.declared.naming.DocId.{DocId}
 use Rattle.labels.specs.Marked.{given_at, ruling_at}
-use Rattle.labels.specs.declared.given.Given.{Given}
 use Rattle.lease_desk.specs.declared.leases.Lease.{Lease as DeskLease}
 use Rattle.qrels_view.specs.declared.grades.Graded.{Graded}
 use Rattle.rulebook.specs.Words.{Text, contains_text}

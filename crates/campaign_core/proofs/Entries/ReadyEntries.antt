@@ -81,9 +81,9 @@ founded-submissions H rules all is none = rw (is, none) (record { places_are = r
 pub founded-runs : (H : History) (rules : Rules) → H ≡ founding rules ∷ [] → RunsAreKnown H
 founded-runs H rules is = rw is (record { names_differ = refl; withdrawn_taken = λ name away. cc away })
 
-pub founded-assessed : (H : History) (rules : Rules) (known : Facts) → H ≡ founding rules ∷ [] → known ≡ record { topics = new_topics [] rules.level; leases = [] } → IsAssessmentOf H known
+pub founded-assessed : (H : History) (rules : Rules) (known : Facts) → H ≡ founding rules ∷ [] → known ≡ record { topics = new_topics []; leases = [] } → IsAssessmentOf H known
 founded-assessed H rules known is known_is =
-    let start : Facts = record { topics = new_topics [] rules.level; leases = [] } in
+    let start : Facts = record { topics = new_topics []; leases = [] } in
     let first : IsAssessmentOf (founding rules ∷ []) start = record {
       knows = record {
         topics_are = refl;
@@ -93,14 +93,14 @@ founded-assessed H rules known is known_is =
         topics_fit = omega arith;
       };
       few = λ k d within. absurd (omega (arith, within));
-      level_is = refl;
+      levels_are = refl;
       lists_are = λ run on. refl;
     } in
     subst (λ (H : History). IsAssessmentOf H known) (sym is) (subst (IsAssessmentOf (founding rules ∷ [])) (sym known_is) first)
 
-pub founded-unjudged : (H : History) (rules : Rules) (known : Facts) → H ≡ founding rules ∷ [] → known ≡ record { topics = new_topics [] rules.level; leases = [] } → IsUnjudged H (map labelled_of known.topics.topics)
+pub founded-unjudged : (H : History) (rules : Rules) (known : Facts) → H ≡ founding rules ∷ [] → known ≡ record { topics = new_topics []; leases = [] } → IsUnjudged H (map labelled_of known.topics.topics)
 founded-unjudged H rules known is known_is =
-    let start : Facts = record { topics = new_topics [] rules.level; leases = [] } in
+    let start : Facts = record { topics = new_topics []; leases = [] } in
     let first : IsUnjudged (founding rules ∷ []) (map labelled_of start.topics.topics) = record {
       no_lease = refl;
       no_label = refl;

@@ -4,7 +4,7 @@ use Rattle.std.specs.Option.{option_map_or}
 use Rattle.std.proofs.lemmas.Option.{slice_get-get_or}
 use Rattle.depth_pool.specs.declared.runs.RunId.{RunId}
 use Rattle.lease_desk.specs.declared.leases.Lease.{Lease}
-use Rattle.score_index.specs.Scores.{Scores, docs_at}
+use Rattle.score_index.specs.Scores.{Scores, docs_at, levels_of}
 use Rattle.score_index.specs.Standing.{StandsFor}
 use Rattle.assessment.specs.RunLists.{RankedLists}
 use Rattle.assessment.specs.TopicFacts.{TopicView, facts_of, graded_of as graded_in}
@@ -21,28 +21,28 @@ use Rattle.campaign_core.specs.declared.campaign.Campaign.{Campaign}
 use Rattle.assessment.proofs.ListFacts.{map-map}
 
 pub knows-run : (H : History) (all : TopicsView) (items : List TopicView) (board : Scores) (desk : List Lease) (number : RunId) (run : Run) → IsLegal H → KnowsAll H (told all).topics desk
-    → (told all).level ≡ (rules_of H).level → AreListed H (names_of H) (told all).lists → items ≡ all.topics → board ≡ all.board → StandsFor board (map graded_in all.topics)
+    → (told all).levels ≡ map (λ id. (rules_of H).level) (topic_ids H) → AreListed H (names_of H) (told all).lists → items ≡ all.topics → board ≡ all.board → StandsFor board (map graded_in all.topics)
     → run_at H number ≡ Some run → KnowsRun H (map facts_of items) board number run
-knows-run H all items board desk number run legal knows level_is lists_are items_are board_is stands run_is = record {
+knows-run H all items board desk number run legal knows levels_are lists_are items_are board_is stands run_is = record {
   legal = legal;
   desk = desk;
   knows = subst (λ (topics : List TopicView). KnowsAll H (map facts_of topics) desk) (sym items_are) knows;
   scored = record {
-    level_is = ap (λ (b : Scores). b.level) board_is ∙ level_is;
+    levels_are = ap levels_of board_is ∙ levels_are;
     stands = subst (StandsFor board) (sym (ap (λ (topics : List TopicView). map graded_of (map facts_of topics)) items_are ∙ map-map graded_of facts_of all.topics)) stands;
     lists_are = λ run on d within. ap (λ (b : Scores). docs_at b run on) board_is ∙ lists_are run on d within;
   };
   run_is = run_is;
 }
 
-pub board-of : (H : History) (all : TopicsView) (board : Scores) (desk : List Lease) → KnowsAll H (told all).topics desk → (told all).level ≡ (rules_of H).level
+pub board-of : (H : History) (all : TopicsView) (board : Scores) (desk : List Lease) → KnowsAll H (told all).topics desk → (told all).levels ≡ map (λ id. (rules_of H).level) (topic_ids H)
     → AreListed H (names_of H) (told all).lists → board ≡ all.board → StandsFor board (map graded_in all.topics) → IsBoardOf H board
-board-of H all board desk knows level_is lists_are board_is stands = record {
+board-of H all board desk knows levels_are lists_are board_is stands = record {
   topics = map facts_of all.topics;
   desk = desk;
   knows = knows;
   scored = record {
-    level_is = ap (λ (b : Scores). b.level) board_is ∙ level_is;
+    levels_are = ap levels_of board_is ∙ levels_are;
     stands = subst (StandsFor board) (sym (map-map graded_of facts_of all.topics)) stands;
     lists_are = λ run on d within. ap (λ (b : Scores). docs_at b run on) board_is ∙ lists_are run on d within;
   };
@@ -60,6 +60,6 @@ known-run campaign all items board number run known all_is items_are board_is st
     let H = campaign.history.items in
     knows-run H all items board campaign.assessment.leases number run known.legal
     (subst (λ (all : TopicsView). KnowsAll H (told all).topics campaign.assessment.leases) (sym all_is) known.assessed.knows)
-    (ap (λ (all : TopicsView). (told all).level) all_is ∙ known.assessed.level_is)
+    (ap (λ (all : TopicsView). (told all).levels) all_is ∙ known.assessed.levels_are)
     (subst (λ (all : TopicsView). AreListed H (names_of H) (told all).lists) (sym all_is) (listed-at H (names_of H) _ known.assessed.lists_are))
     items_are board_is stands run_is

@@ -35,7 +35,7 @@ pub(crate) fn topics_decision(
     }
     let rules = campaign.rules();
     let made = topic_rules(alloc, topics, rules)?;
-    let numbered = Topics::new(alloc, made, rules.level)?;
+    let numbered = Topics::new(alloc, made)?;
     let reply = Reply::Topics {
         topics: topics.len() as u32,
     };

@@ -32,16 +32,16 @@ module _ {A B : Type 0} (R : A → B → Type 0) where
   zip-replicate (a ∷ xs) y all = (All-head (λ x. R x y) a xs all, zip-replicate xs y (All-tail (λ x. R x y) a xs all))
 
   -- what two functions give of those pairs that pass
-  pub chosen_alike : {C : Type 0} (p : A → Bool) (q : B → Bool) (f : A → C) (g : A → B → C) → ((x : A) (y : B) → R x y → p x ≡ q y) → ((x : A) (y : B) → R x y → f x ≡ g x y)
-      → (xs : List A) (ys : List B) → AllZip R xs ys → map f (filter p xs) ≡ map (λ (r : A × B). g r.0 r.1) (filter (λ (r : A × B). q r.1) (zip xs ys))
+  pub chosen_alike : {C : Type 0} (p : A → Bool) (q : A → B → Bool) (f : A → C) (g : A → B → C) → ((x : A) (y : B) → R x y → p x ≡ q x y) → ((x : A) (y : B) → R x y → f x ≡ g x y)
+      → (xs : List A) (ys : List B) → AllZip R xs ys → map f (filter p xs) ≡ map (λ (r : A × B). g r.0 r.1) (filter (λ (r : A × B). q r.0 r.1) (zip xs ys))
   chosen_alike p q f g tests gives [] [] all = refl
   chosen_alike p q f g tests gives [] (b ∷ ys) all = absurd all
   chosen_alike p q f g tests gives (a ∷ xs) [] all = absurd all
   chosen_alike {C} p q f g tests gives (a ∷ xs) (b ∷ ys) all =
-      ap (λ t. map f (cond t (a ∷ filter p xs) (filter p xs))) (tests a b all.0) ∙ step (q b) (chosen_alike p q f g tests gives xs ys all.1)
+      ap (λ t. map f (cond t (a ∷ filter p xs) (filter p xs))) (tests a b all.0) ∙ step (q a b) (chosen_alike p q f g tests gives xs ys all.1)
     where
       later : List (A × B)
-      later = filter (λ (r : A × B). q r.1) (zip xs ys)
+      later = filter (λ (r : A × B). q r.0 r.1) (zip xs ys)
 
       step : (t : Bool) → map f (filter p xs) ≡ map (λ (r : A × B). g r.0 r.1) later
           → map f (cond t (a ∷ filter p xs) (filter p xs)) ≡ map (λ (r : A × B). g r.0 r.1) (cond t ((a, b) ∷ later) later)

@@ -18,7 +18,7 @@ use Rattle.score_index.specs.Kept.{AreByRun, IsListKept, IsTopicKept, has_grades
 use Rattle.score_index.specs.KeptSums.{CanFollow, CanRemark, IsAt}
 use Rattle.score_index.specs.Places.{cell_by}
 use Rattle.score_index.specs.Scores.{ScoreList, TopicScores, docs_in, is_of}
-use Rattle.score_index.specs.Standing.{ListStandsFor, TopicStandsFor, cell_from, cells_of, grades_by_rank, is_counted, listed_in, non_relevant_of, relevant_of}
+use Rattle.score_index.specs.Standing.{ListStandsFor, StandsAt, TopicStandsFor, cell_from, cells_of, grades_by_rank, is_counted, listed_in, non_relevant_of, relevant_of}
 use Rattle.score_index.proofs.Cells.ByPlaces.{by-places, count-map}
 use Rattle.score_index.proofs.Regrading.Grading.{count-with_grade, effective-with_grade, listed_within, put-map}
 use Rattle.score_index.proofs.Keeping.ListsByRun.{others_have, placed-all, placed-ordered}
@@ -229,10 +229,10 @@ cell_is level run topic graded stands =
     lower_are = listed_alike (is_non_relevant level) (λ list. list.lower) graded run topic.lists (λ k d within. (stands.lists_are k d within).lower_are)
         ∙ sym (map-map (is_non_relevant level) (effective_in graded) (listed_in run topic))
 
-pub cells_are : (level : ℕ) (run : RunId) (topics : List TopicScores) (grades : List (List Graded)) → AllZip (TopicStandsFor level) topics grades
-    → kept_cells run topics ≡ cells_of level run topics grades
-cells_are level run topics grades stands =
-    chosen_alike (TopicStandsFor level) has_grades (is_counted level) (kept_cell run) (λ topic graded. cell_from level graded (listed_in run topic))
-    (λ topic graded one. ap (λ r. nat_lt 0 (r + topic.non_relevant)) one.relevant_is ∙ ap (λ n. nat_lt 0 (relevant_of level graded + n)) one.non_relevant_is)
-    (λ topic graded one. cell_is level run topic graded one)
+pub cells_are : (run : RunId) (topics : List TopicScores) (grades : List (List Graded)) → AllZip StandsAt topics grades
+    → kept_cells run topics ≡ cells_of run topics grades
+cells_are run topics grades stands =
+    chosen_alike StandsAt has_grades (λ topic graded. is_counted topic.level graded) (kept_cell run) (λ topic graded. cell_from topic.level graded (listed_in run topic))
+    (λ topic graded one. ap (λ r. nat_lt 0 (r + topic.non_relevant)) one.relevant_is ∙ ap (λ n. nat_lt 0 (relevant_of topic.level graded + n)) one.non_relevant_is)
+    (λ topic graded one. cell_is topic.level run topic graded one)
     topics grades stands

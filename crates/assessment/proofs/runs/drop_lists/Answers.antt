@@ -33,12 +33,12 @@ loop-list-preserved c =
     let scores : KeepsScores was now =
     elim c.if-len-gt0.branch [
       | then-len-gt0 w ↦ subst (KeepsScores was) (sym w.board-is) w.drop_room.ensures.scores
-      | else-len-gt0 w ↦ subst (KeepsScores was) (sym w.board-is) (record { level = refl; topics = refl })
+      | else-len-gt0 w ↦ subst (KeepsScores was) (sym w.board-is) refl
     ] in
     record {
       rooms = λ len. left-rooms (has_length len) c.args.lists.now c.loop-list.list-index docs _ _ c.loop-list-test.true (c.loop-list.invariant.rooms len)
           (rooms len ∙ ap (λ (list : List DocId). rooms_for len was - (if has_length len list then 1 else 0)) c.list-item.is);
-      scores = record { level = scores.level ∙ c.loop-list.invariant.scores.level; topics = scores.topics ∙ c.loop-list.invariant.scores.topics };
+      scores = scores ∙ c.loop-list.invariant.scores;
     }
 
 pub returns-clause-none : goal.returns-clause-none

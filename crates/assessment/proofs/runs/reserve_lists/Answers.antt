@@ -14,10 +14,7 @@ pub loop-count-preserved : goal.loop-count-preserved
 loop-count-preserved c = record {
   rooms = λ len. made-rooms (has_length len) c.args.lists.now c.loop-count.count c.index-lists-count.result _ _ c.loop-count-test.true (c.loop-count.invariant.rooms len)
       (c.in_default.ensures.room len ∙ ap (λ (docs : List DocId). rooms_for len c.loop-count.board + (if has_length len docs then 1 else 0)) c.index-lists-count.is);
-  scores = record {
-    level = c.reserve_list.ensures.scores.level ∙ c.loop-count.invariant.scores.level;
-    topics = c.reserve_list.ensures.scores.topics ∙ c.loop-count.invariant.scores.topics;
-  };
+  scores = c.reserve_list.ensures.scores ∙ c.loop-count.invariant.scores;
 }
 
 pub returns-clause-ok : goal.returns-clause-ok

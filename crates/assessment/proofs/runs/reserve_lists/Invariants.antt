@@ -1,4 +1,4 @@
--- The board has room for the lists so far, and its level and its topics stay.
+-- The board has room for the lists so far, and its topics stay.
 use Rattle.std.proofs.Common.{◌≡◌, ℕ, take}
 use Rattle.std.specs.Prelude.{count_by}
 use Rattle.score_index.specs.Scores.{KeepsScores, rooms_for}

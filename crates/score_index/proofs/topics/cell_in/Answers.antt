@@ -26,8 +26,8 @@ returns-in-Some-clause-sound c =
 pub returns-in-None-clause-cell : goal.returns-in-None-clause-cell
 returns-in-None-clause-cell c =
     let none : find (is_of c.args.run) c.args.topic.now.lists.items ≡ None = search rules in
-    c.requires.empty ∙ empty-cell c.args.level c.args.run (seen c.args.topic.now) none
+    c.requires.empty ∙ empty-cell c.args.topic.now.level c.args.run (seen c.args.topic.now) none
 
 pub returns-in-None-clause-sound : goal.returns-in-None-clause-sound
 returns-in-None-clause-sound c =
-    subst IsSound (sym (c.requires.empty ∙ by-places [] c.args.topic.now.relevant c.args.topic.now.non_relevant c.args.level)) (cell-sound [] [] c.args.topic.now.relevant c.args.topic.now.non_relevant (omega arith))
+    subst IsSound (sym (c.requires.empty ∙ by-places [] c.args.topic.now.relevant c.args.topic.now.non_relevant c.args.topic.now.level)) (cell-sound [] [] c.args.topic.now.relevant c.args.topic.now.non_relevant (omega arith))

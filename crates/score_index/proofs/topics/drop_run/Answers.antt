@@ -9,7 +9,7 @@ use Rattle.score_index.proofs.topics.drop_run.Goals as goal
 pub loop-topic-init : goal.loop-topic-init
 loop-topic-init c = record {
   mapped = none_mapped {X = Topic} {Z = TopicScores} seen (λ topic. without_lists c.args.run (seen topic)) c.args.topics.now;
-  kept = record { empties = λ level all. all; places = λ least all. all };
+  kept = record { empties = λ all. all; places = λ least all. all };
 }
 
 pub loop-topic-preserved : goal.loop-topic-preserved
@@ -23,7 +23,7 @@ loop-topic-preserved c =
     let are : seen new ≡ without_lists c.args.run (seen item) = ap with_lists c.drop_lists.ensures.items in
     record {
       mapped = one_more_mapped {X = Topic} {Z = TopicScores} seen (λ topic. without_lists c.args.run (seen topic)) c.args.topics.now topics i new c.topic-item.result c.loop-topic-test.true are c.loop-topic.invariant.mapped;
-      kept = places_set c.topic-item.result new c.loop-topic.invariant.kept within (λ level held. held) (omega (arith, c.drop_lists.ensures.len, c.drop_lists.ensures.capacity));
+      kept = places_set c.topic-item.result new c.loop-topic.invariant.kept within (λ held. held) (omega (arith, c.drop_lists.ensures.len, c.drop_lists.ensures.capacity));
     }
 
 pub returns-clause-seen : goal.returns-clause-seen

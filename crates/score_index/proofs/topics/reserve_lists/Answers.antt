@@ -24,7 +24,7 @@ seen_are c =
     map-set_same seen c.loop-topic.topics c.loop-topic.topic-index (roomy c) c.topic-item.result (within c) are ∙ c.loop-topic.invariant.seen_are
 
 kept : (c : After-reserve) → KeepsPlaces c.args.topics.now (set c.loop-topic.topics c.loop-topic.topic-index (roomy c))
-kept c = places_set c.topic-item.result (roomy c) c.loop-topic.invariant.kept (within c) (λ level held. held) (omega (arith, c.reserve.ensures.len, c.reserve.ensures.capacity))
+kept c = places_set c.topic-item.result (roomy c) c.loop-topic.invariant.kept (within c) (λ held. held) (omega (arith, c.reserve.ensures.len, c.reserve.ensures.capacity))
 
 pub loop-topic-preserved : goal.loop-topic-preserved
 loop-topic-preserved c =

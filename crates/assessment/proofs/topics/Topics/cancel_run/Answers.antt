@@ -12,13 +12,13 @@ pub invariant_of-self : goal.invariant_of-self
 invariant_of-self c =
     let all = c.self.inside in
     let scores = c.drop_lists.ensures.scores in
-    standing-same all.topics.items all.topics.items c.drop_lists.new.board all.board refl scores.topics scores.level c.self.invariant
+    standing-same all.topics.items all.topics.items c.drop_lists.new.board all.board refl scores c.self.invariant
 
 pub returns : goal.returns
 returns c =
     let all = c.self.inside in
     let scores = c.drop_lists.ensures.scores in
     record {
-      facts = told-same all.topics.items all.topics.items c.drop_lists.new.board all.board refl scores.topics scores.level ∙ ap told c.self.view_is;
+      facts = told-same all.topics.items all.topics.items c.drop_lists.new.board all.board refl scores ∙ ap told c.self.view_is;
       none = c.drop_lists.ensures.none;
     }

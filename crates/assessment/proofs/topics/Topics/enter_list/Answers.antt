@@ -31,7 +31,7 @@ invariant_of-self-else-len-gt0 c = left-standing (on_topic (goal.at.invariant_of
 pub returns-then-len-gt0-clause-facts : goal.returns-then-len-gt0-clause-facts
 returns-then-len-gt0-clause-facts c =
     let entered = on_topic (goal.at.returns-then-len-gt0-clause-facts c).After-len in
-    entered-facts entered c.add_run.new.self (list-there entered c.add_run.new.self (omega (arith, c.len.ensures.len, c.if-len-gt0.true)) c.add_run.ensures.lists) c.add_run.ensures.shape.level
+    entered-facts entered c.add_run.new.self (list-there entered c.add_run.new.self (omega (arith, c.len.ensures.len, c.if-len-gt0.true)) c.add_run.ensures.lists) c.add_run.ensures.shape
     ∙ ap (after_list c.args.number c.args.run c.args.list) (ap told c.self.view_is)
 
 pub returns-else-len-gt0-clause-facts : goal.returns-else-len-gt0-clause-facts

@@ -38,7 +38,7 @@ returns c =
     subst (λ (topics : List TopicView). Becomes (after_withdrawal c.args.run (told c.args.self.now)) c.args.self.now (record { topics = topics; board = later })) (sym (with_items_is all.topics new long))
     (record {
       facts = told-is new later (after_withdrawal c.args.run (told_by all.topics.items all.board))
-          (c.leave_each.ensures ∙ ap (λ (ts : List TopicView). map (without_list c.args.run) (map facts_of ts)) c.deref_mut.ensures.value) c.drop_run.ensures.lists c.drop_run.ensures.shape.level
+          (c.leave_each.ensures ∙ ap (λ (ts : List TopicView). map (without_list c.args.run) (map facts_of ts)) c.deref_mut.ensures.value) c.drop_run.ensures.lists c.drop_run.ensures.shape
           ∙ ap (after_withdrawal c.args.run) (ap told c.self.view_is);
       rooms = c.drop_run.ensures.rooms ∙ ap (λ (v : TopicsView). v.board.rooms) c.self.view_is;
     })

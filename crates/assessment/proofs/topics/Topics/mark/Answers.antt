@@ -1,7 +1,7 @@
 use Rattle.std.proofs.Common.{◌≤◌, ◌+◌, ◌∙◌, ℕ, ap, map, subst, sym}
 use Rattle.decimal_rank.specs.declared.naming.DocId.{DocId}
 use Rattle.score_index.specs.Scores.{topic_at}
-use Rattle.score_index.specs.Standing.{TopicStandsFor, grades_at}
+use Rattle.score_index.specs.Standing.{StandsAt, grades_at}
 use Rattle.assessment.specs.Costs.{HaveLists, grade_steps}
 use Rattle.assessment.specs.TopicFacts.{graded_of}
 use Rattle.assessment.specs.TopicsFacts.{TopicsView, after_mark, told, topic_of}
@@ -18,7 +18,7 @@ marked g c =
 
 -- the board stands for the grades before
 stands : (g : Over) (c : After-effective-new g)
-    → TopicStandsFor c.self.inside.board.level (topic_at c.self.inside.board c.place-number.result.0) (grades_at (map graded_of c.self.inside.topics.items) c.place-number.result.0)
+    → StandsAt (topic_at c.self.inside.board c.place-number.result.0) (grades_at (map graded_of c.self.inside.topics.items) c.place-number.result.0)
 stands g c = c.each_topic_stands.ensures c.self.inside.board (map graded_of c.self.inside.topics.items) c.place-number.result.0 (board-within (marked g c)) c.self.invariant.stands
 
 pub regrade-requires-clause-topic : goal.regrade-requires-clause-topic
@@ -40,7 +40,7 @@ invariant_of-self g c =
 
 pub returns-clause-facts : goal.returns-clause-facts
 returns-clause-facts g c = record {
-  facts = marked-facts (marked g (goal.at.returns-clause-facts g c).After-effective-new) c.regrade.new.self c.regrade.ensures.lists c.regrade.ensures.shape.level ∙ ap (after_mark c.args.mark) (ap told c.self.view_is);
+  facts = marked-facts (marked g (goal.at.returns-clause-facts g c).After-effective-new) c.regrade.new.self c.regrade.ensures.lists c.regrade.ensures.shape ∙ ap (after_mark c.args.mark) (ap told c.self.view_is);
   rooms = c.regrade.ensures.rooms ∙ ap (λ (v : TopicsView). v.board.rooms) c.self.view_is;
 }
 

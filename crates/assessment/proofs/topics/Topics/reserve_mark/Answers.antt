@@ -14,7 +14,7 @@ invariant_of-self c =
     let new = c.reserve_mark.new.self in
     let within : c.args.number < length topics = omega (arith, c.requires, ap (λ (v : TopicsView). length v.topics) c.self.view_is) in
     let same = map-set_same facts_of topics c.args.number new c.index_mut.result.now within (search rules) in
-    standing-same (set topics c.args.number new) topics all.board all.board same refl refl c.self.invariant
+    standing-same (set topics c.args.number new) topics all.board all.board same refl c.self.invariant
 
 pub returns-clause-room : goal.returns-clause-room
 returns-clause-room c =
@@ -33,6 +33,6 @@ returns-clause-unchanged c =
     let within : c.args.number < length topics = omega (arith, c.requires, ap (λ (v : TopicsView). length v.topics) c.self.view_is) in
     let same = map-set_same facts_of topics c.args.number new c.index_mut.result.now within (search rules) in
     record {
-      facts = told-same (set topics c.args.number new) topics all.board all.board same refl refl ∙ ap told c.self.view_is;
+      facts = told-same (set topics c.args.number new) topics all.board all.board same refl ∙ ap told c.self.view_is;
       rooms = ap (λ (v : TopicsView). v.board.rooms) c.self.view_is;
     }

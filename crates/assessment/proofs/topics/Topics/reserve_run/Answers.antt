@@ -14,7 +14,7 @@ invariant_of-self c =
     let new : List TopicView = c.reserve_places.new.topics in
     let long : length new ≡ all.topics.len = c.reserve_places.auto.topics ∙ c.deref_mut.ensures.len in
     subst (λ (topics : List TopicView). IsStanding topics all.board) (sym (with_items_is all.topics new long))
-    (standing-same new all.topics.items all.board all.board (c.reserve_places.ensures.facts ∙ ap (map facts_of) c.deref_mut.ensures.value) refl refl c.self.invariant)
+    (standing-same new all.topics.items all.board all.board (c.reserve_places.ensures.facts ∙ ap (map facts_of) c.deref_mut.ensures.value) refl c.self.invariant)
 
 pub invariant_of-self-2 : goal.invariant_of-self-2
 invariant_of-self-2 c =
@@ -22,7 +22,7 @@ invariant_of-self-2 c =
     let new : List TopicView = c.reserve_places.new.topics in
     let long : length new ≡ all.topics.len = c.reserve_places.auto.topics ∙ c.deref_mut.ensures.len in
     subst (λ (topics : List TopicView). IsStanding topics c.reserve_lists.new.board) (sym (with_items_is all.topics new long))
-    (standing-same new all.topics.items c.reserve_lists.new.board all.board (c.reserve_places.ensures.facts ∙ ap (map facts_of) c.deref_mut.ensures.value) c.reserve_lists.ensures.scores.topics c.reserve_lists.ensures.scores.level c.self.invariant)
+    (standing-same new all.topics.items c.reserve_lists.new.board all.board (c.reserve_places.ensures.facts ∙ ap (map facts_of) c.deref_mut.ensures.value) c.reserve_lists.ensures.scores c.self.invariant)
 
 pub returns-clause-ok : goal.returns-clause-ok
 returns-clause-ok c =

@@ -1,17 +1,26 @@
-use Rattle.std.proofs.Common.{◌≡◌, ◌∙◌, ap, false, map, sym, subst}
+use Rattle.std.proofs.Common.{◌≡◌, ◌∙◌, List, ap, false, map, sym, subst}
+use Rattle.assessment.proofs.ListFacts.{map-map}
+use Rattle.assessment.specs.TopicFacts.{TopicFacts, new_topic}
 use Rattle.assessment.specs.TopicsFacts.{TopicsFacts}
+use Rattle.assessment.specs.declared.topic.TopicRules.{TopicRules}
 use Rattle.rulebook.specs.declared.rules.Phase.TheVariants.{Collecting}
 use Rattle.rulebook.specs.declared.rules.Rules.{Rules}
 use Rattle.rulebook.specs.Answers.{ruled}
 use Rattle.rulebook.specs.Campaign.{has_topics, phase}
 use Rattle.trec_formats.specs.declared.Topic.{Topic}
-use Rattle.campaign_core.specs.Topics.{empty_topic, kept, labelled_of}
+use Rattle.campaign_core.specs.Topics.{KeptTopic, empty_topic, kept, labelled_of}
 use Rattle.campaign_core.proofs.Rulings.CollectingRulings.{collecting-from, topics-accepted}
 use Rattle.rulebook.specs.Refusals.{is_phase}
 use Rattle.campaign_core.specs.Decisions.{IsDecision}
 use Rattle.campaign_core.proofs.Rulings.LeaseRulings.{out-of-phase}
 use Rattle.campaign_core.specs.Numbers.{names_of}
 use Rattle.campaign_core.proofs.decisions.topics.topics_decision.Goals as goal
+
+-- the levels of topics of which this is kept
+levels-made : (made : List TopicRules) (given : List Topic) (rules : Rules) → map kept (map new_topic made) ≡ map (λ t. empty_topic rules t.id) given → map (λ one. one.level) made ≡ map (λ t. rules.level) given
+levels-made made given rules is =
+    sym (map-map (λ (t : TopicFacts). t.level) new_topic made) ∙ sym (map-map (λ (k : KeptTopic). k.level) kept (map new_topic made))
+    ∙ ap (map (λ (k : KeptTopic). k.level)) is ∙ map-map (λ (k : KeptTopic). k.level) (λ (t : Topic). empty_topic rules t.id) given
 
 pub returns-then-not-is_in : goal.returns-then-not-is_in
 returns-then-not-is_in c =
@@ -36,7 +45,8 @@ returns c =
         ap (λ (all : TopicsFacts). map kept all.topics) c.in_ok-numbered.ensures.facts ∙ c.in_ok-made.ensures.kept ∙ ap (λ (r : Rules). map (λ (t : Topic). empty_topic r t.id) given) c.rules-rules.ensures,
         ap (λ (all : TopicsFacts). map labelled_of all.topics) c.in_ok-numbered.ensures.facts ∙ c.in_ok-made.ensures.labelled,
         record {
-          level_is = ap (λ (all : TopicsFacts). all.level) c.in_ok-numbered.ensures.facts ∙ ap (λ (r : Rules). r.level) c.rules-rules.ensures;
+          levels_are = ap (λ (all : TopicsFacts). all.levels) c.in_ok-numbered.ensures.facts ∙ levels-made c.in_ok-made.made.items given c.rules-rules.result.now c.in_ok-made.ensures.kept
+              ∙ ap (λ (r : Rules). map (λ (t : Topic). r.level) given) c.rules-rules.ensures;
           empty = ap (λ (all : TopicsFacts). all.lists) c.in_ok-numbered.ensures.facts;
           no_room = c.in_ok-numbered.ensures.none;
         },

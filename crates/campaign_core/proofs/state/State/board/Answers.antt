@@ -1,7 +1,7 @@
 use Rattle.std.proofs.Common.{◌≡◌, ◌∙◌, ap, arith, length, map, subst}
 use Rattle.std.proofs.lemmas.List.{length-map}
 use Rattle.std.proofs.lemmas.Slice.Zip.{AllZip-long}
-use Rattle.score_index.specs.Standing.{StandsFor, TopicStandsFor}
+use Rattle.score_index.specs.Standing.{StandsAt, StandsFor}
 use Rattle.assessment.specs.TopicFacts.{facts_of, graded_of}
 use Rattle.assessment.specs.TopicsFacts.{TopicsView}
 use Rattle.campaign_core.specs.Lendings.{IsBoardOf}
@@ -17,7 +17,7 @@ returns-clause-board c =
     let all = c.self.inside.campaign.assessment.topics in
     let known = c.self.invariant.known.assessed in
     subst (λ (s : Seen). IsBoardOf s.history c.board.result.now) c.self.view_is
-    (board-of H all c.board.result.now c.self.inside.campaign.assessment.leases known.knows known.level_is (listed-at H (names_of H) _ known.lists_are)
+    (board-of H all c.board.result.now c.self.inside.campaign.assessment.leases known.knows known.levels_are (listed-at H (names_of H) _ known.lists_are)
     (c.board.ensures.board ∙ ap (λ (topics : TopicsView). topics.board) c.topics.ensures.topics)
     (subst (λ (topics : TopicsView). StandsFor c.board.result.now (map graded_of topics.topics)) c.topics.ensures.topics c.board.ensures.stands))
 
@@ -27,7 +27,7 @@ returns-clause-as_many c =
     let all = c.self.inside.campaign.assessment.topics in
     let board = c.board.result.now in
     let stands = subst (λ (topics : TopicsView). StandsFor board (map graded_of topics.topics)) c.topics.ensures.topics c.board.ensures.stands in
-    let long = AllZip-long (TopicStandsFor board.level) board.topics (map graded_of all.topics) stands in
+    let long = AllZip-long StandsAt board.topics (map graded_of all.topics) stands in
     let many = ap length c.self.invariant.known.assessed.knows.topics_are in
     let ids : length (topic_ids H) ≡ length (topic_ids c.args.self.now.history) = ap (λ (s : Seen). length (topic_ids s.history)) c.self.view_is in
     omega (arith, long, many, ids, length-map all.topics graded_of, length-map (map facts_of all.topics) kept, length-map all.topics facts_of, length-map (topic_ids H) (kept_of H))

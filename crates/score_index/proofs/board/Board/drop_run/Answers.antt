@@ -1,11 +1,12 @@
-use Rattle.std.proofs.Common.{◌≡◌, ◌≤◌, ◌∙◌, None, List, ap, sym, subst, arith, cond, eqb, get_or, length, map}
+use Rattle.std.proofs.Common.{◌≡◌, ◌≤◌, ◌∙◌, None, List, [], ◌∷◌, ap, refl, sym, subst, arith, cond, eqb, get_or, length, map}
 use Rattle.std.specs.Prelude.{All}
 use Rattle.std.specs.List.{AllZip}
 use Rattle.std.specs.Vec.{with_items}
 use Rattle.std.proofs.lemmas.List.{with_items_is}
+use Rattle.depth_pool.specs.declared.runs.RunId.{RunId}
 use Rattle.score_index.specs.Kept.{HasEmptyCell, IsKept, IsTopicKept, seen, spare, without_lists}
-use Rattle.score_index.specs.Scores.{Scores, TopicScores, docs_at, docs_in, new_topic}
-use Rattle.score_index.specs.Standing.{StandsFor, TopicStandsFor}
+use Rattle.score_index.specs.Scores.{Scores, TopicScores, docs_at, docs_in, levels_of, no_topic}
+use Rattle.score_index.specs.Standing.{StandsAt, StandsFor}
 use Rattle.score_index.specs.declared.topics.Topic.{Topic}
 use Rattle.score_index.proofs.Keeping.Boards.{all_seen, docs_dropped}
 use Rattle.score_index.proofs.Keeping.Listing.{zip-map}
@@ -25,12 +26,11 @@ invariant_of-self c =
     let all = (goal.at.invariant_of-self c).After-drop_run in
     let topics = c.self.inside.topics.items in
     let new = c.drop_run.new.topics in
-    let level = c.self.inside.level in
     let rooms = length c.self.inside.rooms.items in (
-      subst (λ (ts : List Topic). IsKept level ts rooms) (sym (items_are all)) (record {
+      subst (λ (ts : List Topic). IsKept ts rooms) (sym (items_are all)) (record {
         few = omega (arith, c.self.invariant.0.few, ap length c.deref_mut.ensures.value, c.drop_run.auto.topics);
         topics_are = all_seen (IsTopicKept) (without_lists c.args.run) topics new (kept-without c.args.run) (are all) c.self.invariant.0.topics_are;
-        empties = c.drop_run.ensures.kept.empties level (subst (All (HasEmptyCell level)) (sym c.deref_mut.ensures.value) c.self.invariant.0.empties);
+        empties = c.drop_run.ensures.kept.empties (subst (All HasEmptyCell) (sym c.deref_mut.ensures.value) c.self.invariant.0.empties);
         places = c.drop_run.ensures.kept.places rooms (subst (All (λ (topic : Topic). rooms ≤ spare topic)) (sym c.deref_mut.ensures.value) c.self.invariant.0.places);
       }),
       c.self.invariant.1,
@@ -40,15 +40,24 @@ pub returns-clause-stands : goal.returns-clause-stands
 returns-clause-stands c = λ grades stood.
     let all = (goal.at.returns-clause-stands c).After-drop_run in
     let topics = c.self.inside.topics.items in
-    let level = c.self.inside.level in
     let held = subst (λ (s : Scores). StandsFor s grades) (sym c.self.view_is) stood in
-    let kept : AllZip (TopicStandsFor level) (map (without_lists c.args.run) (map seen topics)) grades =
-    zip-map (TopicStandsFor level) (without_lists c.args.run) (λ topic graded. stands-without level c.args.run topic graded) (map seen topics) grades held in
-    subst (λ (ts : List TopicScores). AllZip (TopicStandsFor level) ts grades) (sym (ap (map seen) (items_are all) ∙ are all)) kept
+    let kept : AllZip StandsAt (map (without_lists c.args.run) (map seen topics)) grades =
+    zip-map StandsAt (without_lists c.args.run) (λ topic graded. stands-without topic.level c.args.run topic graded) (map seen topics) grades held in
+    subst (λ (ts : List TopicScores). AllZip StandsAt ts grades) (sym (ap (map seen) (items_are all) ∙ are all)) kept
 
 pub returns-clause-lists : goal.returns-clause-lists
 returns-clause-lists c = λ other on.
     let all = (goal.at.returns-clause-lists c).After-drop_run in
-    ap (λ (ts : List TopicScores). docs_in other (get_or ts on new_topic)) (ap (map seen) (items_are all) ∙ are all)
+    ap (λ (ts : List TopicScores). docs_in other (get_or ts on no_topic)) (ap (map seen) (items_are all) ∙ are all)
     ∙ docs_dropped c.args.run other (map seen c.self.inside.topics.items) on
     ∙ ap (λ (s : Scores). cond (eqb c.args.run.0 other.0) None (docs_at s other on)) c.self.view_is
+
+levels_without : (run : RunId) (topics : List TopicScores) → map (λ (topic : TopicScores). topic.level) (map (without_lists run) topics) ≡ map (λ (topic : TopicScores). topic.level) topics
+levels_without run [] = refl
+levels_without run (topic ∷ topics) = ap (λ ls. topic.level ∷ ls) (levels_without run topics)
+
+pub returns-clause-shape : goal.returns-clause-shape
+returns-clause-shape c =
+    let all = (goal.at.returns-clause-shape c).After-drop_run in
+    ap (map (λ (topic : TopicScores). topic.level)) (ap (map seen) (items_are all) ∙ are all)
+    ∙ levels_without c.args.run (map seen c.self.inside.topics.items) ∙ ap levels_of c.self.view_is

@@ -20,8 +20,8 @@ new_room room n relevant lower =
     }
 
 -- topics that are as before but for their room
-kept_with_room : (level : ℕ) (old new : List Topic) (before rooms : ℕ) → IsKept level old before → length new ≡ length old → map seen new ≡ map seen old → All (HasEmptyCell level) new → All (λ topic. rooms ≤ spare topic) new → IsKept level new rooms
-kept_with_room level old new before rooms kept long are empties places = record {
+kept_with_room : (old new : List Topic) (before rooms : ℕ) → IsKept old before → length new ≡ length old → map seen new ≡ map seen old → All HasEmptyCell new → All (λ topic. rooms ≤ spare topic) new → IsKept new rooms
+kept_with_room old new before rooms kept long are empties places = record {
   few = omega (arith, kept.few, long);
   topics_are = all_seen (IsTopicKept) (λ topic. topic) old new (λ topic one. one) (are ∙ sym (map-id (map seen old))) kept.topics_are;
   empties = empties;
@@ -32,11 +32,11 @@ items_are : (c : After-reserve_lists) → (with_items c.self.inside.topics c.res
 items_are c = with_items_is c.self.inside.topics c.reserve_lists.new.topics (omega (arith, c.reserve_lists.auto.topics, c.deref_mut.ensures.len))
 
 -- the topics, which have places for so many lists
-kept : (c : After-reserve_lists) (rooms : ℕ) → All (λ topic. rooms ≤ spare topic) c.reserve_lists.new.topics → IsKept c.self.inside.level c.reserve_lists.new.topics rooms
+kept : (c : After-reserve_lists) (rooms : ℕ) → All (λ topic. rooms ≤ spare topic) c.reserve_lists.new.topics → IsKept c.reserve_lists.new.topics rooms
 kept c rooms places =
-    kept_with_room c.self.inside.level c.self.inside.topics.items c.reserve_lists.new.topics (length c.self.inside.rooms.items) rooms c.self.invariant.0 (omega (arith, c.reserve_lists.auto.topics, ap length c.deref_mut.ensures.value))
+    kept_with_room c.self.inside.topics.items c.reserve_lists.new.topics (length c.self.inside.rooms.items) rooms c.self.invariant.0 (omega (arith, c.reserve_lists.auto.topics, ap length c.deref_mut.ensures.value))
     (c.reserve_lists.ensures.seen ∙ ap (map seen) c.deref_mut.ensures.value)
-    (c.reserve_lists.ensures.kept.empties c.self.inside.level (subst (All (HasEmptyCell c.self.inside.level)) (sym c.deref_mut.ensures.value) c.self.invariant.0.empties)) places
+    (c.reserve_lists.ensures.kept.empties (subst (All HasEmptyCell) (sym c.deref_mut.ensures.value) c.self.invariant.0.empties)) places
 
 pub invariant_of-self-in_err-reserve_lists : goal.invariant_of-self-in_err-reserve_lists
 invariant_of-self-in_err-reserve_lists c =
@@ -45,8 +45,8 @@ invariant_of-self-in_err-reserve_lists c =
     let rooms = length c.self.inside.rooms.items in
     let before : All (λ (topic : Topic). rooms ≤ spare topic) c.deref_mut.result.now = subst (All (λ (topic : Topic). rooms ≤ spare topic)) (sym c.deref_mut.ensures.value) c.self.invariant.0.places in
     let many : rooms ≡ length c.reserve.new.self.items = ap length (sym c.reserve.ensures.items) in (
-      subst (λ (ts : List Topic). IsKept c.self.inside.level ts (length c.reserve.new.self.items)) (sym (items_are all))
-          (subst (IsKept c.self.inside.level new) many (kept all rooms (c.reserve_lists.ensures.kept.places rooms before))),
+      subst (λ (ts : List Topic). IsKept ts (length c.reserve.new.self.items)) (sym (items_are all))
+          (subst (IsKept new) many (kept all rooms (c.reserve_lists.ensures.kept.places rooms before))),
       subst (λ (rs : List Places). All IsRoom rs) (sym c.reserve.ensures.items) c.self.invariant.1,
     )
 
@@ -59,6 +59,6 @@ invariant_of-self-2 c =
     let many : rooms ≡ length c.reserve.new.self.items + 1 = ap length pushed ∙ length_push c.reserve.new.self.items c.in_ok-room.room in
     let room : All (λ (topic : Topic). rooms ≤ spare topic) new = λ k d within. (let least = c.in_ok-reserve_lists.ensures.room k d within in omega (arith, least, many, c.len-count.ensures, c.reserve.new.self.ok.0)) in
     let fresh : IsRoom c.in_ok-room.room = new_room c.in_ok-room.room _ c.in_ok-room.ensures.relevant c.in_ok-room.ensures.lower in (
-      subst (λ (ts : List Topic). IsKept c.self.inside.level ts rooms) (sym (items_are all)) (kept all rooms room),
+      subst (λ (ts : List Topic). IsKept ts rooms) (sym (items_are all)) (kept all rooms room),
       subst (λ (rs : List Places). All IsRoom rs) (sym pushed) (All-push IsRoom c.reserve.new.self.items c.in_ok-room.room (subst (λ (rs : List Places). All IsRoom rs) (sym c.reserve.ensures.items) c.self.invariant.1) fresh),
     )

@@ -10,16 +10,15 @@ use Rattle.score_index.proofs.board.Board.summary.Goals as goal
 
 pub returns-clause-summary : goal.returns-clause-summary
 returns-clause-summary c = λ grades stands.
-    let level = c.self.inside.level in
     let topics = c.self.inside.topics.items in
     let run = c.args.run in
     let i = c.loop-topic.topic-index in
     let read : List Topic = c.deref-topic-items.result.now in
-    let Told : Scores → Type 0 = λ s. StandsFor s grades → c.mean.result ≡ summary_of (cells_of s.level run s.topics grades) in
+    let Told : Scores → Type 0 = λ s. StandsFor s grades → c.mean.result ≡ summary_of (cells_of run s.topics grades) in
     subst Told c.self.view_is
     (λ held.
     c.mean.ensures.mean (kept_cells run (map seen (take i read))) c.loop-topic.invariant.sums
     ∙ ap (λ (s : Scores). summary_of (kept_cells run (map seen (take i read)))) (sym c.self.view_is)
     ∙ ap (λ (ts : List Topic). summary_of (kept_cells run (map seen ts))) (take_all i read (omega (arith, c.loop-topic-test.false)) ∙ c.deref-topic-items.ensures.value)
-    ∙ ap summary_of (cells_are level run (map seen topics) grades held))
+    ∙ ap summary_of (cells_are run (map seen topics) grades held))
     stands
