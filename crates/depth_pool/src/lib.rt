@@ -10,4 +10,3 @@ mod runs;
 pub use laws::{greatest_run_goes_last, one_list_by_docno};
 pub use pools::Pool;
 pub use runs::{RunId, is_among};
-

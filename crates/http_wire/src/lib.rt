@@ -18,4 +18,3 @@ pub use laws::{
 };
 pub use messages::{HttpField, HttpHead, HttpRequest, Step, WireFault};
 pub use wires::Wire;
-

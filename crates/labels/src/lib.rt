@@ -13,4 +13,3 @@ pub use laws::{
     effective_without_ruling, marks_follow_labels, marks_follow_rulings, one_label_changes,
 };
 pub use marks::Marks;
-

@@ -11,4 +11,3 @@ pub use cells::{CUTOFFS, Cell, bpref_den, scratch};
 pub use means::{Measure, Summary, fixed};
 pub use score_lines::{write_cell, write_four, write_summary};
 pub use totals::{Totals, mean};
-

@@ -12,8 +12,8 @@ pub returns-in-Ok-clause-ok : goal.returns-in-Ok-clause-ok
 unfolding text_of
 returns-in-Ok-clause-ok c =
     behind_first c.args.out.now.items (vec_len c.args.out.now) (body_of c.args.answer.now) c.write_body.new.out.items c.put_head.new.out.items
-        (answer_text (status_of c.args.answer.now) true c.args.close) (omega (arith, c.args.out.now.ok.0)) c.in_ok-write_body.ensures.adds.text_added
-        (rw (c.len-before.ensures, c.status_of-status.ensures.status) at c.in-Ok.ensures.ok)
+    (answer_text (status_of c.args.answer.now) true c.args.close) (omega (arith, c.args.out.now.ok.0)) c.in_ok-write_body.ensures.adds.text_added
+    (rw (c.len-before.ensures, c.status_of-status.ensures.status) at c.in-Ok.ensures.ok)
     ∙ ap (λ json. c.args.out.now.items ++ answer_text (status_of c.args.answer.now) json c.args.close (body_of c.args.answer.now)) (sym c.requires)
 
 pub returns-in-Ok-clause-few : goal.returns-in-Ok-clause-few
