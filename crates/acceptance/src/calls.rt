@@ -2,13 +2,11 @@
 ghost use Rattle.campaign_server.specs.Doors.{IsShut};
 ghost use Rattle.campaign_server.specs.MemoryDoors.{told_by};
 
-use crate::links::idle_link;
 use crate::settings::{SETTINGS, settings_shelf};
 use campaign_cli::{MemoryShelf, MemorySink, campaign};
 use campaign_server::{Door, Link, MemoryDoor, MemoryLink};
 use disk_model::MemoryDisk;
 use std::alloc::Global;
-use std::process::Abort;
 use std::sync::Wait;
 use std::test::Fail;
 use std::thread::Threads;
@@ -74,36 +72,4 @@ pub(crate) fn session_over<W: Threads + Wait + Sync + AllocGlobal, I: Link>(
     let disk = empty_disk(rt.alloc());
     let (status, out, _) = ended_under(rt, "session", SETTINGS, link, disk)?;
     Ok((status, out))
-}
-
-/// The status of the program with these files over an idle link, to which nothing is written, and what it prints.
-/// The writes at these places fail.
-pub(crate) fn printed<W: Threads + Wait + Sync + AllocGlobal + Abort>(
-    rt: &W,
-    words: &str,
-    mut shelf: MemoryShelf,
-    fails: Vec<u64>,
-) -> Result<(u8, MemorySink), Fail> {
-    let alloc = rt.alloc();
-    let mut out = MemorySink::new(fails);
-    let mut own = idle_link(alloc);
-    let mut door = shut_door(alloc);
-    let disk = empty_disk(alloc);
-    let (status, _) = ended_at(rt, words, &mut shelf, &mut out, &mut own, disk, &mut door)?;
-    assert!(rt; own.written().is_empty());
-    Ok((status, out))
-}
-
-/// Asserts that the program with these files ends with this status, and that it prints this text.
-pub(crate) fn assert_printed<W: Threads + Wait + Sync + AllocGlobal + Abort>(
-    rt: &W,
-    words: &str,
-    shelf: MemoryShelf,
-    status: u8,
-    text: &[u8],
-) -> Result<(), Fail> {
-    let (ended, out) = printed(rt, words, shelf, Vec::new(rt.alloc()))?;
-    assert_eq!(rt; ended, status, "{words}");
-    assert_eq!(rt; out.written(), text, "{words}");
-    Ok(())
 }

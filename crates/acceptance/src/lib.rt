@@ -8,15 +8,9 @@ mod calls;
 #[cfg(test)]
 mod drills;
 #[cfg(test)]
-mod evaluation;
-#[cfg(test)]
-mod journals;
-#[cfg(test)]
 mod links;
 #[cfg(test)]
 mod network;
-#[cfg(test)]
-mod requests;
 #[cfg(test)]
 mod servers;
 #[cfg(test)]

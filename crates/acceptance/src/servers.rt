@@ -3,8 +3,7 @@ ghost use Rattle.std.specs.Prelude.{◌≡◌, ◌≤◌, All, IfOk};
 ghost use Rattle.campaign_server.specs.Doors.{IsNew, IsShut};
 ghost use Rattle.campaign_server.specs.MemoryLinks.{told_by};
 
-use crate::calls::{empty_disk, ended_at};
-use crate::journals::{checked, content_of};
+use crate::calls::{empty_disk, ended_at, ended_under};
 use crate::links::{idle_link, link_of};
 use crate::session::{POOL, POOL_SHOWN, SUBMIT, SUBMITTED, TOPICS, TOPICS_TAKEN, both};
 use crate::settings::{SETTINGS, settings_shelf};
@@ -12,6 +11,7 @@ use crate::waiting_link::WaitingLink;
 use campaign_cli::MemorySink;
 use campaign_server::{Door, End, Link, MemoryDoor, MemoryLink};
 use decimal_rank::Memory;
+use disk_model::MemoryDisk;
 use std::alloc::Global;
 use std::process::Abort;
 use std::sync::atomic::AtomicU64;
@@ -34,6 +34,19 @@ fn served_at<W: Threads + Wait + Sync + AllocGlobal, R: Door>(
     let disk = empty_disk(alloc);
     let (status, disk) = ended_at(rt, words, &mut shelf, &mut out, &mut own, disk, door)?;
     Ok((status, content_of(alloc, disk)?))
+}
+
+fn content_of(alloc: Global, disk: MemoryDisk) -> Result<Vec<u8>, Fail> {
+    Ok(Vec::from_slice(alloc, disk.content())?)
+}
+
+// What `check` prints of a disk with these bytes.
+fn page_of<W: Threads + Wait + Sync + AllocGlobal>(rt: &W, held: &[u8]) -> Result<Vec<u8>, Fail> {
+    let alloc = rt.alloc();
+    let mut own = idle_link(alloc);
+    let disk = MemoryDisk::new(Vec::from_slice(alloc, held)?, Vec::new(alloc));
+    let (_, out, _) = ended_under(rt, "check", SETTINGS, &mut own, disk)?;
+    Ok(Vec::from_slice(alloc, out.written())?)
 }
 
 // A link that gives these bytes. The read and the write at these places fail; none where a place is 0.
@@ -135,7 +148,7 @@ fn a_server_ends_with_its_door_or_its_connections(rt: HostRuntime) -> Result<(),
         assert_eq!(rt; ended, status);
         assert_eq!(rt; door.served().len(), count);
         assert_eq!(rt; door.opened().is_some(), fail != 1);
-        let (_, page) = checked(&rt, SETTINGS, &held, 0)?;
+        let page = page_of(&rt, &held)?;
         assert!(rt; page.starts_with(entries.as_bytes()));
     }
     Ok(())
