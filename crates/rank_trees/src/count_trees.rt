@@ -69,7 +69,7 @@ impl CountTree {
         ensures on { result ≡ slice_index_or self.now (place - 1) false }
         ensures cost { steps.new ≡ steps.old + 1 }
     {
-        self.places.from(place - 1, steps) % 2 == 1
+        self.places.is_on(place - 1, steps)
     }
 
     /// How many places less than this one are on. It may be one past the last.

@@ -11,4 +11,5 @@ mod sum_trees;
 mod weight_trees;
 
 pub use count_trees::CountTree;
+pub use place_words::PlaceWords;
 pub use weight_trees::WeightTree;

@@ -8,10 +8,10 @@ use std::alloc::Global;
 use std::marker::Model;
 use std::sync::ledger::Ledger;
 
-// Words that nothing reads but `from` and `put`. Contracts see the list of the places, counted from 0,
-// to the end of the last word.
+/// Words that nothing reads but `from` and `put`. Contracts see the list of the places, counted from
+/// 0, to the end of the last word.
 #[derive(Drop)]
-pub(crate) struct PlaceWords {
+pub struct PlaceWords {
     words: Vec<u64>,
 }
 
@@ -25,8 +25,8 @@ impl Model for PlaceWords {
 }
 
 impl PlaceWords {
-    // Words for at least so many places and one more, all off.
-    pub(crate) fn new(alloc: Global, places: u32) -> Result<PlaceWords, Memory>
+    /// Words for at least so many places and one more, all off.
+    pub fn new(alloc: Global, places: u32) -> Result<PlaceWords, Memory>
         ensures { IfOk result (λ on. on ≡ replicate (64 * (places / 64 + 1)) false) }
     {
         let words = vec![in alloc; 0; places as usize / 64 + 1]?;
@@ -42,8 +42,17 @@ impl PlaceWords {
         word_of(&self.words, index, steps) >> (index % 64)
     }
 
-    // Puts a place on or off, in one step, and tells whether it was on.
-    pub(crate) fn put<L: Ledger>(&mut self, index: u32, on: bool, steps: &mut Steps<L>) -> bool
+    /// Whether a place is on, in one step.
+    pub fn is_on<L: Ledger>(&self, index: u32, steps: &mut Steps<L>) -> bool
+        requires { index < length self.now }
+        ensures on { result ≡ slice_index_or self.now index false }
+        ensures cost { steps.new ≡ steps.old + 1 }
+    {
+        self.from(index, steps) % 2 == 1
+    }
+
+    /// Puts a place on or off, in one step, and tells whether it was on.
+    pub fn put<L: Ledger>(&mut self, index: u32, on: bool, steps: &mut Steps<L>) -> bool
         requires { index < length self.old }
         ensures places { self.new ≡ slice_set self.old index on }
         ensures was { result ≡ slice_index_or self.old index false }
