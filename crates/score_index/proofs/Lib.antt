@@ -1,3 +1,4 @@
+mod Admissions
 mod Cells
 mod Keeping
 mod Regrading

@@ -11,6 +11,7 @@ use Rattle.qrels_view.specs.declared.grades.Graded.{Graded}
 use Rattle.rank_trees.specs.Marks.{count_on}
 use Rattle.score_index.specs.Places.{Places, cell_by}
 use Rattle.score_index.specs.Scores.{ScoreList, TopicScores, is_of}
+use Rattle.score_index.specs.declared.rooms.Room.{Room}
 use Rattle.score_index.specs.declared.topics.Topic.{Topic}
 
 -- a topic as contracts see it
@@ -60,7 +61,11 @@ pub record IsKept (topics : List Topic) (rooms : ℕ) : Type 0 where
   pub empties : All HasEmptyCell topics
   pub places : All (λ topic. rooms ≤ spare topic) topics
 
--- a room for a list has no place that is judged
+-- for how many documents there is room
+abbrev pub size_of : Room → ℕ
+size_of room = length room.trees.relevant
+
+-- in a room for a list no place is judged
 pub record IsRoom (room : Places) : Type 0 where
   pub no_relevant : room.relevant ≡ replicate (length room.relevant) false
   pub no_lower : room.lower ≡ replicate (length room.relevant) false

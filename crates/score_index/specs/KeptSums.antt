@@ -5,6 +5,7 @@ use Rattle.decimal_rank.specs.declared.naming.DocId.{DocId}
 use Rattle.measures.specs.Cells.{cutoffs}
 use Rattle.measures.specs.declared.cells.Cell.{Cell}
 use Rattle.rank_trees.specs.Marks.{count_on}
+use Rattle.score_index.specs.Filters.{AdmitsAll, Bits}
 use Rattle.score_index.specs.Places.{Places, cell_by, precisions, preferences}
 use Rattle.score_index.specs.Scores.{ScoreList}
 use Rattle.score_index.specs.declared.marks.Mark.{Mark}
@@ -73,8 +74,9 @@ pub record CanRemark (doc : DocId) (relevant lower : Bool) (rel low : ℕ) (list
   pub lower_at : IsAt (place_in list.docs doc) lower list.lower
   pub follows : CanFollow rel low list
 
--- the sums and the cell of a list are those of its places
-pub record IsScoredList (docs : List DocId) (places : Places) (sums : Sums) (rel low : ℕ) (cell : Cell) : Type 0 where
+-- the filter of a list admits its documents, and its sums and its cell are those of its places
+pub record IsScoredList (docs : List DocId) (filter : Bits) (places : Places) (sums : Sums) (rel low : ℕ) (cell : Cell) : Type 0 where
+  pub admitted : AdmitsAll filter docs
   pub long : length places.relevant ≡ length docs
   pub sums_are : AreSums (min rel low) places sums
   pub cell_is : cell ≡ cell_by places.relevant places.lower rel low

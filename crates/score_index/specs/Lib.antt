@@ -1,3 +1,4 @@
+pub mod Filters
 pub mod Kept
 pub mod KeptSums
 pub mod Places

@@ -9,11 +9,11 @@ ghost use Rattle.qrels_view.specs.declared.grades.Graded.{Graded};
 ghost use Rattle.score_index.specs.Scores.{HasRuns, KeepsScores, KeepsShape, docs_at, levels_of, rooms_for, steps_of, topic_at};
 ghost use Rattle.score_index.specs.Standing.{StandsAt, StandsFor, StandsWith, StaysSmall, cell_from, cells_of, grades_at, listed_in};
 
-use crate::lists::{RunList, list_of, take_room};
+use crate::lists::{RunList, list_of};
+use crate::rooms::{Room, take_room};
 use crate::topics::{
     Topic, add_cell, add_list, cell_in, drop_run, new_topics, regrade, reserve_lists,
 };
-use crate::trees::Trees;
 use decimal_rank::{DocId, Memory, Ranking, Steps};
 use depth_pool::RunId;
 use measures::{Cell, Summary, Totals};
@@ -27,23 +27,22 @@ use std::sync::ledger::{Blank, Ledger};
 #[derive(Drop)]
 pub struct Board {
     topics: Vec<Topic>,
-    // the places, none of them judged yet, of each list for which there is room
-    rooms: Vec<Trees>,
+    rooms: Vec<Room>,
 }
 
 impl Model for Board {
     ghost use Rattle.std.specs.Prelude.{All, length, map};
     ghost use Rattle.score_index.specs.Scores.{Scores};
-    ghost use Rattle.score_index.specs.Kept.{IsKept, IsRoom, seen};
+    ghost use Rattle.score_index.specs.Kept.{IsKept, IsRoom, seen, size_of};
 
     ghost Value = { Scores };
 
     ghost view = { λ board. record {
       topics = map seen board.topics.items;
-      rooms = map (λ room. length room.relevant) board.rooms.items;
+      rooms = map size_of board.rooms.items;
     } };
 
-    ghost invariant = { λ board. IsKept board.topics.items (length board.rooms.items) × All IsRoom board.rooms.items };
+    ghost invariant = { λ board. IsKept board.topics.items (length board.rooms.items) × All (λ room. IsRoom room.trees) board.rooms.items };
 }
 
 impl Board {
@@ -69,7 +68,7 @@ impl Board {
         ensures scores { KeepsScores self.old self.new }
     {
         let alloc = *self.rooms.allocator();
-        let room = Trees::new(alloc, ranking.len())?;
+        let room = Room::new(alloc, ranking.len())?;
         self.rooms.reserve(1)?;
         let count = self.rooms.len() + 1;
         reserve_lists(&mut self.topics, count)?;
@@ -117,8 +116,8 @@ impl Board {
     }
 
     /// Gives a document of a topic, whose grade now is `old`, the grade `new`, or takes its grade
-    /// away. A step is an entry that `Ranking::place_of` reads, or a node or a
-    /// word of a tree.
+    /// away. A step is an entry that `Ranking::place_of` reads, or a node or a word of a tree or of a
+    /// filter.
     pub fn regrade<L: Ledger>(
         &mut self,
         topic: u16,

@@ -3,10 +3,12 @@
 #![tactic(auto)]
 
 mod board;
+mod filters;
 mod laws;
 mod lists;
 mod marks;
 mod places;
+mod rooms;
 mod sums;
 mod topics;
 mod trees;

@@ -1,16 +1,18 @@
 //! A run's ranked list on a topic, whose cell follows each change of a grade.
-ghost use Rattle.std.specs.Prelude.{◌≡◌, ℕ, ◌+◌, ◌-◌, ◌*◌, ◌<◌, ◌≤◌, ◌==◌, if◌then◌else◌, All, Some, false, true, nat_lt, count_by, find, length, map, min, position, sum_by, vec_capacity, vec_len};
+ghost use Rattle.std.specs.Prelude.{◌≡◌, ◌+◌, ◌*◌, ◌<◌, ◌≤◌, All, Some, false, true, nat_lt, find, length, map, min, sum_by, vec_capacity, vec_len};
 ghost use Rattle.std.specs.List.Sorted.{IsPartitionPoint};
 ghost use Rattle.std.specs.Option.{option_copied};
 ghost use Rattle.std.specs.Ordering.{nat_cmp};
-ghost use Rattle.decimal_rank.specs.Places.{levels};
+ghost use Rattle.decimal_rank.specs.Places.{levels, place_in};
 ghost use Rattle.qrels_view.specs.Grades.{effective_in, is_non_relevant, is_relevant};
-ghost use Rattle.score_index.specs.Kept.{AreByRun, IsRoom, listed_with, recounted, remarked, remarked_at, without};
+ghost use Rattle.score_index.specs.Kept.{AreByRun, IsRoom, listed_with, recounted, remarked, remarked_at, size_of, without};
 ghost use Rattle.score_index.specs.KeptSums.{AreSums, CanFollow, CanRemark, HasMark, is_lower_mark, is_relevant_mark, list_places};
 ghost use Rattle.score_index.specs.Places.{cell_by};
 ghost use Rattle.score_index.specs.Scores.{is_of, list_steps};
 
+use crate::filters::{Filter, admit_all};
 use crate::marks::{Mark, mark_of};
+use crate::rooms::Room;
 use crate::sums::{Sums, cell_from, followed_cell, no_sums, put_mark, remark, with_cap};
 use crate::trees::Trees;
 use decimal_rank::{DocId, Ranking, Steps};
@@ -21,12 +23,13 @@ use std::cmp::Ordering;
 use std::marker::Model;
 use std::sync::ledger::{Blank, Ledger};
 
-// A run's list on a topic, with what its cell is taken from: its places, its sums, and how many of
-// the topic's documents are relevant and judged lower.
+// A run's list on a topic, with a filter that admits its documents, and with what its cell is taken
+// from: its places, its sums, and how many of the topic's documents are relevant and judged lower.
 #[derive(Drop)]
 pub(crate) struct RunList {
     pub(crate) run: RunId,
     pub(crate) ranking: Ranking,
+    filter: Filter,
     trees: Trees,
     sums: Sums,
     rel: u32,
@@ -50,7 +53,7 @@ impl Model for RunList {
       low = list.low;
     } };
 
-    ghost invariant = { λ list. IsScoredList list.ranking list.trees list.sums list.rel list.low list.cell };
+    ghost invariant = { λ list. IsScoredList list.ranking list.filter list.trees list.sums list.rel list.low list.cell };
 }
 
 impl RunList {
@@ -58,7 +61,7 @@ impl RunList {
     pub(crate) fn listed<L: Ledger>(
         run: RunId,
         ranking: Ranking,
-        room: Trees,
+        room: Room,
         view: &View,
         level: u8,
         counts: (u32, u32),
@@ -67,14 +70,16 @@ impl RunList {
         requires name { blank.name ≡ L.name }
         requires parts { blank.parts ≡ L.parts }
         requires some { 0 < L.parts }
-        requires room { IsRoom room }
-        requires as_many { length room.relevant ≡ length ranking }
+        requires room { IsRoom room.trees }
+        requires as_many { size_of room ≡ length ranking }
         requires few { counts.0 ≤ 268435456 }
         requires few_lower { counts.1 ≤ 268435456 }
         ensures { result ≡ listed_with level view.now.graded run ranking counts.0 counts.1 }
     {
         let mut steps = Steps::<L>::new(blank);
-        let mut trees = room;
+        let mut filter = room.filter;
+        admit_all(&mut filter, &ranking, &mut steps);
+        let mut trees = room.trees;
         let sums = mark_places(
             &mut trees,
             &ranking,
@@ -87,6 +92,7 @@ impl RunList {
         RunList {
             run,
             ranking,
+            filter,
             trees,
             sums,
             rel: counts.0,
@@ -110,10 +116,21 @@ impl RunList {
         ensures list { self.new ≡ remarked doc (is_relevant_mark new) (is_lower_mark new) counts.0 counts.1 self.old }
         ensures cost { steps.new ≤ steps.old + 20 * (levels (length self.old.docs) + 1) }
     {
-        match self.ranking.place_of(doc, steps) {
+        match self.place_of(doc, steps) {
             Some(place) => self.remark(place, (old, new), counts, steps),
             None => self.follow(counts, steps),
         }
+    }
+
+    // The place of a document, from 1. It is looked for where the filter admits the document.
+    fn place_of<L: Ledger>(&self, doc: DocId, steps: &mut Steps<L>) -> Option<u32>
+        ensures place { result ≡ place_in self.now.docs doc }
+        ensures cost { steps.new ≤ steps.old + levels (length self.now.docs) + 2 }
+    {
+        if !self.filter.admits(doc, steps) {
+            return None;
+        }
+        self.ranking.place_of(doc, steps)
     }
 
     // Gives a place another mark, where the topic has these counts then.
@@ -230,28 +247,6 @@ pub(crate) fn regrade_lists<L: Ledger>(
     for list in lists.iter_mut() {
         list.regrade(doc, old, new, counts, steps);
     }
-}
-
-// Takes a room for a list of this length out.
-pub(crate) fn take_room(rooms: &mut Vec<Trees>, len: usize) -> Trees
-    requires room { 0 < count_by (λ room. room == len) (map (λ room. length room.relevant) rooms.old.items) }
-    requires fresh { All IsRoom rooms.old.items }
-    ensures room { length result.relevant ≡ len }
-    ensures is_room { IsRoom result }
-    ensures rooms { (other : ℕ) → count_by (λ room. room == other) (map (λ room. length room.relevant) rooms.new.items)
-        ≡ count_by (λ room. room == other) (map (λ room. length room.relevant) rooms.old.items) - (if len == other then 1 else 0) }
-    ensures fresh { All IsRoom rooms.new.items }
-    ensures one { length rooms.new.items + 1 ≡ length rooms.old.items }
-{
-    let place = room_for(rooms.as_slice(), len).unwrap();
-    rooms.remove(place)
-}
-
-// The place of the first room for a list of this length.
-fn room_for(rooms: &[Trees], len: usize) -> Option<usize>
-    ensures { result ≡ position (λ room. length room.relevant == len) rooms.now }
-{
-    rooms.iter().position(|room| room.len() as usize == len)
 }
 
 // Marks each place by the grade of its document.

@@ -1,5 +1,5 @@
 -- What a topic keeps, through each change.
-use Rattle.std.proofs.Common.{◌≡◌, ◌≢◌, ◌<◌, ℕ, ◌+◌, ◌-◌, ◌≤◌, Bool, true, false, cond, eqb, not, List, [], ◌∷◌, Option, Some, None, count_by, get_or, length, map, nat_lt, refl, sym, ap, ◌∙◌, arith, subst, unwrap_or}
+use Rattle.std.proofs.Common.{◌≡◌, ◌<◌, ℕ, ◌+◌, ◌-◌, ◌≤◌, Bool, true, false, cond, eqb, not, List, [], ◌∷◌, Option, Some, None, count_by, get_or, length, map, nat_lt, refl, sym, ap, ◌∙◌, arith, subst, unwrap_or}
 use Rattle.std.specs.Prelude.{All, find}
 use Rattle.std.specs.List.{AllZip}
 use Rattle.std.specs.Option.{option_map, option_map_or}

@@ -1,11 +1,14 @@
-use Rattle.std.proofs.Common.{◌≡◌, ◌≤◌, ◌+◌, ◌∙◌, true, false, List, ap, arith, cond, is_ok, length, nat_lt, subst, vec_len}
+use Rattle.std.proofs.Common.{◌≡◌, ◌≤◌, ◌+◌, ◌∙◌, true, false, List, ap, arith, cond, is_ok, length, nat_lt, subst, sym, vec_len}
 use Rattle.std.specs.Prelude.{insert}
 use Rattle.std.specs.List.Sorted.{IsPartitionPoint}
 use Rattle.depth_pool.specs.declared.runs.RunId.{RunId}
-use Rattle.score_index.specs.Kept.{seen}
+use Rattle.score_index.specs.Kept.{AreByRun, seen}
 use Rattle.score_index.specs.Scores.{ScoreList, TopicScores}
 use Rattle.score_index.proofs.Keeping.ListsByRun.{placed-is}
 use Rattle.score_index.proofs.topics.add_list.Goals as goal
+
+pub place_for-place-requires : goal.place_for-place-requires
+place_for-place-requires c = subst AreByRun (sym c.as_slice.ensures.value) c.requires.by_run
 
 pub returns-clause-seen : goal.returns-clause-seen
 returns-clause-seen c =

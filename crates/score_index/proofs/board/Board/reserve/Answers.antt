@@ -5,12 +5,17 @@ use Rattle.std.proofs.lemmas.List.{length-replicate, length_push, map-id, with_i
 use Rattle.std.proofs.lemmas.List.Elements.{All-push}
 use Rattle.score_index.specs.Kept.{HasEmptyCell, IsKept, IsRoom, IsTopicKept, seen, spare}
 use Rattle.score_index.specs.Places.{Places}
+use Rattle.score_index.specs.declared.rooms.Room.{Room}
 use Rattle.score_index.specs.declared.topics.Topic.{Topic}
 use Rattle.score_index.proofs.Keeping.Boards.{all_seen}
 use Rattle.score_index.proofs.board.Board.reserve.Goals.{After-reserve_lists}
 use Rattle.score_index.proofs.board.Board.reserve.Goals as goal
 
--- a room that was just made
+-- the places of a room
+abbrev IsFresh : Room → Type 0
+IsFresh room = IsRoom room.trees
+
+-- places that were just made
 new_room : (room : Places) (n : ℕ) → room.relevant ≡ replicate n false → room.lower ≡ replicate n false → IsRoom room
 new_room room n relevant lower =
     let long : n ≡ length room.relevant = sym (length-replicate n false) ∙ ap length (sym relevant) in
@@ -47,7 +52,7 @@ invariant_of-self-in_err-reserve_lists c =
     let many : rooms ≡ length c.reserve.new.self.items = ap length (sym c.reserve.ensures.items) in (
       subst (λ (ts : List Topic). IsKept ts (length c.reserve.new.self.items)) (sym (items_are all))
           (subst (IsKept new) many (kept all rooms (c.reserve_lists.ensures.kept.places rooms before))),
-      subst (λ (rs : List Places). All IsRoom rs) (sym c.reserve.ensures.items) c.self.invariant.1,
+      subst (λ (rs : List Room). All IsFresh rs) (sym c.reserve.ensures.items) c.self.invariant.1,
     )
 
 pub invariant_of-self-2 : goal.invariant_of-self-2
@@ -58,7 +63,7 @@ invariant_of-self-2 c =
     let pushed = c.push.ensures.items ∙ ap (λ b. cond b (c.reserve.new.self.items ++ c.in_ok-room.room ∷ []) c.reserve.new.self.items) (ap is_ok c.unwrap.ensures) in
     let many : rooms ≡ length c.reserve.new.self.items + 1 = ap length pushed ∙ length_push c.reserve.new.self.items c.in_ok-room.room in
     let room : All (λ (topic : Topic). rooms ≤ spare topic) new = λ k d within. (let least = c.in_ok-reserve_lists.ensures.room k d within in omega (arith, least, many, c.len-count.ensures, c.reserve.new.self.ok.0)) in
-    let fresh : IsRoom c.in_ok-room.room = new_room c.in_ok-room.room _ c.in_ok-room.ensures.relevant c.in_ok-room.ensures.lower in (
+    let fresh : IsFresh c.in_ok-room.room = new_room c.in_ok-room.room.trees _ c.in_ok-room.ensures.relevant c.in_ok-room.ensures.lower in (
       subst (λ (ts : List Topic). IsKept ts rooms) (sym (items_are all)) (kept all rooms room),
-      subst (λ (rs : List Places). All IsRoom rs) (sym pushed) (All-push IsRoom c.reserve.new.self.items c.in_ok-room.room (subst (λ (rs : List Places). All IsRoom rs) (sym c.reserve.ensures.items) c.self.invariant.1) fresh),
+      subst (λ (rs : List Room). All IsFresh rs) (sym pushed) (All-push IsFresh c.reserve.new.self.items c.in_ok-room.room (subst (λ (rs : List Room). All IsFresh rs) (sym c.reserve.ensures.items) c.self.invariant.1) fresh),
     )
