@@ -1,5 +1,5 @@
 //! The pool of a topic: the documents that its runs have within the depth.
-ghost use Rattle.std.specs.Prelude.{◌≡◌, ◌+◌, ◌<◌, ◌≤◌, [], Bool, true, false, List, All, AllPairs, IfSome, IfOk, IfErr, OnOk, OnErr, Some, None, IsTrue, length, take};
+ghost use Rattle.std.specs.Prelude.{◌≡◌, ◌+◌, ◌<◌, ◌≤◌, [], Bool, true, false, List, All, AllPairs, IfSome, IfOk, IfErr, OnOk, OnErr, Some, None, IsTrue, length, slice_get, take};
 ghost use Rattle.decimal_rank.specs.Names.{docno_of};
 ghost use Rattle.decimal_rank.specs.Places.{AreDistinct};
 ghost use Rattle.decimal_rank.specs.declared.naming.DocId.{DocId};
@@ -8,7 +8,7 @@ ghost use Rattle.depth_pool.specs.Index.{holders_at, is_vacant};
 ghost use Rattle.depth_pool.specs.Holdings.{AreByDocno, AreByNumber, IsCount, KeepsOthers, docs_of, has_doc, has_id, has_run, holders_of, holds, some_run_holds, with_run, without_run};
 
 use crate::index::{Index, add_holders, docs_held, drop_empties, make_rooms, remove_holders};
-use crate::runs::{RunDocs, RunId, docs_of, is_among, put_run, take_run};
+use crate::runs::{RunDocs, RunId, doc_at, docs_of, is_among, put_run, take_run};
 use decimal_rank::{DocId, Memory, Names, Ranking, Steps};
 use std::alloc::Global;
 use std::collections::BTreeMap;
@@ -130,12 +130,21 @@ impl Pool {
         is_among(run, self.holders(doc, steps))
     }
 
-    /// The documents that a run holds, by rank. There are none where it isn't in the pool.
-    pub fn held(&self, run: RunId) -> &[DocId]
-        ensures docs { result.now ≡ docs_of self.now.runs run }
-        ensures each { (doc : DocId) → has_doc doc result.now ≡ holds self.now.runs run doc }
+    /// How many documents a run holds: none where it isn't in the pool.
+    pub fn count_of(&self, run: RunId) -> usize
+        ensures { result ≡ length (docs_of self.now.runs run) }
     {
-        docs_of(self.runs.as_slice(), run)
+        docs_of(self.runs.as_slice(), run).len()
+    }
+
+    /// The document that a run holds at a place by rank, from 0, in one step.
+    pub fn doc_at<L: Ledger>(&self, run: RunId, place: usize, steps: &mut Steps<L>) -> DocId
+        requires { place < length (docs_of self.now.runs run) }
+        ensures doc { slice_get (docs_of self.now.runs run) place ≡ Some result }
+        ensures each { (doc : DocId) → has_doc doc (docs_of self.now.runs run) ≡ holds self.now.runs run doc }
+        ensures cost { steps.new ≡ steps.old + 1 }
+    {
+        doc_at(self.runs.as_slice(), run, place, steps)
     }
 
     /// How many documents some run holds.

@@ -1,11 +1,12 @@
 //! The runs of a pool by number, each with the documents that it holds by rank.
-ghost use Rattle.std.specs.Prelude.{◌≡◌, ◌+◌, ◌<◌, ◌==◌, AllPairs, IsTrue, vec_len, vec_capacity, nat_lt};
+ghost use Rattle.std.specs.Prelude.{◌≡◌, ◌+◌, ◌<◌, ◌==◌, AllPairs, IsTrue, Some, length, slice_get, vec_len, vec_capacity, nat_lt};
 ghost use Rattle.std.specs.List.{position_or_len};
 ghost use Rattle.decimal_rank.specs.declared.naming.DocId.{DocId};
 ghost use Rattle.depth_pool.specs.Holdings.{Held, AreByNumber, docs_of, has_id, has_run, has_doc, holds, with_run, without_run};
 
-use decimal_rank::DocId;
+use decimal_rank::{DocId, Steps};
 use std::marker::Model;
+use std::sync::ledger::Ledger;
 
 /// The number of a run, from 0 in the order of submission.
 #[derive(Clone, Copy, Debug, Default, PartialEq, Eq, PartialOrd, Ord)]
@@ -67,6 +68,23 @@ pub(crate) fn take_run(runs: &mut Vec<RunDocs>, run: RunId) -> Vec<DocId>
     let index = index_of(runs.as_slice(), run);
     let RunDocs { run: _, docs } = runs.remove(index);
     docs
+}
+
+// The document that a run holds at a place by rank, in one step. Nothing else gives an entry out.
+pub(crate) fn doc_at<L: Ledger>(
+    runs: &[RunDocs],
+    run: RunId,
+    place: usize,
+    steps: &mut Steps<L>,
+) -> DocId
+    requires by_number { AreByNumber runs.now }
+    requires within { place < length (docs_of runs.now run) }
+    ensures doc { slice_get (docs_of runs.now run) place ≡ Some result }
+    ensures cost { steps.new ≡ steps.old + 1 }
+{
+    steps.tick();
+    let docs = docs_of(runs, run);
+    docs[place]
 }
 
 // The documents that a run holds.
