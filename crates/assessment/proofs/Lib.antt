@@ -1,3 +1,4 @@
+pub mod DoneDocs
 pub mod FrontSteps
 mod Entering
 pub mod ListFacts

@@ -6,7 +6,7 @@
 //! commit      the pending change is made, without memory; at rest again
 //! cancel      the room of the pending change is given back; at rest again
 //! ```
-ghost use Rattle.std.specs.Prelude.{◌≡◌, ◌+◌, ◌≤◌, [], List, IfOk, IfSome, IsSome, None, OnErr, OnOk, Some};
+ghost use Rattle.std.specs.Prelude.{◌≡◌, ◌+◌, ◌<◌, ◌≤◌, [], List, IfOk, IfSome, IsSome, None, OnErr, OnOk, Some, length};
 ghost use Rattle.depth_pool.specs.declared.runs.RunId.{RunId};
 ghost use Rattle.assessment.specs.Costs.{HaveLists, change_steps};
 ghost use Rattle.assessment.specs.Changes.{Fits, IsIdle, after, facts};
@@ -107,6 +107,15 @@ impl Assessment {
             give_back(&mut self.topics, &self.desk, &change);
             drop(change);
         }
+    }
+
+    /// Leads on, past documents that an assessor isn't given any more, where the next one is looked for.
+    /// That changes nothing that contracts see, so it may be done or left out.
+    pub fn lead_fronts(&mut self, topic: usize, assessor: &[u8]) -> Result<(), Memory>
+        requires { topic < length self.old.topics.topics }
+        ensures { self.new ≡ self.old }
+    {
+        self.topics.lead_fronts(topic, assessor)
     }
 
     /// The topics, with the board. Where nothing is pending the board has no room for a list.

@@ -13,5 +13,6 @@ mod topics;
 
 pub use assessment::Assessment;
 pub use change::{Change, Grant, Label, Ruling};
+pub use fronts::front_of;
 pub use topic::{Topic, TopicRules};
 pub use topics::Topics;

@@ -1,20 +1,20 @@
 //! One topic by itself. Its queue has the runs of its pool in the judging order, by its grades.
 ghost use Rattle.std.specs.Prelude.{◌≡◌, ◌+◌, ◌<◌, ◌≤◌, false, IsTrue, OnOk, length, nat_le};
 ghost use Rattle.std.specs.Option.{option_map};
-ghost use Rattle.depth_pool.specs.Holdings.{docs_of, has_run};
-ghost use Rattle.assessment.specs.Fronts.{IsBehindLabelled};
+ghost use Rattle.depth_pool.specs.Holdings.{has_run};
+ghost use Rattle.assessment.specs.Fronts.{HasFronts};
 ghost use Rattle.assessment.specs.TopicFacts.{AwaitsGrade, AwaitsMark, AwaitsRun, IsQueued, MayMark, doc_of, new_topic, with_effective, with_list, with_mark, without_list};
 
 use crate::change::{Label, Mark, Ruling};
-use crate::fronts::{Fronts, advance};
+use crate::fronts::Fronts;
 use decimal_rank::{DocId, Memory, Ranking, Steps, Text};
 use depth_pool::{Pool, RunId};
 use labels::Marks;
 use mtf_queue::{Queue, order_outlasts_other_runs};
 use qrels_view::View;
 use std::alloc::Global;
-use std::marker::Model;
-use std::sync::ledger::Ledger;
+use std::marker::{Brand, Model};
+use std::sync::ledger::{Blank, Ledger};
 
 /// What the rules say of a topic: its id, how many labels a document of it needs, the grade from
 /// which on a document is relevant, and the depth of its pool.
@@ -37,7 +37,7 @@ pub struct Topic {
     // the effective grades, by the documents' first ones
     grades: View,
     queue: Queue,
-    // past the documents that have all their labels
+    // past the documents that are done
     fronts: Fronts,
 }
 
@@ -76,7 +76,7 @@ impl Topic {
             marks: Marks::new(alloc),
             grades: View::new(alloc, level),
             queue: Queue::new(alloc),
-            fronts: Fronts::new(),
+            fronts: Fronts::new(alloc),
         }
     }
 
@@ -100,7 +100,7 @@ impl Topic {
         order_outlasts_other_runs();
         self.pool.add_run(run, list);
         self.queue.enter(run, &self.pool);
-        self.fronts.put(run, 0);
+        self.fronts.restart(run);
     }
 
     /// Takes a run out.
@@ -143,13 +143,6 @@ impl Topic {
                 } = label;
                 self.marks.set(doc, assessor, grade);
                 self.regrade(doc, steps);
-                advance(
-                    &mut self.fronts,
-                    self.queue.order(),
-                    &self.pool,
-                    &self.marks,
-                    self.need,
-                );
             }
             Mark::Ruling(ruling) => {
                 let Ruling {
@@ -207,17 +200,29 @@ impl Topic {
         &self.pool
     }
 
-    /// The documents that a run holds, by rank, but for first ones that have all their labels.
-    pub fn left_to_label(&self, run: RunId) -> &[DocId]
-        ensures { IsBehindLabelled self.now.facts.need self.now.facts.marked (docs_of self.now.facts.pool run) result.now }
+    /// Leads the fronts of an assessor on, past documents that no lease is granted on to this assessor any
+    /// more. That changes nothing that contracts see.
+    pub(crate) fn lead_fronts(&mut self, assessor: &[u8]) -> Result<(), Memory>
+        ensures { self.new ≡ self.old }
     {
-        let docs = self.pool.held(run);
-        let front = self.fronts.of(run);
-        if front < docs.len() {
-            &docs[front..]
-        } else {
-            &[]
-        }
+        self.fronts.lead_on::<Brand>(
+            assessor,
+            self.queue.order(),
+            &self.pool,
+            &self.marks,
+            self.need,
+            Blank::new(1),
+        )
+    }
+
+    /// By the runs' numbers, how many first documents of each are done for an assessor, so that no lease on
+    /// them is granted to this assessor any more. Runs of greater numbers are to be looked through from the
+    /// first one.
+    pub fn fronts_of(&self, assessor: &[u8]) -> &[usize]
+        ensures { let topic = self.now.facts in
+            HasFronts topic.need topic.marked assessor.now topic.pool result.now }
+    {
+        self.fronts.of(self.need, assessor)
     }
 
     /// The labels of the documents, and the rulings on them.

@@ -119,6 +119,14 @@ impl Topics {
         self.topics[number as usize].reserve_mark(doc)
     }
 
+    /// Leads the fronts of an assessor on a topic on.
+    pub(crate) fn lead_fronts(&mut self, number: usize, assessor: &[u8]) -> Result<(), Memory>
+        requires { number < length self.old.topics }
+        ensures { self.new ≡ self.old }
+    {
+        self.topics[number].lead_fronts(assessor)
+    }
+
     /// Gives a document of a topic a mark, and the board the grade that it has then.
     pub(crate) fn mark<L: Ledger>(&mut self, mark: Mark, steps: &mut Steps<L>)
         requires room { IsSomeAnd (slice_get self.old.topics (topic_of mark)) (AwaitsMark (doc_of mark)) }

@@ -1,6 +1,7 @@
--- The fronts stand behind documents that have all their labels.
-use Rattle.assessment.specs.Fronts.{AreFronts}
+-- The fronts stand behind documents that are done.
+use Rattle.std.proofs.Common.{◌≡◌}
+use Rattle.assessment.specs.Fronts.{HasFronts}
 use Rattle.assessment.proofs.fronts.advance.Given as goal
 
 abbrev pub invariant-loop-run : goal.invariant-loop-run
-invariant-loop-run l = AreFronts l.need l.marks.marked l.pool.runs l.fronts
+invariant-loop-run g l = HasFronts l.need l.marks.marked l.own-inside.assessor l.pool.runs l.own-inside.fronts.items

@@ -1,14 +1,23 @@
-use Rattle.std.proofs.Common.{◌≡◌, ◌∙◌, true, length, subst, sym, arith, take_all}
+use Rattle.std.proofs.Common.{◌≡◌, ◌<◌, ◌∙◌, true, length, subst, sym, arith, ap, take_all}
 use Rattle.std.proofs.lemmas.List.Elements.{All-more}
-use Rattle.assessment.specs.Fronts.{HaveLabels, has_labels}
+use Rattle.std.proofs.lemmas.Option.{get_or_from_slice_get}
+use Rattle.decimal_rank.specs.declared.naming.DocId.{DocId}
+use Rattle.depth_pool.specs.Holdings.{docs_of}
+use Rattle.assessment.specs.Fronts.{AreDone, is_done}
 use Rattle.assessment.proofs.fronts.front_from.Goals as goal
 
 pub loop-place-preserved : goal.loop-place-preserved
-loop-place-preserved c =
-    All-more (λ doc. has_labels c.args.need c.args.marks.now.marked doc ≡ true) c.args.docs.now c.loop-place.place (record { 0 = 0 }) c.loop-place-test.true c.loop-place.invariant
-    (sym c.has_labels.ensures ∙ c.if-not-has_labels.false)
+loop-place-preserved g c =
+    let none : DocId = record { 0 = 0 } in
+    let docs = docs_of c.args.pool.now.runs c.args.run in
+    let place = c.loop-place.place in
+    let is_done_now = is_done c.args.need c.args.marks.now.marked c.args.assessor.now in
+    let within : place < length docs = omega (arith, c.count_of-count.ensures, c.loop-place-test.true) in
+    All-more (λ doc. is_done_now doc ≡ true) docs place none within c.loop-place.invariant
+    (ap is_done_now (get_or_from_slice_get docs place c.doc_at-doc.result none c.doc_at-doc.ensures.doc) ∙ sym c.is_done.ensures ∙ c.if-not-is_done.false)
 
 pub returns : goal.returns
-returns c =
-    let docs = c.args.docs.now in
-    subst (HaveLabels c.args.need c.args.marks.now.marked) (take_all c.loop-place.place docs c.loop-place-test.false ∙ sym (take_all (length docs) docs (omega arith))) c.loop-place.invariant
+returns g c =
+    let docs = docs_of c.args.pool.now.runs c.args.run in
+    subst (AreDone c.args.need c.args.marks.now.marked c.args.assessor.now)
+    (take_all c.loop-place.place docs (omega (arith, c.count_of-count.ensures, c.loop-place-test.false)) ∙ sym (take_all c.count_of-count.result docs (omega (arith, c.count_of-count.ensures)))) c.loop-place.invariant

@@ -1,7 +1,8 @@
--- The documents so far have all their labels.
+-- The documents so far are done.
 use Rattle.std.proofs.Common.{take}
-use Rattle.assessment.specs.Fronts.{HaveLabels}
+use Rattle.depth_pool.specs.Holdings.{docs_of}
+use Rattle.assessment.specs.Fronts.{AreDone}
 use Rattle.assessment.proofs.fronts.front_from.Given as goal
 
 abbrev pub invariant-loop-place : goal.invariant-loop-place
-invariant-loop-place l = HaveLabels l.need l.marks.marked (take l.place l.docs)
+invariant-loop-place g l = AreDone l.need l.marks.marked l.assessor (take l.place (docs_of l.pool.runs l.run))

@@ -20,5 +20,5 @@ invariant_of-self c =
         in_order = c.enter.ensures.in_order;
         trail_is = c.enter.ensures.trail ∙ c.self.invariant.0.trail_is;
       },
-      rw (c.add_run.ensures.runs, c.put.ensures) (fronts-enter t.need t.marks.marked t.pool.runs t.fronts (record { run = c.args.run; docs = take t.pool.depth c.args.list.now }) c.self.invariant.1),
+      rw (c.add_run.ensures.runs, c.restart.ensures) (fronts-enter t.need t.marks.marked t.pool.runs t.fronts (record { run = c.args.run; docs = take t.pool.depth c.args.list.now }) c.self.invariant.1),
     )
