@@ -2,3 +2,4 @@
 pub mod Differing
 pub mod JudgedLines
 pub mod Repeats
+pub mod Viewed

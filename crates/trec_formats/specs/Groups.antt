@@ -1,18 +1,13 @@
 -- The lines of a run by topic, as they are ranked.
-use Rattle.std.specs.Prelude.{◌≡◌, ◌≢◌, ℕ, Bool, false, List, ◌∷◌, ◌++◌, map, All, AllPairs, Some, slice_get}
+use Rattle.std.specs.Prelude.{◌≡◌, ◌≢◌, ℕ, Bool, false, List, ◌∷◌, ◌++◌, All, AllPairs, Some, slice_get}
 use Rattle.std.specs.List.Sorted.{IsPermutation}
 use Rattle.std.specs.Cmp.Lexicographic.{slice_cmp}
 use Rattle.std.specs.Option.{option_map}
 use Rattle.std.specs.Ordering.{nat_cmp, is_lt}
-use denote.Ref.{Bor}
 use Rattle.decimal_rank.specs.Ranks.{standing_cmp}
 use Rattle.trec_formats.specs.declared.lists.TopicList.{TopicList}
 use Rattle.trec_formats.specs.declared.runs.RunLine.{RunLine}
 use Rattle.trec_formats.specs.Lists.{lines_on, standing, AreRanked}
-
--- the lines that references lead to
-abbrev pub shown : List (Bor RunLine) → List RunLine
-shown lines = map (λ line. line.now) lines
 
 abbrev pub topic_lt : RunLine → RunLine → Bool
 topic_lt a b = is_lt (slice_cmp nat_cmp a.topic b.topic)

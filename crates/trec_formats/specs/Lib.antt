@@ -4,11 +4,13 @@ pub mod FaultNames
 pub mod Faults
 pub mod FieldTexts
 pub mod Groups
+pub mod LineViews
 pub mod Lines
 pub mod Lists
 pub mod MarkViews
 pub mod Marks
 pub mod Names
+pub mod PackedRuns
 pub mod Qrels
 pub mod QrelsText
 pub mod RunFields

@@ -10,6 +10,7 @@ use Rattle.trec_formats.specs.declared.faults.FormatFault.{FormatFault}
 use Rattle.trec_formats.specs.Counts.{count_at, IsTally}
 use Rattle.trec_formats.specs.Faults.{IsFirstFault}
 use Rattle.trec_formats.specs.Lines.{Row, is_filled, is_white_space, lines_of, rows_from, rows_of}
+use Rattle.trec_formats.specs.PackedRuns.{kept_lines, ArePlaced}
 use Rattle.trec_formats.specs.RunFields.{kept, kept_fields}
 use Rattle.trec_formats.specs.Runs.{AreRunLines, count_on, run_of, within, IsRunFault}
 
@@ -26,8 +27,8 @@ row_if number fields = filter (λ row. is_filled row.1) ((number, fields) ∷ []
 
 -- the rows stand for the lines that ended, each of which is counted
 pub record AreEnded (done : List Row) (ended : Ended) : Type 0 where
-  pub good : AreRunLines done ended.lines.items
-  pub counted : (topic : List ℕ) → count_at ended.counts topic ≡ count_on topic ended.lines.items
+  pub good : AreRunLines done (kept_lines ended.run)
+  pub counted : (topic : List ℕ) → count_at ended.counts topic ≡ count_on topic (kept_lines ended.run)
 
 -- a row behind these is the first with a fault, whatever comes behind it
 abbrev pub IsFaultBehind : List Row → List Row → FormatFault → Type 0
@@ -60,6 +61,7 @@ IsFaulty text fault = (more : List ℕ) → IsRunFault (text ++ more) fault
 -- no more is kept than there may be
 pub record AreWithin (ended : Ended) : Type 0 where
   pub topics : length ended.counts.topics ≤ ended.number
+  pub placed : ArePlaced ended.run.bytes.items ended.run.lines.items
   pub tally : IsTally ended.counts
 
 pub record IsWithin (reading : Reading) : Type 0 where

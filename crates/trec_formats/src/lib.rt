@@ -3,13 +3,17 @@
 
 mod documents;
 mod faults;
+mod field_bytes;
 mod laws;
+mod line_views;
 mod lines;
 mod lists;
 mod names;
+mod packed_runs;
 mod qrel_tables;
 mod qrels;
 mod qrels_text;
+mod repeats;
 mod run_fields;
 mod run_reader;
 mod runs;
@@ -29,7 +33,7 @@ pub use qrel_tables::{QrelTable, read_qrel_table};
 pub use qrels::{QrelLine, read_qrels};
 pub use qrels_text::write_qrels;
 pub use run_reader::RunReader;
-pub use runs::{RunLine, read_run};
+pub use runs::{RunLine, read_lists, read_run};
 pub use topic_laws::one_topics_reading;
 pub use topic_numbers::topic_number;
 pub use topics::{Topic, read_topics};

@@ -1,11 +1,13 @@
 //! A run's line as its reader keeps it: of each field that is looked at only what tells its meaning.
-ghost use Rattle.std.specs.Prelude.{◌≡◌, ◌≤◌, ◌<◌, ◌++◌, ℕ, List, [], length, IfOk, OnOk};
+ghost use Rattle.std.specs.Prelude.{◌≡◌, ◌≤◌, ◌<◌, ◌++◌, ℕ, List, [], length, Ok, Err, MatchResult, OnOk};
+ghost use Rattle.trec_formats.specs.LineViews.{view_shown};
 ghost use Rattle.trec_formats.specs.RunFields.{kept, empty_line, with_field, with_part, line_of};
 
 use crate::faults::Kind;
+use crate::field_bytes::FieldBytes;
+use crate::line_views::LineView;
 use crate::names::{is_docno, is_name};
-use crate::runs::RunLine;
-use decimal_rank::{Decimal, DecimalFault, Memory, Text};
+use decimal_rank::{Decimal, DecimalFault, Memory};
 use std::alloc::Global;
 
 /// So many bytes of a field tell what it is: no name, docno or score is as long.
@@ -21,8 +23,8 @@ const TOO_MANY: u32 = 7;
 pub(crate) struct KeptLine {
     /// How many there are, up to 7.
     pub(crate) count: u32,
-    pub(crate) topic: Text,
-    pub(crate) doc: Text,
+    pub(crate) topic: FieldBytes,
+    pub(crate) doc: FieldBytes,
     pub(crate) score: Result<Decimal, DecimalFault>,
 }
 
@@ -32,10 +34,20 @@ impl KeptLine {
     {
         KeptLine {
             count: 0,
-            topic: Text::new(Vec::new(alloc)),
-            doc: Text::new(Vec::new(alloc)),
+            topic: FieldBytes::new(alloc),
+            doc: FieldBytes::new(alloc),
             score: Err(DecimalFault::Shape),
         }
+    }
+
+    /// Leaves no field. The room of its bytes stays.
+    pub(crate) fn clear(&mut self)
+        ensures { self.new ≡ empty_line }
+    {
+        self.count = 0;
+        self.topic.clear();
+        self.doc.clear();
+        self.score = Err(DecimalFault::Shape);
     }
 }
 
@@ -64,12 +76,12 @@ pub(crate) fn hold(held: &mut Vec<u8>, part: &[u8]) -> Result<(), Memory>
 }
 
 /// Adds a field to a line.
-fn add_field(alloc: Global, line: &mut KeptLine, field: &[u8]) -> Result<(), Memory>
+fn add_field(line: &mut KeptLine, field: &[u8]) -> Result<(), Memory>
     ensures { OnOk result (line.new ≡ with_field line.old field.now) }
 {
     match line.count {
-        0 => line.topic = Text::from_slice(alloc, field)?,
-        2 => line.doc = Text::from_slice(alloc, field)?,
+        0 => line.topic.set(field)?,
+        2 => line.doc.set(field)?,
         4 => line.score = Decimal::read(field),
         _ => {}
     }
@@ -80,12 +92,7 @@ fn add_field(alloc: Global, line: &mut KeptLine, field: &[u8]) -> Result<(), Mem
 }
 
 /// Ends a field, of which some bytes are held, with these bytes. Where it has none there is no field.
-pub(crate) fn end_field(
-    alloc: Global,
-    line: &mut KeptLine,
-    held: &mut Vec<u8>,
-    part: &[u8],
-) -> Result<(), Memory>
+pub(crate) fn end_field(line: &mut KeptLine, held: &mut Vec<u8>, part: &[u8]) -> Result<(), Memory>
     requires { length held.old.items ≤ 401 }
     ensures line { OnOk result (line.new ≡ with_part line.old (kept (held.old.items ++ part.now))) }
     ensures held { OnOk result (held.new.items ≡ []) }
@@ -94,40 +101,34 @@ pub(crate) fn end_field(
         if part.is_empty() {
             return Ok(());
         }
-        return add_field(alloc, line, kept(part));
+        return add_field(line, kept(part));
     }
     hold(held, part)?;
-    add_field(alloc, line, held.as_slice())?;
+    add_field(line, held.as_slice())?;
     held.clear();
     Ok(())
 }
 
 /// What a line says, or its fault.
-pub(crate) fn judged(line: KeptLine, number: u32) -> Result<RunLine, Kind>
-    ensures { result ≡ line_of number line }
+pub(crate) fn judged(line: &KeptLine, number: u32) -> Result<LineView<'_>, Kind>
+    ensures { MatchResult result (λ view. line_of number line.now ≡ Ok (view_shown view)) (λ kind. line_of number line.now ≡ Err kind) }
 {
-    let KeptLine {
-        count,
-        topic,
-        doc,
-        score,
-    } = line;
-    if count != FIELDS {
+    if line.count != FIELDS {
         return Err(Kind::Fields);
     }
-    if !is_name(topic.bytes()) {
+    if !is_name(line.topic.bytes()) {
         return Err(Kind::Topic);
     }
-    if !is_docno(doc.bytes()) {
+    if !is_docno(line.doc.bytes()) {
         return Err(Kind::Docno);
     }
-    match score {
-        Ok(score) => Ok(RunLine {
+    match &line.score {
+        Ok(score) => Ok(LineView {
             line: number,
-            topic,
-            doc,
+            topic: line.topic.bytes(),
+            doc: line.doc.bytes(),
             score,
         }),
-        Err(cause) => Err(Kind::Score(cause)),
+        Err(cause) => Err(Kind::Score(*cause)),
     }
 }

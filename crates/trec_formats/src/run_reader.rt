@@ -4,28 +4,33 @@
 ghost use Rattle.std.specs.Prelude.{◌≡◌, ◌≤◌, ◌<◌, ◌+◌, ◌^◌, ◌++◌, ℕ, List, [], ◌∷◌, map, length, take, position, Ok, Err, IfOk, OnOk, OnErr, IsErr};
 ghost use Rattle.std.specs.List.Sorted.{IsStrictlyIncreasing};
 ghost use Rattle.trec_formats.specs.Faults.{IfFault};
+ghost use Rattle.trec_formats.specs.LineViews.{view_shown};
 ghost use Rattle.trec_formats.specs.Lines.{Row};
+ghost use Rattle.trec_formats.specs.Lists.{IsRankedRun, IsRankedRunFault};
+ghost use Rattle.trec_formats.specs.PackedRuns.{kept_lines, ArePlaced};
 ghost use Rattle.trec_formats.specs.Counts.{IsTally};
 ghost use Rattle.trec_formats.specs.RunFields.{kept_fields};
 ghost use Rattle.trec_formats.specs.RunStates.{is_break, row_if, AreEnded, AreWithin, HasRoom, IsFaultBehind, IsRead, IsFaulty, IsHeld, IsWithin, IsAt, IsAfter, HasFailed, held_by};
 ghost use Rattle.trec_formats.specs.Runs.{run_of, count_on, IsRun, IsRunFault};
 
 use crate::faults::{FormatEnd, FormatFault, Kind};
+use crate::line_views::LineView;
 use crate::lines::is_white_space;
+use crate::lists::{TopicList, rank_packed};
+use crate::packed_runs::{PackedRun, push, unpacked};
 use crate::run_fields::{KeptLine, end_field, hold, judged};
 use crate::runs::RunLine;
 use crate::topic_counts::{TopicCounts, count_line};
 use decimal_rank::Memory;
 use std::alloc::Global;
 use std::marker::Model;
-use std::mem::replace;
 
 /// The lines that ended, none of which has a fault.
 #[derive(Drop)]
 struct Ended {
     /// How many lines ended, blank ones among them.
     number: u32,
-    lines: Vec<RunLine>,
+    run: PackedRun,
     counts: TopicCounts,
 }
 
@@ -79,32 +84,34 @@ fn break_at(rest: &[u8]) -> Option<usize>
 }
 
 /// Adds a line without a fault of its own.
-fn add_line(alloc: Global, ended: &mut Ended, line: RunLine) -> Result<(), FormatEnd>
+fn add_line(alloc: Global, ended: &mut Ended, line: LineView<'_>) -> Result<(), FormatEnd>
     requires tally { IsTally ended.old.counts }
     requires few { length ended.old.counts.topics + 1 < 2 ^ 32 }
+    requires placed { ArePlaced ended.old.run.bytes.items ended.old.run.lines.items }
     ensures number { OnOk result (ended.new.number ≡ ended.old.number) }
+    ensures placed { OnOk result (ArePlaced ended.new.run.bytes.items ended.new.run.lines.items) }
     ensures tally { OnOk result (IsTally ended.new.counts) }
     ensures few { OnOk result (length ended.new.counts.topics ≤ length ended.old.counts.topics + 1) }
-    ensures ok { OnOk result ((done : List Row) (row : Row) → AreEnded done ended.old → run_of row ≡ Ok line → AreEnded (done ++ row ∷ []) ended.new) }
-    ensures fault { IfFault result (λ fault. (done : List Row) (row : Row) → AreEnded done ended.old → run_of row ≡ Ok line → ended.old.number ≡ row.0 →
+    ensures ok { OnOk result ((done : List Row) (row : Row) → AreEnded done ended.old → run_of row ≡ Ok (view_shown line.entry) → AreEnded (done ++ row ∷ []) ended.new) }
+    ensures fault { IfFault result (λ fault. (done : List Row) (row : Row) → AreEnded done ended.old → run_of row ≡ Ok (view_shown line.entry) → ended.old.number ≡ row.0 →
         IsFaultBehind done (row ∷ []) fault) }
 {
-    if !count_line(alloc, &mut ended.counts, line.topic.bytes())? {
+    if !count_line(alloc, &mut ended.counts, line.topic)? {
         return Err(FormatEnd::at(ended.number, Kind::TooLong));
     }
-    ended.lines.push(line)?;
+    push(&mut ended.run, line)?;
     Ok(())
 }
 
 /// Judges a line that ended.
-fn end_line(alloc: Global, ended: &mut Ended, line: KeptLine) -> Result<(), FormatEnd>
+fn end_line(alloc: Global, ended: &mut Ended, line: &KeptLine) -> Result<(), FormatEnd>
     requires within { AreWithin ended.old }
     requires long { ended.old.number ≤ 268435456 }
     ensures number { OnOk result (ended.new.number ≡ ended.old.number + 1) }
     ensures within { OnOk result (AreWithin ended.new) }
-    ensures ok { OnOk result ((done : List Row) (fields : List (List ℕ)) → AreEnded done ended.old → line ≡ kept_fields fields →
+    ensures ok { OnOk result ((done : List Row) (fields : List (List ℕ)) → AreEnded done ended.old → line.now ≡ kept_fields fields →
         AreEnded (done ++ row_if (ended.old.number + 1) fields) ended.new) }
-    ensures fault { IfFault result (λ fault. (done : List Row) (fields : List (List ℕ)) → AreEnded done ended.old → line ≡ kept_fields fields →
+    ensures fault { IfFault result (λ fault. (done : List Row) (fields : List (List ℕ)) → AreEnded done ended.old → line.now ≡ kept_fields fields →
         IsFaultBehind done (row_if (ended.old.number + 1) fields) fault) }
 {
     ended.number += 1;
@@ -131,12 +138,12 @@ fn step(alloc: Global, reading: &mut Reading, rest: &[u8]) -> Result<usize, Form
         hold(&mut reading.held, rest)?;
         return Ok(rest.len());
     };
-    end_field(alloc, &mut reading.line, &mut reading.held, &rest[..end])?;
+    end_field(&mut reading.line, &mut reading.held, &rest[..end])?;
     if rest[end] != b'\n' {
         return Ok(end + 1);
     }
-    let line = replace(&mut reading.line, KeptLine::new(alloc));
-    end_line(alloc, &mut reading.ended, line)?;
+    end_line(alloc, &mut reading.ended, &reading.line)?;
+    reading.line.clear();
     Ok(end + 1)
 }
 
@@ -182,7 +189,30 @@ fn read_on(alloc: Global, progress: &mut Progress, piece: &[u8]) -> Result<(), M
 }
 
 /// What a run is read as that ends here.
-fn end_run(alloc: Global, reading: Reading) -> Result<Vec<RunLine>, FormatEnd>
+fn end_run(alloc: Global, reading: Reading) -> Result<PackedRun, FormatEnd>
+    requires within { IsWithin reading }
+    requires long { reading.ended.number ≤ 268435456 }
+    requires read { (text : List ℕ) × IsRead text reading }
+    ensures lines { IfOk result (λ run. (text : List ℕ) → IsRead text reading → IsRun text (kept_lines run)) }
+    ensures ascending { IfOk result (λ run. IsStrictlyIncreasing (map (λ line. line.line) (kept_lines run))) }
+    ensures short { IfOk result (λ run. (topic : List ℕ) → count_on topic (kept_lines run) ≤ 1000) }
+    ensures fault { IfFault result (λ fault. (text : List ℕ) → IsRead text reading → IsRunFault text fault) }
+{
+    let Reading {
+        mut ended,
+        mut line,
+        mut held,
+    } = reading;
+    end_field(&mut line, &mut held, &[])?;
+    end_line(alloc, &mut ended, &line)?;
+    if ended.run.lines.is_empty() {
+        return Err(FormatEnd::at(0, Kind::Empty));
+    }
+    Ok(ended.run)
+}
+
+/// The lines of a run that ends here.
+fn end_lines(alloc: Global, reading: Reading) -> Result<Vec<RunLine>, FormatEnd>
     requires within { IsWithin reading }
     requires long { reading.ended.number ≤ 268435456 }
     requires read { (text : List ℕ) × IsRead text reading }
@@ -191,17 +221,20 @@ fn end_run(alloc: Global, reading: Reading) -> Result<Vec<RunLine>, FormatEnd>
     ensures short { IfOk result (λ lines. (topic : List ℕ) → count_on topic lines.items ≤ 1000) }
     ensures fault { IfFault result (λ fault. (text : List ℕ) → IsRead text reading → IsRunFault text fault) }
 {
-    let Reading {
-        mut ended,
-        mut line,
-        mut held,
-    } = reading;
-    end_field(alloc, &mut line, &mut held, &[])?;
-    end_line(alloc, &mut ended, line)?;
-    if ended.lines.is_empty() {
-        return Err(FormatEnd::at(0, Kind::Empty));
-    }
-    Ok(ended.lines)
+    let run = end_run(alloc, reading)?;
+    Ok(unpacked(alloc, run.bytes.as_slice(), run.lines.as_slice())?)
+}
+
+/// The ranked lists of a run that ends here.
+fn end_lists(alloc: Global, reading: Reading) -> Result<Vec<TopicList>, FormatEnd>
+    requires within { IsWithin reading }
+    requires long { reading.ended.number ≤ 268435456 }
+    requires read { (text : List ℕ) × IsRead text reading }
+    ensures lists { IfOk result (λ lists. (text : List ℕ) → IsRead text reading → IsRankedRun text lists.items) }
+    ensures fault { IfFault result (λ fault. (text : List ℕ) → IsRead text reading → IsRankedRunFault text fault) }
+{
+    let run = end_run(alloc, reading)?;
+    rank_packed(alloc, run)
 }
 
 impl RunReader {
@@ -214,7 +247,7 @@ impl RunReader {
             progress: Progress::Reads(Reading {
                 ended: Ended {
                     number: 0,
-                    lines: Vec::new(alloc),
+                    run: PackedRun::new(alloc),
                     counts: TopicCounts::new(alloc),
                 },
                 line: KeptLine::new(alloc),
@@ -251,7 +284,26 @@ impl RunReader {
             ..
         } = self;
         match progress {
-            Progress::Reads(reading) => end_run(alloc, reading),
+            Progress::Reads(reading) => end_lines(alloc, reading),
+            Progress::Faulty(fault) => Err(FormatEnd::Fault(fault)),
+            Progress::Failed => Err(FormatEnd::Memory),
+        }
+    }
+
+    /// The ranked lists of the run, as `rank_run` makes them of its lines, or its first fault. The lines are
+    /// let go of as their lists are made.
+    pub fn finish_lists(self) -> Result<Vec<TopicList>, FormatEnd>
+        ensures lists { IfOk result (λ lists. (text : List ℕ) → IsAfter text self → IsRankedRun text lists.items) }
+        ensures fault { IfFault result (λ fault. (text : List ℕ) → IsAfter text self → IsRankedRunFault text fault) }
+        ensures failed { HasFailed self → result ≡ Err FormatEnd.Memory }
+    {
+        let RunReader {
+            alloc,
+            progress,
+            ..
+        } = self;
+        match progress {
+            Progress::Reads(reading) => end_lists(alloc, reading),
             Progress::Faulty(fault) => Err(FormatEnd::Fault(fault)),
             Progress::Failed => Err(FormatEnd::Memory),
         }

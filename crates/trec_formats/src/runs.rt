@@ -2,10 +2,11 @@
 ghost use Rattle.std.specs.Prelude.{◌≡◌, ◌≤◌, ℕ, List, length, map, IfOk};
 ghost use Rattle.std.specs.List.Sorted.{IsStrictlyIncreasing};
 ghost use Rattle.trec_formats.specs.Faults.{IfFault};
+ghost use Rattle.trec_formats.specs.Lists.{IsRankedRun, IsRankedRunFault};
 ghost use Rattle.trec_formats.specs.Runs.{count_on, IsRun, IsRunFault};
 
-use crate::documents::DocumentLine;
 use crate::faults::FormatEnd;
+use crate::lists::TopicList;
 use crate::run_reader::RunReader;
 use decimal_rank::{Decimal, Text};
 use std::alloc::Global;
@@ -20,26 +21,6 @@ pub struct RunLine {
     pub score: Decimal,
 }
 
-impl DocumentLine for RunLine {
-    ghost topic_of = { λ line. line.topic };
-
-    ghost doc_of = { λ line. line.doc };
-
-    ghost number_of = { λ line. line.line };
-
-    fn topic(&self) -> &[u8] {
-        self.topic.bytes()
-    }
-
-    fn doc(&self) -> &[u8] {
-        self.doc.bytes()
-    }
-
-    fn number(&self) -> u32 {
-        self.line
-    }
-}
-
 /// The lines of a run's text, or its first fault.
 pub fn read_run(alloc: Global, bytes: &[u8]) -> Result<Vec<RunLine>, FormatEnd>
     requires { length bytes.now ≤ 268435456 }
@@ -51,4 +32,15 @@ pub fn read_run(alloc: Global, bytes: &[u8]) -> Result<Vec<RunLine>, FormatEnd>
     let mut reader = RunReader::new(alloc);
     reader.feed(bytes)?;
     reader.finish()
+}
+
+/// The ranked lists of a run's text, or its first fault.
+pub fn read_lists(alloc: Global, bytes: &[u8]) -> Result<Vec<TopicList>, FormatEnd>
+    requires { length bytes.now ≤ 268435456 }
+    ensures lists { IfOk result (λ lists. IsRankedRun bytes.now lists.items) }
+    ensures fault { IfFault result (IsRankedRunFault bytes.now) }
+{
+    let mut reader = RunReader::new(alloc);
+    reader.feed(bytes)?;
+    reader.finish_lists()
 }

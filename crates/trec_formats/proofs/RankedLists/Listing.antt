@@ -1,5 +1,5 @@
 -- The lists of lines that stand by topic, group by group.
-use Rattle.std.proofs.Common.{◌≡◌, ◌≢◌, ◌≤◌, ◌<◌, ◌+◌, ◌⊎◌, inl, inr, ℕ, suc, true, false, List, [], ◌∷◌, ◌++◌, length, drop, get_or, refl, sym, ◌∙◌, ap, subst, arith, Some, bytes_eq}
+use Rattle.std.proofs.Common.{◌≡◌, ◌≢◌, ◌≤◌, ◌<◌, ◌+◌, ◌⊎◌, inl, inr, ℕ, suc, true, false, List, [], ◌∷◌, ◌++◌, length, map, drop, get_or, refl, sym, ◌∙◌, ap, subst, arith, Some, bytes_eq}
 use Rattle.std.specs.Prelude.{All, AllPairs, Any, slice_get}
 use Rattle.std.specs.Cmp.Lexicographic.{slice_cmp}
 use Rattle.std.specs.Option.{option_map}
@@ -13,8 +13,7 @@ use Rattle.std.proofs.lemmas.Slice.Eq.{bytes_eq-Decides}
 use Rattle.trec_formats.specs.Faults.{IsDistinct}
 use Rattle.trec_formats.specs.declared.lists.TopicList.{TopicList}
 use Rattle.trec_formats.specs.declared.runs.RunLine.{RunLine}
-use denote.Ref.{Bor}
-use Rattle.trec_formats.specs.Groups.{shown, topic_lt, AreByTopic, IsAscending, IsFirstGroup, IsGroupList, DocsDiffer}
+use Rattle.trec_formats.specs.Groups.{topic_lt, AreByTopic, IsAscending, IsFirstGroup, IsGroupList, DocsDiffer}
 use Rattle.trec_formats.specs.Lists.{lines_on, AreLists, AreRanked, IsListOf, same_document}
 use Rattle.trec_formats.proofs.RankedLists.TopicOrder.{never_below_itself, is_above}
 use Rattle.trec_formats.proofs.RepeatedDocuments.Differing.{pairs_cons, pairs_head, pairs_tail, distinct_by_topic, distinct_from_differ, differ_from_distinct, unkept}
@@ -191,16 +190,23 @@ group_differs order rest group c distinct = subst DocsDiffer c.whole (differ_fro
 pub after_is : (order rest group : List RunLine) (c : Cuts order rest group) → c.after ≡ drop (length group) rest
 after_is order rest group c = sym (ap (drop (length group)) c.rest_is ∙ drop_at group c.after (length group) refl)
 
-pub group_within : (order : List (Bor RunLine)) (start : ℕ) (group : List (Bor RunLine)) → start ≤ length order → Cuts (shown order) (shown (drop start order)) (shown group) → start + length group ≤ length order
-group_within order start group within c =
-    let long : length (shown (drop start order)) ≡ length (shown group) + length c.after = ap length c.rest_is ∙ length-append (shown group) c.after in
-    omega (arith, within, long, length-map (drop start order) (λ (line : Bor RunLine). line.now), length-map group (λ (line : Bor RunLine). line.now), length-drop start order)
+module _ {X : Type 0} (f : X → RunLine) (order : List RunLine) (lines : List X) (start : ℕ) (group : List X) (c : Cuts order (map f (drop start lines)) (map f group)) where
+  -- a group has a line
+  pub group_some : 0 < length group
+  group_some = omega (arith, ap length c.group_is, length-map group f)
 
-pub rest_after : (order : List (Bor RunLine)) (start : ℕ) (group : List (Bor RunLine)) → drop (length (shown group)) (shown (drop start order)) ≡ shown (drop (start + length group) order)
-rest_after order start group =
-    ap (λ n. drop n (shown (drop start order))) (length-map group (λ (line : Bor RunLine). line.now))
-    ∙ drop-map (λ (line : Bor RunLine). line.now) (length group) (drop start order)
-    ∙ ap shown (drop-drop (length group) start order)
+  pub group_within : start ≤ length lines → start + length group ≤ length lines
+  group_within within =
+      let long : length (map f (drop start lines)) ≡ length (map f group) + length c.after = ap length c.rest_is ∙ length-append (map f group) c.after in
+      omega (arith, within, long, length-map (drop start lines) f, length-map group f, length-drop start lines)
+
+  -- what lies behind the group, where the lines in front were let go of
+  pub after_group : (left : List X) (next : ℕ) → drop next left ≡ drop (start + length group) lines → c.after ≡ map f (drop next left)
+  after_group left next same =
+      after_is order (map f (drop start lines)) (map f group) c
+      ∙ ap (λ n. drop n (map f (drop start lines))) (length-map group f)
+      ∙ drop-map f (length group) (drop start lines)
+      ∙ ap (map f) (drop-drop (length group) start lines ∙ sym same)
 
 -- the lists of lines by topic are those of the lines
 pub lists_carry : (lines order : List RunLine) (lists : List TopicList) → AreByTopic lines order → AreLists order lists → AreLists lines lists

@@ -18,9 +18,12 @@ use denote.Ref.{Bor}
 use Rattle.decimal_rank.specs.Decimal.{decimal_cmp}
 use Rattle.decimal_rank.specs.Ranks.{standing_cmp, stands_before, rank_in}
 use Rattle.decimal_rank.proofs.Standings.Standing.{Strictly, count-before, count_by-map, one_docno}
+use Rattle.trec_formats.specs.declared.packed_runs.PackedLine.{PackedLine}
 use Rattle.trec_formats.specs.declared.runs.RunLine.{RunLine}
-use Rattle.trec_formats.specs.Groups.{shown, AreByRank, DocsDiffer}
+use Rattle.trec_formats.specs.Groups.{AreByRank, DocsDiffer}
 use Rattle.trec_formats.specs.Lists.{AreRanked, standing}
+use Rattle.trec_formats.specs.PackedRuns.{text_in, line_in, lines_in, shown}
+use Rattle.trec_formats.proofs.RepeatedDocuments.Differing.{pairs_map}
 
 standing_total : IsTotalOrder decimal_cmp → IsTotalOrder standing_cmp
 unfolding standing_cmp
@@ -90,26 +93,30 @@ module _ (lines order : List RunLine) (total : IsTotalOrder decimal_cmp) (differ
     places = All-permutation (λ line. slice_get (map doc_of order) (rank_in (map standing lines) (standing line) - 1) ≡ Some line.doc) order lines (IsPermutation-sym lines order w.same) at_rank;
   }
 
--- what holds of lent lines holds of the lines
-pub order_shown : (R : RunLine → RunLine → Bool) (items : List (Bor RunLine)) → ((i j : ℕ) (d : Bor RunLine) → i < j → j < length items → R (get_or items i d).now (get_or items j d).now ≡ false)
-    → (i j : ℕ) (d : RunLine) → i < j → j < length (shown items) → R (get_or (shown items) i d) (get_or (shown items) j d) ≡ false
-order_shown R [] h i j d less within = absurd (omega arith)
-order_shown R (x ∷ xs) h i j d less within =
-    let here : j < length (x ∷ xs) = omega (arith, length-map (x ∷ xs) (λ (line : Bor RunLine). line.now)) in
-    ap (λ a. R a (get_or (shown (x ∷ xs)) j d)) (get_or-map (λ line. line.now) (x ∷ xs) i x d (omega arith))
-    ∙ ap (λ b. R (get_or (x ∷ xs) i x).now b) (get_or-map (λ line. line.now) (x ∷ xs) j x d here)
-    ∙ h i j x less here
+module _ (bytes : List ℕ) where
+  abbrev line_at : Bor PackedLine → RunLine
+  line_at line = line_in bytes line.now
 
-pub rank_order : IsTotalOrder decimal_cmp → IsStrictWeakOrder (λ (a b : Bor RunLine). is_lt (standing_cmp (standing b.now) (standing a.now)))
-rank_order total = IsStrictWeakOrder-flip _ (ranks_by (standing_total total) (λ (a : Bor RunLine). standing a.now))
+  -- lent lines show the lines
+  pub lent_shown : (items : List (Bor PackedLine)) (lines : List PackedLine) → map (λ (line : Bor PackedLine). line.now) items ≡ lines → shown bytes items ≡ lines_in bytes lines
+  lent_shown [] lines is = ap (lines_in bytes) is
+  lent_shown (x ∷ xs) lines is = ap (λ rest. line_at x ∷ rest) (lent_shown xs (map (λ line. line.now) xs) refl) ∙ ap (lines_in bytes) is
 
-pub docs_shown : (items : List (Bor RunLine)) → map (λ (line : RunLine). line.doc) (shown items) ≡ map (λ line. line.now.doc) items
-docs_shown [] = refl
-docs_shown (x ∷ xs) = ap (λ docs. x.now.doc ∷ docs) (docs_shown xs)
+  -- what holds of lent lines holds of the lines
+  pub order_shown : (R : RunLine → RunLine → Bool) (items : List (Bor PackedLine)) → ((i j : ℕ) (d : Bor PackedLine) → i < j → j < length items → R (line_at (get_or items i d)) (line_at (get_or items j d)) ≡ false)
+      → AllPairs (λ a b. R a b ≡ false) (shown bytes items)
+  order_shown R items h = pairs_map line_at (λ a b. R a b ≡ false) items h
 
-pub ranked_docs : (lines : List RunLine) (items given : List (Bor RunLine)) (docs : List (List ℕ)) → IsTotalOrder decimal_cmp → DocsDiffer lines → AreByRank lines (shown items) → given ≡ items → docs ≡ map (λ (line : RunLine). line.doc) (shown given) → AreRanked lines docs
-ranked_docs lines items given docs total differ w same docs_are =
-    subst (AreRanked lines) (sym (docs_are ∙ ap (λ items. map doc_of (shown items)) same)) (are_ranked lines (shown items) total differ w)
+  pub rank_order : IsTotalOrder decimal_cmp → IsStrictWeakOrder (λ (a b : Bor PackedLine). is_lt (standing_cmp (standing (line_at b)) (standing (line_at a))))
+  rank_order total = IsStrictWeakOrder-flip _ (ranks_by (standing_total total) (λ (a : Bor PackedLine). standing (line_at a)))
+
+  pub docs_shown : (items : List (Bor PackedLine)) → map (λ (line : RunLine). line.doc) (shown bytes items) ≡ map (λ line. text_in bytes line.now.doc) items
+  docs_shown [] = refl
+  docs_shown (x ∷ xs) = ap (λ docs. text_in bytes x.now.doc ∷ docs) (docs_shown xs)
+
+  pub ranked_docs : (lines : List RunLine) (items given : List (Bor PackedLine)) (docs : List (List ℕ)) → IsTotalOrder decimal_cmp → DocsDiffer lines → AreByRank lines (shown bytes items) → given ≡ items → docs ≡ map (λ (line : RunLine). line.doc) (shown bytes given) → AreRanked lines docs
+  ranked_docs lines items given docs total differ w same docs_are =
+      subst (AreRanked lines) (sym (docs_are ∙ ap (λ items. map doc_of (shown bytes items)) same)) (are_ranked lines (shown bytes items) total differ w)
 
 pub equal_scores : (a b : RunLine) (r : Ordering) → decimal_cmp a.score b.score ≡ Equal → r ≡ slice_cmp nat_cmp a.doc b.doc → r ≡ standing_cmp (standing a) (standing b)
 unfolding standing_cmp

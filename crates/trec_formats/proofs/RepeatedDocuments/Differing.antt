@@ -1,9 +1,9 @@
 -- A run repeats no document of a topic where the lines of each topic have different documents.
-use Rattle.std.proofs.Common.{◌≡◌, ◌≢◌, ◌<◌, ◌+◌, ℕ, zero, suc, Bool, true, false, List, [], ◌∷◌, ◌++◌, length, filter, take, drop, get_or, refl, sym, ◌∙◌, ap, subst, arith, bytes_eq}
+use Rattle.std.proofs.Common.{◌≡◌, ◌≢◌, ◌<◌, ◌+◌, ℕ, zero, suc, Bool, true, false, List, [], ◌∷◌, ◌++◌, length, filter, map, take, drop, get_or, refl, sym, ◌∙◌, ap, subst, arith, bytes_eq}
 use Rattle.std.specs.Prelude.{All, AllPairs}
 use Rattle.std.specs.List.{position_or_len}
 use Rattle.std.proofs.lemmas.Bool.{false_from_ne_true}
-use Rattle.std.proofs.lemmas.List.{get_or-take, get_or_append_left, get_or_at, length-take-le, length-append, take-append-drop, drop_more}
+use Rattle.std.proofs.lemmas.List.{get_or-map, get_or-take, get_or_append_left, get_or_at, length-take-le, length-append, length-map, take-append-drop, drop_more}
 use Rattle.std.proofs.lemmas.List.Elements.{All-filter, filter_passes, All-head, All-tail, All-same}
 use Rattle.std.proofs.lemmas.List.Folds.{list_any_at, find_at}
 use Rattle.std.proofs.lemmas.List.Sums.{passes_at_first}
@@ -28,36 +28,44 @@ pairs_head R x xs pairs k d within = pairs zero (suc k) d (omega arith) (omega a
 pub pairs_tail : {X : Type 0} (R : X → X → Type 0) (x : X) (xs : List X) → AllPairs R (x ∷ xs) → AllPairs R xs
 pairs_tail R x xs pairs i j d below within = pairs (suc i) (suc j) d (omega arith) (omega arith)
 
--- no line is the same as a later one
-abbrev Apart : List RunLine → Type 0
-Apart lines = AllPairs (λ x y. same_document y x ≡ false) lines
+pub pairs_map : {X Y : Type 0} (f : X → Y) (R : Y → Y → Type 0) (xs : List X) → AllPairs (λ a b. R (f a) (f b)) xs → AllPairs R (map f xs)
+pairs_map f R [] pairs i j d below within = absurd (omega (arith, within))
+pairs_map f R (x ∷ xs) pairs i j d below within =
+    let long : j < length (x ∷ xs) = omega (arith, within, length-map (x ∷ xs) f) in
+    let before : i < length (x ∷ xs) = omega (arith, below, long) in
+    rw (get_or-map f (x ∷ xs) i x d before, get_or-map f (x ∷ xs) j x d long) (pairs i j x below long)
 
-apart_from_distinct : (lines : List RunLine) → IsDistinct same_document lines → Apart lines
-apart_from_distinct lines distinct i j d below within =
-    false_from_ne_true (same_document (get_or lines j d) (get_or lines i d)) (λ same.
-    let again = get_or lines j d in
-    let short : i < length (take j lines) = omega (arith, below, within, length-take-le j lines (omega (arith, within))) in
-    let here : same_document again (get_or (take j lines) i d) ≡ true = rw (get_or-take j lines i d below) same in
-    let first = find_some (same_document again) (take j lines) (list_any_at (same_document again) (take j lines) i d short here) in
-    distinct first.0 again (record {
-      before = take j lines;
-      after = drop (j + 1) lines;
-      cut = sym (take-append-drop j lines) ∙ ap (λ rest. take j lines ++ rest) (drop_more lines j d within);
-      earlier = first.1;
-    }))
+module _ {L : Type 0} (same : L → L → Bool) where
+  -- no line is the same as a later one
+  abbrev pub Apart : List L → Type 0
+  Apart lines = AllPairs (λ x y. same y x ≡ false) lines
 
-distinct_from_apart : (lines : List RunLine) → Apart lines → IsDistinct same_document lines
-distinct_from_apart lines apart first again w =
-    let at = sym (find_at (same_document again) w.before) ∙ w.earlier in
-    let i : ℕ = position_or_len (same_document again) w.before in
-    let within : i < length w.before = slice_get_within w.before i first at in
-    let same : same_document again (get_or w.before i again) ≡ true = passes_at_first (same_document again) w.before again within in
-    let long : length lines ≡ length w.before + suc (length w.after) = ap length w.cut ∙ length-append w.before (again ∷ w.after) in
-    let earlier : get_or lines i again ≡ get_or w.before i again = rw w.cut (get_or_append_left w.before (again ∷ w.after) again i within) in
-    let later : get_or lines (length w.before) again ≡ again = rw w.cut (get_or_at w.before again w.after again (length w.before) refl) in
-    let no = apart i (length w.before) again within (omega (arith, long)) in
-    let none : same_document again (get_or w.before i again) ≡ false = rw (← earlier) (rw later at no) in
-    cc (same, none)
+  pub apart_from_distinct : (lines : List L) → IsDistinct same lines → Apart lines
+  apart_from_distinct lines distinct i j d below within =
+      false_from_ne_true (same (get_or lines j d) (get_or lines i d)) (λ is.
+      let again = get_or lines j d in
+      let short : i < length (take j lines) = omega (arith, below, within, length-take-le j lines (omega (arith, within))) in
+      let here : same again (get_or (take j lines) i d) ≡ true = rw (get_or-take j lines i d below) is in
+      let first = find_some (same again) (take j lines) (list_any_at (same again) (take j lines) i d short here) in
+      distinct first.0 again (record {
+        before = take j lines;
+        after = drop (j + 1) lines;
+        cut = sym (take-append-drop j lines) ∙ ap (λ rest. take j lines ++ rest) (drop_more lines j d within);
+        earlier = first.1;
+      }))
+
+  pub distinct_from_apart : (lines : List L) → Apart lines → IsDistinct same lines
+  distinct_from_apart lines apart first again w =
+      let at = sym (find_at (same again) w.before) ∙ w.earlier in
+      let i : ℕ = position_or_len (same again) w.before in
+      let within : i < length w.before = slice_get_within w.before i first at in
+      let is : same again (get_or w.before i again) ≡ true = passes_at_first (same again) w.before again within in
+      let long : length lines ≡ length w.before + suc (length w.after) = ap length w.cut ∙ length-append w.before (again ∷ w.after) in
+      let earlier : get_or lines i again ≡ get_or w.before i again = rw w.cut (get_or_append_left w.before (again ∷ w.after) again i within) in
+      let later : get_or lines (length w.before) again ≡ again = rw w.cut (get_or_at w.before again w.after again (length w.before) refl) in
+      let no = apart i (length w.before) again within (omega (arith, long)) in
+      let none : same again (get_or w.before i again) ≡ false = rw (← earlier) (rw later at no) in
+      cc (is, none)
 
 -- what passes and fails the test of equal documents
 other_doc : (x y : RunLine) (topic : List ℕ) → same_document y x ≡ false → x.topic ≡ topic → y.topic ≡ topic → x.doc ≢ y.doc
@@ -74,14 +82,14 @@ differ_step topic x xs true is first rest =
     rw is (pairs_cons (λ a b. a.doc ≢ b.doc) x (lines_on topic xs) (λ k d within. other_doc x (get_or (lines_on topic xs) k d) topic (kept k d within) ((bytes_eq-Decides _ _).0 is) ((bytes_eq-Decides _ _).0 (pass k d within))) rest)
 differ_step topic x xs false is first rest = rw is rest
 
-differ_from_apart : (topic : List ℕ) (lines : List RunLine) → Apart lines → DocsDiffer (lines_on topic lines)
+differ_from_apart : (topic : List ℕ) (lines : List RunLine) → Apart same_document lines → DocsDiffer (lines_on topic lines)
 differ_from_apart topic [] apart = λ i j d below within. absurd (omega (arith, within))
 differ_from_apart topic (x ∷ xs) apart =
     differ_step topic x xs (bytes_eq x.topic topic) refl (pairs_head (λ a b. same_document b a ≡ false) x xs apart) (differ_from_apart topic xs (pairs_tail (λ a b. same_document b a ≡ false) x xs apart))
 
 -- the lines of each topic of distinct lines have different documents
 pub differ_from_distinct : (topic : List ℕ) (lines : List RunLine) → IsDistinct same_document lines → DocsDiffer (lines_on topic lines)
-differ_from_distinct topic lines distinct = differ_from_apart topic lines (apart_from_distinct lines distinct)
+differ_from_distinct topic lines distinct = differ_from_apart topic lines (apart_from_distinct same_document lines distinct)
 
 unkept_step : {X : Type 0} (p : X → Bool) (P : X → Type 0) (x : X) (xs : List X) (t : Bool) → p x ≡ t → All P (filter p (x ∷ xs)) → (p x ≡ true → P x) × All P (filter p xs)
 unkept_step p P x xs true is all = let whole = rw is at all in (λ _. All-head P x (filter p xs) whole, All-tail P x (filter p xs) whole)
@@ -101,7 +109,7 @@ tail_step : (topic : List ℕ) (x : RunLine) (xs : List RunLine) (t : Bool) → 
 tail_step topic x xs true is differ = pairs_tail (λ a b. a.doc ≢ b.doc) x (lines_on topic xs) (rw is at differ)
 tail_step topic x xs false is differ = rw is at differ
 
-apart_from_differ : (lines : List RunLine) → ((topic : List ℕ) → DocsDiffer (lines_on topic lines)) → Apart lines
+apart_from_differ : (lines : List RunLine) → ((topic : List ℕ) → DocsDiffer (lines_on topic lines)) → Apart same_document lines
 apart_from_differ [] differ = λ i j d below within. absurd (omega (arith, within))
 apart_from_differ (x ∷ xs) differ =
     let own : bytes_eq x.topic x.topic ≡ true = nat_list_eq_equiv.refl x.topic in
@@ -113,7 +121,7 @@ apart_from_differ (x ∷ xs) differ =
 
 -- where the lines of each topic have different documents, no line repeats a document of its topic
 pub distinct_from_differ : (lines : List RunLine) → ((topic : List ℕ) → DocsDiffer (lines_on topic lines)) → IsDistinct same_document lines
-distinct_from_differ lines differ = distinct_from_apart lines (apart_from_differ lines differ)
+distinct_from_differ lines differ = distinct_from_apart same_document lines (apart_from_differ lines differ)
 
 differ_nil : DocsDiffer []
 differ_nil i j d below within = absurd (omega (arith, within))

@@ -8,6 +8,7 @@ use Rattle.trec_formats.specs.declared.run_reader.Ended.{Ended}
 use Rattle.trec_formats.specs.Counts.{count_at}
 use Rattle.trec_formats.specs.Faults.{IsFirstFault}
 use Rattle.trec_formats.specs.Lines.{fields_of, rows_of}
+use Rattle.trec_formats.specs.PackedRuns.{kept_lines}
 use Rattle.trec_formats.specs.RunFields.{kept, empty_line, with_part, kept_fields}
 use Rattle.trec_formats.specs.RunStates.{IsFaulty, IsGoing}
 use Rattle.trec_formats.specs.Runs.{AreRunLines, IsRun, IsRunFault}
@@ -16,7 +17,7 @@ use Rattle.trec_formats.proofs.RunTexts.RunFormat.{next_line, run_format}
 use Rattle.trec_formats.proofs.RunTexts.RunPieces.{EndsFaulty, EndsLine, in_hand_fields, in_hand_none, rows_at_end}
 
 -- no byte was read
-pub going_none : (ended : Ended) (line : KeptLine) (held : List ℕ) → ended.number ≡ 0 → ended.lines.items ≡ [] → ((topic : List ℕ) → count_at ended.counts topic ≡ 0) → line ≡ empty_line → held ≡ [] → IsGoing [] ended line held
+pub going_none : (ended : Ended) (line : KeptLine) (held : List ℕ) → ended.number ≡ 0 → kept_lines ended.run ≡ [] → ((topic : List ℕ) → count_at ended.counts topic ≡ 0) → line ≡ empty_line → held ≡ [] → IsGoing [] ended line held
 going_none ended line held number lines counts line_is held_is = record {
   done = [];
   bytes = [];
@@ -36,15 +37,15 @@ module _ (text : List ℕ) (ended : Ended) (line : KeptLine) (held : List ℕ) (
   last_fields = last_is ∙ ap (with_part line) held_is ∙ in_hand_fields w.bytes line held w.in_hand
 
   -- the lines of the whole text
-  pub whole_lines : (new : Ended) → EndsLine ended last new → AreRunLines (rows_of text) new.lines.items
+  pub whole_lines : (new : Ended) → EndsLine ended last new → AreRunLines (rows_of text) (kept_lines new.run)
   whole_lines new ends = rw (rows_at_end text ended line held w) (ends w.done (fields_of w.bytes) w.whole last_fields).good
 
-  pub whole_run : (new : Ended) → EndsLine ended last new → (new.lines.items ≢ []) → IsRun text new.lines.items
+  pub whole_run : (new : Ended) → EndsLine ended last new → (kept_lines new.run ≢ []) → IsRun text (kept_lines new.run)
   whole_run new ends some =
-      let good : AreRunLines (rows_of text) new.lines.items = whole_lines new ends in
-      ((λ none. some (run_format.same [] new.lines.items [] (subst (λ rows. AreRunLines rows new.lines.items) none good) run_format.nil)), good)
+      let good : AreRunLines (rows_of text) (kept_lines new.run) = whole_lines new ends in
+      ((λ none. some (run_format.same [] (kept_lines new.run) [] (subst (λ rows. AreRunLines rows (kept_lines new.run)) none good) run_format.nil)), good)
 
-  pub empty_run : (new : Ended) → EndsLine ended last new → new.lines.items ≡ [] → IsRunFault text (record { line = 0; kind = Empty })
+  pub empty_run : (new : Ended) → EndsLine ended last new → kept_lines new.run ≡ [] → IsRunFault text (record { line = 0; kind = Empty })
   empty_run new ends none =
       let good : AreRunLines (rows_of text) [] = rw none at (whole_lines new ends) in
       inl (record { none = run_format.none (rows_of text) good; line = refl; kind = refl })

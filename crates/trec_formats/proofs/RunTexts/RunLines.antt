@@ -13,6 +13,7 @@ use Rattle.trec_formats.specs.declared.runs.RunLine.{RunLine}
 use Rattle.trec_formats.specs.Counts.{count_at}
 use Rattle.trec_formats.specs.Faults.{IfFault, OfFault}
 use Rattle.trec_formats.specs.Lines.{Row}
+use Rattle.trec_formats.specs.PackedRuns.{kept_lines}
 use Rattle.trec_formats.specs.RunFields.{kept_fields, line_of}
 use Rattle.trec_formats.specs.RunStates.{row_if, AreEnded, IsFaultBehind}
 use Rattle.trec_formats.specs.Runs.{count_on, run_of}
@@ -31,11 +32,11 @@ of_fault_weaker (ends.Fault fault) f p = f fault p
 -- a line of a topic that has its most lines
 pub full_line : (ended : Ended) (line : RunLine) → count_at ended.counts line.topic ≡ 1000 → (done : List Row) (row : Row) → AreEnded done ended → run_of row ≡ Ok line → ended.number ≡ row.0 → IsFaultBehind done (row ∷ []) (record { line = ended.number; kind = TooLong })
 full_line ended line full done row w is number after =
-    let on : (count_on line.topic ended.lines.items == 1000) ≡ true = eq-eqb _ _ (sym (w.counted line.topic) ∙ full) in
-    record { before = done; row = row; after = after; lines = ended.lines.items; cut = append_assoc done (row ∷ []) after; good = w.good; line = number; kind = rw (is, on) refl }
+    let on : (count_on line.topic (kept_lines ended.run) == 1000) ≡ true = eq-eqb _ _ (sym (w.counted line.topic) ∙ full) in
+    record { before = done; row = row; after = after; lines = kept_lines ended.run; cut = append_assoc done (row ∷ []) after; good = w.good; line = number; kind = rw (is, on) refl }
 
 -- a line without a field
-pub blank_line : (old new : Ended) (line : KeptLine) → line.count ≡ 0 → new.lines.items ≡ old.lines.items → new.counts ≡ old.counts → EndsLine old line new
+pub blank_line : (old new : Ended) (line : KeptLine) → line.count ≡ 0 → kept_lines new.run ≡ kept_lines old.run → new.counts ≡ old.counts → EndsLine old line new
 blank_line old new line none lines counts done fields w is =
     let nil : fields ≡ [] = no_fields fields (ap (λ l. let n : ℕ = l.count in n) (sym is) ∙ none) in
     record { good = rw (nil, append-nil done, lines) w.good; counted = λ topic. rw (lines, counts) (w.counted topic) }
@@ -48,7 +49,7 @@ module _ (old mid : Ended) (line : KeptLine) (some : line.count ≢ 0) where
   row_is : (fields : List (List ℕ)) → line ≡ kept_fields fields → row_if (old.number + 1) fields ≡ (old.number + 1, fields) ∷ []
   row_is fields is = some_row (old.number + 1) fields (λ none. some (ap (λ l. let n : ℕ = l.count in n) is ∙ none))
 
-  module _ (lines : mid.lines.items ≡ old.lines.items) (counts : mid.counts ≡ old.counts) (number : mid.number ≡ old.number + 1) where
+  module _ (lines : kept_lines mid.run ≡ kept_lines old.run) (counts : mid.counts ≡ old.counts) (number : mid.number ≡ old.number + 1) where
     same_ended : (done : List Row) → AreEnded done old → AreEnded done mid
     same_ended done w = record { good = rw lines w.good; counted = λ topic. rw (lines, counts) (w.counted topic) }
 
@@ -67,4 +68,4 @@ module _ (old mid : Ended) (line : KeptLine) (some : line.count ≢ 0) where
   bad_line kind says done fields w is =
       let row : Row = (old.number + 1, fields) in
       let read : run_of row ≡ Err kind = sym (line_of-kept (old.number + 1) fields) ∙ ap (line_of (old.number + 1)) (sym is) ∙ sym says in
-      rw (row_is fields is) (λ after. record { before = done; row = row; after = after; lines = old.lines.items; cut = append_assoc done (row ∷ []) after; good = w.good; line = refl; kind = rw read refl })
+      rw (row_is fields is) (λ after. record { before = done; row = row; after = after; lines = kept_lines old.run; cut = append_assoc done (row ∷ []) after; good = w.good; line = refl; kind = rw read refl })

@@ -1,9 +1,11 @@
 use Rattle.std.proofs.Common.{sym, ◌∙◌, rules}
+use Rattle.trec_formats.specs.PackedRuns.{line_in}
 use Rattle.trec_formats.proofs.RankedLists.Ranked.{equal_scores, unequal_scores}
 use Rattle.trec_formats.proofs.lists.compare.Goals as goal
 
 pub returns-in-Equal : goal.returns-in-Equal
-returns-in-Equal c = equal_scores c.args.a.now c.args.b.now c.cmp.result (sym c.compare.ensures ∙ c.in-Equal.is) (search rules)
+returns-in-Equal c =
+    equal_scores (line_in c.args.bytes.now c.args.a.now) (line_in c.args.bytes.now c.args.b.now) c.cmp.result (sym c.compare.ensures ∙ c.in-Equal.is) (search rules)
 
 pub returns-in_default : goal.returns-in_default
-returns-in_default c = unequal_scores c.args.a.now c.args.b.now c.compare.result c.compare.ensures c.in_default.not-Equal
+returns-in_default c = unequal_scores (line_in c.args.bytes.now c.args.a.now) (line_in c.args.bytes.now c.args.b.now) c.compare.result c.compare.ensures c.in_default.not-Equal

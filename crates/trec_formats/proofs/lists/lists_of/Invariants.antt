@@ -1,14 +1,14 @@
 -- The lists are those of the lines so far, and their topics are below those of the lines to come.
 use Rattle.std.proofs.Common.{◌-◌, ◌≤◌, drop, length}
-use Rattle.trec_formats.specs.Groups.{shown}
+use Rattle.trec_formats.specs.PackedRuns.{lines_in}
 use Rattle.trec_formats.proofs.RankedLists.Listing.{IsListedTo}
 use Rattle.trec_formats.proofs.lists.lists_of.Given as goal
 
 abbrev pub invariant-loop-start : goal.invariant-loop-start
 invariant-loop-start l = record {
-  within : l.start ≤ length l.order;
-  listed : IsListedTo (shown l.order) (shown (drop l.start l.order)) l.lists.items;
+  within : l.start ≤ length l.rest.items;
+  listed : IsListedTo (lines_in l.bytes l.initial.rest.items) (lines_in l.bytes (drop l.start l.rest.items)) l.lists.items;
 }
 
 abbrev pub decreases-loop-start : goal.decreases-loop-start
-decreases-loop-start l = length l.order - l.start
+decreases-loop-start l = length l.rest.items - l.start

@@ -1,4 +1,3 @@
-use Rattle.std.proofs.Common.{◌∙◌}
 use Rattle.std.proofs.lemmas.Result.{err_from_is_err_and}
 use Rattle.trec_formats.proofs.RunTexts.KeptFields.{kept_few}
 use Rattle.trec_formats.proofs.RunTexts.RunLines.{of_fault_weaker}
@@ -19,8 +18,8 @@ pub returns-in_err-end_line-clause-fault : goal.returns-in_err-end_line-clause-f
 returns-in_err-end_line-clause-fault c =
     let p = err_from_is_err_and c.from_residual-in_err-end_line.result c.from_residual-in_err-end_line.ensures.1 in
     rw (p.1, p.2) (of_fault_weaker c.in_err-end_line.field-0.0 (λ fault ends text.
-    step_faulty text c.args.reading.now.ended c.args.reading.now.line c.args.reading.now.held.items c.args.rest.now c.in-Some.end c.in-Some.ensures c.replace-line.result fault c.if-rest-end-ne10.false (c.replace-line.ensures.value ∙ c.in_ok-end_field.ensures.line) ends) c.in_err-end_line.ensures.fault)
+    step_faulty text c.args.reading.now.ended c.args.reading.now.line c.args.reading.now.held.items c.args.rest.now c.in-Some.end c.in-Some.ensures c.end_field.new.line fault c.if-rest-end-ne10.false c.in_ok-end_field.ensures.line ends) c.in_err-end_line.ensures.fault)
 
 pub returns-clause-ok : goal.returns-clause-ok
 returns-clause-ok c = λ text.
-    step_line text c.args.reading.now.ended c.args.reading.now.line c.args.reading.now.held.items c.args.rest.now c.in-Some.end c.in-Some.ensures c.replace-line.result c.replace-line.new.dest c.end_field.new.held.items c.end_line.new.ended c.if-rest-end-ne10.false (c.replace-line.ensures.value ∙ c.in_ok-end_field.ensures.line) (c.replace-line.ensures.after ∙ c.new.ensures) c.in_ok-end_field.ensures.held c.in_ok-end_line.ensures.ok c.in_ok-end_line.ensures.number
+    step_line text c.args.reading.now.ended c.args.reading.now.line c.args.reading.now.held.items c.args.rest.now c.in-Some.end c.in-Some.ensures c.end_field.new.line c.clear.new.self c.end_field.new.held.items c.end_line.new.ended c.if-rest-end-ne10.false c.in_ok-end_field.ensures.line c.clear.ensures c.in_ok-end_field.ensures.held c.in_ok-end_line.ensures.ok c.in_ok-end_line.ensures.number

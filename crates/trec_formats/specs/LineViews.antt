@@ -1,0 +1,7 @@
+-- A line of a run as it's lent.
+use Rattle.trec_formats.specs.declared.line_views.LineView.{LineView}
+use Rattle.trec_formats.specs.declared.runs.RunLine.{RunLine}
+
+-- the line that a view shows
+abbrev pub view_shown : LineView → RunLine
+view_shown view = record { line = view.line; topic = view.topic.now; doc = view.doc.now; score = view.score.now }
