@@ -3,6 +3,7 @@ ghost use Rattle.std.specs.Prelude.{◌+◌, ◌≤◌, length};
 
 use crate::faults::is_fault;
 use crate::readings::{run_of, short};
+use crate::runs_and_qrels::is_list;
 use decimal_rank::Memory;
 use std::alloc::Global;
 use std::cmp::Ordering;
@@ -19,11 +20,17 @@ fn feed_bytes(reader: &mut RunReader, text: &[u8]) -> Result<(), Memory>
     Ok(())
 }
 
-/// What a run is read as that is fed in pieces of one byte.
-fn byte_by_byte(alloc: Global, text: &str) -> Result<Vec<RunLine>, FormatEnd> {
+/// A reader that was fed a run in pieces of one byte.
+fn fed(alloc: Global, text: &str) -> Result<RunReader, FormatEnd> {
     let text = short(text.as_bytes())?;
     let mut reader = RunReader::new(alloc);
     feed_bytes(&mut reader, text)?;
+    Ok(reader)
+}
+
+/// What a run is read as that is fed in pieces of one byte.
+fn byte_by_byte(alloc: Global, text: &str) -> Result<Vec<RunLine>, FormatEnd> {
+    let reader = fed(alloc, text)?;
     reader.finish()
 }
 
@@ -84,5 +91,23 @@ fn a_long_field_that_is_not_looked_at(rt: HostRuntime) -> Result<(), Fail> {
     assert_eq!(rt; lines.len(), 2);
     assert!(rt; lines[0].doc.bytes() == "A".as_bytes());
     assert!(rt; lines[1].doc.bytes() == "B".as_bytes());
+    Ok(())
+}
+
+#[test]
+fn lists_of_a_run_in_pieces_of_one_byte(rt: HostRuntime) -> Result<(), Fail> {
+    let reader = fed(
+        rt.alloc(),
+        "2 Q0 A 1 3 t\n1 Q0 C 1 1 t\n2 Q0 B 2 4 t\n\n1 Q0 D 1 2 t",
+    )?;
+    let lists = reader.finish_lists()?;
+    assert_eq!(rt; lists.len(), 2);
+    assert!(rt; is_list(&lists[0], "1", 2, &["D", "C"]));
+    assert!(rt; is_list(&lists[1], "2", 1, &["B", "A"]));
+
+    let reader = fed(rt.alloc(), "1 Q0 A 1 3 t\n1 Q0 A 2 2 t\n")?;
+    assert!(rt; is_fault(reader.finish_lists().err(), 2, Kind::Twice { first: 1 }));
+    let reader = fed(rt.alloc(), "1 Q0 A 1 3 t\n1 Q0 A 2\n")?;
+    assert!(rt; is_fault(reader.finish_lists().err(), 2, Kind::Fields));
     Ok(())
 }

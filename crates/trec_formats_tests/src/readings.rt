@@ -3,8 +3,8 @@ ghost use Rattle.std.specs.Prelude.{◌≤◌, IfOk, length};
 
 use std::alloc::Global;
 use trec_formats::{
-    FormatEnd, QrelLine, QrelTable, RunLine, Topic, read_qrel_table, read_qrels, read_run,
-    read_topics,
+    FormatEnd, QrelLine, QrelTable, RunLine, Topic, TopicList, read_lists, read_qrel_table,
+    read_qrels, read_run, read_topics,
 };
 
 /// The text, where it has a million bytes at most.
@@ -31,4 +31,8 @@ pub fn table_of(alloc: Global, text: &str) -> Result<QrelTable, FormatEnd> {
 
 pub fn topics_of(alloc: Global, text: &[u8]) -> Result<Vec<Topic>, FormatEnd> {
     read_topics(alloc, short(text)?)
+}
+
+pub fn lists_read(alloc: Global, text: &str) -> Result<Vec<TopicList>, FormatEnd> {
+    read_lists(alloc, short(text.as_bytes())?)
 }

@@ -1,6 +1,6 @@
 //! Runs and qrels, read and ranked.
 use crate::faults::is_fault;
-use crate::readings::{qrels_of, run_of, short, table_of};
+use crate::readings::{lists_read, qrels_of, run_of, short, table_of};
 use decimal_rank::{Decimal, Memory, Text};
 use std::alloc::Global;
 use std::cmp::Ordering;
@@ -21,6 +21,11 @@ fn grades_on(alloc: Global, table: &QrelTable, topic: &str) -> Result<Vec<Option
 fn lists_of(alloc: Global, text: &str) -> Result<Vec<TopicList>, FormatEnd> {
     let lines = read_run(alloc, short(text.as_bytes())?)?;
     rank_run(alloc, lines.as_slice())
+}
+
+/// The lists of a text as they are read at once, and as its lines are ranked.
+fn both_lists(alloc: Global, text: &str) -> [Result<Vec<TopicList>, FormatEnd>; 2] {
+    [lists_read(alloc, text), lists_of(alloc, text)]
 }
 
 fn is_score(score: &Decimal, wanted: &str) -> bool {
@@ -60,7 +65,7 @@ fn are_docs(docs: &[Text], wanted: &[&str]) -> bool {
             .all(|(doc, name)| doc.bytes() == name.as_bytes())
 }
 
-fn is_list(list: &TopicList, topic: &str, line: u32, docs: &[&str]) -> bool {
+pub fn is_list(list: &TopicList, topic: &str, line: u32, docs: &[&str]) -> bool {
     list.topic.bytes() == topic.as_bytes() && list.line == line && are_docs(list.docs.items(), docs)
 }
 
@@ -127,38 +132,30 @@ fn qrels_are_read(rt: HostRuntime) -> Result<(), Fail> {
 #[test]
 fn lists_are_ranked(rt: HostRuntime) -> Result<(), Fail> {
     // ranks and order of lines don't count; equal scores stand by descending docno
-    let lists = lists_of(
-        rt.alloc(),
-        "\n2 Q0 A 1 5 t\n10 Q0 x 1 1 t\n2 Q0 C 2 9 t\n10 Q0 y 9 1 t\n2 Q0 B 3 05 t\n10 Q0 xx 0 0 t\n1 Q0 A 1 1 t\n",
-    )?;
-    assert_eq!(rt; lists.len(), 3);
-    assert!(rt; is_list(&lists[0], "1", 8, &["A"]));
-    assert!(rt; is_list(&lists[1], "10", 3, &["y", "x", "xx"]));
-    assert!(rt; is_list(&lists[2], "2", 2, &["C", "B", "A"]));
+    let text =
+        "\n2 Q0 A 1 5 t\n10 Q0 x 1 1 t\n2 Q0 C 2 9 t\n10 Q0 y 9 1 t\n2 Q0 B 3 05 t\n10 Q0 xx 0 0 t\n1 Q0 A 1 1 t\n";
+    for lists in both_lists(rt.alloc(), text) {
+        let lists = lists?;
+        assert_eq!(rt; lists.len(), 3);
+        assert!(rt; is_list(&lists[0], "1", 8, &["A"]));
+        assert!(rt; is_list(&lists[1], "10", 3, &["y", "x", "xx"]));
+        assert!(rt; is_list(&lists[2], "2", 2, &["C", "B", "A"]));
+    }
     Ok(())
 }
 
 #[test]
 fn a_document_stands_once(rt: HostRuntime) {
     let twice = "1 Q0 A 1 3 t\n2 Q0 A 1 3 t\n1 Q0 B 2 2 t\n1 Q0 A 3 1 t\n";
-    assert!(rt;
-        is_fault(
-            lists_of(rt.alloc(), twice).err(),
-            4,
-            Kind::Twice { first: 1 }
-        )
-    );
     assert_eq!(rt; run_of(rt.alloc(), twice).err(), None);
 
     // the least line of all topics is told, whatever their order
-    let twice = "2 Q0 A 1 3 t\n1 Q0 A 1 3 t\n\n2 Q0 A 2 2 t\n1 Q0 A 3 1 t\n";
-    assert!(rt;
-        is_fault(
-            lists_of(rt.alloc(), twice).err(),
-            4,
-            Kind::Twice { first: 1 }
-        )
-    );
+    let of_two = "2 Q0 A 1 3 t\n1 Q0 A 1 3 t\n\n2 Q0 A 2 2 t\n1 Q0 A 3 1 t\n";
+    for text in [twice, of_two] {
+        for lists in both_lists(rt.alloc(), text) {
+            assert!(rt; is_fault(lists.err(), 4, Kind::Twice { first: 1 }));
+        }
+    }
 }
 
 #[test]
