@@ -13,7 +13,7 @@ use measures::{mean, write_summary};
 use std::alloc::Global;
 use trec_formats::{
     FormatEnd, FormatFault, Kind, QrelTable, TopicList, cause_name, one_qrels_reading,
-    one_rankable_reading, rank_run, read_qrel_table, read_run,
+    one_rankable_reading, read_lists, read_qrel_table,
 };
 
 /// What two files come to.
@@ -68,9 +68,7 @@ fn lists_of(alloc: Global, bytes: &[u8]) -> Result<Vec<TopicList>, FormatEnd>
     ensures ranked { IfOk result (λ lists. AreRankedLists lists.items) }
     ensures fault { IfFault result (IsRankedRunFault bytes.now) }
 {
-    let lines = read_run(alloc, bytes)?;
-    let lists = rank_run(alloc, &lines)?;
-    Ok(lists)
+    read_lists(alloc, bytes)
 }
 
 /// The scores of ranked lists against qrels, under the run's name.

@@ -13,7 +13,7 @@ ghost use Rattle.routes.specs.FoundJudgements.{judgement_shown};
 use decimal_rank::{Memory, Text};
 use serde_json::Value;
 use std::alloc::Global;
-use trec_formats::{FormatEnd, RunReader, TopicList, rank_run};
+use trec_formats::{FormatEnd, RunReader, TopicList};
 
 /// A document and its grade.
 #[derive(Drop)]
@@ -131,7 +131,5 @@ pub(crate) fn rank_read(alloc: Global, reader: RunReader) -> Result<Vec<TopicLis
     ensures lists { IfOk result (λ lists. (body : List ℕ) → IsAfter body reader → IsRankedRun body lists.items) }
     ensures fault { IfFault result (λ fault. (body : List ℕ) → IsAfter body reader → IsRankedRunFault body fault) }
 {
-    let lines = reader.finish()?;
-    let lists = rank_run(alloc, &lines)?;
-    Ok(lists)
+    reader.finish_lists()
 }
