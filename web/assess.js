@@ -261,7 +261,7 @@ function gradeButtons() {
 }
 
 function gradeButton(grade) {
-  const kind = { true: "grade relevant", false: "grade lower", null: "grade" }[isRelevant(grade)];
+  const kind = { true: "grade relevant", false: "grade lower", null: "grade" }[isRelevant(heldLease()?.topic, grade)];
   const words = { class: kind, "aria-label": gradeText(grade), "aria-keyshortcuts": String(grade) };
   const made = button(el("kbd", {}, String(grade)), () => give(grade), words);
   if (gradeName(grade) !== "") {

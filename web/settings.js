@@ -26,9 +26,10 @@ export function buttonGrades() {
   return top > 9 ? [] : [...Array(top + 1).keys()];
 }
 
-/** Whether documents of this grade are relevant; null where that isn't known. */
-export function isRelevant(grade) {
-  return settings.level === undefined ? null : grade >= settings.level;
+/** Whether a topic's documents of this grade are relevant; null where that isn't known. */
+export function isRelevant(topic, grade) {
+  const level = settings.levels?.[topic] ?? settings.level;
+  return level === undefined ? null : grade >= level;
 }
 
 /** The name that the campaign has for a grade, or an empty text. */

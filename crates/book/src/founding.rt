@@ -10,7 +10,7 @@ use campaign_core::State;
 use decimal_rank::{Memory, Rows, Text};
 use journal::Frame;
 use record_codec::{CodecFault, read_entry, write_entry};
-use rulebook::{Rules, founding_core, rules_founded};
+use rulebook::{Rules, TopicLevel, founding_core, rules_founded};
 use std::alloc::Global;
 
 fn copy_of_names(alloc: Global, names: &[Text]) -> Result<Vec<Text>, Memory>
@@ -23,10 +23,24 @@ fn copy_of_names(alloc: Global, names: &[Text]) -> Result<Vec<Text>, Memory>
     Ok(copies)
 }
 
+fn copy_of_levels(alloc: Global, levels: &[TopicLevel]) -> Result<Vec<TopicLevel>, Memory>
+    ensures { IfOk result (λ copy. copy.items ≡ levels.now) }
+{
+    let mut copies = Vec::with_capacity(alloc, levels.len())?;
+    for own in levels {
+        copies.push(TopicLevel {
+            topic: own.topic.copy()?,
+            level: own.level,
+        })?;
+    }
+    Ok(copies)
+}
+
 fn copy_of_rules(alloc: Global, rules: &Rules) -> Result<Rules, Memory>
     ensures { IfOk result (λ copy. copy ≡ rules.now) }
 {
     let doubles = Rows::new(copy_of_names(alloc, rules.doubles.items())?);
+    let levels = Rows::new(copy_of_levels(alloc, rules.levels.items())?);
     Ok(Rules {
         depth: rules.depth,
         term: rules.term,
@@ -34,6 +48,7 @@ fn copy_of_rules(alloc: Global, rules: &Rules) -> Result<Rules, Memory>
         level: rules.level,
         top_grade: rules.top_grade,
         doubles,
+        levels,
     })
 }
 

@@ -5,11 +5,15 @@ ghost use Rattle.campaign_settings.specs.Settings.{settings_of};
 
 use crate::setting_faults::Fault;
 use crate::setting_lines::{line_of_caller, line_of_key, line_of_name, line_of_place};
-use campaign_settings::{MOST_CALLERS, MOST_DOUBLES, MOST_TERM, NAMES, SettingsEnd, read_settings};
+use campaign_settings::{MOST_CALLERS, NAMES, SettingsEnd, read_settings};
 use decimal_rank::Memory;
+use rulebook::{MAX_DEPTH, MAX_HOLD, MAX_TERM, MAX_TOPICS};
 use std::alloc::Global;
 use toml::{Table, Value};
 use trec_formats::is_name;
+
+// The greatest grade that a byte can tell.
+const MOST_GRADE: i64 = 255;
 
 /// A fault of settings, with the line of the text where it stands, if that was found.
 #[derive(Clone, Copy)]
@@ -64,10 +68,8 @@ fn told(alloc: Global, line: Option<usize>, fault: Fault) -> Result<String, Memo
 // The fault on the least line; those whose line wasn't found come behind the others.
 fn first_fault<'a>(text: &str, table: &'a Table) -> Option<Finding<'a>> {
     let keys = earlier(unknown_key(text, table), number_fault(text, table));
-    earlier(
-        earlier(keys, doubles_fault(text, table)),
-        callers_fault(text, table),
-    )
+    let topics = earlier(doubles_fault(text, table), levels_fault(text, table));
+    earlier(earlier(keys, topics), callers_fault(text, table))
 }
 
 fn earlier<'a>(first: Option<Finding<'a>>, second: Option<Finding<'a>>) -> Option<Finding<'a>> {
@@ -99,12 +101,12 @@ fn unknown_key<'a>(text: &str, table: &'a Table) -> Option<Finding<'a>> {
 }
 
 fn number_fault<'a>(text: &str, table: &Table) -> Option<Finding<'a>> {
-    let top_grade = integer_at(table, "top_grade").unwrap_or(255);
+    let top_grade = top_grade_of(table);
     let rows = [
-        ("depth", 1000),
-        ("term", MOST_TERM as i64),
-        ("hold", 50),
-        ("top_grade", 255),
+        ("depth", i64::from(MAX_DEPTH)),
+        ("term", MAX_TERM as i64),
+        ("hold", i64::from(MAX_HOLD)),
+        ("top_grade", MOST_GRADE),
         ("level", top_grade),
     ];
     let mut found = None;
@@ -115,6 +117,11 @@ fn number_fault<'a>(text: &str, table: &Table) -> Option<Finding<'a>> {
         }
     }
     found
+}
+
+// The greatest grade that the settings allow, where they tell one.
+fn top_grade_of(table: &Table) -> i64 {
+    integer_at(table, "top_grade").unwrap_or(MOST_GRADE)
 }
 
 // Each number is from 1 on.
@@ -158,7 +165,46 @@ fn are_doubles(value: &Value) -> bool {
             _ => return false,
         }
     }
-    items.len() <= MOST_DOUBLES
+    items.len() <= MAX_TOPICS as usize
+}
+
+fn levels_fault<'a>(text: &str, table: &Table) -> Option<Finding<'a>> {
+    match table.get("levels") {
+        Some(value) if !are_levels(value, top_grade_of(table)) => Some(Finding {
+            line: line_of_name(text, "levels"),
+            fault: Fault::Levels,
+        }),
+        _ => None,
+    }
+}
+
+// Whether a value is an array of tables with a topic and its level alone, each topic before the next.
+fn are_levels(value: &Value, top_grade: i64) -> bool {
+    let Some(items) = value.as_array() else {
+        return false;
+    };
+    let mut before = "";
+    for item in items {
+        match text_at(item, "topic") {
+            Some(topic)
+                if is_name(topic.as_bytes()) && before < topic && has_level(item, top_grade) =>
+            {
+                before = topic;
+            }
+            _ => return false,
+        }
+    }
+    items.len() <= MAX_TOPICS as usize
+}
+
+fn has_level(item: &Value, top_grade: i64) -> bool {
+    let Some(table) = item.as_table() else {
+        return false;
+    };
+    match integer_at(table, "level") {
+        Some(level) => 1 <= level && level <= top_grade && table.len() == 2,
+        None => false,
+    }
 }
 
 fn callers_fault<'a>(text: &str, table: &'a Table) -> Option<Finding<'a>> {

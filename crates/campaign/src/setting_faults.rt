@@ -19,6 +19,7 @@ pub enum Fault<'a> {
         high: i64,
     },
     Doubles,
+    Levels,
     Callers,
     Name {
         caller: usize,
@@ -54,6 +55,9 @@ impl<'a> fmt::Display for Fault<'a> {
             Fault::Number { key, low, high } => write!(f, "{key} is {low} to {high}"),
             Fault::Doubles => f.write_str(
                 "doubles is an array of at most 250 topic ids in quotes, in ascending byte order",
+            ),
+            Fault::Levels => f.write_str(
+                "levels is an array of at most 250 tables { topic, level }, the topics in ascending byte order, each level 1 to top_grade",
             ),
             Fault::Callers => f.write_str("each of at most 500 callers is a table [[caller]]"),
             Fault::Name { caller } => write!(

@@ -1,5 +1,5 @@
-//! The lines of the settings' text, as it is written by hand: the keys of the campaign stand above the first header, and
-//! each caller's behind a header `[[caller]]` of its own.
+//! The lines of the settings' text, as it is written by hand: the keys of the campaign stand above the callers, and each
+//! caller's behind a header `[[caller]]` of its own.
 
 /// The line, from 1, that gives a key: above the headers where `caller` is 0, else behind the header of this caller.
 pub fn line_of_key(text: &str, caller: usize, key: &str) -> Option<usize> {
@@ -51,7 +51,10 @@ pub fn line_of_place(text: &[u8], place: usize) -> usize {
 }
 
 fn is_header(line: &str) -> bool {
-    line.trim_start().starts_with('[')
+    match line.trim_start().strip_prefix("[[") {
+        Some(rest) => rest.trim_start_matches(is_behind_key).starts_with("caller"),
+        None => false,
+    }
 }
 
 // Whether a line gives this key, or is the header of a table of its name.

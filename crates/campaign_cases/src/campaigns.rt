@@ -1,38 +1,57 @@
 //! The campaign of a case, and what it tells a line.
-ghost use Rattle.std.specs.Prelude.{◌≡◌, ◌<◌, ◌≤◌, ◌∷◌, [], IfOk, Some, codes};
+ghost use Rattle.std.specs.Prelude.{◌≡◌, ◌==◌, ◌<◌, ◌≤◌, ◌∷◌, [], IfOk, Some, codes, if◌then◌else◌};
 
 use crate::answers::words_of;
 use crate::requests::{Asked, Door, ask_of, asked_of, cut};
 use campaign_core::{Prepared, State, Verdict};
 use decimal_rank::{Memory, Rows, Steps, Text};
-use rulebook::{MAX_MOMENT, Reply, Rules};
+use rulebook::{MAX_MOMENT, Reply, Rules, TopicLevel};
 use std::alloc::Global;
 use std::marker::Brand;
 use std::sync::ledger::{Blank, Ledger};
 
-/// A new campaign, by its depth, its hold and the labels that a document of the topic 1 needs.
+/// A new campaign, by its depth, its hold, the labels that a document of the topic 1 needs, and the level of that topic
+/// where it has its own.
 pub(crate) fn founded(alloc: Global, words: &str) -> Option<State> {
     let (depth, rest) = cut(words);
-    let (hold, labels) = cut(rest);
+    let (hold, rest) = cut(rest);
+    let (labels, level) = cut(rest);
     let depth = depth.parse::<u16>().ok()?;
     let hold = hold.parse::<u8>().ok()?;
-    if depth < 1 || depth > 1000 || hold < 1 || hold > 50 {
+    let level = own_level(level)?;
+    if depth < 1 || depth > 1000 || hold < 1 || hold > 50 || level > 3 {
         return None;
     }
-    founded_by(alloc, depth, hold, labels == "2").ok()
+    founded_by(alloc, depth, hold, labels == "2", level).ok()
 }
 
-fn founded_by(alloc: Global, depth: u16, hold: u8, is_doubled: bool) -> Result<State, Memory>
+// The level of a word, and 0 where there is no word.
+fn own_level(word: &str) -> Option<u8> {
+    if word.is_empty() {
+        return Some(0);
+    }
+    word.parse::<u8>().ok()
+}
+
+fn founded_by(
+    alloc: Global,
+    depth: u16,
+    hold: u8,
+    is_doubled: bool,
+    level: u8,
+) -> Result<State, Memory>
     requires low_depth { 1 ≤ depth }
     requires high_depth { depth ≤ 1000 }
     requires low_hold { 1 ≤ hold }
     requires high_hold { hold ≤ 50 }
+    requires level { level ≤ 3 }
 {
     let doubles = if is_doubled {
         first_topic(alloc)?
     } else {
         Rows::new(Vec::new(alloc))
     };
+    let levels = levels_by(alloc, level)?;
     let rules = Rules {
         depth,
         term: 600,
@@ -40,8 +59,21 @@ fn founded_by(alloc: Global, depth: u16, hold: u8, is_doubled: bool) -> Result<S
         level: 1,
         top_grade: 3,
         doubles,
+        levels,
     };
     State::found(alloc, rules)
+}
+
+// The topic 1 with this level, and none at 0.
+fn levels_by(alloc: Global, level: u8) -> Result<Rows<TopicLevel>, Memory>
+    ensures { IfOk result (λ levels. levels ≡ (if level == 0 then [] else record { topic = codes "1"; level = level } ∷ [])) }
+{
+    let mut levels = Vec::new(alloc);
+    if level > 0 {
+        let topic = Text::from_slice(alloc, b"1")?;
+        levels.push(TopicLevel { topic, level })?;
+    }
+    Ok(Rows::new(levels))
 }
 
 // The list of the topic 1.

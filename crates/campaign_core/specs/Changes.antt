@@ -19,7 +19,7 @@ use Rattle.rulebook.specs.declared.ask.Command.{Command}
 use Rattle.rulebook.specs.declared.ask.Command.TheVariants as command
 use Rattle.rulebook.specs.declared.entry.Entry.{Entry}
 use Rattle.rulebook.specs.Words.{Text, contains_text}
-use Rattle.rulebook.specs.Campaign.{History, docs_on, opens, publishes, rules_of, runs}
+use Rattle.rulebook.specs.Campaign.{History, docs_on, level_in, opens, publishes, rules_of, runs}
 use Rattle.rulebook.specs.Leases.{Lease, lease_in, lease_numbered}
 use Rattle.campaign_core.specs.Leasing.{topic_in}
 use Rattle.campaign_core.specs.Numbers.{doc_in, docs_in}
@@ -64,7 +64,7 @@ abbrev pub CarriesOut : History → List Text → List TopicFacts → List DeskL
 CarriesOut H names topics desk e change.Nothing = (e.core.command ≡ command.Open) ⊎ (e.core.command ≡ command.Publish)
 CarriesOut H names topics desk e (change.Topics made) =
     (given : List Topic) × (e.core.command ≡ command.Topics given) × (map kept (map facts_of made.topics) ≡ map (λ topic. empty_topic (rules_of H) topic.id) given)
-    × (map labelled_of (map facts_of made.topics) ≡ map (λ topic. unlabelled topic.id) given) × IsNewBoard (map (λ topic. (rules_of H).level) given) (told made) made.board.rooms
+    × (map labelled_of (map facts_of made.topics) ≡ map (λ topic. unlabelled topic.id) given) × IsNewBoard (map (λ topic. level_in (rules_of H) topic.id) given) (told made) made.board.rooms
 CarriesOut H names topics desk e (change.Run run lists) =
     (name : Text) × (given : List TopicList) × (e.core.command ≡ command.Submit name given) × (run.0 ≡ length (runs H)) × (lists.items ≡ map (λ topic. docs_in names (docs_on given topic.id)) topics)
 CarriesOut H names topics desk e (change.Withdraw run) = (name : Text) × (e.core.command ≡ command.Withdraw name) × (Some run.0 ≡ position (λ run. bytes_eq run.name name) (runs H))

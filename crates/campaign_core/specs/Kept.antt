@@ -3,7 +3,7 @@ use Rattle.std.specs.Prelude.{◌≡◌, ◌<◌, ◌≤◌, ◌++◌, ◌∷◌
 use Rattle.rulebook.specs.declared.limits.TheConstants.{MAX_RUNS, MAX_ENTRIES, MAX_LINES, MAX_DOCNOS, MAX_MOMENT, MAX_TOPICS}
 use Rattle.rulebook.specs.declared.entry.Entry.{Entry}
 use Rattle.rulebook.specs.Words.{Text}
-use Rattle.rulebook.specs.Campaign.{History, Run, has_topics, phase, rules_of, runs, submitted_lines}
+use Rattle.rulebook.specs.Campaign.{History, Run, has_topics, level, phase, runs, submitted_lines}
 use Rattle.rulebook.specs.declared.entry.EntryCore.{EntryCore}
 use Rattle.rulebook.specs.declared.reply.Refusal.{Refusal}
 use Rattle.rulebook.specs.Answers.{moment_after, ruled}
@@ -70,7 +70,7 @@ pub record IsFew (entries : ℕ) (topic : LabelledTopic) : Type 0 where
 pub record IsAssessmentOf (H : History) (known : Facts) : Type 0 where
   pub knows : KnowsAll H known.topics.topics known.leases
   pub few : All (IsFew (length H)) (map labelled_of known.topics.topics)
-  pub levels_are : known.topics.levels ≡ map (λ id. (rules_of H).level) (topic_ids H)
+  pub levels_are : known.topics.levels ≡ map (level H) (topic_ids H)
   pub lists_are : (run : RunId) (on : ℕ) → known.topics.lists run on ≡ list_in (names_of H) (topic_ids H) (run_at H run) on
 
 -- What is known of a campaign is what its history says, which is legal and within the limits.

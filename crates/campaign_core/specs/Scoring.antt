@@ -8,7 +8,7 @@ use Rattle.qrels_view.specs.declared.grades.Graded.{Graded}
 use Rattle.assessment.specs.RunLists.{RankedLists, unless_empty}
 use Rattle.assessment.specs.TopicFacts.{TopicFacts}
 use Rattle.rulebook.specs.Words.{Text}
-use Rattle.rulebook.specs.Campaign.{History, Run, docs_on, is_withdrawn, rules_of, runs}
+use Rattle.rulebook.specs.Campaign.{History, Run, docs_on, is_withdrawn, level, runs}
 use Rattle.score_index.specs.Scores.{Scores, docs_at, levels_of}
 use Rattle.score_index.specs.Standing.{StandsFor}
 use Rattle.campaign_core.specs.Numbers.{docs_in}
@@ -44,6 +44,6 @@ AreListed H names lists = (run : RunId) (topic : ℕ) (d : Text) → topic < len
 
 -- The board has the levels of the topics, stands for the grades of each topic, and has the ranked list of each live run on each topic, and no other.
 pub record IsScored (H : History) (names : List Text) (grades : List (List Graded)) (board : Scores) : Type 0 where
-  pub levels_are : levels_of board ≡ map (λ id. (rules_of H).level) (topic_ids H)
+  pub levels_are : levels_of board ≡ map (level H) (topic_ids H)
   pub stands : StandsFor board grades
   pub lists_are : AreListed H names (docs_at board)

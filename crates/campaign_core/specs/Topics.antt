@@ -6,7 +6,7 @@ use Rattle.qrels_view.specs.declared.grades.Graded.{Graded}
 use Rattle.assessment.specs.TopicFacts.{TopicFacts}
 use Rattle.rulebook.specs.declared.rules.Rules.{Rules}
 use Rattle.rulebook.specs.Words.{Text}
-use Rattle.rulebook.specs.Campaign.{History, Run, held, need, needed, numbered, rules_of, topics}
+use Rattle.rulebook.specs.Campaign.{History, Run, held, level, level_in, need, needed, numbered, rules_of, topics}
 use Rattle.campaign_core.specs.Numbers.{docs_in, names_of}
 
 -- a topic: what the rules say of it, and the runs of its pool
@@ -22,7 +22,7 @@ kept topic = record { id = topic.id; labels_needed = topic.need; level = topic.l
 
 -- a topic before any run
 abbrev pub empty_topic : Rules → Text → KeptTopic
-empty_topic rules id = record { id = id; labels_needed = needed rules id; level = rules.level; depth = rules.depth; runs = [] }
+empty_topic rules id = record { id = id; labels_needed = needed rules id; level = level_in rules id; depth = rules.depth; runs = [] }
 
 -- a numbered run, and what it holds on a topic
 abbrev pub held_of : History → Text → ℕ × Run → Held
@@ -34,7 +34,7 @@ pool_of H topic = map (held_of H topic) (numbered H)
 
 -- a topic of a history
 abbrev pub kept_of : History → Text → KeptTopic
-kept_of H id = record { id = id; labels_needed = need H id; level = (rules_of H).level; depth = (rules_of H).depth; runs = pool_of H id }
+kept_of H id = record { id = id; labels_needed = need H id; level = level H id; depth = (rules_of H).depth; runs = pool_of H id }
 
 abbrev pub topic_ids : History → List Text
 topic_ids H = map (λ topic. topic.id) (topics H)

@@ -4,7 +4,7 @@ ghost use Rattle.std.specs.List.{position};
 ghost use Rattle.std.specs.Str.{bytes_eq};
 ghost use Rattle.assessment.specs.TopicFacts.{facts_of};
 ghost use Rattle.assessment.specs.TopicFacts.{new_topic};
-ghost use Rattle.rulebook.specs.Campaign.{docs_on, needed};
+ghost use Rattle.rulebook.specs.Campaign.{docs_on, level_in, needed};
 ghost use Rattle.rulebook.specs.Words.{contains_text};
 ghost use Rattle.campaign_core.specs.Numbers.{AreRankable, docs_in};
 ghost use Rattle.campaign_core.specs.Topics.{empty_topic, kept, labelled_of, unlabelled};
@@ -12,7 +12,7 @@ ghost use Rattle.campaign_core.specs.Topics.{empty_topic, kept, labelled_of, unl
 use crate::docnos::numbers_on;
 use assessment::{Topic, TopicRules};
 use decimal_rank::{DocId, Memory, Ranking, Text};
-use rulebook::Rules;
+use rulebook::{Rules, TopicLevel};
 use std::alloc::Global;
 use trec_formats::{Topic as GivenTopic, TopicList};
 
@@ -53,6 +53,22 @@ fn is_among(ids: &[Text], id: &[u8]) -> bool
     ids.iter().any(|other| id == other.bytes())
 }
 
+/// The grade from which on a document of a topic is relevant.
+fn level_of(rules: &Rules, id: &[u8]) -> u8
+    ensures { result ≡ level_in rules.now id.now }
+{
+    match own_level(rules.levels.items(), id) {
+        Some(own) => own.level,
+        None => rules.level,
+    }
+}
+
+fn own_level<'a>(levels: &'a [TopicLevel], id: &[u8]) -> Option<&'a TopicLevel>
+    ensures { option_map (λ own. own.now) result ≡ find (λ own. bytes_eq own.topic id.now) levels.now }
+{
+    levels.iter().find(|own| own.topic.bytes() == id)
+}
+
 /// What the rules say of each topic.
 pub(crate) fn topic_rules(
     alloc: Global,
@@ -67,7 +83,7 @@ pub(crate) fn topic_rules(
         made.push(TopicRules {
             id: topic.id.copy()?,
             need: needed(rules, topic.id.bytes()),
-            level: rules.level,
+            level: level_of(rules, topic.id.bytes()),
             depth: rules.depth,
         })?;
     }

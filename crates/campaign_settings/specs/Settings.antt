@@ -1,11 +1,13 @@
 -- The settings that the bytes of `campaign.toml` give.
-use Rattle.std.specs.Prelude.{◌≡◌, ◌^◌, ℕ, Bool, ◌&&◌, ◌||◌, List, [], ◌∷◌, Option, Some, None, Result, Ok, Err, length, bytes_eq, nat_le, codes, option_and_then, if◌then◌else◌}
+use Rattle.std.specs.Prelude.{◌≡◌, ℕ, Bool, ◌&&◌, ◌||◌, List, [], ◌∷◌, Option, Some, None, Result, Ok, Err, length, bytes_eq, nat_le, codes, map, option_and_then, if◌then◌else◌}
 use Rattle.std.specs.List.{list_all}
 use Rattle.toml.specs.Data.{Data, as_str}
 use Rattle.trec_formats.specs.Names.{is_between, is_name}
 use Rattle.rulebook.specs.declared.rules.Role.{Role}
 use Rattle.rulebook.specs.declared.rules.Role.TheVariants.{Organiser, Group, Assessor}
 use Rattle.rulebook.specs.declared.rules.Rules.{Rules}
+use Rattle.rulebook.specs.declared.rules.TopicLevel.{TopicLevel}
+use Rattle.rulebook.specs.Limits.{max_depth, max_hold, max_term, max_topics}
 use Rattle.rulebook.specs.Spelling.{is_ascending}
 use Rattle.routes.specs.declared.keys.KeyRow.{KeyRow}
 use Rattle.routes.specs.Keys.{are_rows}
@@ -26,23 +28,42 @@ taken test text = if test text then Some text else None
 abbrev pub name_of : Data → Option (List ℕ)
 name_of d = as_str d >>= taken is_name
 
+-- the name at a key
+abbrev pub name_at : List ℕ → Data → Option (List ℕ)
+name_at key d = text_at key d >>= taken is_name
+
 -- the names of the topics whose documents need two labels: at most 250, strictly ascending
 abbrev pub doubles_of : List (List ℕ) → Option (List (List ℕ))
-doubles_of names = if nat_le (length names) 250 && is_ascending names then Some names else None
+doubles_of names = if nat_le (length names) max_topics && is_ascending names then Some names else None
 
 abbrev pub doubles_at : Data → Option (List (List ℕ))
 doubles_at d = items_at (codes "doubles") d >>= each_of name_of >>= doubles_of
 
+-- a level of a topic's own: a table with the topic and the level, which is at most the greatest grade, and nothing else
+unfoldable pub level_of : ℕ → Data → Option TopicLevel
+level_of top d = do
+  topic ← name_at (codes "topic") d
+  level ← number_at (codes "level") 1 top d
+  (if has_members 2 d then Some (record { topic = topic; level = level }) else None)
+
+-- the levels of topics: at most 250, the topics strictly ascending
+abbrev pub levels_of : List TopicLevel → Option (List TopicLevel)
+levels_of levels = if nat_le (length levels) max_topics && is_ascending (map (λ own. own.topic) levels) then Some levels else None
+
+abbrev pub levels_at : ℕ → Data → Option (List TopicLevel)
+levels_at top d = items_at (codes "levels") d >>= each_of (level_of top) >>= levels_of
+
 -- the rules, each within its bounds
 unfoldable pub rules_in : Data → Option Rules
 rules_in d = do
-  depth ← number_at (codes "depth") 1 1000 d
-  term ← number_at (codes "term") 1 (2 ^ 40) d
-  hold ← number_at (codes "hold") 1 50 d
+  depth ← number_at (codes "depth") 1 max_depth d
+  term ← number_at (codes "term") 1 max_term d
+  hold ← number_at (codes "hold") 1 max_hold d
   top_grade ← number_at (codes "top_grade") 1 255 d
   level ← number_at (codes "level") 1 top_grade d
   doubles ← doubles_at d
-  Some (record { depth = depth; term = term; hold = hold; level = level; top_grade = top_grade; doubles = doubles })
+  levels ← levels_at top_grade d
+  Some (record { depth = depth; term = term; hold = hold; level = level; top_grade = top_grade; doubles = doubles; levels = levels })
 
 abbrev pub role_of : List ℕ → Option Role
 role_of text = if bytes_eq text (codes "organiser") then Some Organiser
@@ -57,9 +78,6 @@ is_key_byte b = is_between 48 57 b || is_between 65 90 b || is_between 97 122 b
 abbrev pub is_key : List ℕ → Bool
 is_key text = is_between 16 64 (length text) && list_all is_key_byte text
 
-abbrev pub name_in : Data → Option (List ℕ)
-name_in d = text_at (codes "name") d >>= taken is_name
-
 abbrev pub role_in : Data → Option Role
 role_in d = text_at (codes "role") d >>= role_of
 
@@ -69,7 +87,7 @@ key_in d = text_at (codes "key") d >>= taken is_key
 -- a caller: a table with a name, a role and a key, and nothing else
 unfoldable pub caller_of : Data → Option KeyRow
 caller_of d = do
-  name ← name_in d
+  name ← name_at (codes "name") d
   role ← role_in d
   key ← key_in d
   (if has_members 3 d then Some (record { name = name; role = role; key = key }) else None)
@@ -83,7 +101,7 @@ callers_at d = items_at (codes "caller") d >>= each_of caller_of >>= callers_of
 
 -- the keys that settings may have
 abbrev pub setting_names : List (List ℕ)
-setting_names = codes "depth" ∷ codes "term" ∷ codes "hold" ∷ codes "level" ∷ codes "top_grade" ∷ codes "doubles" ∷ codes "caller" ∷ []
+setting_names = codes "depth" ∷ codes "term" ∷ codes "hold" ∷ codes "level" ∷ codes "top_grade" ∷ codes "doubles" ∷ codes "levels" ∷ codes "caller" ∷ []
 
 unfoldable pub settings_in : Data → Option Settings
 settings_in d = do

@@ -8,5 +8,5 @@ mod settings;
 mod toml_tables;
 
 pub use faults::SettingsEnd;
-pub use limits::{MOST_CALLERS, MOST_DOUBLES, MOST_TERM, NAMES};
+pub use limits::{MOST_CALLERS, NAMES};
 pub use settings::{Settings, read_settings};

@@ -1,17 +1,19 @@
 //! The settings of a campaign, as `campaign.toml` gives them.
 ghost use Rattle.std.specs.Prelude.{◌≡◌, ◌≤◌, IfOk, IsTrue, map};
+ghost use Rattle.std.specs.Cmp.Lexicographic.{slice_cmp};
 ghost use Rattle.std.specs.List.{list_all};
+ghost use Rattle.std.specs.Ordering.{is_lt, nat_cmp};
 ghost use Rattle.toml.specs.View.{view};
 ghost use Rattle.rulebook.specs.Spelling.{are_rules, is_ascending};
-ghost use Rattle.campaign_settings.specs.Settings.{Gives, is_key, is_key_byte, name_in, name_of, key_in, role_in, doubles_at, rules_in, role_of, caller_of, callers_at, settings_in, settings_of};
+ghost use Rattle.campaign_settings.specs.Settings.{Gives, is_key, is_key_byte, name_at, name_of, key_in, role_in, doubles_at, level_of, levels_at, rules_in, role_of, caller_of, callers_at, settings_in, settings_of};
 ghost use Rattle.campaign_settings.specs.TomlTables.{number_at, each_of};
 
 use crate::faults::SettingsEnd;
-use crate::limits::{MOST_CALLERS, MOST_DOUBLES, MOST_TERM, NAMES};
+use crate::limits::{MOST_CALLERS, NAMES};
 use crate::toml_tables::{has_known_keys, has_members, items_at, number_at, read_data, text_at};
 use decimal_rank::{Rows, Text};
 use routes::{KeyRow, Keys, are_rows};
-use rulebook::{Role, Rules};
+use rulebook::{MAX_DEPTH, MAX_HOLD, MAX_TERM, MAX_TOPICS, Role, Rules, TopicLevel};
 use std::alloc::Global;
 use toml::Value;
 use trec_formats::is_name;
@@ -62,12 +64,13 @@ fn number_in(tree: &Value, key: &str, low: u64, high: u64) -> Result<u64, Settin
 fn rules_in(alloc: Global, tree: &Value) -> Result<Rules, SettingsEnd>
     ensures { Gives (λ rules. rules) result (rules_in (view tree.now)) }
 {
-    let depth = number_in(tree, "depth", 1, 1000)?;
-    let term = number_in(tree, "term", 1, MOST_TERM)?;
-    let hold = number_in(tree, "hold", 1, 50)?;
+    let depth = number_in(tree, "depth", 1, u64::from(MAX_DEPTH))?;
+    let term = number_in(tree, "term", 1, MAX_TERM)?;
+    let hold = number_in(tree, "hold", 1, u64::from(MAX_HOLD))?;
     let top_grade = number_in(tree, "top_grade", 1, 255)?;
     let level = number_in(tree, "level", 1, top_grade)?;
     let doubles = doubles_at(alloc, tree)?;
+    let levels = levels_at(alloc, tree, top_grade)?;
     Ok(Rules {
         depth: depth as u16,
         term,
@@ -75,6 +78,7 @@ fn rules_in(alloc: Global, tree: &Value) -> Result<Rules, SettingsEnd>
         level: level as u8,
         top_grade: top_grade as u8,
         doubles,
+        levels,
     })
 }
 
@@ -86,7 +90,7 @@ fn doubles_at(alloc: Global, tree: &Value) -> Result<Rows<Text>, SettingsEnd>
         return Err(SettingsEnd::Refused);
     };
     let names = names_of(alloc, items)?;
-    if names.len() <= MOST_DOUBLES && is_ascending(&names) {
+    if names.len() <= MAX_TOPICS as usize && is_ascending(&names) {
         Ok(Rows::new(names))
     } else {
         Err(SettingsEnd::Refused)
@@ -126,7 +130,79 @@ fn is_ascending(names: &[Text]) -> bool
     let mut before = first;
     let mut left = rest;
     while let [next, rest @ ..] = left {
-        if !before.bytes().cmp(next.bytes()).is_lt() {
+        if !is_before(before, next) {
+            return false;
+        }
+        before = next;
+        left = rest;
+    }
+    true
+}
+
+fn is_before(name: &Text, next: &Text) -> bool
+    ensures { result ≡ is_lt (slice_cmp nat_cmp name.now next.now) }
+{
+    name.bytes().cmp(next.bytes()).is_lt()
+}
+
+/// The levels of topics, at most the greatest grade.
+fn levels_at(alloc: Global, tree: &Value, top: u64) -> Result<Rows<TopicLevel>, SettingsEnd>
+    requires { top ≤ 255 }
+    ensures { Gives (λ levels. levels) result (levels_at top (view tree.now)) }
+{
+    let Some(items) = items_at(tree, "levels") else {
+        return Err(SettingsEnd::Refused);
+    };
+    let levels = levels_of(alloc, items, top)?;
+    if levels.len() <= MAX_TOPICS as usize && topics_ascend(&levels) {
+        Ok(Rows::new(levels))
+    } else {
+        Err(SettingsEnd::Refused)
+    }
+}
+
+/// The level that each of these is.
+#[tactic(auto, using(crate::proofs::Each::begun, crate::proofs::Each::more, crate::proofs::Each::failed, crate::proofs::Each::whole))]
+fn levels_of(alloc: Global, items: &[Value], top: u64) -> Result<Vec<TopicLevel>, SettingsEnd>
+    requires { top ≤ 255 }
+    ensures { Gives (λ levels. levels.items) result (each_of (level_of top) (map view items.now)) }
+{
+    let mut levels = Vec::new(alloc);
+    let mut left = items;
+    while let [first, rest @ ..] = left {
+        levels.push(level_of(alloc, first, top)?)?;
+        left = rest;
+    }
+    Ok(levels)
+}
+
+#[tactic(auto, unfolding(crate::specs::Settings::level_of))]
+fn level_of(alloc: Global, value: &Value, top: u64) -> Result<TopicLevel, SettingsEnd>
+    requires { top ≤ 255 }
+    ensures { Gives (λ level. level) result (level_of top (view value.now)) }
+{
+    let topic = name_at(value, "topic")?;
+    let level = number_in(value, "level", 1, top)?;
+    if !has_members(value, 2) {
+        return Err(SettingsEnd::Refused);
+    }
+    Ok(TopicLevel {
+        topic: Text::from_slice(alloc, topic)?,
+        level: level as u8,
+    })
+}
+
+/// Whether each topic is before the next in byte order.
+fn topics_ascend(levels: &[TopicLevel]) -> bool
+    ensures { result ≡ is_ascending (map (λ own. own.topic) levels.now) }
+{
+    let [first, rest @ ..] = levels else {
+        return true;
+    };
+    let mut before = first;
+    let mut left = rest;
+    while let [next, rest @ ..] = left {
+        if !is_before(&before.topic, &next.topic) {
             return false;
         }
         before = next;
@@ -168,7 +244,7 @@ fn rows_of(alloc: Global, items: &[Value]) -> Result<Vec<KeyRow>, SettingsEnd>
 fn caller_of(alloc: Global, value: &Value) -> Result<KeyRow, SettingsEnd>
     ensures { Gives (λ row. row) result (caller_of (view value.now)) }
 {
-    let name = name_in(value)?;
+    let name = name_at(value, "name")?;
     let role = role_in(value)?;
     let key = key_in(value)?;
     if !has_members(value, 3) {
@@ -181,10 +257,11 @@ fn caller_of(alloc: Global, value: &Value) -> Result<KeyRow, SettingsEnd>
     })
 }
 
-fn name_in(caller: &Value) -> Result<&[u8], SettingsEnd>
-    ensures { Gives (λ name. name.now) result (name_in (view caller.now)) }
+/// The name at a key.
+fn name_at<'a>(table: &'a Value, key: &str) -> Result<&'a [u8], SettingsEnd>
+    ensures { Gives (λ name. name.now) result (name_at key.now (view table.now)) }
 {
-    match text_at(caller, "name") {
+    match text_at(table, key) {
         Some(name) if is_name(name) => Ok(name),
         _ => Err(SettingsEnd::Refused),
     }

@@ -9,7 +9,7 @@ use Rattle.drill.specs.Figures.{run_name, topic_name}
 use Rattle.drill.specs.Texts.{run_text, topics_text}
 
 abbrev pub rules : Rules
-rules = record { depth = 10; term = 600; hold = 1; level = 1; top_grade = 3; doubles = [] }
+rules = record { depth = 10; term = 600; hold = 1; level = 1; top_grade = 3; doubles = []; levels = [] }
 
 abbrev pub organiser_key : List ℕ
 organiser_key = codes "ORGANISERORGAN01"

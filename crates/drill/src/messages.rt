@@ -28,6 +28,7 @@ pub(crate) fn rules(alloc: Global) -> Rules
         level: 1,
         top_grade: 3,
         doubles: Rows::new(Vec::new(alloc)),
+        levels: Rows::new(Vec::new(alloc)),
     }
 }
 

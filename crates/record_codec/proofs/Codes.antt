@@ -217,6 +217,26 @@ module _ {X Y : Type 0} {spell : X → Text} {Fits : X → Type 0} {at : Text �
   pub changed : Codes (λ y. spell (g y)) (λ y. Fits (g y)) (λ bytes. made f (at bytes))
   changed = record { takes = changed_takes; again = changed_again }
 
+-- What is made of a value where it fits, of which some values come alone
+
+module _ {X Y : Type 0} {spell : X → Text} {Fits : X → Type 0} {at : Text → Read X} (c : Codes spell Fits at)
+    (f : X → Y) (g : Y → X) (Comes : Y → Type 0)
+    (there : (y : Y) → Comes y → f (g y) ≡ y) (back : (x : X) → Fits x → g (f x) ≡ x) (comes : (x : X) → Comes (f x)) where
+  folded_takes : (bytes : Text) (p : Y × Text) → IsBytes bytes → made f (at bytes) ≡ Some p
+      → (Fits (g p.0) × Comes p.0) × (bytes ≡ spell (g p.0) ++ p.1)
+  folded_takes bytes p fits is =
+      let a = map_some (at bytes) (λ x. (f x.0, x.1)) p is in
+      let first = c.takes bytes a.0 fits a.1 in
+      let moved : Fits (g (f a.0.0)) × (bytes ≡ spell (g (f a.0.0)) ++ a.0.1) =
+      subst (λ (x : X). Fits x × (bytes ≡ spell x ++ a.0.1)) (sym (back a.0.0 first.0)) first in
+      subst (λ (q : Y × Text). (Fits (g q.0) × Comes q.0) × (bytes ≡ spell (g q.0) ++ q.1)) a.2 ((moved.0, comes a.0.0), moved.1)
+
+  folded_again : (y : Y) (rest : Text) → Fits (g y) × Comes y → made f (at (spell (g y) ++ rest)) ≡ Some (y, rest)
+  folded_again y rest fits = rw (c.again (g y) rest fits.0) (ap (λ (z : Y). Some (z, rest)) (there y fits.1))
+
+  pub folded : Codes (λ y. spell (g y)) (λ y. Fits (g y) × Comes y) (λ bytes. made f (at bytes))
+  folded = record { takes = folded_takes; again = folded_again }
+
 -- Two values, one behind the other
 
 module _ {X Y : Type 0} {s : X → Text} {F : X → Type 0} {a : Text → Read X} {t : Y → Text} {G : Y → Type 0} {b : Text

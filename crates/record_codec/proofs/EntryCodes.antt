@@ -1,5 +1,5 @@
 -- The laws of commands and entries: what is read is an entry's spelling, and each spelling is read.
-use Rattle.std.proofs.Common.{◌≡◌, ℕ, ◌-◌, ◌^◌, ◌<◌, ◌&&◌, Bool, true, cond, eqb, List, [], ◌∷◌, ◌++◌, length, Some, None, Result, Ok, Err, refl, sym, ap, subst, ◌∙◌, append_assoc}
+use Rattle.std.proofs.Common.{◌≡◌, ℕ, ◌-◌, ◌^◌, ◌<◌, ◌&&◌, Bool, true, cond, eqb, List, [], ◌∷◌, ◌++◌, length, Some, None, Result, Ok, Err, refl, sym, ap, subst, ◌∙◌, append_assoc, arith}
 use Rattle.std.specs.Prelude.{IfErr, IfOk, IsTrue, nat_le, nat_lt}
 use Rattle.std.specs.List.{list_all}
 use Rattle.std.specs.Int.{w32, w64, to_le_bytes}
@@ -12,16 +12,18 @@ use Rattle.rulebook.specs.Limits.{max_moment}
 use Rattle.rulebook.specs.declared.ask.Command.{Command}
 use Rattle.rulebook.specs.declared.ask.Command.TheVariants as command
 use Rattle.rulebook.specs.declared.entry.EntryCore.{EntryCore}
-use Rattle.rulebook.specs.Spelling.{IsSpelling, command_bytes, entry_bytes, has_spelling, is_number, is_plain, is_plain_list, list_bytes, listed, number_bytes, role_byte, short}
+use Rattle.rulebook.specs.declared.rules.Rules.{Rules}
+use Rattle.rulebook.specs.declared.rules.TopicLevel.{TopicLevel}
+use Rattle.rulebook.specs.Spelling.{IsSpelling, are_levels, are_rules, are_settings, command_bytes, entry_bytes, found_bytes, level_bytes, rules_bytes, has_spelling, is_number, is_plain, is_plain_list, list_bytes, listed, number_bytes, role_byte, short}
 use Rattle.rulebook.specs.Words.{Text}
 use Rattle.record_codec.specs.declared.faults.CodecFault.{CodecFault}
 use Rattle.record_codec.specs.declared.faults.CodecFault.TheVariants as fault
 use Rattle.record_codec.specs.Laws.{OneSpelling}
 use Rattle.record_codec.specs.Outcomes.{Finds, OnNoEntry}
-use Rattle.record_codec.specs.Readings.{Read, amend_of, byte_at, command_at, command_of, core_of, entry_at, entry_of, grade_of, graded_doc_at, graded_lease_at, made, rule_of, run_at, submit_of, topics_ascend}
+use Rattle.record_codec.specs.Readings.{Read, amend_of, byte_at, command_at, command_of, core_of, entry_at, entry_of, grade_of, graded_doc_at, graded_lease_at, leveled_at, made, rule_of, run_at, submit_of, topics_ascend}
 use Rattle.record_codec.proofs.Codes.{Codes, IsBytes, IsBytes-behind, bind_some, both, byte_codes, changed, four_texts, like, map_some, number_codes, test_some, wide32}
 use Rattle.record_codec.proofs.TextCodes.{caller_bytes, caller_codes, docno_codes, moment_codes, name_codes, pick, request_codes}
-use Rattle.record_codec.proofs.ListCodes.{are_lists, lists_codes, rules_codes, topics_codes}
+use Rattle.record_codec.proofs.ListCodes.{are_lists, leveled_codes, lists_codes, rules_codes, topics_codes}
 
 -- The fields of commands
 
@@ -101,7 +103,7 @@ IsCommand bytes p = IsTrue (is_plain p.0) × (bytes ≡ command_bytes p.0 ++ p.1
 -- what is read behind a kind is a command of this kind
 module _ {X : Type 0} {spell : X → Text} {Fits : X → Type 0} {at : Text → Read X} (c : Codes spell Fits at)
     (f : X → Command) (kind : ℕ)
-    (same : (x : X) → kind ∷ spell x ≡ command_bytes (f x)) (plain : (x : X) → Fits x → IsTrue (is_plain (f x))) where
+    (same : (x : X) → Fits x → kind ∷ spell x ≡ command_bytes (f x)) (plain : (x : X) → Fits x → IsTrue (is_plain (f x))) where
   kind_takes : (bytes : Text) (b : ℕ) (rest : Text) (p : Command × Text) → IsBytes bytes → bytes ≡ b ∷ rest
       → eqb b kind ≡ true → made f (at rest) ≡ Some p → IsCommand bytes p
   kind_takes bytes b rest p fits parts test is =
@@ -109,7 +111,7 @@ module _ {X : Type 0} {spell : X → Text} {Fits : X → Type 0} {at : Text → 
       let first = c.takes rest u.0 (IsBytes-behind bytes (b ∷ []) rest fits parts) u.1 in
       let spelled : bytes ≡ command_bytes (f u.0.0) ++ u.0.1 =
       parts ∙ ap (λ (n : ℕ). n ∷ rest) (eqb-true b kind test) ∙ ap (λ (r : Text). kind ∷ r) first.1
-      ∙ ap (λ (t : Text). t ++ u.0.1) (same u.0.0) in
+      ∙ ap (λ (t : Text). t ++ u.0.1) (same u.0.0 first.0) in
       subst (IsCommand bytes) u.2 (plain u.0.0 first.0, spelled)
 
 -- one choice of a kind
@@ -123,36 +125,42 @@ abbrev doc_text : (kind : ℕ) (p : Text × (Text × ℕ))
     → kind ∷ doc_bytes p ≡ (kind ∷ short p.0) ++ short p.1.0 ++ p.1.1 ∷ []
 doc_text kind p = ap (λ (t : Text). kind ∷ t) (sym (append_assoc (short p.0) (short p.1.0) (p.1.1 ∷ [])))
 
+leveled_bytes : (rules : Rules) (levels : List TopicLevel) → 0 < length levels → 12 ∷ (rules_bytes rules ++ listed level_bytes levels) ≡ found_bytes rules levels
+leveled_bytes rules [] some = absurd (omega (arith, some))
+leveled_bytes rules (own ∷ levels) some = refl
+
 kinds : (bytes : Text) (b : ℕ) (rest : Text) (p : Command × Text) → IsBytes bytes → bytes ≡ b ∷ rest
     → command_of b rest ≡ Some p → IsCommand bytes p
 unfolding command_of
 kinds bytes b rest p fits parts is =
-    choose bytes b p 1 _ _ is (kind_takes rules_codes command.Found 1 (λ rules. refl)
-    (λ rules holds. holds) bytes b rest p fits parts)
-    (λ is. choose bytes b p 2 _ _ is (kind_takes topics_codes command.Topics 2 (λ topics. refl)
+    choose bytes b p 1 _ _ is (kind_takes rules_codes command.Found 1 (λ rules holds. ap (found_bytes rules) (sym holds.1))
+    (λ rules holds. and_from (are_settings rules) (are_levels rules) holds.0 (rw holds.1 refl)) bytes b rest p fits parts)
+    (λ is. choose bytes b p 2 _ _ is (kind_takes topics_codes command.Topics 2 (λ topics holds. refl)
     (λ topics holds. holds) bytes b rest p fits parts)
     (λ is. choose bytes b p 3 _ _ is (kind_takes run_codes submit_of 3
-    (λ q. refl) submit_plain bytes b rest p fits parts)
-    (λ is. choose bytes b p 4 _ _ is (kind_takes nothing_codes (λ u. command.Open) 4 (λ u. refl)
+    (λ q holds. refl) submit_plain bytes b rest p fits parts)
+    (λ is. choose bytes b p 4 _ _ is (kind_takes nothing_codes (λ u. command.Open) 4 (λ u holds. refl)
     (λ u holds. refl) bytes b rest p fits parts)
-    (λ is. choose bytes b p 5 _ _ is (kind_takes name_codes command.Lease 5 (λ topic. refl)
+    (λ is. choose bytes b p 5 _ _ is (kind_takes name_codes command.Lease 5 (λ topic holds. refl)
     (λ topic holds. holds) bytes b rest p fits parts)
     (λ is. choose bytes b p 6 _ _ is
-    (kind_takes lease_codes grade_of 6 (λ q. refl)
+    (kind_takes lease_codes grade_of 6 (λ q holds. refl)
     (λ q holds. and_from (nat_lt q.0 (2 ^ 32)) (nat_lt q.1 256) (lt-ltb _ _ holds.0)
     (lt-ltb _ _ holds.1)) bytes b rest p fits parts)
     (λ is. choose bytes b p 7 _ _ is
-    (kind_takes (number_codes w32 (2 ^ 32) wide32) command.Release 7 (λ lease. refl)
+    (kind_takes (number_codes w32 (2 ^ 32) wide32) command.Release 7 (λ lease holds. refl)
     (λ lease holds. lt-ltb lease (2 ^ 32) holds) bytes b rest p fits parts)
-    (λ is. choose bytes b p 8 _ _ is (kind_takes doc_codes amend_of 8 (doc_text 8)
+    (λ is. choose bytes b p 8 _ _ is (kind_takes doc_codes amend_of 8 (λ q holds. doc_text 8 q)
     (λ q holds. doc_plain q.0 q.1.0 q.1.1 holds.0 holds.1.0 holds.1.1) bytes b rest p fits parts)
-    (λ is. choose bytes b p 9 _ _ is (kind_takes doc_codes rule_of 9 (doc_text 9)
+    (λ is. choose bytes b p 9 _ _ is (kind_takes doc_codes rule_of 9 (λ q holds. doc_text 9 q)
     (λ q holds. doc_plain q.0 q.1.0 q.1.1 holds.0 holds.1.0 holds.1.1) bytes b rest p fits parts)
-    (λ is. choose bytes b p 10 _ _ is (kind_takes name_codes command.Withdraw 10 (λ run. refl)
+    (λ is. choose bytes b p 10 _ _ is (kind_takes name_codes command.Withdraw 10 (λ run holds. refl)
     (λ run holds. holds) bytes b rest p fits parts)
-    (λ is. choose bytes b p 11 _ _ is (kind_takes nothing_codes (λ u. command.Publish) 11 (λ u. refl)
+    (λ is. choose bytes b p 11 _ _ is (kind_takes nothing_codes (λ u. command.Publish) 11 (λ u holds. refl)
     (λ u holds. refl) bytes b rest p fits parts)
-    (λ none. absurd cc)))))))))))
+    (λ is. choose bytes b p 12 _ _ is (kind_takes leveled_codes command.Found 12 (λ rules holds. leveled_bytes rules rules.levels holds.1)
+    (λ rules holds. holds.0) bytes b rest p fits parts)
+    (λ none. absurd cc))))))))))))
 
 command_takes : (bytes : Text) (p : Command × Text) → IsBytes bytes → command_at bytes ≡ Some p → IsCommand bytes p
 unfolding command_at
@@ -160,10 +168,20 @@ command_takes bytes p fits is =
     let u = bind_some (byte_at bytes) (λ kind. command_of kind.0 kind.1) p is in
     kinds bytes u.0.0 u.0.1 p fits (byte_codes.takes bytes u.0 fits u.1).1 u.2
 
+found_again : (rules : Rules) (levels : List TopicLevel) (rest : Text) → rules.levels ≡ levels → IsTrue (are_rules rules)
+    → command_at (found_bytes rules levels ++ rest) ≡ Some (command.Found rules, rest)
+unfolding command_at command_of
+found_again rules [] rest none are =
+    ap (made command.Found) (rules_codes.again rules rest ((and_parts (are_settings rules) (are_levels rules) are).0, none))
+found_again rules (own ∷ levels) rest some are =
+    let text : rules_bytes rules ++ listed level_bytes (own ∷ levels) ≡ rules_bytes rules ++ listed level_bytes rules.levels = ap (λ (ls : List TopicLevel). rules_bytes rules ++ listed level_bytes ls) (sym some) in
+    ap (λ (t : Text). made command.Found (leveled_at (t ++ rest))) text
+    ∙ ap (made command.Found) (leveled_codes.again rules rest (are, rw some (omega arith)))
+
 command_again : (c : Command) (rest : Text) → IsTrue (is_plain c)
     → command_at (command_bytes c ++ rest) ≡ Some (c, rest)
 unfolding command_at command_of
-command_again (command.Found rules) rest plain = ap (made command.Found) (rules_codes.again rules rest plain)
+command_again (command.Found rules) rest plain = found_again rules rules.levels rest refl plain
 command_again (command.Topics topics) rest plain = ap (made command.Topics) (topics_codes.again topics rest plain)
 command_again (command.Submit run lists) rest plain =
     ap (made submit_of) (run_codes.again (run, lists) rest (submit_fits run lists plain))

@@ -1,7 +1,12 @@
 -- What lists of an entry are made of.
 use Rattle.std.specs.Prelude.{Bool, length, nat_lt}
+use Rattle.rulebook.specs.declared.rules.TopicLevel.{TopicLevel}
 use Rattle.rulebook.specs.Words.{Text}
 
 -- its length is a byte
 abbrev pub is_short : Text → Bool
 is_short text = nat_lt (length text) 256
+
+-- the length of its topic is a byte
+abbrev pub is_short_level : TopicLevel → Bool
+is_short_level own = is_short own.topic

@@ -1,21 +1,23 @@
 -- What bytes give, read from left to right: a value that stands at their front and the bytes behind it, or nothing.
-use Rattle.std.specs.Prelude.{ℕ, zero, suc, Bool, true, ◌&&◌, ◌==◌, ◌^◌, if◌then◌else◌, List, [], ◌∷◌, Option, None, Some, length, map, take, drop, nat_lt, nat_le}
+use Rattle.std.specs.Prelude.{ℕ, zero, suc, Bool, true, ◌&&◌, ◌==◌, if◌then◌else◌, List, [], ◌∷◌, Option, None, Some, length, map, take, drop, nat_lt, nat_le}
 use Rattle.std.specs.Int.{Width, byte_len, from_le_bytes, w16, w32, w64}
+use Rattle.std.specs.List.{list_all}
 use Rattle.std.specs.Option.{option_and_then, option_map}
 use Rattle.trec_formats.specs.declared.Topic.{Topic}
 use Rattle.trec_formats.specs.declared.TopicList.{TopicList}
 use Rattle.trec_formats.specs.Names.{is_between, is_docno, is_name}
-use Rattle.rulebook.specs.Limits.{max_moment}
+use Rattle.rulebook.specs.Limits.{max_depth, max_hold, max_moment, max_term, max_topics}
 use Rattle.rulebook.specs.declared.rules.Caller.{Caller}
 use Rattle.rulebook.specs.declared.rules.Role.{Role}
 use Rattle.rulebook.specs.declared.rules.Role.TheVariants.{Organiser, Group, Assessor}
 use Rattle.rulebook.specs.declared.rules.Rules.{Rules}
+use Rattle.rulebook.specs.declared.rules.TopicLevel.{TopicLevel}
 use Rattle.rulebook.specs.declared.ask.Command.{Command}
 use Rattle.rulebook.specs.declared.ask.Command.TheVariants as command
 use Rattle.rulebook.specs.declared.entry.EntryCore.{EntryCore}
 use Rattle.rulebook.specs.Spelling.{differ, is_ascending, is_printable}
 use Rattle.rulebook.specs.Words.{Text}
-use Rattle.record_codec.specs.declared.layout.TheConstants.{AMEND, ASSESSOR, FOUND, GRADE, GROUP, LEASE, MOST_DESC, MOST_DOCS, MOST_DOUBLES, MOST_NARR, MOST_TITLE, NUMBERED, NUMBER_BOUND, OPEN, ORGANISER, PUBLISH, RELEASE, RULE, SUBMIT, TOPICS, UNNUMBERED, WITHDRAW}
+use Rattle.record_codec.specs.declared.layout.TheConstants.{AMEND, ASSESSOR, FOUND, FOUND_WITH_LEVELS, GRADE, GROUP, LEASE, MOST_DESC, MOST_DOCS, MOST_NARR, MOST_TITLE, NUMBERED, NUMBER_BOUND, OPEN, ORGANISER, PUBLISH, RELEASE, RULE, SUBMIT, TOPICS, UNNUMBERED, WITHDRAW}
 
 abbrev pub Read : Type 0 → Type 0
 Read X = Option (X × Text)
@@ -113,13 +115,13 @@ moment_at bytes = kept is_moment (number_at w64 bytes)
 -- The fields of commands
 
 abbrev pub few_doubles : ℕ → Bool
-few_doubles n = nat_le n MOST_DOUBLES
+few_doubles n = nat_le n max_topics
 
 unfoldable pub doubles_at : Text → Read (List Text)
 doubles_at bytes = kept is_ascending (counted_at few_doubles name_at bytes)
 
 abbrev pub rules_of : ℕ × (ℕ × (ℕ × (ℕ × (ℕ × List Text)))) → Rules
-rules_of p = record { depth = p.0; term = p.1.0; hold = p.1.1.0; level = p.1.1.1.0; top_grade = p.1.1.1.1.0; doubles = p.1.1.1.1.1 }
+rules_of p = record { depth = p.0; term = p.1.0; hold = p.1.1.0; level = p.1.1.1.0; top_grade = p.1.1.1.1.0; doubles = p.1.1.1.1.1; levels = [] }
 
 -- the rules as they stand, whatever their numbers
 unfoldable pub settings_at : Text → Read Rules
@@ -129,11 +131,39 @@ settings_at bytes = made rules_of (before (number_at w16)
 -- the numbers are in their ranges
 abbrev pub are_in_range : Rules → Bool
 are_in_range r =
-    is_between 1 1000 r.depth && is_between 1 (2 ^ 40) r.term && is_between 1 50 r.hold
+    is_between 1 max_depth r.depth && is_between 1 max_term r.term && is_between 1 max_hold r.hold
     && is_between 1 255 r.top_grade && is_between 1 r.top_grade r.level
 
 unfoldable pub rules_at : Text → Read Rules
 rules_at bytes = kept are_in_range (settings_at bytes)
+
+-- the levels of topics
+
+abbrev pub level_of : Text × ℕ → TopicLevel
+level_of p = record { topic = p.0; level = p.1 }
+
+unfoldable pub level_at : Text → Read TopicLevel
+level_at bytes = made level_of (before name_at byte_at bytes)
+
+abbrev pub some_levels : ℕ → Bool
+some_levels n = is_between 1 max_topics n
+
+abbrev pub levels_ascend : List TopicLevel → Bool
+levels_ascend levels = is_ascending (map (λ own. own.topic) levels)
+
+unfoldable pub levels_at : Text → Read (List TopicLevel)
+levels_at bytes = kept levels_ascend (counted_at some_levels level_at bytes)
+
+abbrev pub with_levels : Rules × List TopicLevel → Rules
+with_levels p = record p.0 { levels = p.1 }
+
+-- the levels are in their range
+abbrev pub levels_in_range : Rules → Bool
+levels_in_range r = list_all (λ own. is_between 1 r.top_grade own.level) r.levels
+
+-- the rules, and behind them levels of topics
+unfoldable pub leveled_at : Text → Read Rules
+leveled_at bytes = kept levels_in_range (made with_levels (before rules_at levels_at bytes))
 
 abbrev pub topic_of : Text × (Text × (Text × Text)) → Topic
 topic_of p = record { id = p.0; title = p.1.0; desc = p.1.1.0; narr = p.1.1.1 }
@@ -209,7 +239,8 @@ command_of kind rest =
     else (if kind == AMEND then made amend_of (graded_doc_at rest)
     else (if kind == RULE then made rule_of (graded_doc_at rest)
     else (if kind == WITHDRAW then made command.Withdraw (name_at rest)
-    else (if kind == PUBLISH then Some (command.Publish, rest) else None))))))))))
+    else (if kind == PUBLISH then Some (command.Publish, rest)
+    else (if kind == FOUND_WITH_LEVELS then made command.Found (leveled_at rest) else None)))))))))))
 
 unfoldable pub command_at : Text → Read Command
 command_at bytes = option_and_then (λ kind. command_of kind.0 kind.1) (byte_at bytes)

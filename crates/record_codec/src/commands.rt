@@ -2,18 +2,18 @@
 ghost use Rattle.std.specs.Prelude.{◌≡◌, ◌&&◌, ◌^◌};
 ghost use Rattle.std.specs.Int.{w32};
 ghost use Rattle.record_codec.specs.Outcomes.{Gives, GivesBy};
-ghost use Rattle.record_codec.specs.Readings.{amend_of, are_in_range, command_at, grade_of, graded_doc_at, graded_lease_at, made, name_at, number_at, rule_of, rules_at, run_at, settings_at, submit_of, topics_at};
+ghost use Rattle.record_codec.specs.Readings.{amend_of, are_in_range, command_at, grade_of, graded_doc_at, graded_lease_at, leveled_at, levels_in_range, made, name_at, number_at, rule_of, rules_at, run_at, settings_at, submit_of, topics_at};
 
 use crate::cursor::Cursor;
 use crate::faults::CodecFault;
 use crate::fields::{docno, name};
 use crate::layout::{
-    AMEND, FOUND, GRADE, LEASE, MOST_DEPTH, MOST_HOLD, MOST_TERM, OPEN, PUBLISH, RELEASE, RULE,
-    SUBMIT, TOPICS, WITHDRAW,
+    AMEND, FOUND, FOUND_WITH_LEVELS, GRADE, LEASE, OPEN, PUBLISH, RELEASE, RULE, SUBMIT, TOPICS,
+    WITHDRAW,
 };
-use crate::lists::{campaign_topics, doubles, run_lists};
-use decimal_rank::Text;
-use rulebook::{Command, Rules};
+use crate::lists::{campaign_topics, doubles, run_lists, topic_levels};
+use decimal_rank::{Rows, Text};
+use rulebook::{Command, MAX_DEPTH, MAX_HOLD, MAX_TERM, Rules};
 use std::alloc::Global;
 
 /// The rules as they stand, whatever their numbers.
@@ -34,6 +34,7 @@ fn settings(alloc: Global, left: &mut Cursor) -> Result<Rules, CodecFault>
         level,
         top_grade,
         doubles,
+        levels: Rows::new(Vec::new(alloc)),
     })
 }
 
@@ -42,11 +43,11 @@ fn are_in_range(rules: &Rules) -> bool
     ensures { result ≡ are_in_range rules.now }
 {
     1 <= rules.depth
-        && rules.depth <= MOST_DEPTH
+        && rules.depth <= MAX_DEPTH
         && 1 <= rules.term
-        && rules.term <= MOST_TERM
+        && rules.term <= MAX_TERM
         && 1 <= rules.hold
-        && rules.hold <= MOST_HOLD
+        && rules.hold <= MAX_HOLD
         && 1 <= rules.top_grade
         && 1 <= rules.level
         && rules.level <= rules.top_grade
@@ -58,6 +59,26 @@ fn found(alloc: Global, left: &mut Cursor) -> Result<Rules, CodecFault>
 {
     let rules = settings(alloc, left)?;
     if !are_in_range(&rules) {
+        return Err(CodecFault::NoEntry);
+    }
+    Ok(rules)
+}
+
+fn levels_in_range(rules: &Rules) -> bool
+    ensures { result ≡ levels_in_range rules.now }
+{
+    let top = rules.top_grade;
+    rules.levels.items().iter().all(|own| 1 <= own.level && own.level <= top)
+}
+
+/// The rules, and behind them levels of topics.
+#[tactic(auto, unfolding(crate::specs::Readings::leveled_at))]
+fn found_with_levels(alloc: Global, left: &mut Cursor) -> Result<Rules, CodecFault>
+    ensures { Gives result left.new.bytes.now (leveled_at left.old.bytes.now) }
+{
+    let mut rules = found(alloc, left)?;
+    rules.levels = topic_levels(alloc, left)?;
+    if !levels_in_range(&rules) {
         return Err(CodecFault::NoEntry);
     }
     Ok(rules)
@@ -133,6 +154,9 @@ pub(crate) fn command(alloc: Global, left: &mut Cursor) -> Result<Command, Codec
             run: name(alloc, left)?,
         }),
         PUBLISH => Ok(Command::Publish),
+        FOUND_WITH_LEVELS => Ok(Command::Found {
+            rules: found_with_levels(alloc, left)?,
+        }),
         _ => Err(CodecFault::NoEntry),
     }
 }

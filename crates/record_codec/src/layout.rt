@@ -24,6 +24,8 @@ pub(crate) const WITHDRAW: u8 = 10;
 
 pub(crate) const PUBLISH: u8 = 11;
 
+pub(crate) const FOUND_WITH_LEVELS: u8 = 12;
+
 /// The roles of callers.
 pub(crate) const ORGANISER: u8 = 1;
 
@@ -44,13 +46,6 @@ pub(crate) const FIRST_PRINTABLE: u8 = 0x20;
 
 pub(crate) const LAST_PRINTABLE: u8 = 0x7E;
 
-/// The greatest numbers of rules.
-pub(crate) const MOST_DEPTH: u16 = 1000;
-
-pub(crate) const MOST_TERM: u64 = 1 << 40;
-
-pub(crate) const MOST_HOLD: u8 = 50;
-
 /// The most bytes of a topic's texts.
 pub(crate) const MOST_TITLE: usize = 1000;
 
@@ -58,7 +53,5 @@ pub(crate) const MOST_DESC: usize = 8192;
 
 pub(crate) const MOST_NARR: usize = 8192;
 
-/// How many documents a list has at most, and topics that need two labels.
+/// How many documents a list has at most.
 pub(crate) const MOST_DOCS: u32 = 1000;
-
-pub(crate) const MOST_DOUBLES: u32 = 250;

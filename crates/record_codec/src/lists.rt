@@ -1,14 +1,15 @@
 //! The lists of an entry: a count of four bytes and the items.
 ghost use Rattle.std.specs.Prelude.{◌≡◌, ℕ, List};
 ghost use Rattle.record_codec.specs.Outcomes.{Gives, GivesBy};
-ghost use Rattle.record_codec.specs.Readings.{Read, docno_at, docs_at, doubles_at, items_at, list_at, lists_at, name_at, topic_at, topics_at};
+ghost use Rattle.record_codec.specs.Readings.{Read, docno_at, docs_at, doubles_at, items_at, level_at, levels_at, list_at, lists_at, name_at, topic_at, topics_at};
 
 use crate::cursor::Cursor;
 use crate::faults::CodecFault;
 use crate::fields::{docno, name, printable};
-use crate::layout::{MOST_DESC, MOST_DOCS, MOST_DOUBLES, MOST_NARR, MOST_TITLE};
-use crate::text_orders::{are_ascending, are_distinct, ids, lent, topics};
+use crate::layout::{MOST_DESC, MOST_DOCS, MOST_NARR, MOST_TITLE};
+use crate::text_orders::{are_ascending, are_distinct, ids, lent, leveled, topics};
 use decimal_rank::{Rows, Text};
+use rulebook::{MAX_TOPICS, TopicLevel};
 use std::alloc::Global;
 use trec_formats::{Topic, TopicList};
 
@@ -104,7 +105,7 @@ pub(crate) fn doubles(alloc: Global, left: &mut Cursor) -> Result<Rows<Text>, Co
     ensures { Gives result left.new.bytes.now (doubles_at left.old.bytes.now) }
 {
     let count = left.number32()?;
-    if count > MOST_DOUBLES {
+    if count > MAX_TOPICS {
         return Err(CodecFault::NoEntry);
     }
     let names = items_of::<Name>(alloc, left, count)?;
@@ -112,6 +113,38 @@ pub(crate) fn doubles(alloc: Global, left: &mut Cursor) -> Result<Rows<Text>, Co
         return Err(CodecFault::NoEntry);
     }
     Ok(Rows::new(names))
+}
+
+impl Item for TopicLevel {
+    type Value = TopicLevel;
+
+    ghost at = { level_at };
+
+    #[tactic(auto, unfolding(crate::specs::Readings::level_at))]
+    fn read(alloc: Global, left: &mut Cursor) -> Result<TopicLevel, CodecFault> {
+        let topic = name(alloc, left)?;
+        let level = left.byte()?;
+        Ok(TopicLevel { topic, level })
+    }
+}
+
+/// The levels of topics, by ascending topic.
+#[tactic(auto, unfolding(crate::specs::Readings::levels_at, crate::specs::Readings::counted_at))]
+pub(crate) fn topic_levels(
+    alloc: Global,
+    left: &mut Cursor,
+) -> Result<Rows<TopicLevel>, CodecFault>
+    ensures { Gives result left.new.bytes.now (levels_at left.old.bytes.now) }
+{
+    let count = left.number32()?;
+    if count < 1 || count > MAX_TOPICS {
+        return Err(CodecFault::NoEntry);
+    }
+    let levels = items_of::<TopicLevel>(alloc, left, count)?;
+    if !are_ascending(leveled(alloc, levels.as_slice())?.as_slice()) {
+        return Err(CodecFault::NoEntry);
+    }
+    Ok(Rows::new(levels))
 }
 
 /// The documents of a list, which differ.

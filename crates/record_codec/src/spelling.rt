@@ -2,16 +2,16 @@
 ghost use Rattle.std.specs.Prelude.{◌≡◌, ℕ, ◌++◌, ◌∷◌, ◌≤◌, ◌<◌, ◌^◌, Bool, IsTrue, List, OnOk, OnErr, [], length, true};
 ghost use Rattle.std.specs.List.{list_all};
 ghost use Rattle.std.specs.Int.{to_le_bytes, w16, w32, w64};
-ghost use Rattle.rulebook.specs.Spelling.{command_bytes, entry_bytes, has_spelling, is_plain, is_plain_list, is_plain_topic, are_rules, list_bytes, listed, long, number_bytes, role_byte, rules_bytes, short, topic_bytes};
+ghost use Rattle.rulebook.specs.Spelling.{command_bytes, entry_bytes, has_spelling, is_plain, is_plain_list, is_plain_topic, are_rules, are_settings, found_bytes, level_bytes, list_bytes, listed, long, number_bytes, role_byte, rules_bytes, short, topic_bytes};
 ghost use Rattle.trec_formats.specs.Names.{is_docno, is_name};
-ghost use Rattle.record_codec.specs.Items.{is_short};
+ghost use Rattle.record_codec.specs.Items.{is_short, is_short_level};
 
 use crate::layout::{
-    AMEND, ASSESSOR, FOUND, GRADE, GROUP, LEASE, NUMBERED, OPEN, ORGANISER, PUBLISH, RELEASE, RULE,
+    AMEND, ASSESSOR, FOUND, FOUND_WITH_LEVELS, GRADE, GROUP, LEASE, NUMBERED, OPEN, ORGANISER, PUBLISH, RELEASE, RULE,
     SUBMIT, TOPICS, UNNUMBERED, WITHDRAW,
 };
 use decimal_rank::{Memory, Rows, Text, append};
-use rulebook::{Caller, Command, EntryCore, Role, Rules};
+use rulebook::{Caller, Command, EntryCore, Role, Rules, TopicLevel};
 use trec_formats::{Topic, TopicList};
 
 /// A byte for the length of a text, and the text.
@@ -82,6 +82,17 @@ impl Spelled for TopicList {
     }
 }
 
+impl Spelled for TopicLevel {
+    ghost spelling = { level_bytes };
+
+    ghost is_spelled = { is_short_level };
+
+    fn put(&self, out: &mut Vec<u8>) -> Result<(), Memory> {
+        put_short(&self.topic, out)?;
+        Ok(out.push(self.level)?)
+    }
+}
+
 /// A count of four bytes, and the items.
 fn put_items<T: Spelled>(items: &Rows<T>, out: &mut Vec<u8>) -> Result<(), Memory>
     requires few { length items.now < 2 ^ 32 }
@@ -121,8 +132,23 @@ fn put_number(number: Option<u64>, out: &mut Vec<u8>) -> Result<(), Memory>
     }
 }
 
-fn put_rules(rules: &Rules, out: &mut Vec<u8>) -> Result<(), Memory>
+/// The rules, with their kind, and levels of topics behind them where there are any.
+fn put_found(rules: &Rules, out: &mut Vec<u8>) -> Result<(), Memory>
     requires { IsTrue (are_rules rules.now) }
+    ensures { OnOk result (out.new.items ≡ out.old.items ++ found_bytes rules.now rules.now.levels) }
+{
+    if rules.levels.items().is_empty() {
+        out.push(FOUND)?;
+        return put_rules(rules, out);
+    }
+    out.push(FOUND_WITH_LEVELS)?;
+    put_rules(rules, out)?;
+    put_items(&rules.levels, out)
+}
+
+/// The rules but for levels of topics.
+fn put_rules(rules: &Rules, out: &mut Vec<u8>) -> Result<(), Memory>
+    requires { IsTrue (are_settings rules.now) }
     ensures { OnOk result (out.new.items ≡ out.old.items ++ rules_bytes rules.now) }
 {
     append(out, &rules.depth.to_le_bytes())?;
@@ -156,10 +182,7 @@ fn put_command(command: &Command, out: &mut Vec<u8>) -> Result<(), Memory>
     ensures { OnOk result (out.new.items ≡ out.old.items ++ command_bytes command.now) }
 {
     match command {
-        Command::Found { rules } => {
-            out.push(FOUND)?;
-            put_rules(rules, out)
-        }
+        Command::Found { rules } => put_found(rules, out),
         Command::Topics { topics } => {
             out.push(TOPICS)?;
             put_items(topics, out)

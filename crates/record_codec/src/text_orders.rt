@@ -5,6 +5,7 @@ ghost use Rattle.std.specs.Ordering.{is_lt, nat_cmp};
 ghost use Rattle.rulebook.specs.Spelling.{differ, is_ascending};
 
 use decimal_rank::{Memory, Secret, Text};
+use rulebook::TopicLevel;
 use std::alloc::Global;
 use std::collections::HashMap;
 use trec_formats::{Topic, TopicList};
@@ -59,6 +60,17 @@ pub(crate) fn ids(alloc: Global, topics: &[Topic]) -> Result<Vec<&[u8]>, Memory>
     let mut lent = Vec::with_capacity(alloc, topics.len())?;
     for topic in topics {
         lent.push(topic.id.bytes())?;
+    }
+    Ok(lent)
+}
+
+/// The topics with levels, lent.
+pub(crate) fn leveled(alloc: Global, levels: &[TopicLevel]) -> Result<Vec<&[u8]>, Memory>
+    ensures { IfOk result (λ lent. map (λ text. text.now) lent.items ≡ map (λ own. own.topic) levels.entry.now) }
+{
+    let mut lent = Vec::with_capacity(alloc, levels.len())?;
+    for own in levels {
+        lent.push(own.topic.bytes())?;
     }
     Ok(lent)
 }

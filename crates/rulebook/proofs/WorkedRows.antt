@@ -3,3 +3,4 @@ pub mod EndedCampaign
 pub mod JudgedCampaign
 pub mod LateRuns
 pub mod SmallCampaign
+pub mod TopicLevels

@@ -33,7 +33,7 @@ rules_in (command.Withdraw run) = None
 rules_in command.Publish = None
 
 abbrev pub no_rules : Rules
-no_rules = record { depth = 0; term = 0; hold = 0; level = 0; top_grade = 0; doubles = [] }
+no_rules = record { depth = 0; term = 0; hold = 0; level = 0; top_grade = 0; doubles = []; levels = [] }
 
 -- the rules of the first entry
 abbrev pub rules_of : History → Rules
@@ -108,6 +108,13 @@ needed rules topic = if contains_text rules.doubles topic then 2 else 1
 
 abbrev pub need : History → Text → ℕ
 need H topic = needed (rules_of H) topic
+
+-- the grade from which on a document of the topic is relevant: the topic's own, or else that of the rules
+abbrev pub level_in : Rules → Text → ℕ
+level_in rules topic = option_map_or (λ own. own.level) (find (λ own. bytes_eq own.topic topic) rules.levels) rules.level
+
+abbrev pub level : History → Text → ℕ
+level H topic = level_in (rules_of H) topic
 
 -- Runs
 

@@ -12,7 +12,7 @@ use Rattle.rulebook.specs.declared.entry.Entry.{Entry}
 use Rattle.rulebook.specs.declared.reply.Reply.{Reply}
 use Rattle.rulebook.specs.declared.reply.Reply.TheVariants as reply
 use Rattle.rulebook.specs.Words.{Text, each_once, last_given, prefixes}
-use Rattle.rulebook.specs.Campaign.{History, need, rules_of}
+use Rattle.rulebook.specs.Campaign.{History, level, need}
 
 -- a grade that an assessor gave a document of a topic
 pub record Label : Type 0 where
@@ -82,10 +82,10 @@ disagrees H topic doc = shows_disagreement (need H topic) (grades_of (labels_on 
 
 -- the documents of a topic that are relevant, and those with a lower effective grade
 abbrev pub relevant_count : History → Text → ℕ
-relevant_count H topic = count_by (λ doc. is_relevant (rules_of H).level (effective H topic doc)) (graded H topic)
+relevant_count H topic = count_by (λ doc. is_relevant (level H topic) (effective H topic doc)) (graded H topic)
 
 abbrev pub non_relevant_count : History → Text → ℕ
-non_relevant_count H topic = count_by (λ doc. is_non_relevant (rules_of H).level (effective H topic doc)) (graded H topic)
+non_relevant_count H topic = count_by (λ doc. is_non_relevant (level H topic) (effective H topic doc)) (graded H topic)
 
 -- the documents of a topic that had an effective grade after some part of H from its start, by the shortest such part
 abbrev pub trail : History → Text → List Text

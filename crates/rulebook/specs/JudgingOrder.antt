@@ -4,13 +4,13 @@ use Rattle.std.specs.List.{list_all, list_any}
 use Rattle.std.specs.Option.{option_and_then, option_map}
 use Rattle.mtf_queue.specs.Rule as rule
 use Rattle.rulebook.specs.Words.{Text}
-use Rattle.rulebook.specs.Campaign.{History, Run, held, holds, need, numbered, rules_of}
+use Rattle.rulebook.specs.Campaign.{History, Run, held, holds, level, need, numbered}
 use Rattle.rulebook.specs.Grades.{effective, is_labelled_by, labels_on, trail}
 use Rattle.rulebook.specs.Leases.{has_lease, live_leases_on}
 
 -- whether a document is relevant; none where it has no effective grade
 abbrev pub relevance : History → Text → Text → Option Bool
-relevance H topic doc = option_map (λ grade. nat_le (rules_of H).level grade) (effective H topic doc)
+relevance H topic doc = option_map (λ grade. nat_le (level H topic) grade) (effective H topic doc)
 
 -- whether a run comes before another: the last document of the trail that has an effective grade and that one of the two holds alone puts its holder first where it is relevant, and last where it isn't; without one the earlier submitted run is first
 abbrev pub comes_before : History → Text → ℕ × Run → ℕ × Run → Bool

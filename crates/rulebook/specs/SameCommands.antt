@@ -5,6 +5,7 @@ use Rattle.std.specs.Cmp.Lexicographic.{pointwise}
 use Rattle.trec_formats.specs.declared.Topic.{Topic}
 use Rattle.trec_formats.specs.declared.TopicList.{TopicList}
 use Rattle.rulebook.specs.declared.rules.Rules.{Rules}
+use Rattle.rulebook.specs.declared.rules.TopicLevel.{TopicLevel}
 use Rattle.rulebook.specs.declared.ask.Command.{Command}
 use Rattle.rulebook.specs.declared.ask.Command.TheVariants.{Found, Topics, Submit, Open, Lease, Grade, Release, Amend, Rule, Withdraw, Publish}
 
@@ -14,10 +15,13 @@ same_topic a b = bytes_eq a.id b.id && bytes_eq a.title b.title && bytes_eq a.de
 abbrev pub same_list : TopicList → TopicList → Bool
 same_list a b = bytes_eq a.topic b.topic && a.line == b.line && pointwise bytes_eq a.docs b.docs
 
+abbrev pub same_level : TopicLevel → TopicLevel → Bool
+same_level a b = bytes_eq a.topic b.topic && a.level == b.level
+
 abbrev pub same_rules : Rules → Rules → Bool
 same_rules a b =
     a.depth == b.depth && a.term == b.term && a.hold == b.hold && a.level == b.level && a.top_grade == b.top_grade
-    && pointwise bytes_eq a.doubles b.doubles
+    && pointwise bytes_eq a.doubles b.doubles && pointwise same_level a.levels b.levels
 
 -- Whether all fields are the same. Each command has two lines: one for another of its kind, and one for all other kinds.
 abbrev pub same_command : Command → Command → Bool

@@ -10,7 +10,7 @@ use Rattle.measures.specs.declared.cells.Cell.{Cell}
 use Rattle.measures.specs.declared.means.Summary.{Summary}
 use Rattle.rulebook.specs.declared.entry.Entry.{Entry}
 use Rattle.rulebook.specs.Words.{Text}
-use Rattle.rulebook.specs.Campaign.{History, Run, docs_on, live, rules_of, run_in, runs, topics}
+use Rattle.rulebook.specs.Campaign.{History, Run, docs_on, level, live, run_in, runs, topics}
 use Rattle.rulebook.specs.Grades.{effective, graded, non_relevant_count, relevant_count}
 use Rattle.rulebook.specs.Pages.{topics_in_order}
 
@@ -32,7 +32,7 @@ grades_by_rank H run topic = map (effective H topic) (docs_on run.lists topic)
 
 -- the cell of a run on a topic
 abbrev pub cell_on : History → Run → Text → Cell
-cell_on H run topic = cell_of (grades_by_rank H run topic) (relevant_count H topic) (non_relevant_count H topic) (rules_of H).level
+cell_on H run topic = cell_of (grades_by_rank H run topic) (relevant_count H topic) (non_relevant_count H topic) (level H topic)
 
 -- a topic counts where at least one of its documents has an effective grade
 abbrev pub is_counted : History → Text → Bool

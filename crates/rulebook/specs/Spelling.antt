@@ -7,10 +7,11 @@ use Rattle.std.specs.Cmp.Lexicographic.{slice_cmp}
 use Rattle.trec_formats.specs.declared.Topic.{Topic}
 use Rattle.trec_formats.specs.declared.TopicList.{TopicList}
 use Rattle.trec_formats.specs.Names.{is_name, is_docno, is_between}
-use Rattle.rulebook.specs.Limits.{max_moment}
+use Rattle.rulebook.specs.Limits.{max_depth, max_hold, max_moment, max_term, max_topics}
 use Rattle.rulebook.specs.declared.rules.Role.{Role}
 use Rattle.rulebook.specs.declared.rules.Role.TheVariants.{Organiser, Group, Assessor}
 use Rattle.rulebook.specs.declared.rules.Rules.{Rules}
+use Rattle.rulebook.specs.declared.rules.TopicLevel.{TopicLevel}
 use Rattle.rulebook.specs.declared.ask.Command.{Command}
 use Rattle.rulebook.specs.declared.ask.Command.TheVariants.{Found, Topics, Submit, Open, Lease, Grade, Release, Amend, Rule, Withdraw, Publish}
 use Rattle.rulebook.specs.declared.entry.EntryCore.{EntryCore}
@@ -39,6 +40,14 @@ number_bytes (Some n) = 1 ∷ to_le_bytes w64 n
 abbrev pub rules_bytes : Rules → Text
 rules_bytes r = to_le_bytes w16 r.depth ++ to_le_bytes w64 r.term ++ r.hold ∷ r.level ∷ r.top_grade ∷ listed short r.doubles
 
+abbrev pub level_bytes : TopicLevel → Text
+level_bytes own = short own.topic ++ own.level ∷ []
+
+-- where topics have levels of their own, these stand behind the other rules, and the kind says so
+abbrev pub found_bytes : Rules → List TopicLevel → Text
+found_bytes r [] = 1 ∷ rules_bytes r
+found_bytes r (own ∷ levels) = 12 ∷ rules_bytes r ++ listed level_bytes (own ∷ levels)
+
 abbrev pub topic_bytes : Topic → Text
 topic_bytes t = short t.id ++ long t.title ++ long t.desc ++ long t.narr
 
@@ -46,7 +55,7 @@ abbrev pub list_bytes : TopicList → Text
 list_bytes l = short l.topic ++ to_le_bytes w32 l.line ++ listed short l.docs
 
 abbrev pub command_bytes : Command → Text
-command_bytes (Found rules) = 1 ∷ rules_bytes rules
+command_bytes (Found rules) = found_bytes rules rules.levels
 command_bytes (Topics topics) = 2 ∷ listed topic_bytes topics
 command_bytes (Submit run lists) = 3 ∷ short run ++ listed list_bytes lists
 command_bytes Open = 4 ∷ []
@@ -79,11 +88,21 @@ differ (a ∷ rest) = not (contains_text rest a) && differ rest
 abbrev pub is_printable : ℕ → Text → Bool
 is_printable most text = nat_le (length text) most && list_all (is_between 32 126) text
 
-abbrev pub are_rules : Rules → Bool
-are_rules r =
-    is_between 1 1000 r.depth && is_between 1 (2 ^ 40) r.term && is_between 1 50 r.hold
+-- the rules but for levels of topics
+abbrev pub are_settings : Rules → Bool
+are_settings r =
+    is_between 1 max_depth r.depth && is_between 1 max_term r.term && is_between 1 max_hold r.hold
     && is_between 1 255 r.top_grade && is_between 1 r.top_grade r.level
-    && nat_le (length r.doubles) 250 && list_all is_name r.doubles && is_ascending r.doubles
+    && nat_le (length r.doubles) max_topics && list_all is_name r.doubles && is_ascending r.doubles
+
+abbrev pub is_topic_level : ℕ → TopicLevel → Bool
+is_topic_level top own = is_name own.topic && is_between 1 top own.level
+
+abbrev pub are_levels : Rules → Bool
+are_levels r = nat_le (length r.levels) max_topics && list_all (is_topic_level r.top_grade) r.levels && is_ascending (map (λ own. own.topic) r.levels)
+
+abbrev pub are_rules : Rules → Bool
+are_rules r = are_settings r && are_levels r
 
 abbrev pub is_plain_topic : Topic → Bool
 is_plain_topic t = is_name t.id && is_printable 1000 t.title && is_printable 8192 t.desc && is_printable 8192 t.narr

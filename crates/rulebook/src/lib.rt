@@ -27,7 +27,8 @@ pub use laws::{
 };
 pub use lease_laws::{ends_are_there, leases_are_entries};
 pub use limits::{
-    MAX_DOCNOS, MAX_ENTRIES, MAX_ENTRY_BYTES, MAX_LINES, MAX_MOMENT, MAX_RUNS, MAX_TOPICS,
+    MAX_DEPTH, MAX_DOCNOS, MAX_ENTRIES, MAX_ENTRY_BYTES, MAX_HOLD, MAX_LINES, MAX_MOMENT, MAX_RUNS,
+    MAX_TERM, MAX_TOPICS,
 };
 pub use reply::{Quantity, Refusal, Reply};
-pub use rules::{Caller, Phase, Role, Rules};
+pub use rules::{Caller, Phase, Role, Rules, TopicLevel};

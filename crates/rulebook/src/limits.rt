@@ -1,7 +1,7 @@
-//! The limits of a campaign as the code looks at them: its topics, runs, lines, docnos, entries and moments, and the
-//! bytes of an entry. `limits_are_the_rules` says that they are those of `specs/Limits.antt`.
+//! The limits of a campaign as the code looks at them: its topics, runs, lines, docnos, entries and moments, the bytes of
+//! an entry, and the numbers of its rules. `limits_are_the_rules` says that they are those of `specs/Limits.antt`.
 
-/// How many topics a campaign has at most.
+/// How many topics a campaign has at most, and how many its rules name.
 pub const MAX_TOPICS: u32 = 250;
 
 /// How many runs are ever submitted at most.
@@ -21,3 +21,12 @@ pub const MAX_MOMENT: u64 = 1 << 40;
 
 /// How many bytes the spelling of an entry has at most.
 pub const MAX_ENTRY_BYTES: u32 = 1 << 25;
+
+/// The greatest depth of the pools.
+pub const MAX_DEPTH: u16 = 1000;
+
+/// The longest term of a lease, in seconds.
+pub const MAX_TERM: u64 = 1 << 40;
+
+/// How many live leases the rules give an assessor at most.
+pub const MAX_HOLD: u8 = 50;

@@ -37,6 +37,14 @@ pub enum Phase {
     Published,
 }
 
+/// A topic that has a level of its own.
+#[derive(Debug, Drop, PartialEq)]
+pub struct TopicLevel {
+    pub topic: Text,
+    /// The least grade of a relevant document; 1 to `top_grade`.
+    pub level: u8,
+}
+
 /// The settings of a campaign, which its first entry holds.
 #[derive(Debug, Drop, PartialEq)]
 pub struct Rules {
@@ -46,10 +54,12 @@ pub struct Rules {
     pub term: u64,
     /// How many live leases an assessor has at most; 1 to 50.
     pub hold: u8,
-    /// The least grade of a relevant document; 1 to `top_grade`.
+    /// The least grade of a relevant document of a topic without a level of its own; 1 to `top_grade`.
     pub level: u8,
     /// The greatest grade; 1 to 255.
     pub top_grade: u8,
     /// The ids of the topics whose documents need two labels, strictly ascending; at most 250.
     pub doubles: Rows<Text>,
+    /// The topics with a level of their own, strictly ascending by id; at most 250.
+    pub levels: Rows<TopicLevel>,
 }

@@ -25,7 +25,7 @@ use Rattle.rulebook.specs.declared.rules.Phase.{Phase}
 use Rattle.rulebook.specs.declared.rules.Phase.TheVariants.{Collecting, Judging, Published}
 use Rattle.rulebook.specs.Words.{Text, contains_text, each_once}
 use Rattle.rulebook.specs.Answers.{moment_after}
-use Rattle.rulebook.specs.Campaign.{History, Run, docnos, docs_on, has_topics, is_withdrawn, line_count, need, needed, numbered, opens, phase, publishes, rules_of, run_in, runs, submitted_docnos, submitted_lines, topics, topics_in, withdraws}
+use Rattle.rulebook.specs.Campaign.{History, Run, docnos, docs_on, has_topics, is_withdrawn, level, level_in, line_count, need, needed, numbered, opens, phase, publishes, rules_of, run_in, runs, submitted_docnos, submitted_lines, topics, topics_in, withdraws}
 use Rattle.rulebook.specs.Entries.{AreKept, AreWithLabel, AreWithRuling, GivesLabel, GivesRuling, IsQuiet, LabelsJoin, QuietEntriesKeepGrades, RulingsJoin}
 use Rattle.rulebook.specs.Grades.{Label, given_labels, is_labelled, label_in, label_of, ruling_in}
 use Rattle.rulebook.specs.Refusals.{Ruling}
@@ -321,10 +321,10 @@ module _ (laws : Laws) where
   new-few n (t ∷ given) = each_cons (IsFew n) (unlabelled t.id) (map (λ (topic : Topic). unlabelled topic.id) given) (record { few_labels = λ doc. omega arith; few_grades = omega arith }) (new-few n given)
 
   same-levels : (s : Campaign) (e : Entry) → IsKnown s → topic_ids (s.history.items ++ e ∷ []) ≡ topic_ids s.history.items
-      → (facts s.assessment).topics.levels ≡ map (λ id. (rules_of (s.history.items ++ e ∷ [])).level) (topic_ids (s.history.items ++ e ∷ []))
+      → (facts s.assessment).topics.levels ≡ map (level (s.history.items ++ e ∷ [])) (topic_ids (s.history.items ++ e ∷ []))
   same-levels s e kept_s ids_are =
-      kept_s.assessed.levels_are ∙ ap (λ (r : Rules). map (λ (id : Text). r.level) (topic_ids s.history.items)) (sym (rules-stay s.history.items e kept_s.legal))
-      ∙ ap (map (λ (id : Text). (rules_of (s.history.items ++ e ∷ [])).level)) (sym ids_are)
+      kept_s.assessed.levels_are ∙ ap (λ (r : Rules). map (level_in r) (topic_ids s.history.items)) (sym (rules-stay s.history.items e kept_s.legal))
+      ∙ ap (map (level (s.history.items ++ e ∷ []))) (sym ids_are)
 
   same-lists : (s : Campaign) (e : Entry) → IsKnown s → IsPlain e.core.command → (run : RunId) (on : ℕ)
       → (facts s.assessment).topics.lists run on ≡ list_in (names_of (s.history.items ++ e ∷ [])) (topic_ids (s.history.items ++ e ∷ [])) (run_at (s.history.items ++ e ∷ []) run) on
@@ -439,8 +439,8 @@ module _ (laws : Laws) where
             topics_fit = rw ids_are (omega (arith, length-map given (λ (t : Topic). t.id), topics-few H given e.reply ruled));
           };
           few = subst (All (IsFew (length J))) (sym labelled_is) (new-few (length J) given);
-          levels_are = is_new.levels_are ∙ ap (λ (r : Rules). map (λ (topic : Topic). r.level) given) (sym rules_are)
-              ∙ sym (map-map (λ (id : Text). (rules_of J).level) (λ (topic : Topic). topic.id) given) ∙ ap (map (λ (id : Text). (rules_of J).level)) (sym ids_are);
+          levels_are = is_new.levels_are ∙ ap (λ (r : Rules). map (λ (topic : Topic). level_in r topic.id) given) (sym rules_are)
+              ∙ sym (map-map (level J) (λ (topic : Topic). topic.id) given) ∙ ap (map (level J)) (sym ids_are);
           lists_are = λ run on.
               ap (λ (lists : RankedLists). lists run on) is_new.empty ∙ sym (ap (λ (rs : List Run). list_in (names_of J) (topic_ids J) (option_and_then (unless_withdrawn J) (slice_get rs run.0)) on) none_run ∙ none-listed (names_of J) (topic_ids J) on);
         };

@@ -11,7 +11,7 @@ use Rattle.trec_formats.specs.declared.Topic.{Topic}
 use Rattle.trec_formats.specs.declared.TopicList.{TopicList}
 use Rattle.rulebook.specs.declared.rules.Rules.{Rules}
 use Rattle.rulebook.specs.Words.{Text}
-use Rattle.rulebook.specs.Campaign.{History, Run, docnos, docs_on, held, is_withdrawn, need, needed, numbered, rules_of, runs}
+use Rattle.rulebook.specs.Campaign.{History, Run, docnos, docs_on, held, is_withdrawn, level, level_in, need, needed, numbered, rules_of, runs}
 use Rattle.campaign_core.specs.Growth.{BeginsWith}
 use Rattle.campaign_core.specs.Numbers.{are_named, doc_in, docs_in, names_of}
 use Rattle.campaign_core.specs.Topics.{KeptTopic, empty_topic, held_of, kept, kept_of, pool_of}
@@ -29,7 +29,7 @@ abbrev pool_with : Rules → List Text → List (ℕ × Run) → Text → KeptTo
 pool_with rules names ps id = record {
   id = id;
   labels_needed = needed rules id;
-  level = rules.level;
+  level = level_in rules id;
   depth = rules.depth;
   runs = map (λ (p : ℕ × Run). record { run = record { 0 = p.0 }; docs = docs_in names (take rules.depth (docs_on p.1.lists id)) }) ps;
 }
@@ -109,9 +109,9 @@ run-added H J name lists run names t listed id goes_last rules_are grown runs_ar
     ap (with_run new) before ∙ goes_last new (pool_of H id) below ∙ ap (λ h. pool_of H id ++ h ∷ []) is_last ∙ sym (pool-grows H J id new_run rules_are grown runs_are) in
     ap (λ i. let k : KeptTopic = record { id = i; labels_needed = t.need; level = t.level; depth = t.depth; runs = with_run new t.pool } in k) ids
     ∙ ap (λ n. let k : KeptTopic = record { id = id; labels_needed = n; level = t.level; depth = t.depth; runs = with_run new t.pool } in k) (ap (λ (k : KeptTopic). k.labels_needed) same ∙ ap (λ (r : Rules). needed r id) (sym rules_are))
-    ∙ ap (λ l. let k : KeptTopic = record { id = id; labels_needed = need J id; level = l; depth = t.depth; runs = with_run new t.pool } in k) (ap (λ (k : KeptTopic). k.level) same ∙ ap (λ (r : Rules). r.level) (sym rules_are))
-    ∙ ap (λ d. let k : KeptTopic = record { id = id; labels_needed = need J id; level = (rules_of J).level; depth = d; runs = with_run new t.pool } in k) (depths ∙ ap (λ (r : Rules). r.depth) (sym rules_are))
-    ∙ ap (λ hs. let k : KeptTopic = record { id = id; labels_needed = need J id; level = (rules_of J).level; depth = (rules_of J).depth; runs = hs } in k) runs_after
+    ∙ ap (λ l. let k : KeptTopic = record { id = id; labels_needed = need J id; level = l; depth = t.depth; runs = with_run new t.pool } in k) (ap (λ (k : KeptTopic). k.level) same ∙ ap (λ (r : Rules). level_in r id) (sym rules_are))
+    ∙ ap (λ d. let k : KeptTopic = record { id = id; labels_needed = need J id; level = level J id; depth = d; runs = with_run new t.pool } in k) (depths ∙ ap (λ (r : Rules). r.depth) (sym rules_are))
+    ∙ ap (λ hs. let k : KeptTopic = record { id = id; labels_needed = need J id; level = level J id; depth = (rules_of J).depth; runs = hs } in k) runs_after
   where
     same_run : (run : RunId) (n : ℕ) → run.0 ≡ n → run ≡ (let r : RunId = record { 0 = n } in r)
     same_run run n is = ap (λ m. let r : RunId = record { 0 = m } in r) is

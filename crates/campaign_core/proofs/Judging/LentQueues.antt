@@ -8,7 +8,7 @@ use Rattle.depth_pool.specs.declared.runs.RunId.{RunId}
 use Rattle.mtf_queue.specs.QueueView.{QueueView}
 use Rattle.mtf_queue.specs.Rule.{comes_before as comes_before_by}
 use Rattle.mtf_queue.specs.declared.rule.Judged.{Judged}
-use Rattle.rulebook.specs.Campaign.{History, Run, numbered, rules_of}
+use Rattle.rulebook.specs.Campaign.{History, Run, level, numbered}
 use Rattle.rulebook.specs.Grades.{trail}
 use Rattle.rulebook.specs.JudgingOrder.{comes_before}
 use Rattle.rulebook.specs.Words.{Text}
@@ -64,16 +64,16 @@ module _ (H : History) (number : ℕ) (topic : Text) (queue : QueueView) (lent :
   id-is : lent.facts.id ≡ topic
   id-is = ap (λ (k : KeptTopic). k.id) same
 
-  level-is : lent.facts.level ≡ (rules_of H).level
+  level-is : lent.facts.level ≡ level H topic
   level-is = ap (λ (k : KeptTopic). k.level) same
 
   pool-is : lent.facts.pool ≡ pool_of H topic
   pool-is = ap (λ (k : KeptTopic). k.runs) same
 
-  judged-are : queue.trail ≡ map (judged_of (rules_of H).level) (map (graded_in H (names_of H) topic) (trail H topic))
+  judged-are : queue.trail ≡ map (judged_of (level H topic)) (map (graded_in H (names_of H) topic) (trail H topic))
   judged-are =
-      lent.queued.trail_is ∙ ap (λ level. map (judged_of level) lent.facts.graded) level-is ∙ ap (map (judged_of (rules_of H).level)) labelled.graded_are
-      ∙ ap (λ id. map (judged_of (rules_of H).level) (map (graded_in H (names_of H) id) (trail H id))) id-is
+      lent.queued.trail_is ∙ ap (λ l. map (judged_of l) lent.facts.graded) level-is ∙ ap (map (judged_of (level H topic))) labelled.graded_are
+      ∙ ap (λ id. map (judged_of (level H topic)) (map (graded_in H (names_of H) id) (trail H id))) id-is
 
   abbrev before : List Held → List Judged → RunId → RunId → Type 0
   before pool judged r s = IsTrue (comes_before_by (λ (run : RunId). run.0) (λ (one : Judged). one.relevant) (λ (run : RunId) (one : Judged). holds_there pool run one.doc) judged r s)
@@ -96,5 +96,5 @@ module _ (H : History) (number : ℕ) (topic : Text) (queue : QueueView) (lent :
   queue-ruled = record {
     runs_are = subst (λ runs. IsPermutation runs queue.order) (ap (map (λ (h : Held). h.run)) pool-is ∙ run-numbers H topic (numbered H)) lent.queued.runs;
     in_order = in-order;
-    trail_is = judged-are ∙ map-map (judged_of (rules_of H).level) (graded_in H (names_of H) topic) (trail H topic);
+    trail_is = judged-are ∙ map-map (judged_of (level H topic)) (graded_in H (names_of H) topic) (trail H topic);
   }

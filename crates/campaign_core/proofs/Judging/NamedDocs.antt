@@ -16,7 +16,7 @@ use Rattle.mtf_queue.specs.Rule.{IsInOrder, first_of as first_there}
 use Rattle.mtf_queue.specs.declared.rule.Judged.{Judged}
 use Rattle.qrels_view.specs.declared.grades.Graded.{Graded}
 use Rattle.rulebook.specs.Words.{Text, contains_text}
-use Rattle.rulebook.specs.Campaign.{History, Run, held, need, numbered, rules_of}
+use Rattle.rulebook.specs.Campaign.{History, Run, held, level, need, numbered}
 use Rattle.rulebook.specs.Grades.{labels_on, ruling, trail}
 use Rattle.rulebook.specs.JudgingOrder.{first_of, holds_open, is_open_to, named}
 use Rattle.rulebook.specs.Leases.{has_lease}
@@ -145,12 +145,12 @@ module _ (H : History) (id : Text) (marked : List Marked) (graded : List Graded)
   pub named-known : (doc : Text) → named H now assessor id ≡ Some doc → contains_text (names_of H) doc ≡ true
   named-known doc found = named-step (first_of H id candidates) doc first-found found
 
-  module _ (judged : List Judged) (order : List RunId) (judged_are : judged ≡ map (judged_of (rules_of H).level) graded)
+  module _ (judged : List Judged) (order : List RunId) (judged_are : judged ≡ map (judged_of (level H id)) graded)
       (sorted : IsInOrder (pool_of H id) judged order) (runs_are : IsPermutation (map (λ (h : Held). h.run) (pool_of H id)) order)
       (first_passes : (runs : List Held) (trail : List Judged) (order all : List RunId) (passes : RunId → Bool) → IsInOrder runs trail order
       → IsPermutation all order → find passes order ≡ first_there runs trail (filter passes all)) where
-    judged-from : judged ≡ map (judged_of (rules_of H).level) (map (graded_in H (names_of H) id) (trail H id))
-    judged-from = judged_are ∙ ap (map (judged_of (rules_of H).level)) labelled.graded_are
+    judged-from : judged ≡ map (judged_of (level H id)) (map (graded_in H (names_of H) id) (trail H id))
+    judged-from = judged_are ∙ ap (map (judged_of (level H id))) labelled.graded_are
 
     -- the first open document of the judging order is the one that is named
     pub named-same : first_open open_there (pool_of H id) order ≡ option_map (doc_in (names_of H)) (named H now assessor id)

@@ -12,7 +12,7 @@ use Rattle.depth_pool.specs.declared.runs.RunId.{RunId}
 use Rattle.mtf_queue.specs.Rule.{comes_before as comes_before_by, is_first_side, is_one_of, puts_first, tells_apart, first_of as first_there}
 use Rattle.mtf_queue.specs.declared.rule.Judged.{Judged}
 use Rattle.rulebook.specs.Words.{Text, contains_text}
-use Rattle.rulebook.specs.Campaign.{History, Run, docnos, held, holds, numbered, rules_of}
+use Rattle.rulebook.specs.Campaign.{History, Run, docnos, held, holds, level, numbered}
 use Rattle.rulebook.specs.Grades.{trail}
 use Rattle.rulebook.specs.JudgingOrder.{comes_before, first_of, relevance}
 use Rattle.campaign_core.specs.Labelling.{graded_in}
@@ -122,7 +122,7 @@ map-twice f g (x ∷ xs) = ap (λ zs. g (f x) ∷ zs) (map-twice f g xs)
 
 module _ (H : History) (topic : Text) where
   abbrev judged_by : Text → Judged
-  judged_by doc = judged_of (rules_of H).level (graded_in H (names_of H) topic doc)
+  judged_by doc = judged_of (level H topic) (graded_in H (names_of H) topic doc)
 
   module _ (p q : ℕ × Run) (one : IsRunOf H topic (pool_of H topic) p) (two : IsRunOf H topic (pool_of H topic) q) where
     abbrev tells_there : Judged → Bool
@@ -155,14 +155,14 @@ module _ (H : History) (topic : Text) where
 
     pub before-same : are_named (names_of H) (trail H topic) ≡ true
         → comes_before_by (λ (run : RunId). run.0) (λ (judged : Judged). judged.relevant) (λ (run : RunId) (judged : Judged). holds_there (pool_of H topic) run judged.doc)
-        (map (judged_of (rules_of H).level) (map (graded_in H (names_of H) topic) (trail H topic))) (number_of_run p) (number_of_run q)
+        (map (judged_of (level H topic)) (map (graded_in H (names_of H) topic) (trail H topic))) (number_of_run p) (number_of_run q)
         ≡ comes_before H topic p q
     before-same named =
-        ap (λ ds. puts_there (find tells_there (reverse ds))) (map-twice (graded_in H (names_of H) topic) (judged_of (rules_of H).level) (trail H topic))
+        ap (λ ds. puts_there (find tells_there (reverse ds))) (map-twice (graded_in H (names_of H) topic) (judged_of (level H topic)) (trail H topic))
         ∙ ap (λ ds. puts_there (find tells_there ds)) (map-reverse judged_by (trail H topic))
         ∙ puts-same (reverse (trail H topic)) (named-reverse (names_of H) (trail H topic) named)
 
-  module _ (judged : List Judged) (named : are_named (names_of H) (trail H topic) ≡ true) (judged_are : judged ≡ map (judged_of (rules_of H).level) (map (graded_in H (names_of H) topic) (trail H topic))) where
+  module _ (judged : List Judged) (named : are_named (names_of H) (trail H topic) ≡ true) (judged_are : judged ≡ map (judged_of (level H topic)) (map (graded_in H (names_of H) topic) (trail H topic))) where
     abbrev before_there : RunId → RunId → Bool
     before_there = comes_before_by (λ (run : RunId). run.0) (λ (judged : Judged). judged.relevant) (λ (run : RunId) (judged : Judged). holds_there (pool_of H topic) run judged.doc) judged
 

@@ -9,7 +9,7 @@ use Rattle.score_index.specs.Standing.{StandsFor}
 use Rattle.assessment.specs.RunLists.{RankedLists}
 use Rattle.assessment.specs.TopicFacts.{TopicView, facts_of, graded_of as graded_in}
 use Rattle.assessment.specs.TopicsFacts.{TopicsView, told}
-use Rattle.rulebook.specs.Campaign.{History, Run, rules_of}
+use Rattle.rulebook.specs.Campaign.{History, Run, level}
 use Rattle.rulebook.specs.Legal.{IsLegal}
 use Rattle.rulebook.specs.Words.{Text}
 use Rattle.campaign_core.specs.Kept.{IsKnown, KnowsAll, KnowsRun}
@@ -21,7 +21,7 @@ use Rattle.campaign_core.specs.declared.campaign.Campaign.{Campaign}
 use Rattle.assessment.proofs.ListFacts.{map-map}
 
 pub knows-run : (H : History) (all : TopicsView) (items : List TopicView) (board : Scores) (desk : List Lease) (number : RunId) (run : Run) → IsLegal H → KnowsAll H (told all).topics desk
-    → (told all).levels ≡ map (λ id. (rules_of H).level) (topic_ids H) → AreListed H (names_of H) (told all).lists → items ≡ all.topics → board ≡ all.board → StandsFor board (map graded_in all.topics)
+    → (told all).levels ≡ map (level H) (topic_ids H) → AreListed H (names_of H) (told all).lists → items ≡ all.topics → board ≡ all.board → StandsFor board (map graded_in all.topics)
     → run_at H number ≡ Some run → KnowsRun H (map facts_of items) board number run
 knows-run H all items board desk number run legal knows levels_are lists_are items_are board_is stands run_is = record {
   legal = legal;
@@ -35,7 +35,7 @@ knows-run H all items board desk number run legal knows levels_are lists_are ite
   run_is = run_is;
 }
 
-pub board-of : (H : History) (all : TopicsView) (board : Scores) (desk : List Lease) → KnowsAll H (told all).topics desk → (told all).levels ≡ map (λ id. (rules_of H).level) (topic_ids H)
+pub board-of : (H : History) (all : TopicsView) (board : Scores) (desk : List Lease) → KnowsAll H (told all).topics desk → (told all).levels ≡ map (level H) (topic_ids H)
     → AreListed H (names_of H) (told all).lists → board ≡ all.board → StandsFor board (map graded_in all.topics) → IsBoardOf H board
 board-of H all board desk knows levels_are lists_are board_is stands = record {
   topics = map facts_of all.topics;

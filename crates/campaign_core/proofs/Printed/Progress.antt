@@ -10,7 +10,7 @@ use Rattle.qrels_view.specs.Grades.{is_non_relevant as non_relevant_there, is_re
 use Rattle.qrels_view.specs.declared.grades.Graded.{Graded}
 use Rattle.rulebook.specs.Spelling.{differ}
 use Rattle.rulebook.specs.Words.{Text, contains_text, in_order}
-use Rattle.rulebook.specs.Campaign.{History, held, live, pool, rules_of}
+use Rattle.rulebook.specs.Campaign.{History, held, level, live, pool}
 use Rattle.rulebook.specs.Entries.{GradedAreOnTrail}
 use Rattle.rulebook.specs.Grades.{Label, effective, given_labels, graded, labelled, non_relevant_count, relevant_count, trail}
 use Rattle.campaign_core.specs.Labelling.{graded_in}
@@ -130,7 +130,7 @@ rises-differ [] up = refl
 rises-differ (x ∷ xs) up = and_true (not (contains_text xs x)) (differ xs) (not-true (contains_text xs x) (not_later x xs up)) (rises-differ xs up.1)
 
 module _ (H : History) (names : List Text) (topic : TopicFacts) (is : IsTopicOf H names topic) where
-  level-is : topic.level ≡ (rules_of H).level
+  level-is : topic.level ≡ level H topic.id
   level-is = ap (λ (k : KeptTopic). k.level) is.kept_is
 
   runs-are : topic.pool ≡ pool_of H topic.id
@@ -148,13 +148,13 @@ module _ (H : History) (names : List Text) (topic : TopicFacts) (is : IsTopicOf 
     pub relevant-count : count_by (λ g. relevant_there topic.level g.grade) topic.graded ≡ relevant_count H topic.id
     relevant-count =
         ap (count_by (λ (g : Graded). relevant_there topic.level g.grade)) is.labelled.graded_are
-        ∙ ap (λ level. count_by (λ (g : Graded). relevant_there level g.grade) (map (graded_in H names topic.id) (trail H topic.id))) level-is
-        ∙ count-same H names topic.id on_trail (relevant_there (rules_of H).level) refl
-        ∙ count-alike (λ doc. relevant_there (rules_of H).level (effective H topic.id doc)) (λ doc. is_relevant (rules_of H).level (effective H topic.id doc)) (graded H topic.id) (λ doc. same-relevant (rules_of H).level (effective H topic.id doc))
+        ∙ ap (λ l. count_by (λ (g : Graded). relevant_there l g.grade) (map (graded_in H names topic.id) (trail H topic.id))) level-is
+        ∙ count-same H names topic.id on_trail (relevant_there (level H topic.id)) refl
+        ∙ count-alike (λ doc. relevant_there (level H topic.id) (effective H topic.id doc)) (λ doc. is_relevant (level H topic.id) (effective H topic.id doc)) (graded H topic.id) (λ doc. same-relevant (level H topic.id) (effective H topic.id doc))
 
     pub non_relevant-count : count_by (λ g. non_relevant_there topic.level g.grade) topic.graded ≡ non_relevant_count H topic.id
     non_relevant-count =
         ap (count_by (λ (g : Graded). non_relevant_there topic.level g.grade)) is.labelled.graded_are
-        ∙ ap (λ level. count_by (λ (g : Graded). non_relevant_there level g.grade) (map (graded_in H names topic.id) (trail H topic.id))) level-is
-        ∙ count-same H names topic.id on_trail (non_relevant_there (rules_of H).level) refl
-        ∙ count-alike (λ doc. non_relevant_there (rules_of H).level (effective H topic.id doc)) (λ doc. is_non_relevant (rules_of H).level (effective H topic.id doc)) (graded H topic.id) (λ doc. same-non_relevant (rules_of H).level (effective H topic.id doc))
+        ∙ ap (λ l. count_by (λ (g : Graded). non_relevant_there l g.grade) (map (graded_in H names topic.id) (trail H topic.id))) level-is
+        ∙ count-same H names topic.id on_trail (non_relevant_there (level H topic.id)) refl
+        ∙ count-alike (λ doc. non_relevant_there (level H topic.id) (effective H topic.id doc)) (λ doc. is_non_relevant (level H topic.id) (effective H topic.id doc)) (graded H topic.id) (λ doc. same-non_relevant (level H topic.id) (effective H topic.id doc))

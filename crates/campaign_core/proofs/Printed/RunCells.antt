@@ -12,7 +12,7 @@ use Rattle.measures.specs.declared.cells.Cell.{Cell}
 use Rattle.qrels_view.specs.Grades.{is_non_relevant as lower_there}
 use Rattle.qrels_view.specs.declared.grades.Graded.{Graded}
 use Rattle.rulebook.specs.Words.{Text, contains_text}
-use Rattle.rulebook.specs.Campaign.{History, Run, docs_on, rules_of, runs, submitted_docnos}
+use Rattle.rulebook.specs.Campaign.{History, Run, docs_on, level, runs, submitted_docnos}
 use Rattle.rulebook.specs.Entries.{GradedAreOnTrail, GradedAreThere}
 use Rattle.rulebook.specs.Grades.{relevant_count}
 use Rattle.rulebook.specs.Scores.{cell_on, counted, is_counted}
@@ -79,11 +79,11 @@ module _ (H : History) (topics : List TopicFacts) (board : Scores) (number : Run
       ∙ or-empty (list_on (names_of H) (get_or (topic_ids H) at []) run)
 
   -- each topic of the board has its level
-  level-at : (at : ℕ) → at < length (topic_ids H) → (topic_at board at).level ≡ (rules_of H).level
+  level-at : (at : ℕ) → at < length (topic_ids H) → (topic_at board at).level ≡ level H (get_or (topic_ids H) at [])
   level-at at within =
       let inside : at < length board.topics = omega (arith, within, as-many, states-long H topics (topic_ids H) knows.knows.topics_are) in
       sym (get_or-map (λ (topic : TopicScores). topic.level) board.topics at no_topic 0 inside) ∙ ap (λ (levels : List ℕ). get_or levels at 0) knows.scored.levels_are
-      ∙ get_or-map (λ (id : Text). (rules_of H).level) (topic_ids H) at [] 0 within
+      ∙ get_or-map (level H) (topic_ids H) at [] 0 within
 
   module _ (on_trail : GradedAreOnTrail) (there : GradedAreThere) where
     pub cell-at : (id : Text) (at : ℕ) (s : TopicFacts) → Some at ≡ position (λ (s : TopicFacts). bytes_eq s.id id) topics → s ≡ get_or topics at s
@@ -96,8 +96,8 @@ module _ (H : History) (topics : List TopicFacts) (board : Scores) (number : Run
         let back : get_or (topic_ids H) at [] ≡ id = ap (λ n. get_or (topic_ids H) n []) placed.number_is ∙ topic-back (topic_ids H) id [] placed.listed in
         let docs : listed_in number (topic_at board at) ≡ list_on names s.id run = listed at inside ∙ ap (λ (topic : Text). list_on names topic run) (back ∙ sym page.id_is) in
         let grades : grades_at (map graded topics) at ≡ s.graded = get_or-map graded topics at s [] placed.within ∙ ap graded (sym is) in
-        let level : (topic_at board at).level ≡ s.level = level-at at inside ∙ sym (ap (λ (k : KeptTopic). k.level) page.is_topic.kept_is) in
-        ap (λ l. cell_from l (grades_at (map graded topics) at) (listed_in number (topic_at board at))) level
+        let level_is : (topic_at board at).level ≡ s.level = level-at at inside ∙ ap (level H) (back ∙ sym page.id_is) ∙ sym (ap (λ (k : KeptTopic). k.level) page.is_topic.kept_is) in
+        ap (λ l. cell_from l (grades_at (map graded topics) at) (listed_in number (topic_at board at))) level_is
         ∙ ap (λ gs. cell_from s.level gs (listed_in number (topic_at board at))) grades
         ∙ ap (cell_from s.level s.graded) docs
         ∙ cell-same H names s page.is_topic knows.legal on_trail there run (named s.id)
@@ -121,10 +121,10 @@ module _ (H : History) (topics : List TopicFacts) (board : Scores) (number : Run
         let is : s ≡ get_or topics k s = get_or_default topics k t s inside in
         let page = page-topic H topics knows.desk names id k s knows.knows refl found is in
         let here : get_or board.topics k x ≡ topic_at board k = get_or_default board.topics k x no_topic (omega (arith, inside, as-many)) in
-        let level : (get_or board.topics k x).level ≡ s.level = ap (λ (x : TopicScores). x.level) here ∙ level-at k within ∙ sym (ap (λ (k : KeptTopic). k.level) page.is_topic.kept_is) in
+        let level_is : (get_or board.topics k x).level ≡ s.level = ap (λ (x : TopicScores). x.level) here ∙ level-at k within ∙ ap (level H) (sym page.id_is) ∙ sym (ap (λ (k : KeptTopic). k.level) page.is_topic.kept_is) in
         let same_id : id ≡ get_or ids k i = get_or_default ids k [] i within in
         let counts : is_counted_there (get_or board.topics k x).level s.graded ≡ is_counted H id =
-        ap (λ l. is_counted_there l s.graded) level
+        ap (λ l. is_counted_there l s.graded) level_is
         ∙ ap (λ n. nat_lt 0 (n + count_by (λ g. lower_there s.level g.grade) s.graded)) (relevant-count H names s page.is_topic on_trail)
         ∙ ap (λ n. nat_lt 0 (relevant_count H s.id + n)) (non_relevant-count H names s page.is_topic on_trail)
         ∙ ap (nat_lt 0) (judged-count H s.id) ∙ ap (is_counted H) page.id_is in

@@ -11,7 +11,7 @@ use Rattle.measures.specs.declared.cells.Cell.{Cell}
 use Rattle.qrels_view.specs.Grades.{effective_in, is_non_relevant as lower_there, is_relevant as relevant_there}
 use Rattle.qrels_view.specs.declared.grades.Graded.{Graded}
 use Rattle.rulebook.specs.Words.{Text, contains_text}
-use Rattle.rulebook.specs.Campaign.{History, Run, docnos, docs_on, rules_of}
+use Rattle.rulebook.specs.Campaign.{History, Run, docnos, docs_on, level}
 use Rattle.rulebook.specs.Entries.{GradedAreOnTrail, GradedAreThere}
 use Rattle.rulebook.specs.Grades.{effective, graded, labelled, non_relevant_count, relevant_count, trail}
 use Rattle.rulebook.specs.Legal.{IsLegal}
@@ -69,14 +69,14 @@ module _ (H : History) (names : List Text) (topic : TopicFacts) (is : IsTopicOf 
   cell-same run named =
       let id = topic.id in
       let docs = list_on names id run in
-      let level : topic.level ≡ (rules_of H).level = ap (λ (k : KeptTopic). k.level) is.kept_is in
+      let level_is : topic.level ≡ level H id = ap (λ (k : KeptTopic). k.level) is.kept_is in
       let grades : ranked_there topic.graded docs ≡ grades_by_rank H run id =
       ap (λ graded. ranked_there graded docs) is.labelled.graded_are ∙ grades-same H names id (trail H id) (docs_on run.lists id) is.labelled.trail_named (there H legal id) named in
       let Counted : List (Option ℕ) → ℕ → ℕ → ℕ → Cell = cell_of in
       ap (λ (gs : List (Option ℕ)). Counted gs (count_by (λ g. relevant_there topic.level g.grade) topic.graded) (count_by (λ g. lower_there topic.level g.grade) topic.graded) topic.level) grades
       ∙ ap (λ r. Counted (grades_by_rank H run id) r (count_by (λ g. lower_there topic.level g.grade) topic.graded) topic.level) (relevant-count H names topic is on_trail)
       ∙ ap (λ n. Counted (grades_by_rank H run id) (relevant_count H id) n topic.level) (non_relevant-count H names topic is on_trail)
-      ∙ ap (Counted (grades_by_rank H run id) (relevant_count H id) (non_relevant_count H id)) level
+      ∙ ap (Counted (grades_by_rank H run id) (relevant_count H id) (non_relevant_count H id)) level_is
 
 -- each document with an effective grade is relevant or judged lower
 module _ (level : ℕ) (f : Text → Option ℕ) where
@@ -102,4 +102,4 @@ module _ (level : ℕ) (f : Text → Option ℕ) where
       step false none rest = rest
 
 pub judged-count : (H : History) (topic : Text) → relevant_count H topic + non_relevant_count H topic ≡ length (graded H topic)
-judged-count H topic = both-count (rules_of H).level (effective H topic) (labelled H topic)
+judged-count H topic = both-count (level H topic) (effective H topic) (labelled H topic)

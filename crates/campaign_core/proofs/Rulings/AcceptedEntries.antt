@@ -30,7 +30,8 @@ use Rattle.rulebook.specs.Numbers.{used}
 use Rattle.rulebook.specs.Roles.{may_give}
 use Rattle.trec_formats.specs.Names.{is_between, is_docno, is_name}
 use Rattle.std.specs.Int.{to_le_bytes, w64}
-use Rattle.rulebook.specs.Spelling.{command_bytes, differ, entry_bytes, has_spelling, number_bytes, role_byte, short, is_ascending, is_number, is_plain, is_plain_list}
+use Rattle.rulebook.specs.Limits.{max_depth, max_hold, max_term, max_topics}
+use Rattle.rulebook.specs.Spelling.{are_levels, are_settings, command_bytes, differ, entry_bytes, has_spelling, is_ascending, is_number, is_plain, is_plain_list, number_bytes, role_byte, short}
 use Rattle.campaign_core.specs.Growth.{lists_in}
 use Rattle.campaign_core.proofs.Rulings.CollectingRulings.{collecting-from}
 use Rattle.campaign_core.proofs.Lists.Elements.{all_head, all_tail, both_true}
@@ -242,20 +243,21 @@ pub term-fits : (H : History) → IsLegal H → (rules_of H).term ≤ 2 ^ 40
 term-fits [] legal = absurd legal
 term-fits (first ∷ later) legal =
     let r : Rules = legal.0.0 in
-    let d = is_between 1 1000 r.depth in
-    let t = is_between 1 (2 ^ 40) r.term in
-    let h = is_between 1 50 r.hold in
+    let d = is_between 1 max_depth r.depth in
+    let t = is_between 1 max_term r.term in
+    let h = is_between 1 max_hold r.hold in
     let g = is_between 1 255 r.top_grade in
     let l = is_between 1 r.top_grade r.level in
-    let n = nat_le (length r.doubles) 250 in
+    let n = nat_le (length r.doubles) max_topics in
     let m = list_all is_name r.doubles in
-    let a1 = both_true (d && t && h && g && l && n && m) (is_ascending r.doubles) legal.0.1 in
+    let a0 = both_true (are_settings r) (are_levels r) legal.0.1 in
+    let a1 = both_true (d && t && h && g && l && n && m) (is_ascending r.doubles) a0.0 in
     let a2 = both_true (d && t && h && g && l && n) m a1.0 in
     let a3 = both_true (d && t && h && g && l) n a2.0 in
     let a4 = both_true (d && t && h && g) l a3.0 in
     let a5 = both_true (d && t && h) g a4.0 in
     let a6 = both_true (d && t) h a5.0 in
     let a7 = both_true d t a6.0 in
-    let a8 = both_true (nat_le 1 r.term) (nat_le r.term (2 ^ 40)) a7.1 in
+    let a8 = both_true (nat_le 1 r.term) (nat_le r.term max_term) a7.1 in
     let same : (rules_of (first ∷ later)).term ≡ r.term = ap (λ (e : Entry). (rules_of (e ∷ later)).term) legal.0.2 in
-    omega (arith, same, leb-true r.term (2 ^ 40) a8.1)
+    omega (arith, same, leb-true r.term max_term a8.1)

@@ -23,7 +23,7 @@ use Rattle.rulebook.specs.declared.rules.Caller.{Caller}
 use Rattle.rulebook.specs.declared.rules.Phase.{Phase}
 use Rattle.rulebook.specs.declared.rules.Phase.TheVariants.{Judging}
 use Rattle.rulebook.specs.Answers.{grade_ruling, lease_refusals, lease_ruling, release_ruling}
-use Rattle.rulebook.specs.Campaign.{History, is_topic, need, phase, rules_of, title, topics}
+use Rattle.rulebook.specs.Campaign.{History, is_topic, level, need, phase, rules_of, title, topics}
 use Rattle.rulebook.specs.JudgingOrder.{named}
 use Rattle.rulebook.specs.Leases.{Lease, lease_in, lease_numbered, leases, live_leases_of}
 use Rattle.rulebook.specs.Refusals.{Ruling, ◌when◌, given, is_phase, unless, wrong_phase_unless, wrong_phase_where}
@@ -297,12 +297,12 @@ module _ (H : History) (states : List TopicFacts) (desk : List DeskLease) (stand
     named-there =
         let runs_are : s.pool ≡ pool_of H topic = ap (λ (k : KeptTopic). k.runs) at.kept_is in
         let need_is : s.need ≡ need H topic = ap (λ (k : KeptTopic). k.labels_needed) at.kept_is in
-        let level_is : s.level ≡ (rules_of H).level = ap (λ (k : KeptTopic). k.level) at.kept_is in
+        let level_is : s.level ≡ level H topic = ap (λ (k : KeptTopic). k.level) at.kept_is in
         ap (λ n. first_open (is_open_in n s.marked desk number now assessor) s.pool queue.order) need_is
         ∙ ap (λ n. first_open (is_open_in (need H topic) s.marked desk n now assessor) s.pool queue.order) number_is
         ∙ ap (λ runs. first_open (is_open_in (need H topic) s.marked desk (topic_in (topic_ids H) topic) now assessor) runs queue.order) runs_are
         ∙ named-same H topic s.marked s.graded desk now assessor stands.leased at.labelled listed queue.trail queue.order
-        (queued.trail_is ∙ ap (λ level. map (judged_of level) s.graded) level_is)
+        (queued.trail_is ∙ ap (λ l. map (judged_of l) s.graded) level_is)
         (subst (λ runs. IsInOrder runs queue.trail queue.order) runs_are queued.in_order)
         (subst (λ (runs : List Held). IsPermutation (map (λ (h : Held). h.run) runs) queue.order) runs_are queued.runs)
         first_passes

@@ -1,5 +1,5 @@
 -- A legal list has room in a journal: Topics come once, runs are few, and the other entries are short.
-use Rattle.std.proofs.Common.{◌≡◌, ℕ, ◌+◌, ◌*◌, ◌<◌, ◌≤◌, ◌^◌, ◌||◌, Bool, true, false, List, [], ◌∷◌, ◌++◌, Option, None, Some, Ok, length, refl, ap, ◌∙◌, arith, length-append, leb-true}
+use Rattle.std.proofs.Common.{◌≡◌, ℕ, ◌+◌, ◌*◌, ◌<◌, ◌≤◌, ◌^◌, ◌||◌, Bool, true, false, List, [], ◌∷◌, ◌++◌, Option, None, Some, Ok, length, map, refl, ap, ◌∙◌, arith, length-append, leb-true}
 use Rattle.std.specs.Prelude.{◌&&◌, is_some, nat_le, nat_lt, sum_by}
 use Rattle.std.specs.List.{cons_option, flat_map, list_all}
 use Rattle.std.specs.Option.{option_map}
@@ -28,7 +28,8 @@ use Rattle.rulebook.specs.Facts.{given_topics}
 use Rattle.rulebook.specs.Campaign.{History, docnos_with, has_topics, is_taken, line_count, lines_with, run_in, runs, topics_in}
 use Rattle.rulebook.specs.Legal.{IsAccepted, IsLegal, founding}
 use Rattle.rulebook.specs.Refusals.{Ruling, ◌when◌, unless, wrong_phase_unless, wrong_phase_where}
-use Rattle.rulebook.specs.Spelling.{are_rules, command_bytes, entry_bytes, is_ascending, is_number, is_plain, number_bytes, rules_bytes, short}
+use Rattle.rulebook.specs.declared.rules.TopicLevel.{TopicLevel}
+use Rattle.rulebook.specs.Spelling.{are_levels, are_rules, are_settings, command_bytes, entry_bytes, found_bytes, is_topic_level, level_bytes, listed, is_ascending, is_number, is_plain, number_bytes, rules_bytes, short}
 use Rattle.rulebook.specs.Words.{Text}
 use Rattle.rulebook.proofs.LegalHistories.Added.{accepted_room, entry_size, given_of}
 use Rattle.rulebook.proofs.Elements.AllPass.{all_head, all_tail, first_of_both, second_of_both}
@@ -196,12 +197,30 @@ names_size (name ∷ names) named =
 rules_size : (r : Rules) → length (rules_bytes r) ≡ length (flat_map short r.doubles) + 17
 rules_size r = simp (length-append, two_bytes, four_bytes, eight_bytes) (omega arith)
 
+levels_size : (top : ℕ) (levels : List TopicLevel) → list_all (is_topic_level top) levels ≡ true → length (flat_map level_bytes levels) ≤ 34 * length levels
+levels_size top [] all = omega arith
+levels_size top (own ∷ levels) all =
+    omega (
+      arith,
+      name_size own.topic (first_of_both (is_name own.topic) (is_between 1 top own.level) (all_head (is_topic_level top) own levels all)),
+      levels_size top levels (all_tail (is_topic_level top) own levels all),
+      length-append (level_bytes own) (flat_map level_bytes levels),
+      length-append (short own.topic) (own.level ∷ []),
+    )
+
+found_size : (r : Rules) (levels : List TopicLevel) → list_all (is_topic_level r.top_grade) levels ≡ true → length (found_bytes r levels) ≤ length (rules_bytes r) + 34 * length levels + 5
+found_size r [] all = omega arith
+found_size r (own ∷ levels) all =
+    omega (arith, levels_size r.top_grade (own ∷ levels) all, length-append (rules_bytes r) (listed level_bytes (own ∷ levels)), length-append (to_le_bytes w32 (length (own ∷ levels))) (flat_map level_bytes (own ∷ levels)), four_bytes (length (own ∷ levels)))
+
 pub founding_fits : (rules : Rules) → are_rules rules ≡ true → length (entry_bytes (founding rules).core) ≤ max_entry_bytes
 founding_fits r are =
     omega (
       arith,
       entry_size (founding r).core,
       rules_size r,
+      found_size r r.levels (second_of_both few (list_all (is_topic_level r.top_grade) r.levels) (first_of_both (few && list_all (is_topic_level r.top_grade) r.levels) (is_ascending (map (λ (own : TopicLevel). own.topic) r.levels)) levels)),
+      leb-true (length r.levels) 250 (first_of_both few (list_all (is_topic_level r.top_grade) r.levels) (first_of_both (few && list_all (is_topic_level r.top_grade) r.levels) (is_ascending (map (λ (own : TopicLevel). own.topic) r.levels)) levels)),
       names_size r.doubles (second_of_both (front && nat_le (length r.doubles) 250) (list_all is_name r.doubles) named),
       leb-true (length r.doubles) 250 (second_of_both front (nat_le (length r.doubles) 250) (first_of_both (front && nat_le (length r.doubles) 250) (list_all is_name r.doubles) named)),
     )
@@ -210,7 +229,13 @@ founding_fits r are =
     front = is_between 1 1000 r.depth && is_between 1 (2 ^ 40) r.term && is_between 1 50 r.hold && is_between 1 255 r.top_grade && is_between 1 r.top_grade r.level
 
     named : (front && nat_le (length r.doubles) 250 && list_all is_name r.doubles) ≡ true
-    named = first_of_both (front && nat_le (length r.doubles) 250 && list_all is_name r.doubles) (is_ascending r.doubles) are
+    named = first_of_both (front && nat_le (length r.doubles) 250 && list_all is_name r.doubles) (is_ascending r.doubles) (first_of_both (are_settings r) (are_levels r) are)
+
+    few : Bool
+    few = nat_le (length r.levels) 250
+
+    levels : are_levels r ≡ true
+    levels = second_of_both (are_settings r) (are_levels r) are
 
 -- the most bytes of a long entry in its record
 abbrev long : ℕ

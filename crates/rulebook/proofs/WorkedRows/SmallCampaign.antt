@@ -23,7 +23,7 @@ use Rattle.rulebook.specs.Answers.{answer}
 use Rattle.rulebook.specs.Legal.{core_of, founding, is_well_addressed, IsLegal}
 
 abbrev pub rules : ℕ → Rules
-rules depth = record { depth = depth; term = 600; hold = 2; level = 1; top_grade = 3; doubles = [] }
+rules depth = record { depth = depth; term = 600; hold = 2; level = 1; top_grade = 3; doubles = []; levels = [] }
 
 abbrev pub organiser : Caller
 organiser = record { name = codes "org"; role = Organiser }

@@ -6,7 +6,7 @@ use Rattle.assessment.specs.declared.topic.TopicRules.{TopicRules}
 use Rattle.rulebook.specs.declared.rules.Phase.TheVariants.{Collecting}
 use Rattle.rulebook.specs.declared.rules.Rules.{Rules}
 use Rattle.rulebook.specs.Answers.{ruled}
-use Rattle.rulebook.specs.Campaign.{has_topics, phase}
+use Rattle.rulebook.specs.Campaign.{has_topics, level_in, phase}
 use Rattle.trec_formats.specs.declared.Topic.{Topic}
 use Rattle.campaign_core.specs.Topics.{KeptTopic, empty_topic, kept, labelled_of}
 use Rattle.campaign_core.proofs.Rulings.CollectingRulings.{collecting-from, topics-accepted}
@@ -17,7 +17,7 @@ use Rattle.campaign_core.specs.Numbers.{names_of}
 use Rattle.campaign_core.proofs.decisions.topics.topics_decision.Goals as goal
 
 -- the levels of topics of which this is kept
-levels-made : (made : List TopicRules) (given : List Topic) (rules : Rules) → map kept (map new_topic made) ≡ map (λ t. empty_topic rules t.id) given → map (λ one. one.level) made ≡ map (λ t. rules.level) given
+levels-made : (made : List TopicRules) (given : List Topic) (rules : Rules) → map kept (map new_topic made) ≡ map (λ t. empty_topic rules t.id) given → map (λ one. one.level) made ≡ map (λ t. level_in rules t.id) given
 levels-made made given rules is =
     sym (map-map (λ (t : TopicFacts). t.level) new_topic made) ∙ sym (map-map (λ (k : KeptTopic). k.level) kept (map new_topic made))
     ∙ ap (map (λ (k : KeptTopic). k.level)) is ∙ map-map (λ (k : KeptTopic). k.level) (λ (t : Topic). empty_topic rules t.id) given
@@ -46,7 +46,7 @@ returns c =
         ap (λ (all : TopicsFacts). map labelled_of all.topics) c.in_ok-numbered.ensures.facts ∙ c.in_ok-made.ensures.labelled,
         record {
           levels_are = ap (λ (all : TopicsFacts). all.levels) c.in_ok-numbered.ensures.facts ∙ levels-made c.in_ok-made.made.items given c.rules-rules.result.now c.in_ok-made.ensures.kept
-              ∙ ap (λ (r : Rules). map (λ (t : Topic). r.level) given) c.rules-rules.ensures;
+              ∙ ap (λ (r : Rules). map (λ (t : Topic). level_in r t.id) given) c.rules-rules.ensures;
           empty = ap (λ (all : TopicsFacts). all.lists) c.in_ok-numbered.ensures.facts;
           no_room = c.in_ok-numbered.ensures.none;
         },
