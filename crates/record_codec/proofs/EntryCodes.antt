@@ -125,7 +125,8 @@ abbrev doc_text : (kind : ℕ) (p : Text × (Text × ℕ))
     → kind ∷ doc_bytes p ≡ (kind ∷ short p.0) ++ short p.1.0 ++ p.1.1 ∷ []
 doc_text kind p = ap (λ (t : Text). kind ∷ t) (sym (append_assoc (short p.0) (short p.1.0) (p.1.1 ∷ [])))
 
-leveled_bytes : (rules : Rules) (levels : List TopicLevel) → 0 < length levels → 12 ∷ (rules_bytes rules ++ listed level_bytes levels) ≡ found_bytes rules levels
+leveled_bytes : (rules : Rules) (levels : List TopicLevel) → 0 < length levels
+    → 12 ∷ (rules_bytes rules ++ listed level_bytes levels) ≡ found_bytes rules levels
 leveled_bytes rules [] some = absurd (omega (arith, some))
 leveled_bytes rules (own ∷ levels) some = refl
 
@@ -174,8 +175,7 @@ unfolding command_at command_of
 found_again rules [] rest none are =
     ap (made command.Found) (rules_codes.again rules rest ((and_parts (are_settings rules) (are_levels rules) are).0, none))
 found_again rules (own ∷ levels) rest some are =
-    let text : rules_bytes rules ++ listed level_bytes (own ∷ levels) ≡ rules_bytes rules ++ listed level_bytes rules.levels = ap (λ (ls : List TopicLevel). rules_bytes rules ++ listed level_bytes ls) (sym some) in
-    ap (λ (t : Text). made command.Found (leveled_at (t ++ rest))) text
+    ap (λ (ls : List TopicLevel). made command.Found (leveled_at ((rules_bytes rules ++ listed level_bytes ls) ++ rest))) (sym some)
     ∙ ap (made command.Found) (leveled_codes.again rules rest (are, rw some (omega arith)))
 
 command_again : (c : Command) (rest : Text) → IsTrue (is_plain c)

@@ -1,18 +1,19 @@
 -- What the parts of an entry with a spelling may be written as.
-use Rattle.std.proofs.Common.{◌≡◌, ◌++◌, ◌∙◌, ℕ, append_assoc, ◌^◌, ◌<◌, ◌&&◌, Bool, true, List, [], ◌∷◌, length, map, refl, arith}
+use Rattle.std.proofs.Common.{◌≡◌, ◌++◌, ◌∙◌, ℕ, append_assoc, ◌^◌, ◌<◌, ◌&&◌, Bool, true, List, [], ◌∷◌, length, refl, arith}
 use Rattle.std.specs.Prelude.{IsTrue, nat_le, nat_lt}
 use Rattle.std.specs.List.{list_all}
-use Rattle.std.proofs.lemmas.Bool.{and_from, and_parts, leb-true, lt-ltb}
+use Rattle.std.proofs.lemmas.Bool.{and_from, and_parts, lt-ltb}
 use Rattle.trec_formats.specs.declared.TopicList.{TopicList}
 use Rattle.trec_formats.specs.Names.{is_between, is_docno, is_name}
 use Rattle.rulebook.specs.Limits.{max_moment}
 use Rattle.rulebook.specs.declared.rules.Rules.{Rules}
-use Rattle.rulebook.specs.declared.entry.EntryCore.{EntryCore}
-use Rattle.rulebook.specs.Spelling.{are_levels, are_rules, are_settings, differ, has_spelling, is_ascending, is_number, is_plain, is_plain_list, is_topic_level, found_bytes, level_bytes, listed, rules_bytes}
-use Rattle.rulebook.specs.Words.{Text}
 use Rattle.rulebook.specs.declared.rules.TopicLevel.{TopicLevel}
+use Rattle.rulebook.specs.declared.entry.EntryCore.{EntryCore}
+use Rattle.rulebook.specs.Spelling.{are_rules, are_settings, differ, has_spelling, is_ascending, is_number, is_plain, is_plain_list, is_topic_level, found_bytes, level_bytes, listed, rules_bytes}
+use Rattle.rulebook.specs.Words.{Text}
 use Rattle.record_codec.specs.Items.{is_short, is_short_level}
 use Rattle.record_codec.specs.Readings.{are_in_range, few_doubles, is_length}
+use Rattle.record_codec.proofs.ListCodes.{rules_parts}
 use Rattle.record_codec.proofs.ShortTexts.{docno_short, name_short}
 
 abbrev pub AreShort : List Text → Type 0
@@ -32,30 +33,26 @@ doubles_short r is =
     let b = and_parts (are_in_range r && few_doubles (length r.doubles)) (list_all is_name r.doubles) a.0 in
     all_short is_name name_short r.doubles b.1
 
-pub settings_are : (r : Rules) → IsTrue (are_rules r) → IsTrue (are_settings r)
-settings_are r is = (and_parts (are_settings r) (are_levels r) is).0
-
-levels_short_from : (top : ℕ) (levels : List TopicLevel) → IsTrue (list_all (is_topic_level top) levels) → IsTrue (list_all is_short_level levels)
+levels_short_from : (top : ℕ) (levels : List TopicLevel) → IsTrue (list_all (is_topic_level top) levels)
+    → IsTrue (list_all is_short_level levels)
 levels_short_from top [] all = refl
 levels_short_from top (own ∷ levels) all =
     let parts = and_parts (is_topic_level top own) (list_all (is_topic_level top) levels) all in
     let name = (and_parts (is_name own.topic) (is_between 1 top own.level) parts.0).0 in
-    and_from (is_short_level own) (list_all is_short_level levels) (lt-ltb (length own.topic) 256 (name_short own.topic name)) (levels_short_from top levels parts.1)
+    and_from (is_short_level own) (list_all is_short_level levels)
+    (lt-ltb (length own.topic) 256 (name_short own.topic name)) (levels_short_from top levels parts.1)
 
--- the levels of topics are few, and their topics short
-pub levels_short : (r : Rules) → IsTrue (are_rules r) → (length r.levels < 2 ^ 32) × IsTrue (list_all is_short_level r.levels)
-levels_short r is =
-    let levels = (and_parts (are_settings r) (are_levels r) is).1 in
-    let a = and_parts (nat_le (length r.levels) 250 && list_all (is_topic_level r.top_grade) r.levels) (is_ascending (map (λ (own : TopicLevel). own.topic) r.levels)) levels in
-    let b = and_parts (nat_le (length r.levels) 250) (list_all (is_topic_level r.top_grade) r.levels) a.0 in
-    let few = leb-true (length r.levels) 250 b.0 in
-    (omega arith, levels_short_from r.top_grade r.levels b.1)
+-- the topics with levels are short
+pub levels_short : (r : Rules) → IsTrue (are_rules r) → IsTrue (list_all is_short_level r.levels)
+levels_short r are = levels_short_from r.top_grade r.levels (rules_parts r are).1.1.0
 
 -- the rules behind their kind, and the levels behind them
-pub found_joined : (text : Text) (r : Rules) (levels : List TopicLevel) → 0 < length levels → ((text ++ 12 ∷ []) ++ rules_bytes r) ++ listed level_bytes levels ≡ text ++ found_bytes r levels
+pub found_joined : (text : Text) (r : Rules) (levels : List TopicLevel) → 0 < length levels
+    → ((text ++ 12 ∷ []) ++ rules_bytes r) ++ listed level_bytes levels ≡ text ++ found_bytes r levels
 found_joined text r [] some = absurd (omega (arith, some))
 found_joined text r (own ∷ levels) some =
-    append_assoc (text ++ 12 ∷ []) (rules_bytes r) (listed level_bytes (own ∷ levels)) ∙ append_assoc text (12 ∷ []) (rules_bytes r ++ listed level_bytes (own ∷ levels))
+    append_assoc (text ++ 12 ∷ []) (rules_bytes r) (listed level_bytes (own ∷ levels))
+    ∙ append_assoc text (12 ∷ []) (rules_bytes r ++ listed level_bytes (own ∷ levels))
 
 pub docs_short : (l : TopicList) → IsTrue (is_plain_list l) → AreShort l.docs
 docs_short l is =

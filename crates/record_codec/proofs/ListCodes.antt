@@ -1,5 +1,5 @@
 -- The laws of the lists of an entry.
-use Rattle.std.proofs.Common.{ℕ, ◌-◌, ◌^◌, ◌<◌, ◌≤◌, ◌≡◌, ◌&&◌, ◌++◌, Bool, List, [], ◌∷◌, length, refl, sym, append_assoc, arith}
+use Rattle.std.proofs.Common.{ℕ, ◌-◌, ◌^◌, ◌<◌, ◌≤◌, ◌≡◌, ◌&&◌, ◌++◌, Bool, List, [], ◌∷◌, length, refl, sym, ap, append_assoc, arith}
 use Rattle.std.specs.Prelude.{IsTrue, nat_le, nat_lt}
 use Rattle.std.specs.List.{AllByRecursion, list_all}
 use Rattle.std.specs.Int.{w16, w32, w64, to_le_bytes}
@@ -7,6 +7,7 @@ use Rattle.std.proofs.lemmas.Bool.{and_from, and_parts, leb-true, le-leb, lt-ltb
 use Rattle.trec_formats.specs.declared.Topic.{Topic}
 use Rattle.trec_formats.specs.declared.TopicList.{TopicList}
 use Rattle.trec_formats.specs.Names.{is_between, is_docno, is_name}
+use Rattle.rulebook.specs.Limits.{max_topics}
 use Rattle.rulebook.specs.declared.rules.Rules.{Rules}
 use Rattle.rulebook.specs.declared.rules.TopicLevel.{TopicLevel}
 use Rattle.rulebook.specs.Spelling.{are_levels, are_rules, are_settings, differ, is_ascending, is_plain_list, is_plain_topic, is_printable, is_topic_level, level_bytes, list_bytes, listed, long, rules_bytes, short, topic_bytes}
@@ -67,6 +68,9 @@ AreSettings r = (r.depth < 2 ^ 16)
 abbrev pub HasNoLevels : Rules → Type 0
 HasNoLevels r = r.levels ≡ []
 
+without_levels : (r : Rules) → HasNoLevels r → record r { levels = [] } ≡ r
+without_levels r none i = record r { levels = sym none i }
+
 settings_codes : Codes rules_bytes (λ r. AreSettings r × HasNoLevels r) settings_at
 unfolding settings_at
 settings_codes =
@@ -74,12 +78,11 @@ settings_codes =
     (both (number_codes w16 (2 ^ 16) wide16) (both (number_codes w64 (2 ^ 64) wide64)
     (both byte_codes (both byte_codes (both byte_codes doubles_codes)))))
     rules_of (λ r. (r.depth, (r.term, (r.hold, (r.level, (r.top_grade, r.doubles)))))) HasNoLevels
-    (λ r none i. record { depth = r.depth; term = r.term; hold = r.hold; level = r.level; top_grade = r.top_grade; doubles = r.doubles; levels = sym none i })
-    (λ p fits. refl) (λ p. refl))
+    without_levels (λ p fits. refl) (λ p. refl))
     rules_bytes (λ r. AreSettings r × HasNoLevels r) (λ r. refl) (λ r fits. fits) (λ r fits. fits)
 
-are_rules_from : (r : Rules) → AreSettings r → IsTrue (are_in_range r) → IsTrue (are_settings r)
-are_rules_from r fits range =
+are_settings_from : (r : Rules) → AreSettings r → IsTrue (are_in_range r) → IsTrue (are_settings r)
+are_settings_from r fits range =
     let a = and_parts (few_doubles (length r.doubles) && list_all is_name r.doubles)
     (is_ascending r.doubles) fits.1.1.1.1.1 in
     let b = and_parts (few_doubles (length r.doubles)) (list_all is_name r.doubles) a.0 in
@@ -87,8 +90,8 @@ are_rules_from r fits range =
     (and_from (are_in_range r && few_doubles (length r.doubles)) (list_all is_name r.doubles)
     (and_from (are_in_range r) (few_doubles (length r.doubles)) range b.0) b.1) a.1
 
-settings_from : (r : Rules) → IsTrue (are_settings r) → AreSettings r × IsTrue (are_in_range r)
-settings_from r is =
+settings_parts : (r : Rules) → IsTrue (are_settings r) → AreSettings r × IsTrue (are_in_range r)
+settings_parts r is =
     let few = few_doubles (length r.doubles) in
     let a = and_parts (are_in_range r && few && list_all is_name r.doubles) (is_ascending r.doubles) is in
     let b = and_parts (are_in_range r && few) (list_all is_name r.doubles) a.0 in
@@ -112,8 +115,8 @@ pub rules_codes : Codes rules_bytes (λ r. IsTrue (are_settings r) × HasNoLevel
 unfolding rules_at
 rules_codes =
     like (tested settings_codes are_in_range) rules_bytes (λ r. IsTrue (are_settings r) × HasNoLevels r) (λ r. refl)
-    (λ r fits. (are_rules_from r fits.0.0 fits.1, fits.0.1))
-    (λ r is. let parts = settings_from r is.0 in ((parts.0, is.1), parts.1))
+    (λ r fits. (are_settings_from r fits.0.0 fits.1, fits.0.1))
+    (λ r is. let parts = settings_parts r is.0 in ((parts.0, is.1), parts.1))
 
 -- The levels of topics
 
@@ -141,60 +144,83 @@ module _ (top : ℕ) (small : top ≤ 255) where
   abbrev in_range : TopicLevel → Bool
   in_range own = is_between 1 top own.level
 
-  join_levels : (levels : List TopicLevel) → IsTrue (list_all is_level levels) → IsTrue (list_all in_range levels) → IsTrue (list_all (is_topic_level top) levels)
+  join_levels : (levels : List TopicLevel) → IsTrue (list_all is_level levels) → IsTrue (list_all in_range levels)
+      → IsTrue (list_all (is_topic_level top) levels)
   join_levels [] named ranged = refl
   join_levels (own ∷ levels) named ranged =
       let a = and_parts (is_level own) (list_all is_level levels) named in
       let b = and_parts (in_range own) (list_all in_range levels) ranged in
       let c = and_parts (is_name own.topic) (nat_lt own.level 256) a.0 in
-      and_from (is_topic_level top own) (list_all (is_topic_level top) levels) (and_from (is_name own.topic) (in_range own) c.0 b.0) (join_levels levels a.1 b.1)
+      and_from (is_topic_level top own) (list_all (is_topic_level top) levels)
+      (and_from (is_name own.topic) (in_range own) c.0 b.0) (join_levels levels a.1 b.1)
 
-  part_levels : (levels : List TopicLevel) → IsTrue (list_all (is_topic_level top) levels) → IsTrue (list_all is_level levels) × IsTrue (list_all in_range levels)
+  part_levels : (levels : List TopicLevel) → IsTrue (list_all (is_topic_level top) levels)
+      → IsTrue (list_all is_level levels) × IsTrue (list_all in_range levels)
   part_levels [] all = (refl, refl)
   part_levels (own ∷ levels) all =
       let a = and_parts (is_topic_level top own) (list_all (is_topic_level top) levels) all in
       let b = and_parts (is_name own.topic) (in_range own) a.0 in
       let rest = part_levels levels a.1 in
-      let most = between_most 1 top own.level b.1 in (
-        and_from (is_level own) (list_all is_level levels) (and_from (is_name own.topic) (nat_lt own.level 256) b.0 (lt-ltb own.level 256 (omega arith))) rest.0,
+      let most = between_most 1 top own.level b.1 in
+      let named = and_from (is_name own.topic) (nat_lt own.level 256) b.0 (lt-ltb own.level 256 (omega arith)) in (
+        and_from (is_level own) (list_all is_level levels) named rest.0,
         and_from (in_range own) (list_all in_range levels) b.1 rest.1,
       )
+
+abbrev pub few_levels : Rules → Bool
+few_levels r = nat_le (length r.levels) max_topics
+
+abbrev pub are_topic_levels : Rules → Bool
+are_topic_levels r = list_all (is_topic_level r.top_grade) r.levels
+
+-- what is asked of the rules, one behind the other
+pub rules_parts : (r : Rules) → IsTrue (are_rules r)
+    → IsTrue (are_settings r) × (IsTrue (few_levels r) × (IsTrue (are_topic_levels r) × IsTrue (levels_ascend r.levels)))
+rules_parts r are =
+    let a = and_parts (are_settings r) (are_levels r) are in
+    let b = and_parts (few_levels r && are_topic_levels r) (levels_ascend r.levels) a.1 in
+    let c = and_parts (few_levels r) (are_topic_levels r) b.0 in (a.0, (c.0, (c.1, b.1)))
 
 abbrev pub HasLevels : Rules → Type 0
 HasLevels r = IsTrue (are_rules r) × (0 < length r.levels)
 
 top_small : (r : Rules) → IsTrue (are_settings r) → r.top_grade ≤ 255
 top_small r is =
-    let fits = settings_from r is in
+    let fits = settings_parts r is in
     let below : r.top_grade < 256 = fits.0.1.1.1.1.0 in omega arith
+
+leveled_from : (r : Rules) → IsTrue (are_settings r) → IsTrue (are_listed_levels r.levels) → IsTrue (levels_in_range r) → HasLevels r
+leveled_from r settings listed ranged =
+    let some = some_levels (length r.levels) in
+    let a = and_parts (some && list_all is_level r.levels) (levels_ascend r.levels) listed in
+    let b = and_parts some (list_all is_level r.levels) a.0 in
+    let c = and_parts (nat_le 1 (length r.levels)) (few_levels r) b.0 in
+    let each = join_levels r.top_grade (top_small r settings) r.levels b.1 ranged in
+    let least = leb-true 1 (length r.levels) c.0 in
+    let levels = and_from (few_levels r && are_topic_levels r) (levels_ascend r.levels)
+    (and_from (few_levels r) (are_topic_levels r) c.1 each) a.1 in
+    (and_from (are_settings r) (are_levels r) settings levels, omega arith)
+
+leveled_parts : (r : Rules) → HasLevels r
+    → IsTrue (are_settings r) × (IsTrue (are_listed_levels r.levels) × IsTrue (levels_in_range r))
+leveled_parts r has =
+    let parts = rules_parts r has.0 in
+    let each = part_levels r.top_grade (top_small r parts.0) r.levels parts.1.1.0 in
+    let some = some_levels (length r.levels) in
+    let least : IsTrue (nat_le 1 (length r.levels)) = le-leb 1 (length r.levels) (omega (arith, has.1)) in
+    let counted = and_from (nat_le 1 (length r.levels)) (few_levels r) least parts.1.0 in
+    let listed = and_from (some && list_all is_level r.levels) (levels_ascend r.levels)
+    (and_from some (list_all is_level r.levels) counted each.0) parts.1.1.1 in
+    (parts.0, (listed, each.1))
 
 pub leveled_codes : Codes (λ r. rules_bytes r ++ listed level_bytes r.levels) HasLevels leveled_at
 unfolding leveled_at
 leveled_codes =
     like (tested (folded (both rules_codes levels_codes) with_levels (λ r. (record r { levels = [] }, r.levels)) (λ r. Unit {0})
-    (λ r u. refl) (λ p fits i. (record { depth = p.0.depth; term = p.0.term; hold = p.0.hold; level = p.0.level; top_grade = p.0.top_grade; doubles = p.0.doubles; levels = sym fits.0.1 i }, p.1)) (λ p. tt)) levels_in_range)
+    (λ r u. refl) (λ p fits. ap (λ (r : Rules). (r, p.1)) (without_levels p.0 fits.0.1)) (λ p. tt)) levels_in_range)
     (λ r. rules_bytes r ++ listed level_bytes r.levels) HasLevels (λ r. refl)
-    (λ r fits.
-    let settings : IsTrue (are_settings r) = fits.0.0.0.0 in
-    let listed_are = fits.0.0.1 in
-    let some = some_levels (length r.levels) in
-    let a = and_parts (some && list_all is_level r.levels) (levels_ascend r.levels) listed_are in
-    let b = and_parts some (list_all is_level r.levels) a.0 in
-    let c = and_parts (nat_le 1 (length r.levels)) (nat_le (length r.levels) 250) b.0 in
-    let all = join_levels r.top_grade (top_small r settings) r.levels b.1 fits.1 in
-    let least = leb-true 1 (length r.levels) c.0 in
-    (and_from (are_settings r) (are_levels r) settings
-    (and_from (nat_le (length r.levels) 250 && list_all (is_topic_level r.top_grade) r.levels) (levels_ascend r.levels) (and_from (nat_le (length r.levels) 250) (list_all (is_topic_level r.top_grade) r.levels) c.1 all) a.1),
-    omega arith))
-    (λ r has.
-    let parts = and_parts (are_settings r) (are_levels r) has.0 in
-    let a = and_parts (nat_le (length r.levels) 250 && list_all (is_topic_level r.top_grade) r.levels) (levels_ascend r.levels) parts.1 in
-    let b = and_parts (nat_le (length r.levels) 250) (list_all (is_topic_level r.top_grade) r.levels) a.0 in
-    let both_are = part_levels r.top_grade (top_small r parts.0) r.levels b.1 in
-    let some = some_levels (length r.levels) in
-    let least : IsTrue (nat_le 1 (length r.levels)) = le-leb 1 (length r.levels) (omega (arith, has.1)) in
-    ((((parts.0, refl), and_from (some && list_all is_level r.levels) (levels_ascend r.levels)
-    (and_from some (list_all is_level r.levels) (and_from (nat_le 1 (length r.levels)) (nat_le (length r.levels) 250) least b.0) both_are.0) a.1), tt), both_are.1))
+    (λ r fits. leveled_from r fits.0.0.0.0 fits.0.0.1 fits.1)
+    (λ r has. let parts = leveled_parts r has in ((((parts.0, refl), parts.1.0), tt), parts.1.1))
 
 -- Topics
 

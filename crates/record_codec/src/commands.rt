@@ -68,7 +68,11 @@ fn levels_in_range(rules: &Rules) -> bool
     ensures { result ≡ levels_in_range rules.now }
 {
     let top = rules.top_grade;
-    rules.levels.items().iter().all(|own| 1 <= own.level && own.level <= top)
+    rules
+        .levels
+        .items()
+        .iter()
+        .all(|own| 1 <= own.level && own.level <= top)
 }
 
 /// The rules, and behind them levels of topics.

@@ -130,10 +130,7 @@ impl Item for TopicLevel {
 
 /// The levels of topics, by ascending topic.
 #[tactic(auto, unfolding(crate::specs::Readings::levels_at, crate::specs::Readings::counted_at))]
-pub(crate) fn topic_levels(
-    alloc: Global,
-    left: &mut Cursor,
-) -> Result<Rows<TopicLevel>, CodecFault>
+pub(crate) fn topic_levels(alloc: Global, left: &mut Cursor) -> Result<Rows<TopicLevel>, CodecFault>
     ensures { Gives result left.new.bytes.now (levels_at left.old.bytes.now) }
 {
     let count = left.number32()?;

@@ -7,8 +7,8 @@ ghost use Rattle.trec_formats.specs.Names.{is_docno, is_name};
 ghost use Rattle.record_codec.specs.Items.{is_short, is_short_level};
 
 use crate::layout::{
-    AMEND, ASSESSOR, FOUND, FOUND_WITH_LEVELS, GRADE, GROUP, LEASE, NUMBERED, OPEN, ORGANISER, PUBLISH, RELEASE, RULE,
-    SUBMIT, TOPICS, UNNUMBERED, WITHDRAW,
+    AMEND, ASSESSOR, FOUND, FOUND_WITH_LEVELS, GRADE, GROUP, LEASE, NUMBERED, OPEN, ORGANISER,
+    PUBLISH, RELEASE, RULE, SUBMIT, TOPICS, UNNUMBERED, WITHDRAW,
 };
 use decimal_rank::{Memory, Rows, Text, append};
 use rulebook::{Caller, Command, EntryCore, Role, Rules, TopicLevel};

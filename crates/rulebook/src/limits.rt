@@ -1,5 +1,5 @@
-//! The limits of a campaign as the code looks at them: its topics, runs, lines, docnos, entries and moments, the bytes of
-//! an entry, and the numbers of its rules. `limits_are_the_rules` says that they are those of `specs/Limits.antt`.
+//! The limits of a campaign as the code looks at them: its topics, runs, lines, docnos, entries and moments, the bytes
+//! of an entry, and the numbers of its rules. `limits_are_the_rules` says that they are those of `specs/Limits.antt`.
 
 /// How many topics a campaign has at most, and how many its rules name.
 pub const MAX_TOPICS: u32 = 250;

@@ -197,7 +197,8 @@ names_size (name ∷ names) named =
 rules_size : (r : Rules) → length (rules_bytes r) ≡ length (flat_map short r.doubles) + 17
 rules_size r = simp (length-append, two_bytes, four_bytes, eight_bytes) (omega arith)
 
-levels_size : (top : ℕ) (levels : List TopicLevel) → list_all (is_topic_level top) levels ≡ true → length (flat_map level_bytes levels) ≤ 34 * length levels
+levels_size : (top : ℕ) (levels : List TopicLevel) → list_all (is_topic_level top) levels ≡ true
+    → length (flat_map level_bytes levels) ≤ 34 * length levels
 levels_size top [] all = omega arith
 levels_size top (own ∷ levels) all =
     omega (
@@ -208,10 +209,17 @@ levels_size top (own ∷ levels) all =
       length-append (short own.topic) (own.level ∷ []),
     )
 
-found_size : (r : Rules) (levels : List TopicLevel) → list_all (is_topic_level r.top_grade) levels ≡ true → length (found_bytes r levels) ≤ length (rules_bytes r) + 34 * length levels + 5
+found_size : (r : Rules) (levels : List TopicLevel) → list_all (is_topic_level r.top_grade) levels ≡ true
+    → length (found_bytes r levels) ≤ length (rules_bytes r) + 34 * length levels + 5
 found_size r [] all = omega arith
 found_size r (own ∷ levels) all =
-    omega (arith, levels_size r.top_grade (own ∷ levels) all, length-append (rules_bytes r) (listed level_bytes (own ∷ levels)), length-append (to_le_bytes w32 (length (own ∷ levels))) (flat_map level_bytes (own ∷ levels)), four_bytes (length (own ∷ levels)))
+    omega (
+      arith,
+      levels_size r.top_grade (own ∷ levels) all,
+      length-append (rules_bytes r) (listed level_bytes (own ∷ levels)),
+      length-append (to_le_bytes w32 (length (own ∷ levels))) (flat_map level_bytes (own ∷ levels)),
+      four_bytes (length (own ∷ levels)),
+    )
 
 pub founding_fits : (rules : Rules) → are_rules rules ≡ true → length (entry_bytes (founding rules).core) ≤ max_entry_bytes
 founding_fits r are =
@@ -219,8 +227,8 @@ founding_fits r are =
       arith,
       entry_size (founding r).core,
       rules_size r,
-      found_size r r.levels (second_of_both few (list_all (is_topic_level r.top_grade) r.levels) (first_of_both (few && list_all (is_topic_level r.top_grade) r.levels) (is_ascending (map (λ (own : TopicLevel). own.topic) r.levels)) levels)),
-      leb-true (length r.levels) 250 (first_of_both few (list_all (is_topic_level r.top_grade) r.levels) (first_of_both (few && list_all (is_topic_level r.top_grade) r.levels) (is_ascending (map (λ (own : TopicLevel). own.topic) r.levels)) levels)),
+      found_size r r.levels (second_of_both few each levels),
+      leb-true (length r.levels) 250 (first_of_both few each levels),
       names_size r.doubles (second_of_both (front && nat_le (length r.doubles) 250) (list_all is_name r.doubles) named),
       leb-true (length r.doubles) 250 (second_of_both front (nat_le (length r.doubles) 250) (first_of_both (front && nat_le (length r.doubles) 250) (list_all is_name r.doubles) named)),
     )
@@ -229,13 +237,18 @@ founding_fits r are =
     front = is_between 1 1000 r.depth && is_between 1 (2 ^ 40) r.term && is_between 1 50 r.hold && is_between 1 255 r.top_grade && is_between 1 r.top_grade r.level
 
     named : (front && nat_le (length r.doubles) 250 && list_all is_name r.doubles) ≡ true
-    named = first_of_both (front && nat_le (length r.doubles) 250 && list_all is_name r.doubles) (is_ascending r.doubles) (first_of_both (are_settings r) (are_levels r) are)
+    named = first_of_both (front && nat_le (length r.doubles) 250 && list_all is_name r.doubles) (is_ascending r.doubles)
+        (first_of_both (are_settings r) (are_levels r) are)
 
     few : Bool
     few = nat_le (length r.levels) 250
 
-    levels : are_levels r ≡ true
-    levels = second_of_both (are_settings r) (are_levels r) are
+    each : Bool
+    each = list_all (is_topic_level r.top_grade) r.levels
+
+    levels : (few && each) ≡ true
+    levels = first_of_both (few && each) (is_ascending (map (λ (own : TopicLevel). own.topic) r.levels))
+        (second_of_both (are_settings r) (are_levels r) are)
 
 -- the most bytes of a long entry in its record
 abbrev long : ℕ
