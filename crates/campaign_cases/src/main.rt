@@ -10,8 +10,9 @@
 //!     p 1600 grade 1 0 -> refused Expired { until: 1600 }
 //!     entries -> 5
 //!
-//! `campaign` founds one of this depth, this hold, and so many labels that a document of the topic 1 needs; a fourth number
-//! is a level of that topic's own, and its other rules stand in `founded_by`. In a page `|` ends a line. A line that can't be played is told `?`.
+//! `campaign` founds one of this depth, this hold, and so many labels that a document of the topic 1 needs; a fourth
+//! number is a level of that topic's own. Its other rules stand in `founded_by`. In a page `|` ends a line. A line that
+//! can't be played is told `?`.
 #![tactic(auto)]
 
 mod answers;
