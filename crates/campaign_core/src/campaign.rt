@@ -20,8 +20,8 @@ use decimal_rank::{Memory, Steps};
 use depth_pool::greatest_run_goes_last;
 use labels::{marks_follow_labels, marks_follow_rulings};
 use rulebook::{
-    Command, Entry, Phase, Reply, Rules, founding_core, labels_join, quiet_entries_keep_grades,
-    rulings_join,
+    Command, Entry, EntryCore, Phase, Reply, Rules, founding_core, labels_join,
+    quiet_entries_keep_grades, rulings_join,
 };
 use std::alloc::Global;
 use std::sync::ledger::Ledger;
@@ -121,6 +121,22 @@ impl Campaign {
         ensures { result.now ≡ self.now.assessment.topics.topics }
     {
         self.assessment.topics().items()
+    }
+
+    /// Where a lease is asked for: leads on, past documents that the assessor isn't given any more, where the
+    /// next one is looked for. Nothing that is known changes.
+    pub(crate) fn lead_fronts(&mut self, core: &EntryCore) -> Result<(), Memory>
+        ensures { self.new ≡ self.old }
+    {
+        let Command::Lease { topic } = &core.command else {
+            return Ok(());
+        };
+        match topic_number(self.topics(), topic.bytes()) {
+            Some(number) => self
+                .assessment
+                .lead_fronts(number, core.caller.name.bytes()),
+            None => Ok(()),
+        }
     }
 
     /// Makes room for a change, for the entry that it carries out, and for a run. The change is then pending.

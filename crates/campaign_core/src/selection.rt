@@ -1,16 +1,29 @@
 //! The document that an assessor is told to grade.
-ghost use Rattle.std.specs.Prelude.{◌≡◌, ◌+◌, find, length, nat_lt};
+ghost use Rattle.std.specs.Prelude.{◌≡◌, ◌+◌, ◌<◌, find, length, nat_lt, take};
 ghost use Rattle.depth_pool.specs.Holdings.{docs_of};
 ghost use Rattle.labels.specs.Marked.{given_at};
 ghost use Rattle.lease_desk.specs.Leases.{live_on};
+ghost use Rattle.assessment.specs.Fronts.{AreDone};
 ghost use Rattle.assessment.specs.TopicFacts.{IsQueued};
 ghost use Rattle.mtf_queue.specs.QueueView.{QueueView};
 ghost use Rattle.campaign_core.specs.Leasing.{first_open, is_open_in};
 
-use assessment::Topic;
-use decimal_rank::DocId;
+use assessment::{Topic, front_of};
+use decimal_rank::{DocId, Steps};
 use depth_pool::RunId;
 use lease_desk::Desk;
+use std::marker::Brand;
+use std::sync::ledger::{Blank, Ledger};
+
+/// An assessor who asks for a document of a topic at a moment. `number` is the topic's, from 0.
+#[derive(Drop)]
+struct Asker<'a> {
+    topic: &'a Topic,
+    number: u16,
+    desk: &'a Desk,
+    assessor: &'a [u8],
+    moment: u64,
+}
 
 /// The document that an assessor is told to grade at a moment: in the first run of the judging
 /// order that holds one that is open to the assessor, the one of least rank. `number` is the
@@ -26,24 +39,31 @@ pub(crate) fn named(
         (queue : QueueView) × IsQueued topic.now.facts.level topic.now.facts.pool topic.now.facts.graded queue
         × (result ≡ first_open is_open topic.now.facts.pool queue.order) }
 {
+    let asker = Asker {
+        topic,
+        number,
+        desk,
+        assessor,
+        moment: now,
+    };
     let queue = topic.queue();
-    first_in(topic, number, desk, assessor, now, queue.order())
+    first_in::<Brand>(&asker, queue.order(), Blank::new(1))
 }
 
 /// The same for runs in this order.
-fn first_in(
-    topic: &Topic,
-    number: u16,
-    desk: &Desk,
-    assessor: &[u8],
-    now: u64,
-    order: &[RunId],
-) -> Option<DocId>
-    ensures { let is_open = is_open_in topic.now.facts.need topic.now.facts.marked desk.now.leases number now assessor.now in
-        result ≡ first_open is_open topic.now.facts.pool order.now }
+fn first_in<L: Ledger>(asker: &Asker, order: &[RunId], blank: Blank) -> Option<DocId>
+    requires name { blank.name ≡ L.name }
+    requires parts { blank.parts ≡ L.parts }
+    requires some { 0 < L.parts }
+    ensures { let who = asker.now in let topic = who.topic.now.facts in
+        let is_open = is_open_in topic.need topic.marked who.desk.now.leases who.number who.moment who.assessor.now in
+        result ≡ first_open is_open topic.pool order.now }
 {
+    let mut steps: Steps<L> = Steps::new(blank);
+    let fronts = asker.topic.fronts_of(asker.assessor);
     for run in order {
-        let open = open_of(topic, number, desk, assessor, now, *run);
+        let front = front_of(fronts, *run);
+        let open = open_from(asker, *run, front, &mut steps);
         if open.is_some() {
             return open;
         }
@@ -51,58 +71,49 @@ fn first_in(
     None
 }
 
-/// The first document of a run that is open to an assessor. It is none of those that have all their
-/// labels.
-fn open_of(
-    topic: &Topic,
-    number: u16,
-    desk: &Desk,
-    assessor: &[u8],
-    now: u64,
+/// The first document of a run that is open to an assessor. It is none of those that are done.
+fn open_from<L: Ledger>(
+    asker: &Asker,
     run: RunId,
+    front: usize,
+    steps: &mut Steps<L>,
 ) -> Option<DocId>
-    ensures { let is_open = is_open_in topic.now.facts.need topic.now.facts.marked desk.now.leases number now assessor.now in
-        result ≡ find is_open (docs_of topic.now.facts.pool run) }
+    requires { let who = asker.now in let topic = who.topic.now.facts in
+        AreDone topic.need topic.marked who.assessor.now (take front (docs_of topic.pool run)) }
+    ensures { let who = asker.now in let topic = who.topic.now.facts in
+        let is_open = is_open_in topic.need topic.marked who.desk.now.leases who.number who.moment who.assessor.now in
+        result ≡ find is_open (docs_of topic.pool run) }
 {
-    let docs = topic.left_to_label(run);
-    open_among(topic, number, desk, assessor, now, docs)
-}
-
-/// The first of these documents that is open to an assessor.
-fn open_among(
-    topic: &Topic,
-    number: u16,
-    desk: &Desk,
-    assessor: &[u8],
-    now: u64,
-    docs: &[DocId],
-) -> Option<DocId>
-    ensures { let is_open = is_open_in topic.now.facts.need topic.now.facts.marked desk.now.leases number now assessor.now in
-        result ≡ find is_open docs.now }
-{
-    for doc in docs {
-        if is_open(topic, number, desk, assessor, now, *doc) {
-            return Some(*doc);
+    let pool = asker.topic.pool();
+    for place in front..pool.count_of(run) {
+        let doc = pool.doc_at(run, place, steps);
+        if is_open(asker, doc) {
+            return Some(doc);
         }
     }
     None
 }
 
 /// Whether a document may be leased to an assessor.
-fn is_open(topic: &Topic, number: u16, desk: &Desk, assessor: &[u8], now: u64, doc: DocId) -> bool
-    ensures { result ≡ is_open_in topic.now.facts.need topic.now.facts.marked desk.now.leases number now assessor.now doc }
+fn is_open(asker: &Asker, doc: DocId) -> bool
+    ensures { let who = asker.now in let topic = who.topic.now.facts in
+        result ≡ is_open_in topic.need topic.marked who.desk.now.leases who.number who.moment who.assessor.now doc }
 {
-    topic.marks().effective(topic.need(), doc).is_none()
-        && !topic.marks().has_label(assessor, doc)
-        && !desk.has(assessor, number, doc, now)
-        && is_wanted(topic, number, desk, now, doc)
+    let marks = asker.topic.marks();
+    let desk = asker.desk;
+    marks.effective(asker.topic.need(), doc).is_none()
+        && !marks.has_label(asker.assessor, doc)
+        && !desk.has(asker.assessor, asker.number, doc, asker.moment)
+        && is_wanted(asker, doc)
 }
 
 /// Whether the labels and live leases on a document are fewer than the topic needs.
-fn is_wanted(topic: &Topic, number: u16, desk: &Desk, now: u64, doc: DocId) -> bool
-    ensures { result ≡ nat_lt (length (given_at topic.now.facts.marked doc) + live_on desk.now.leases number doc now) topic.now.facts.need }
+fn is_wanted(asker: &Asker, doc: DocId) -> bool
+    ensures { let who = asker.now in let topic = who.topic.now.facts in
+        result ≡ nat_lt (length (given_at topic.marked doc) + live_on who.desk.now.leases who.number doc who.moment) topic.need }
 {
+    let topic = asker.topic;
     let labels = u64::from(topic.marks().count(doc));
-    let leases = u64::from(desk.live_on(number, doc, now));
+    let leases = u64::from(asker.desk.live_on(asker.number, doc, asker.moment));
     labels + leases < u64::from(topic.need())
 }

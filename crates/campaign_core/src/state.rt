@@ -344,6 +344,26 @@ fn prepared(
     ensures prepared { IfOk result (IsPrepared campaign.new docnos.new numbers.new core) }
     ensures err { OnErr result (campaign.new.assessment.pending ≡ None) }
 {
+    // here, since the steps of a commit are bounded
+    campaign.lead_fronts(&core)?;
+    decided(campaign, docnos, numbers, core)
+}
+
+/// The same, once the fronts are led on.
+fn decided(
+    campaign: &mut Campaign,
+    docnos: &mut Names,
+    numbers: &mut RequestNumbers,
+    core: EntryCore,
+) -> Result<Result<Prepared, Refusal>, Memory>
+    requires new { IsNew campaign.old docnos.old numbers.old core }
+    requires idle { campaign.old.assessment.pending ≡ None }
+    ensures unchanged { IsUnchanged campaign.old campaign.new }
+    ensures docnos_grown { BeginsWith docnos.old docnos.new }
+    ensures numbers_grown { BeginsWith numbers.old numbers.new }
+    ensures prepared { IfOk result (IsPrepared campaign.new docnos.new numbers.new core) }
+    ensures err { OnErr result (campaign.new.assessment.pending ≡ None) }
+{
     let alloc = *campaign.history.allocator();
     match decide(alloc, campaign, docnos, &core)? {
         Decision::Refused(refusal) => Ok(Err(refusal)),

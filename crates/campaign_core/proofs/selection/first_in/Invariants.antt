@@ -4,6 +4,7 @@ use Rattle.campaign_core.specs.Leasing.{first_open, is_open_in}
 use Rattle.campaign_core.proofs.selection.first_in.Given as goal
 
 abbrev pub invariant-loop-run : goal.invariant-loop-run
-invariant-loop-run l =
-    let is_open = is_open_in l.topic.facts.need l.topic.facts.marked l.desk.leases l.number l.now l.assessor in
-    first_open is_open l.topic.facts.pool (drop l.run-index l.order) ≡ first_open is_open l.topic.facts.pool l.order
+invariant-loop-run g l =
+    let topic = l.asker.topic.now.facts in
+    let is_open = is_open_in topic.need topic.marked l.asker.desk.now.leases l.asker.number l.asker.moment l.asker.assessor.now in
+    first_open is_open topic.pool (drop l.run-index l.order) ≡ first_open is_open topic.pool l.order
