@@ -22,7 +22,7 @@ use Rattle.rulebook.specs.declared.reply.Reply.TheVariants as reply
 use Rattle.rulebook.specs.declared.rules.Caller.{Caller}
 use Rattle.rulebook.specs.declared.rules.Phase.{Phase}
 use Rattle.rulebook.specs.declared.rules.Phase.TheVariants.{Judging}
-use Rattle.rulebook.specs.Answers.{grade_ruling, lease_refusals, lease_ruling, release_ruling}
+use Rattle.rulebook.specs.Answers.{grade_ruling, graded_lease, lease_refusals, lease_ruling, release_ruling, released_lease}
 use Rattle.rulebook.specs.Campaign.{History, is_topic, level, need, phase, rules_of, title, topics}
 use Rattle.rulebook.specs.JudgingOrder.{named}
 use Rattle.rulebook.specs.Leases.{Lease, lease_in, lease_numbered, leases, live_leases_of}
@@ -109,6 +109,15 @@ found-lease H names desk number x leased is = step (lease_numbered H number) ref
         let parts = both_true (contains_text names l.doc) (contains_text (topic_ids H) l.topic) met.1 in
         record { lease = l; found = found; alike = met.0; doc_named = parts.0; listed = parts.1 }
 
+no-lease : (H : History) (names : List Text) (desk : List DeskLease) (number : ℕ) → IsLeased H names desk → desk_lease desk number ≡ None
+    → lease_numbered H number ≡ None
+no-lease H names desk number leased none =
+    step (lease_numbered H number) (subst (λ o. Meets H names o (lease_numbered H number)) none (meets H names desk number leased))
+  where
+    step : (o : Option Lease) → Meets H names None o → o ≡ None
+    step None met = refl
+    step (Some l) met = absurd met
+
 abbrev refusals_by : KnownLease → Text → ℕ → List (Option Refusal)
 refusals_by k caller now =
     (refusal.NotYours when not (bytes_eq k.assessor caller)) ∷ (refusal.Ended when k.ended) ∷ (refusal.Expired k.until when nat_le k.until now) ∷ []
@@ -116,6 +125,19 @@ refusals_by k caller now =
 module _ (H : History) (names : List Text) (desk : List DeskLease) (who : Caller) (now number : ℕ) (p : Phase) (phase_is : p ≡ phase H) (judging : true ≡ is_phase Judging p) (leased : IsLeased H names desk) where
   same-refusals : (x : DeskLease) (l : Lease) → seen x ≡ known H names l → lease_refusals H who now l ≡ refusals_of x who.name now
   same-refusals x l alike = sym (ap (λ k. refusals_by k who.name now) alike)
+
+  module _ (none : desk_lease desk number ≡ None) where
+    on-none : (follows : Lease → Ruling)
+        → unless (wrong_phase_unless Judging H ∷ []) (given (lease_numbered H number) refusal.UnknownLease follows) ≡ Err refusal.UnknownLease
+    on-none follows =
+        in-phase H p [] (given (lease_numbered H number) refusal.UnknownLease follows) phase_is judging
+        ∙ ap (λ o. given o refusal.UnknownLease follows) (no-lease H names desk number leased none)
+
+    pub release-unknown : Err refusal.UnknownLease ≡ release_ruling H who now number
+    release-unknown = sym (on-none (released_lease H who now))
+
+    pub grade-unknown : (grade : ℕ) → Err refusal.UnknownLease ≡ grade_ruling H who now number grade
+    grade-unknown grade = sym (on-none (graded_lease H who now grade))
 
   module _ (x : DeskLease) (is : desk_lease desk number ≡ Some x) where
     abbrev lease_there : Lease

@@ -12,7 +12,7 @@ use Rattle.campaign_core.specs.Kept.{KnowsAll}
 use Rattle.campaign_core.specs.Leasing.{KnownLease}
 use Rattle.campaign_core.specs.Numbers.{doc_in, names_of}
 use Rattle.campaign_core.specs.Topics.{KeptTopic}
-use Rattle.campaign_core.proofs.Rulings.LeaseRulings.{found-lease, grade-given, grade-outside, grade-refused, stands-at, unended, within-states, out-of-phase}
+use Rattle.campaign_core.proofs.Rulings.LeaseRulings.{found-lease, grade-given, grade-outside, grade-refused, grade-unknown, stands-at, unended, within-states, out-of-phase}
 use Rattle.campaign_core.proofs.Lists.Elements.{get-map}
 use Rattle.campaign_core.proofs.Numbers.DocNumbers.{docno-back}
 use Rattle.rulebook.specs.declared.rules.Phase.TheVariants.{Judging}
@@ -27,6 +27,20 @@ returns-then-not-is_in c =
     let other : false ≡ is_phase Judging campaign.phase = sym c.if-not-is_in.true ∙ c.is_in.ensures in
     subst (IsDecision campaign c.args.docnos.now core) (sym c.wrong_phase.ensures)
     (ap (ruled campaign.history.items core.caller core.moment) c.requires.asked.command_is ∙ out-of-phase campaign.history.items Judging campaign.phase _ _ c.requires.asked.asked.known.phase_is other)
+
+pub returns-in_default : goal.returns-in_default
+returns-in_default c =
+    let campaign = c.args.campaign.now in
+    let H = campaign.history.items in
+    let ts = map facts_of campaign.assessment.topics.topics in
+    let who = c.args.core.now.caller in
+    let now = c.args.core.now.moment in
+    let known = c.requires.asked.asked.known in
+    let desk = c.desk.result.now.leases in
+    let knows : KnowsAll H ts desk = subst (KnowsAll H ts) (sym c.desk.ensures) known.assessed.knows in
+    ap (ruled H who now) c.requires.asked.command_is
+    ∙ sym (grade-unknown H (names_of H) desk who now c.args.number campaign.phase known.phase_is c.if-not-is_in.ensures knows.leased
+    (sym c.in_default.ensures.lease) c.args.grade)
 
 pub returns-in-Some-lease_refusal : goal.returns-in-Some-lease_refusal
 returns-in-Some-lease_refusal c =

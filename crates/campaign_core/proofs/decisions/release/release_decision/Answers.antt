@@ -3,7 +3,7 @@ use Rattle.assessment.specs.Changes.{IsUnended}
 use Rattle.rulebook.specs.Answers.{ruled}
 use Rattle.campaign_core.specs.Leasing.{IsLeased}
 use Rattle.campaign_core.specs.Numbers.{names_of}
-use Rattle.campaign_core.proofs.Rulings.LeaseRulings.{release-done, release-refused, unended, out-of-phase}
+use Rattle.campaign_core.proofs.Rulings.LeaseRulings.{release-done, release-refused, release-unknown, unended, out-of-phase}
 use Rattle.rulebook.specs.declared.rules.Phase.TheVariants.{Judging}
 use Rattle.rulebook.specs.Refusals.{is_phase}
 use Rattle.campaign_core.specs.Decisions.{IsDecision}
@@ -16,6 +16,19 @@ returns-then-not-is_in c =
     let other : false ≡ is_phase Judging campaign.phase = sym c.if-not-is_in.true ∙ c.is_in.ensures in
     subst (IsDecision campaign (names_of campaign.history.items) core) (sym c.wrong_phase.ensures)
     (ap (ruled campaign.history.items core.caller core.moment) c.requires.command_is ∙ out-of-phase campaign.history.items Judging campaign.phase _ _ c.requires.asked.known.phase_is other)
+
+pub returns-in_default : goal.returns-in_default
+returns-in_default c =
+    let campaign = c.args.campaign.now in
+    let H = campaign.history.items in
+    let who = c.args.core.now.caller in
+    let now = c.args.core.now.moment in
+    let known = c.requires.asked.known in
+    let desk = c.desk.result.now.leases in
+    let leased : IsLeased H (names_of H) desk = subst (IsLeased H (names_of H)) (sym c.desk.ensures) known.assessed.knows.leased in
+    ap (ruled H who now) c.requires.command_is
+    ∙ sym (release-unknown H (names_of H) desk who now c.args.number campaign.phase known.phase_is c.if-not-is_in.ensures leased
+    (sym c.in_default.ensures.lease))
 
 pub returns-in-Some-lease_refusal : goal.returns-in-Some-lease_refusal
 returns-in-Some-lease_refusal c =
