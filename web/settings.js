@@ -28,7 +28,7 @@ export function buttonGrades() {
 
 /** Whether a topic's documents of this grade are relevant; null where that isn't known. */
 export function isRelevant(topic, grade) {
-  const level = settings.levels?.[topic] ?? settings.level;
+  const level = topicOf(topic)?.level ?? settings.level;
   return level === undefined ? null : grade >= level;
 }
 

@@ -21,7 +21,8 @@ export function show(main) {
     el("button", { class: "strong" }, texts.submit.send),
     view.fault,
   );
-  main.append(el("h1", {}, texts.submit.heading), sheet, runPanel(texts.run.heading));
+  const late = el("p", { class: "hint" }, texts.submit.late);
+  main.append(el("h1", {}, texts.submit.heading), late, sheet, runPanel(texts.run.heading));
   const left = leftOver();
   if (left !== null && left.kind === "submit" && left.body === null) {
     tell(texts.submit.left(left.about.run), "warning");

@@ -123,6 +123,7 @@ export const texts = {
 
   submit: {
     heading: "Submit",
+    late: "Runs are taken until the publication. A late one takes its place among the others by the grades so far, which score it at once. Documents that were given out or graded before stay so.",
     file: "Run",
     fileHint: "Lines of six fields: topic, Q0, docno, rank, score, tag.",
     name: "Name of the run",
