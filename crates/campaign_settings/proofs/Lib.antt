@@ -1,3 +1,4 @@
+pub mod Ascending
 pub mod Documents
 pub mod Each
 pub mod Lists

@@ -124,19 +124,7 @@ fn name_of(alloc: Global, value: &Value) -> Result<Text, SettingsEnd>
 fn is_ascending(names: &[Text]) -> bool
     ensures { result ≡ is_ascending names.now }
 {
-    let [first, rest @ ..] = names else {
-        return true;
-    };
-    let mut before = first;
-    let mut left = rest;
-    while let [next, rest @ ..] = left {
-        if !is_before(before, next) {
-            return false;
-        }
-        before = next;
-        left = rest;
-    }
-    true
+    names.is_sorted_by(|name, next| is_before(name, next))
 }
 
 fn is_before(name: &Text, next: &Text) -> bool
@@ -196,19 +184,7 @@ fn level_of(alloc: Global, value: &Value, top: u64) -> Result<TopicLevel, Settin
 fn topics_ascend(levels: &[TopicLevel]) -> bool
     ensures { result ≡ is_ascending (map (λ own. own.topic) levels.now) }
 {
-    let [first, rest @ ..] = levels else {
-        return true;
-    };
-    let mut before = first;
-    let mut left = rest;
-    while let [next, rest @ ..] = left {
-        if !is_before(&before.topic, &next.topic) {
-            return false;
-        }
-        before = next;
-        left = rest;
-    }
-    true
+    levels.is_sorted_by(|own, next| is_before(&own.topic, &next.topic))
 }
 
 /// The callers, and their keys.
