@@ -112,11 +112,19 @@ fn number_fault<'a>(text: &str, table: &Table) -> Option<Finding<'a>> {
     let mut found = None;
     for (key, high) in rows {
         if let Some(fault) = fault_of_number(table, key, high) {
-            let line = line_of_key(text, 0, key);
+            let line = line_of_number(text, table, key);
             found = earlier(found, Some(Finding { line, fault }));
         }
     }
     found
+}
+
+// A number that is missing has no line, though a topic's level may have one.
+fn line_of_number(text: &str, table: &Table, key: &str) -> Option<usize> {
+    match table.get(key) {
+        Some(_) => line_of_key(text, 0, key),
+        None => None,
+    }
 }
 
 // The greatest grade that the settings allow, where they tell one.
@@ -185,25 +193,23 @@ fn are_levels(value: &Value, top_grade: i64) -> bool {
     };
     let mut before = "";
     for item in items {
-        match text_at(item, "topic") {
-            Some(topic)
-                if is_name(topic.as_bytes()) && before < topic && has_level(item, top_grade) =>
-            {
-                before = topic;
-            }
+        match topic_with_level(item, top_grade) {
+            Some(topic) if before < topic => before = topic,
             _ => return false,
         }
     }
     items.len() <= MAX_TOPICS as usize
 }
 
-fn has_level(item: &Value, top_grade: i64) -> bool {
-    let Some(table) = item.as_table() else {
-        return false;
-    };
-    match integer_at(table, "level") {
-        Some(level) => 1 <= level && level <= top_grade && table.len() == 2,
-        None => false,
+// The topic of a table that has a topic and its level alone.
+fn topic_with_level(item: &Value, top_grade: i64) -> Option<&str> {
+    let topic = text_at(item, "topic")?;
+    let table = item.as_table()?;
+    let level = integer_at(table, "level")?;
+    if is_name(topic.as_bytes()) && 1 <= level && level <= top_grade && table.len() == 2 {
+        Some(topic)
+    } else {
+        None
     }
 }
 

@@ -1,7 +1,7 @@
 //! The lines of the settings' text, as it is written by hand: the keys of the campaign stand above the callers, and each
 //! caller's behind a header `[[caller]]` of its own.
 
-/// The line, from 1, that gives a key: above the headers where `caller` is 0, else behind the header of this caller.
+/// The line, from 1, that gives a key: above the callers where `caller` is 0, else behind the header of this caller.
 pub fn line_of_key(text: &str, caller: usize, key: &str) -> Option<usize> {
     let mut headers = 0usize;
     for (place, line) in text.lines().enumerate() {
@@ -50,6 +50,7 @@ pub fn line_of_place(text: &[u8], place: usize) -> usize {
     line
 }
 
+// Whether a line is the header of a caller.
 fn is_header(line: &str) -> bool {
     match line.trim_start().strip_prefix("[[") {
         Some(rest) => rest.trim_start_matches(is_behind_key).starts_with("caller"),
