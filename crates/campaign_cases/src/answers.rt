@@ -3,7 +3,7 @@ use decimal_rank::Text;
 use rulebook::Reply;
 use std::alloc::Global;
 
-/// What a reply says, of whose entry this is the moment. The topic 1 and its title aren't said.
+/// What a reply says, of whose entry this is the moment. The topic 1 and the title of the topics aren't said.
 pub(crate) fn words_of(alloc: Global, reply: &Reply, moment: u64) -> Option<String> {
     match reply {
         Reply::Done => format!(in alloc; "done {moment}").ok(),
@@ -19,9 +19,13 @@ pub(crate) fn words_of(alloc: Global, reply: &Reply, moment: u64) -> Option<Stri
             if word(title)? != "pooling" {
                 return None;
             }
-            leased(alloc, *lease, of_topic_one(topic, doc)?, *until)
+            let doc = placed(alloc, topic, doc)?;
+            leased(alloc, *lease, doc.as_str(), *until)
         }
-        Reply::Graded { topic, doc, grade } => graded(alloc, of_topic_one(topic, doc)?, *grade),
+        Reply::Graded { topic, doc, grade } => {
+            let doc = placed(alloc, topic, doc)?;
+            graded(alloc, doc.as_str(), *grade)
+        }
         Reply::Pool { docs, .. } => pool_words(alloc, docs.items()),
         Reply::Page { text } => page(alloc, word(text)?),
         Reply::Refused(refusal) => format!(in alloc; "refused {refusal:?}").ok(),
@@ -44,12 +48,14 @@ fn word(text: &Text) -> Option<&str> {
     str::from_utf8(text.bytes()).ok()
 }
 
-// The document, of the topic 1.
-fn of_topic_one<'x>(topic: &'x Text, doc: &'x Text) -> Option<&'x str> {
-    if word(topic)? != "1" {
-        return None;
+// A document of the topic 1, and another one behind its topic.
+fn placed(alloc: Global, topic: &Text, doc: &Text) -> Option<String> {
+    let topic = word(topic)?;
+    let doc = word(doc)?;
+    if topic == "1" {
+        return String::from_str(alloc, doc).ok();
     }
-    word(doc)
+    format!(in alloc; "{topic}/{doc}").ok()
 }
 
 fn pool_words(alloc: Global, docs: &[Text]) -> Option<String> {

@@ -4,7 +4,8 @@
 //!     p#7 1000 grade 1 0           under the number 7
 //!     p 1000 cancel lease 1        the entry is cancelled once it is prepared
 //!
-//! A request is made of its method, path and body, which `routes` reads. Its topic is 1, where it names no other.
+//! A request is made of its method, path and body, which `routes` reads. Its topic is 1, where it names no other: those
+//! with `-2` are of the topic 2.
 ghost use Rattle.std.specs.Prelude.{◌≤◌, ℕ, IfSome, IsTrue};
 ghost use Rattle.rulebook.specs.Legal.{is_well_addressed};
 ghost use Rattle.rulebook.specs.declared.limits.TheConstants.{MAX_MOMENT};
@@ -18,6 +19,7 @@ use std::alloc::Global;
 // Each verb, and the method, the path and the body of its request: `$` is the first word behind the verb, `%` the second,
 // `@` the lines of a run of the second's letters by rank, and `|` ends a line. A stray run has a list of the topic 9.
 const FORMS: &str = r#"topics POST /topics <top>|<num> 1|<title> pooling|</top>|
+topics-2 POST /topics <top>|<num> 1|<title> pooling|</top>|<top>|<num> 2|<title> pooling|</top>|
 submit POST /runs/$ @
 stray POST /runs/$ 1 Q0 a 1 1 t|9 Q0 b 1 1 t|
 open POST /open
@@ -25,7 +27,9 @@ lease POST /topics/$/lease
 grade POST /leases/$/grade {"grade":%}
 release POST /leases/$/release
 amend POST /topics/1/amend {"doc":"$","grade":%}
+amend-2 POST /topics/2/amend {"doc":"$","grade":%}
 rule POST /topics/1/rule {"doc":"$","grade":%}
+rule-2 POST /topics/2/rule {"doc":"$","grade":%}
 withdraw POST /runs/$/withdraw
 publish POST /publish
 pool GET /topics/$/pool
@@ -156,10 +160,16 @@ fn fields(alloc: Global, asked: &Asked) -> Result<Rows<HttpField>, Memory> {
     Ok(Rows::new(fields))
 }
 
-// The lines of a run of these documents on the topic 1.
+// The lines of a run of these documents on the topic 1, and behind a slash of those on the topic 2.
 fn add_run(alloc: Global, docs: &str, out: &mut Vec<u8>) -> Result<(), Memory> {
+    let (first, second) = docs.split_once('/').unwrap_or((docs, ""));
+    add_list(alloc, "1", first, out)?;
+    add_list(alloc, "2", second, out)
+}
+
+fn add_list(alloc: Global, topic: &str, docs: &str, out: &mut Vec<u8>) -> Result<(), Memory> {
     for (place, doc) in docs.chars().enumerate() {
-        let line = format!(in alloc; "1 Q0 {doc} {place} -{place} t\n")?;
+        let line = format!(in alloc; "{topic} Q0 {doc} {place} -{place} t\n")?;
         add(line.as_bytes(), out)?;
     }
     Ok(())
