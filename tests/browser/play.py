@@ -448,12 +448,13 @@ def nothing_more_was_done(campaign):
 
 
 def second_campaign(campaign):
-    """One document at once, leases of twelve seconds; and no settings.json."""
+    """One document at once, leases of twelve seconds, and a level of topic 402; and no settings.json."""
     server = campaign.server
     os.remove(campaign.file("campaign.journal"))
     with open(campaign.file("campaign.toml")) as file:
         settings = file.read()
-    campaign.file("campaign.toml", settings.replace("term = 3600", "term = 12").replace("hold = 2", "hold = 1"))
+    settings = settings.replace("term = 3600", "term = 12").replace("hold = 2", "hold = 1")
+    campaign.file("campaign.toml", settings.replace("levels = []", 'levels = [{ topic = "402", level = 2 }]'))
     os.remove(os.path.join(campaign.front.web, "settings.json"))
     server.start()
     server.asked("/topics", KEYS["office"], "@" + campaign.file("topics.txt"))
@@ -548,6 +549,24 @@ def key_is_changed(campaign):
     same("what the tab keeps", [name for name in page.kept() if name.startswith("campaign.")], [])
 
 
+def levels_of_topics(campaign):
+    """The buttons show which grades are relevant on a topic, as settings.json tells it."""
+    page = campaign.page
+    campaign.front.settings(campaign.file("campaign.toml"), campaign.file("topics.txt"))
+    ben = Assessor(page, campaign.front, "ben at last", KEYS["ben"])
+    ben.signs_in("Assess")
+    for topic, relevant in (("401", [False, True, True]), ("402", [False, False, True])):
+        ben.takes(topic)
+        same(f"the relevant grades of {topic}", page.run(RELEVANT), relevant)
+        page.click("#give-back")
+        page.settled()
+
+
+RELEVANT = """
+  return [...document.querySelectorAll("button.grade")].map((one) => one.classList.contains("relevant"));
+"""
+
+
 def browser_is_content(campaign):
     """Nothing was loaded from elsewhere, no key stood in an address, and the policy held."""
     page, front = campaign.page, campaign.front
@@ -581,6 +600,7 @@ def play(program, folder, pictures):
         grade_is_too_late(ben)
         ruling_without_grade(campaign)
         key_is_changed(campaign)
+        levels_of_topics(campaign)
         browser_is_content(campaign)
     finally:
         campaign.end()
