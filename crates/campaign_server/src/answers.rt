@@ -76,7 +76,9 @@ pub(crate) fn answer<T: Teller, I: Link>(
     let moment = link.moment();
     let answered = act(teller, reading, moment);
     buffer.put(&answered, close);
-    write_all(link, buffer.text())
+    let written = write_all(link, buffer.text());
+    buffer.settle();
+    written
 }
 
 /// Answers a refused message, with close.

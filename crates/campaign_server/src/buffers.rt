@@ -11,6 +11,9 @@ use std::marker::Model;
 /// The most bytes of the answer of an accepted command, a refusal or a fault.
 const ROOM: usize = 4096;
 
+/// How many bytes of room are kept for the next answer at most.
+const MOST_KEPT: usize = 1 << 20;
+
 /// The text of an answer, with room for each that is short. Contracts see the text.
 #[derive(Drop)]
 pub(crate) struct Buffer {
@@ -79,5 +82,13 @@ impl Buffer {
             → self.new ≡ text_of answered.now close }
     {
         put_text(&mut self.text, answered, close);
+    }
+
+    /// The text isn't needed any more: the room of a large one is given back.
+    pub(crate) fn settle(&mut self) {
+        if self.text.capacity() > MOST_KEPT {
+            self.text.clear();
+            self.text.shrink_to(ROOM);
+        }
     }
 }

@@ -77,10 +77,11 @@ enum ReadFault {
     Memory,
 }
 
-// Reads a piece into the stream, and returns how many bytes it has: none at the end.
+// Reads a piece into the stream, by way of the chunk, and returns how many bytes it has: none at the end.
 fn read_piece<I: Link>(
     link: &mut I,
     stream: &mut AskStream,
+    chunk: &mut [u8; CHUNK],
     taken: usize,
 ) -> Result<usize, ReadFault>
     requires { taken < 2 ^ 40 }
@@ -90,7 +91,6 @@ fn read_piece<I: Link>(
     ensures writing_kept { (I.seen link.new).writing ≡ (I.seen link.old).writing }
     ensures clock_kept { (I.seen link.new).clock ≡ (I.seen link.old).clock }
 {
-    let mut chunk = [0; CHUNK];
     let room = (MOST_TAKEN - taken).min(CHUNK);
     match link.read(&mut chunk[..room]) {
         Ok(count) => match stream.feed(&chunk[..count]) {
@@ -140,10 +140,11 @@ fn converse_by<T: Teller, I: Link>(
 {
     pieces_go_on();
     readings_go_on();
+    let mut chunk = [0; CHUNK];
     let mut taken = 0;
     let mut clean = true;
     'pieces: while taken < MOST_TAKEN {
-        match read_piece(link, stream, taken) {
+        match read_piece(link, stream, &mut chunk, taken) {
             Err(ReadFault::Failed) => return End::ReadFault,
             Err(ReadFault::Memory) => return End::Memory,
             Ok(0) => return at_end(clean),
