@@ -1,4 +1,5 @@
 pub mod BookTalks
 pub mod ReadPieces
 pub mod ServerEnds
+mod Sharing
 pub mod TalkSteps

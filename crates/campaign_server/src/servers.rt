@@ -2,8 +2,8 @@
 //! the records of their links are handed to the door.
 //!
 //! ```text
-//! opening     room for the team and its records, the hall, and then the door; a ledger for the links
-//! workers     each with its own pass, share and table of the paths: the next link of the acceptor, its connection, its record
+//! opening     room for the team and its records, the table of the paths, the hall, and then the door; a ledger for the links
+//! workers     each with its own pass and share: the next link of the acceptor, its connection, its record
 //! joining     the passes are joined, the shares merged; so the number of records is that of the links
 //! settling    each record is handed to the door, and the book is taken out of the hall
 //! ```
@@ -28,7 +28,7 @@ use core::mem::replace_with;
 use decimal_rank::{Failed, Memory};
 use disk_model::Disk;
 use hall::Hall;
-use routes::Keys;
+use routes::{Keys, Paths};
 use std::alloc::Global;
 use std::marker::Brand;
 use std::sync::ledger::Blank;
@@ -135,6 +135,9 @@ fn serve_owned<D: Disk + Send, R: Door, J: Opening + Send + Sync, W: Threads + W
     let Ok(records) = Vec::with_capacity(alloc, numbers.workers as usize) else {
         return (door, (book, ServeEnd::Memory));
     };
+    let Ok(paths) = Paths::new(alloc) else {
+        return (door, (book, ServeEnd::Memory));
+    };
     let (hall, mut pass) = match Hall::new(alloc, book) {
         Ok(made) => made,
         Err((book, Memory)) => return (door, (book, ServeEnd::Memory)),
@@ -156,6 +159,7 @@ fn serve_owned<D: Disk + Send, R: Door, J: Opening + Send + Sync, W: Threads + W
     let site = Site {
         hall,
         acceptor: Mutex::new(Acceptor::new(door, numbers.connections, count)),
+        paths,
         keys,
         limit: numbers.connections,
     };
@@ -169,6 +173,7 @@ fn serve_owned<D: Disk + Send, R: Door, J: Opening + Send + Sync, W: Threads + W
     let Site {
         hall,
         acceptor,
+        paths: _,
         keys: _,
         limit: _,
     } = site;

@@ -1,5 +1,5 @@
-//! The workers of a server. Each has a pass of its own and a share of the ledger of links, and makes a table of the
-//! paths; then it takes one link after another of the acceptor, serves it, and keeps its record.
+//! The workers of a server. Each has a pass of its own and a share of the ledger of links; it takes one link after
+//! another of the acceptor, serves it, and keeps its record.
 ghost use Rattle.std.specs.Prelude.{◌≡◌, ◌≢◌, ◌<◌, ◌⊎◌, All, false, length, true};
 ghost use Rattle.rulebook.specs.Stories.{Story};
 ghost use Rattle.campaign_server.specs.declared.ends.End.TheVariants.{Memory as EndMemory};
@@ -13,7 +13,6 @@ use crate::sites::Site;
 use book::Book;
 use disk_model::Disk;
 use hall::Pass;
-use routes::Paths;
 use std::alloc::Global;
 use std::marker::Model;
 use std::sync::Wait;
@@ -66,7 +65,6 @@ fn serve_next<D: Disk, R: Door, J: Opening, W: Wait>(
     rt: &W,
     alloc: Global,
     site: &Site<D, R, J>,
-    paths: &Paths,
     work: &mut Work<D, R, J>,
 ) -> bool
     requires hall { work.old.pass.hall ≡ site.now.hall }
@@ -91,7 +89,7 @@ fn serve_next<D: Disk, R: Door, J: Opening, W: Wait>(
         &site.hall,
         &mut work.pass,
         &mut line,
-        paths,
+        &site.paths,
         site.keys,
     );
     work.pass.places_rise();
@@ -107,7 +105,6 @@ fn serve_all<D: Disk, R: Door, J: Opening, W: Wait>(
     rt: &W,
     alloc: Global,
     site: &Site<D, R, J>,
-    paths: &Paths,
     work: &mut Work<D, R, J>,
 )
     requires hall { work.old.pass.hall ≡ site.now.hall }
@@ -116,14 +113,13 @@ fn serve_all<D: Disk, R: Door, J: Opening, W: Wait>(
     ensures { GoesOn site.now.keys.now work.old work.new }
 {
     for _ in 0..site.limit {
-        if !serve_next(rt, alloc, site, paths, work) {
+        if !serve_next(rt, alloc, site, work) {
             break;
         }
     }
 }
 
-/// Serves links as a worker that did nothing yet. It makes its own table of the paths, in its own thread: no proof says
-/// that threads may share one of `matchit`'s routers.
+/// Serves links as a worker that did nothing yet.
 fn serve_first<D: Disk, R: Door, J: Opening, W: Wait>(
     rt: &W,
     alloc: Global,
@@ -134,11 +130,7 @@ fn serve_first<D: Disk, R: Door, J: Opening, W: Wait>(
     ensures { (start : Story) → IsFresh site.now.hall start work.old
         → HasServed site.now.keys.now site.now.hall start work.new }
 {
-    let Ok(paths) = Paths::new(alloc) else {
-        work.short = true;
-        return;
-    };
-    serve_all(rt, alloc, site, &paths, work)
+    serve_all(rt, alloc, site, work)
 }
 
 /// All workers of a team serve at the same time, until the acceptor gives no link.

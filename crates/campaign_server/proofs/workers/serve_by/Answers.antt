@@ -8,6 +8,7 @@ use Rattle.hall.proofs.passes.Pass.TheSendSync.{the_send as pass_send}
 use Rattle.book.proofs.Sending.{book_send}
 use Rattle.routes.proofs.keys.Keys.TheSendSync.{the_sync as keys_sync}
 use Rattle.campaign_server.specs.Workers.{HasServed, IsFresh}
+use Rattle.campaign_server.proofs.Sharing.{paths_sync}
 use Rattle.campaign_server.proofs.acceptors.Acceptor.TheSendSync.{the_send as acceptor_send}
 use Rattle.campaign_server.proofs.ends.End.TheSendSync.{the_send as end_send}
 use Rattle.campaign_server.proofs.workers.serve_by.Goals as goal
@@ -20,7 +21,7 @@ for_each_mut-requires-send-T g c κs within =
     let kept : IsSend (param 5 g.row.R-Record) = search rules parts 8 in
     search (crosses, sendable, pass_send, book_send, share_send, end_send) depth 60 fits 20000
 
--- and all threads share the hall, the acceptor's lock and the keys
+-- and all threads share the hall, the acceptor's lock, the table of the paths and the keys
 pub for_each_mut-requires-sync-F : goal.for_each_mut-requires-sync-F
 for_each_mut-requires-sync-F g c κs within =
     let disk : IsSend (param 0 g.row.D) = search rules parts 8 in
@@ -28,7 +29,7 @@ for_each_mut-requires-sync-F g c κs within =
     let ledger : IsSend (param 2 g.row.J) = search rules parts 8 in
     let ledger_sync : IsSync g.row.J = search rules parts 8 in
     let waits : IsSync g.row.W = search rules parts 8 in
-    search (crosses, sendable, hall_sync, book_send, keys_sync, acceptor_send) depth 60 fits 20000
+    search (crosses, sendable, hall_sync, book_send, paths_sync, keys_sync, acceptor_send) depth 60 fits 20000
 
 pub returns-clause-served : goal.returns-clause-served
 returns-clause-served g c = λ start all k d less.
