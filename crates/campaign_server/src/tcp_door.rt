@@ -14,7 +14,6 @@ use std::io::Read;
 use std::marker::Send;
 use std::net::{Ipv4Addr, Net, Shutdown, SocketAddr, TcpListener, TcpStream};
 use std::rt::Clock;
-use std::time::Duration;
 
 /// How many pieces that a peer still sends are dropped at the end of its connection, each of at most 8,192 bytes.
 const MOST_DROPPED: u32 = 4_096;
@@ -28,6 +27,8 @@ pub struct TcpLink<R: Clock> {
     write_faults: u64,
     watch: Watch,
     patience: Patience,
+    /// The peer sends nothing more: its end was read.
+    ended: bool,
 }
 
 impl<R: Clock + Drop> Link for TcpLink<R> {
@@ -42,6 +43,7 @@ impl<R: Clock + Drop> Link for TcpLink<R> {
     fn read(&mut self, out: &mut [u8]) -> Result<usize, Failed> {
         self.patience.turn_to(&self.runtime, Turn::Sends);
         let told = self.patience.read(&self.runtime, &mut self.stream, out);
+        self.ended = matches!(told, Ok(0));
         given_by(told, &mut self.read_faults)
     }
 
@@ -59,11 +61,10 @@ impl<R: Clock + Drop> Link for TcpLink<R> {
         record { taken = refl; left = refl; last = refl; written = refl; moments = refl } };
 }
 
-// Ends the sending side, and drops what the peer still sends, for a second at most: a connection that is closed with
-// bytes unread is reset, and its peer may then lose the last answer.
+// Ends the sending side, and drops what the peer still sends, for two seconds at most, since each read waits for one: a
+// connection that is closed with bytes unread is reset, and its peer may then lose the last answer.
 fn close<R: Clock>(runtime: &R, stream: &mut TcpStream) {
     let _ = stream.shutdown(Shutdown::Write);
-    let _ = stream.set_read_timeout(Some(Duration::from_millis(100)));
     let since = now(runtime);
     let mut dropped = [0u8; 8192];
     for _ in 0..MOST_DROPPED {
@@ -135,6 +136,7 @@ impl<R: Net<Listener = TcpListener, Stream = TcpStream> + Clock + Copy + Send + 
                 write_faults: 0,
                 watch: Watch::new(),
                 patience: Patience::new(&self.runtime),
+                ended: false,
             })),
             None => {
                 self.faults = count_more(self.faults);
@@ -143,9 +145,9 @@ impl<R: Net<Listener = TcpListener, Stream = TcpStream> + Clock + Copy + Send + 
         }
     }
 
-    // (a link that failed is closed at once)
+    // (a link that failed, or whose peer sends nothing more, is closed at once)
     fn finish(mut link: TcpLink<R>) {
-        if link.read_faults == 0 && link.write_faults == 0 {
+        if !link.ended && link.read_faults == 0 && link.write_faults == 0 {
             close(&link.runtime, &mut link.stream);
         }
     }
