@@ -22,9 +22,10 @@ use second_looks::{tell_journal, tell_settings};
 use sentences::{tell_status, tell_usage};
 use shelf_reports::ReportingShelf;
 use std::alloc::{AllocError, Global};
-use std::env;
 use std::io::ErrorKind;
+use std::path::PathBuf;
 use std::process::ExitCode;
+use std::{env, fs};
 
 /// The file that keeps the campaign, in the folder that the program runs in.
 const JOURNAL: &str = "campaign.journal";
@@ -66,17 +67,36 @@ fn is_evaluation(words: &[String]) -> bool {
     }
 }
 
+// The journal's file, behind a symbolic link too; none where there is no such file yet.
+fn journal_file(rt: &HostRuntime) -> Result<Option<PathBuf>, AllocError> {
+    match fs::canonicalize(rt, JOURNAL) {
+        Ok(path) => Ok(Some(path)),
+        Err(error) if error.kind() == ErrorKind::OutOfMemory => Err(AllocError),
+        Err(_) => Ok(None),
+    }
+}
+
+// What the system tells at the start: the words, and the journal's file.
+fn start(rt: &HostRuntime, alloc: Global) -> Result<(Vec<String>, Option<PathBuf>), AllocError> {
+    let words = words(rt, alloc)?;
+    Ok((words, journal_file(rt)?))
+}
+
 fn main(rt: HostRuntime) -> ExitCode {
     let alloc = rt.alloc();
     if !Secret::is_source_answering() {
         let _ = rt.eprintln(WEAKER);
     }
-    let status = match words(&rt, alloc) {
-        Ok(words) => {
+    let status = match start(&rt, alloc) {
+        Ok((words, file)) => {
+            let journal = match &file {
+                Some(path) => path.as_str(),
+                None => JOURNAL,
+            };
             let mut shelf = ReportingShelf::new(FileShelf::new(&rt), &rt);
             let mut out = OutputSink::new(&rt);
             let mut own = StreamLink::new(&rt);
-            let disk = ReportingDisk::new(FileDisk::new(&rt, JOURNAL), &rt);
+            let disk = ReportingDisk::new(FileDisk::new(&rt, journal), &rt);
             let mut door = ReportingDoor::new(&rt);
             let (status, disk) = campaign(
                 &rt, alloc, &words, &mut shelf, &mut out, &mut own, disk, &mut door,

@@ -2,7 +2,8 @@
 use crate::complaints::complaint_of;
 use campaign_cli::{FileShelf, Shelf};
 use std::alloc::Global;
-use std::fs::{File, OpenOptions, TryLockError};
+use std::fs::{self, File, OpenOptions, TryLockError};
+use std::os::unix::fs::OpenOptionsExt;
 use std::rt::Files;
 
 const SETTINGS: &str = "campaign.toml";
@@ -23,11 +24,17 @@ pub fn tell_settings<R: Files<File = File> + Eprint>(rt: &R, alloc: Global) {
 
 /// Tells why the journal couldn't be used.
 pub fn tell_journal<R: Files<File = File> + Eprint>(rt: &R, journal: &str) {
+    let is_link = match fs::symlink_metadata(rt, journal) {
+        Ok(found) => found.is_symlink(),
+        Err(_) => false,
+    };
     let mut options = OpenOptions::new();
+    // (behind a link that leads nowhere no file is made)
     let _ = match options
         .read(true)
         .write(true)
-        .create(true)
+        .create(!is_link)
+        .mode(0o600)
         .open(rt, journal)
     {
         Err(error) => eprintln!(rt;

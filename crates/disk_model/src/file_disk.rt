@@ -6,12 +6,14 @@ use crate::disks::Disk;
 use decimal_rank::{Failed, count_more};
 use std::fs::{self, File, OpenOptions, TryLockError};
 use std::io::{self, ErrorKind};
-use std::os::unix::fs::FileExt;
+use std::os::fd::AsRawFd;
+use std::os::unix::fs::{FileExt, MetadataExt, OpenOptionsExt};
 use std::path::Path;
 use std::rt::Files;
 
-/// A file that is opened at the first call, and made where it isn't there. It is locked while it is
-/// open: where another process has it as a disk, each call fails.
+/// A file that is opened at the first call, and made where it isn't there, for its owner alone. It is
+/// locked while it is open: where another process has it as a disk, each call fails. A symbolic link is
+/// no disk, so a path is resolved before.
 #[derive(Drop)]
 pub struct FileDisk<'a, R: Files<File = File>> {
     files: R,
@@ -35,21 +37,56 @@ impl<'a, R: Files<File = File> + Drop> FileDisk<'a, R> {
 // Opens the file, or makes it, and locks it. Its folder is synced where it can be, so that a new
 // file outlasts a power cut.
 fn open_locked<R: Files<File = File>>(files: &R, path: &str) -> io::Result<File> {
+    if is_link(files, path) {
+        return Err(ErrorKind::InvalidInput.into());
+    }
     let file = OpenOptions::new()
         .read(true)
         .write(true)
         .create(true)
+        .mode(0o600)
         .open(files, path)?;
     match file.try_lock() {
         Ok(()) => {}
         Err(TryLockError::WouldBlock) => return Err(ErrorKind::WouldBlock.into()),
         Err(TryLockError::Error(error)) => return Err(error),
     }
+    read_from_the_disk(&file)?;
     match sync_folder(files, path) {
         Ok(()) => Ok(file),
         Err(error) if is_not_for_folders(error.kind()) => Ok(file),
         Err(error) => Err(error),
     }
+}
+
+// Whether the path is a symbolic link, whose folder isn't that of its file.
+fn is_link<R: Files<File = File>>(files: &R, path: &str) -> bool {
+    match fs::symlink_metadata(files, path) {
+        Ok(found) => found.is_symlink(),
+        Err(_) => false,
+    }
+}
+
+// Has later reads come from the disk. Where a sync failed, the system may take what it holds in memory
+// for synced, and answer the next sync by Ok: a process that is started then would read what no disk has.
+fn read_from_the_disk(file: &File) -> io::Result<()> {
+    file.sync_data()?;
+    match libc::posix_fadvise(file.as_raw_fd(), 0, 0, libc::POSIX_FADV_DONTNEED) {
+        0 => Ok(()),
+        number => {
+            let error = io::Error::from_raw_os_error(number);
+            if is_unknown_advice(error.kind()) {
+                Ok(())
+            } else {
+                Err(error)
+            }
+        }
+    }
+}
+
+// Whether the file's system knows no such advice.
+fn is_unknown_advice(kind: ErrorKind) -> bool {
+    matches!(kind, ErrorKind::InvalidInput | ErrorKind::Unsupported)
 }
 
 fn sync_folder<R: Files<File = File>>(files: &R, path: &str) -> io::Result<()> {
@@ -86,6 +123,15 @@ fn opened<'f, R: Files<File = File>>(
 
 fn length_of(file: &File) -> io::Result<u64> {
     Ok(file.metadata()?.len())
+}
+
+// What is synced in a file that no folder has any more goes with the process that has it open.
+fn sync_kept(file: &File) -> io::Result<()> {
+    file.sync_data()?;
+    if file.metadata()?.nlink() == 0 {
+        return Err(ErrorKind::NotFound.into());
+    }
+    Ok(())
 }
 
 // Reads on where a read gives less, and takes an interrupted one up again.
@@ -174,7 +220,7 @@ impl<'a, R: Files<File = File> + Drop> Disk for FileDisk<'a, R> {
     fn sync(&mut self) -> Result<(), Failed> {
         let opening = opened(&self.files, self.path, &mut self.file);
         let file = counted(opening, &mut self.faults)?;
-        counted(file.sync_data(), &mut self.faults)
+        counted(sync_kept(file), &mut self.faults)
     }
 
     fn faults(&self) -> u64 {
