@@ -37,6 +37,9 @@ fn a_file_is_written_cut_synced_and_opened_again(rt: HostRuntime) -> Result<(), 
     drop(disk);
     let mut again = FileDisk::new(&rt, path.as_str());
     assert_eq!(rt; front_of(&mut again), Ok((*b"aXY", 4)));
+    let mut rest = [0; 2];
+    assert_eq!(rt; again.read(2, &mut rest), Ok(()));
+    assert_eq!(rt; rest, *b"Yd");
     assert_eq!(rt; again.faults(), 0);
     let mut out = [0; 5];
     assert_eq!(rt; again.read(0, &mut out), Err(Failed));
