@@ -9,4 +9,4 @@ mod toml_tables;
 
 pub use faults::SettingsEnd;
 pub use limits::{MOST_CALLERS, NAMES};
-pub use settings::{Settings, read_settings};
+pub use settings::{Settings, is_key, read_settings};

@@ -279,7 +279,7 @@ fn key_in(caller: &Value) -> Result<&[u8], SettingsEnd>
 }
 
 /// Whether a text may be a key: 16 to 64 letters and digits.
-fn is_key(text: &[u8]) -> bool
+pub fn is_key(text: &[u8]) -> bool
     ensures { result ≡ is_key text.now }
 {
     16 <= text.len() && text.len() <= 64 && are_key_bytes(text)
