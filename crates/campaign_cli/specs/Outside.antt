@@ -6,6 +6,7 @@ use Rattle.decimal_rank.specs.KnownBytes.{AppendsPart}
 use Rattle.decimal_rank.specs.Writings.{Writing}
 use Rattle.campaign_server.specs.Doors.{DoorState}
 use Rattle.campaign_server.specs.Links.{LinkState}
+use Rattle.campaign_cli.specs.declared.devices.Devices.{Devices}
 use Rattle.campaign_cli.specs.Shelves.{ShelfState, Lacks}
 
 -- the files, the output, the program's own link and its door
@@ -19,6 +20,24 @@ pub record Streams : Type 0 where
 pub record Outside (D : Type 0) : Type 0 where
   pub streams : Streams
   pub disk : D
+
+-- the streams by what is told of each
+abbrev pub streams_of : ShelfState → Writing → LinkState → DoorState → Streams
+streams_of shelf out own door = record { shelf = shelf; out = out; own = own; door = door }
+
+module _ {F O I R : Type 0} where
+  -- those behind devices, by what each of these tells
+  abbrev pub streams_behind : (F → ShelfState) → (O → Writing) → (I → LinkState) → (R → DoorState) → Devices F O I R → Streams
+  streams_behind shelf out own door devices =
+      streams_of (shelf devices.shelf.now) (out devices.out.now) (own devices.own.now) (door devices.door.now)
+
+  -- they are the same devices as before
+  abbrev pub AreSame : Devices F O I R → Devices F O I R → Type 0
+  AreSame old new = (new.shelf.ghost_name ≡ old.shelf.ghost_name) × (new.out.ghost_name ≡ old.out.ghost_name)
+      × (new.own.ghost_name ≡ old.own.ghost_name) × (new.door.ghost_name ≡ old.door.ghost_name)
+
+abbrev pub outside_of : {D : Type 0} → Streams → D → Outside D
+outside_of streams disk = record { streams = streams; disk = disk }
 
 -- The text was written whole and the program ends with the status, or a write failed, a part of it was written, and the program ends with 8.
 pub record Prints (old new : Writing) (text : List ℕ) (status ended : ℕ) : Type 0 where

@@ -96,7 +96,7 @@ asked words = request_of (map string_bytes words)
 abbrev pub meant : Command → Request
 meant (command.Eval run qrels) = Eval run.now qrels.now
 meant command.Session = Session
-meant (command.Serve port workers connections) = Serve (record { port = port; workers = workers; connections = connections })
+meant (command.Serve numbers) = Serve numbers
 meant (command.Drill numbers) = Drill numbers
 meant command.Check = Check
 meant command.Usage = Nothing
@@ -105,7 +105,7 @@ meant command.Usage = Nothing
 abbrev pub IsInRange : Command → Type 0
 IsInRange (command.Eval run qrels) = Unit {0}
 IsInRange command.Session = Unit {0}
-IsInRange (command.Serve port workers connections) = (1 ≤ workers) × (workers ≤ 16) × (1 ≤ connections)
+IsInRange (command.Serve numbers) = (1 ≤ numbers.workers) × (numbers.workers ≤ 16) × (1 ≤ numbers.connections)
 IsInRange (command.Drill numbers) = IsTrue (are_numbers numbers)
 IsInRange command.Check = Unit {0}
 IsInRange command.Usage = Unit {0}

@@ -1,18 +1,19 @@
 //! `check`: opens the campaign on the disk, and tells what it is. The opening mends the journal, and founds a campaign
 //! where there is none; then no further call is made on the disk.
 ghost use Rattle.std.specs.Prelude.{◌≡◌, IfOk};
-ghost use Rattle.campaign_server.specs.Doors.{DoorState};
-ghost use Rattle.campaign_server.specs.Links.{LinkState};
 ghost use Rattle.rulebook.specs.declared.reply.Reply.TheVariants.{Page as PageReply};
 ghost use Rattle.rulebook.specs.Scores.{table_page};
 ghost use Rattle.rulebook.specs.Words.{Text as PageText};
 ghost use Rattle.campaign_cli.specs.CheckEnds.{CheckEnds, Tells, check_text, phase_word};
+ghost use Rattle.campaign_cli.specs.Outside.{AreSame, outside_of, streams_behind};
 
+use crate::devices::Devices;
 use crate::openings::open_book;
 use crate::printing::print;
 use crate::shelves::Shelf;
 use crate::statuses::Status;
 use book::{Book, Disk};
+use campaign_server::{Door, Link};
 use decimal_rank::{Memory, Output as Sink, Text};
 use itoa::Buffer as Digits;
 use rulebook::{Addressed, Answer, Ask, Caller, Phase, Query, Reply, Role};
@@ -22,18 +23,19 @@ use std::alloc::Global;
 const ASKER: &[u8] = b"campaign";
 
 /// Reads the settings, opens their campaign from the disk and prints what it is.
-pub(crate) fn show_campaign<F: Shelf, O: Sink, D: Disk>(
+pub(crate) fn show_campaign<F: Shelf, O: Sink, I: Link, D: Disk, R: Door>(
     alloc: Global,
-    shelf: &mut F,
-    out: &mut O,
+    devices: &mut Devices<F, O, I, R>,
     disk: D,
 ) -> (Status, D)
-    ensures { (own : LinkState) (door : DoorState) → CheckEnds D.seen
-        (record { streams = record { shelf = F.seen shelf.old; out = O.writing out.old; own = own; door = door }; disk = disk })
-        (record { streams = record { shelf = F.seen shelf.new; out = O.writing out.new; own = own; door = door }; disk = result.1 }) result.0.0 }
+    ensures same { AreSame devices.old devices.new }
+    ensures ends { CheckEnds D.seen
+        (outside_of (streams_behind F.seen O.writing I.seen R.seen devices.old) disk)
+        (outside_of (streams_behind F.seen O.writing I.seen R.seen devices.new) result.1)
+        result.0.0 }
 {
-    match open_book(alloc, shelf, out, disk) {
-        Ok((book, _callers)) => show(alloc, book, out),
+    match open_book(alloc, devices.shelf, devices.out, disk) {
+        Ok((book, _callers)) => show(alloc, book, devices.out),
         Err(given) => given,
     }
 }

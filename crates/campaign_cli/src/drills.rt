@@ -1,10 +1,8 @@
 //! `drill`: plays a generated campaign in memory, and prints its seven lines.
 ghost use Rattle.std.specs.Prelude.{IsTrue};
-ghost use Rattle.campaign_server.specs.Doors.{DoorState};
-ghost use Rattle.campaign_server.specs.Links.{LinkState};
 ghost use Rattle.drill.specs.Figures.{are_numbers};
 ghost use Rattle.campaign_cli.specs.DrillEnds.{DrillEnds};
-ghost use Rattle.campaign_cli.specs.Shelves.{ShelfState};
+ghost use Rattle.campaign_cli.specs.Outside.{Streams};
 
 use crate::printing::print;
 use crate::statuses::Status;
@@ -13,15 +11,16 @@ use drill::{DrillNumbers, drill};
 use std::alloc::Global;
 
 /// Plays the campaign of these numbers, and prints what it comes to.
-pub(crate) fn run_drill<R, O: Sink>(
-    rt: &R,
+pub(crate) fn run_drill<W, O: Sink>(
+    rt: &W,
     alloc: Global,
     numbers: DrillNumbers,
     out: &mut O,
 ) -> Status
     requires { IsTrue (are_numbers numbers) }
-    ensures { (shelf : ShelfState) (own : LinkState) (door : DoorState) → DrillEnds numbers (record { shelf = shelf; out = O.writing out.old; own = own; door = door })
-        (record { shelf = shelf; out = O.writing out.new; own = own; door = door }) result.0 }
+    ensures { (other : Streams) → DrillEnds numbers
+        (record other { out = O.writing out.old })
+        (record other { out = O.writing out.new }) result.0 }
 {
     match drill(rt, alloc, &numbers) {
         Ok(text) => print(out, &text, Status(0)),

@@ -19,7 +19,8 @@ pub struct FileShelf<R: Files> {
 
 impl<R: Files + Drop> FileShelf<R> {
     pub fn new(files: R) -> FileShelf<R>
-        ensures { ⟦<FileShelf<R> as Shelf>⟧.seen result ≡ record { files = None; faults = 0; misses = 0 } }
+        ensures { ⟦<FileShelf<R> as Shelf>⟧.seen result
+            ≡ record { files = None; faults = 0; misses = 0 } }
     {
         FileShelf {
             files,
@@ -30,7 +31,8 @@ impl<R: Files + Drop> FileShelf<R> {
 }
 
 impl<R: Files + Drop> Shelf for FileShelf<R> {
-    ghost seen = { λ shelf. record { files = None; faults = shelf.faults; misses = shelf.misses } };
+    ghost seen = { λ shelf. record
+        { files = None; faults = shelf.faults; misses = shelf.misses } };
 
     fn read_file(&mut self, alloc: Global, name: &[u8]) -> Result<Vec<u8>, ShelfFault> {
         let result = read_short(&self.files, alloc, name);

@@ -5,6 +5,7 @@
 #![tactic(auto)]
 
 mod checks;
+mod devices;
 mod drills;
 mod evaluations;
 mod faults;

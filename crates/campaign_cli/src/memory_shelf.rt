@@ -1,5 +1,5 @@
 //! A shelf in memory, whose reads fail as it is told.
-ghost use Rattle.std.specs.Prelude.{◌≡◌, ◌≤◌, ◌↔◌, Some, None, IsTrue, IfOk, IfSome, length, option_copied};
+ghost use Rattle.std.specs.Prelude.{◌≡◌, ◌≤◌, ◌↔◌, IsTrue, IfOk, IfSome, length, option_copied};
 ghost use Rattle.decimal_rank.specs.FailurePlans.{fails_next};
 ghost use Rattle.campaign_cli.specs.Shelves.{Gives, Lacks, file_at, told_by, after_read};
 
@@ -23,7 +23,12 @@ impl Model for MemoryShelf {
 
     ghost Value = { MemoryShelfState };
 
-    ghost view = { λ shelf. record { files = shelf.files.items; plan = shelf.plan; faults = shelf.faults; misses = shelf.misses } };
+    ghost view = { λ shelf. record {
+      files = shelf.files.items;
+      plan = shelf.plan;
+      faults = shelf.faults;
+      misses = shelf.misses;
+    } };
 }
 
 // a call of its own, so that no caller's proof takes a shelf apart
@@ -41,7 +46,12 @@ impl Drop for MemoryShelf {
 impl MemoryShelf {
     /// A shelf of these files, by name and bytes. The reads at the places in `fails`, from 1, fail.
     pub fn new(files: Vec<(Text, Text)>, fails: Vec<u64>) -> MemoryShelf
-        ensures { result ≡ record { files = files.items; plan = record { fails = fails.items; calls = 0 }; faults = 0; misses = 0 } }
+        ensures { result ≡ record {
+          files = files.items;
+          plan = record { fails = fails.items; calls = 0 };
+          faults = 0;
+          misses = 0;
+        } }
     {
         MemoryShelf {
             files,

@@ -1,10 +1,9 @@
 //! The campaign of the settings, as the disk holds it.
 ghost use Rattle.std.specs.Prelude.{◌≡◌, IfErr, IfOk, IsTrue, OnOk};
 ghost use Rattle.book.specs.Openings.{Opened};
-ghost use Rattle.campaign_server.specs.Doors.{DoorState};
-ghost use Rattle.campaign_server.specs.Links.{LinkState};
 ghost use Rattle.rulebook.specs.Spelling.{are_rules};
 ghost use Rattle.campaign_cli.specs.BookEnds.{IsOpened, IsRefused, TellsFault, Unopened, entry_line};
+ghost use Rattle.campaign_cli.specs.Outside.{Streams, outside_of};
 ghost use Rattle.campaign_cli.specs.Shelves.{Follows};
 
 use crate::printing::print;
@@ -41,9 +40,10 @@ pub(crate) fn open_book<F: Shelf, O: Sink, D: Disk>(
         (λ found. IsOpened D.seen (F.seen shelf.old) disk found.0 found.1) }
     ensures out { OnOk result (O.writing out.new ≡ O.writing out.old) }
     ensures follows { Follows (F.seen shelf.old) (F.seen shelf.new) }
-    ensures unopened { IfErr result (λ given. (own : LinkState) (door : DoorState) → Unopened D.seen
-        (record { streams = record { shelf = F.seen shelf.old; out = O.writing out.old; own = own; door = door }; disk = disk })
-        (record { streams = record { shelf = F.seen shelf.new; out = O.writing out.new; own = own; door = door }; disk = given.1 }) given.0.0) }
+    ensures unopened { IfErr result (λ given. (other : Streams) → Unopened D.seen
+        (outside_of (record other { shelf = F.seen shelf.old; out = O.writing out.old }) disk)
+        (outside_of (record other { shelf = F.seen shelf.new; out = O.writing out.new }) given.1)
+        given.0.0) }
 {
     let text = match read(alloc, shelf, SETTINGS_FILE) {
         Ok(text) => text,

@@ -13,7 +13,8 @@ pub struct OutputSink<R: Print> {
 
 impl<R: Print + Drop> OutputSink<R> {
     pub fn new(output: R) -> OutputSink<R>
-        ensures { ⟦<OutputSink<R> as Output>⟧.writing result ≡ record { written = None; faults = 0 } }
+        ensures { ⟦<OutputSink<R> as Output>⟧.writing result
+            ≡ record { written = None; faults = 0 } }
     {
         OutputSink { output, faults: 0 }
     }

@@ -2,9 +2,11 @@
 //! and the door that it is given, and the status to end with is told.
 ghost use Rattle.campaign_server.specs.Doors.{IsShut};
 ghost use Rattle.campaign_cli.specs.Endings.{Ends};
-ghost use Rattle.campaign_cli.specs.Requests.{asked};
+ghost use Rattle.campaign_cli.specs.Outside.{AreSame, outside_of, streams_behind, streams_of};
+ghost use Rattle.campaign_cli.specs.Requests.{IsInRange, asked, meant};
 
 use crate::checks::show_campaign;
+use crate::devices::Devices;
 use crate::drills::run_drill;
 use crate::evaluations::score_files;
 use crate::servers::run_server;
@@ -14,7 +16,7 @@ use crate::statuses::Status;
 use crate::usage::tell_usage;
 use crate::words::{Command, read_words};
 use book::Disk;
-use campaign_server::{Door, Link, ServerNumbers};
+use campaign_server::{Door, Link};
 use decimal_rank::{Memory, Output as Sink};
 use std::alloc::Global;
 use std::sync::Wait;
@@ -36,29 +38,50 @@ pub fn campaign<W: Threads + Wait + Sync, F: Shelf, O: Sink, I: Link, D: Disk + 
 ) -> (Status, D)
     requires { IsShut (R.seen door.old) }
     ensures { Ends D.seen (asked words.now)
-        (record { streams = record { shelf = F.seen shelf.old; out = O.writing out.old; own = I.seen own.old; door = R.seen door.old }; disk = disk })
-        (record { streams = record { shelf = F.seen shelf.new; out = O.writing out.new; own = I.seen own.new; door = R.seen door.new }; disk = result.1 }) result.0.0 }
+        (outside_of (streams_of (F.seen shelf.old) (O.writing out.old) (I.seen own.old)
+        (R.seen door.old)) disk)
+        (outside_of (streams_of (F.seen shelf.new) (O.writing out.new) (I.seen own.new)
+        (R.seen door.new)) result.1) result.0.0 }
 {
     match read_words(alloc, words) {
-        Ok(Command::Eval { run, qrels }) => (score_files(alloc, run, qrels, shelf, out), disk),
-        Ok(Command::Session) => hold_session(rt, alloc, shelf, out, own, disk),
-        Ok(
-            Command::Serve {
-                port,
-                workers,
-                connections,
+        Ok(command) => run(
+            rt,
+            alloc,
+            command,
+            &mut Devices {
+                shelf,
+                out,
+                own,
+                door,
             },
-        ) => {
-            let numbers = ServerNumbers {
-                port,
-                workers,
-                connections,
-            };
-            run_server(rt, alloc, numbers, shelf, out, disk, door)
-        }
-        Ok(Command::Drill(numbers)) => (run_drill(rt, alloc, numbers, out), disk),
-        Ok(Command::Check) => show_campaign(alloc, shelf, out, disk),
-        Ok(Command::Usage) => (tell_usage(out), disk),
+            disk,
+        ),
         Err(Memory) => (Status(7), disk),
+    }
+}
+
+/// Runs a command.
+fn run<W: Threads + Wait + Sync, F: Shelf, O: Sink, I: Link, D: Disk + Send, R: Door>(
+    rt: &W,
+    alloc: Global,
+    command: Command,
+    devices: &mut Devices<F, O, I, R>,
+    disk: D,
+) -> (Status, D)
+    requires in_range { IsInRange command }
+    requires shut { IsShut (R.seen devices.old.door.now) }
+    ensures same { AreSame devices.old devices.new }
+    ensures ends { Ends D.seen (meant command.entry)
+        (outside_of (streams_behind F.seen O.writing I.seen R.seen devices.old) disk)
+        (outside_of (streams_behind F.seen O.writing I.seen R.seen devices.new) result.1)
+        result.0.0 }
+{
+    match command {
+        Command::Eval { run, qrels } => (score_files(alloc, run, qrels, devices), disk),
+        Command::Session => hold_session(rt, alloc, devices, disk),
+        Command::Serve(numbers) => run_server(rt, alloc, numbers, devices, disk),
+        Command::Drill(numbers) => (run_drill(rt, alloc, numbers, devices.out), disk),
+        Command::Check => show_campaign(alloc, devices, disk),
+        Command::Usage => (tell_usage(devices), disk),
     }
 }

@@ -12,7 +12,8 @@ use std::alloc::Global;
 /// memory for them.
 pub(crate) fn read<F: Shelf>(alloc: Global, shelf: &mut F, name: &[u8]) -> Result<Vec<u8>, Status>
     ensures given { IfOk result (λ bytes. Gives (F.seen shelf.old) name.now bytes.items) }
-    ensures unread { IfErr result (λ status. IsUnread (F.seen shelf.old) (F.seen shelf.new) name.now status.0) }
+    ensures unread { IfErr result (λ status. IsUnread (F.seen shelf.old) (F.seen shelf.new)
+        name.now status.0) }
     ensures follows { Follows (F.seen shelf.old) (F.seen shelf.new) }
 {
     match shelf.read_file(alloc, name) {

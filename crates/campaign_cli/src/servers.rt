@@ -1,14 +1,15 @@
 //! `serve`: answers the requests of the links of a door by the campaign that the disk keeps.
 ghost use Rattle.std.specs.Prelude.{◌≡◌, ◌≤◌};
 ghost use Rattle.campaign_server.specs.Doors.{IsShut};
-ghost use Rattle.campaign_server.specs.Links.{LinkState};
+ghost use Rattle.campaign_cli.specs.Outside.{AreSame, outside_of, streams_behind};
 ghost use Rattle.campaign_cli.specs.ServeEnds.{Closes, ServeEnds, status_of as status_by};
 
+use crate::devices::Devices;
 use crate::openings::open_book;
 use crate::shelves::Shelf;
 use crate::statuses::Status;
 use book::{Book, Disk};
-use campaign_server::{Door, ServeEnd, ServerNumbers, serve};
+use campaign_server::{Door, Link, ServeEnd, ServerNumbers, serve};
 use decimal_rank::Output as Sink;
 use routes::Keys;
 use std::alloc::Global;
@@ -17,25 +18,31 @@ use std::thread::Threads;
 
 /// Reads the settings, opens their campaign from the disk and answers the requests of the links of a
 /// door on a port, by so many workers, until so many connections were taken.
-pub(crate) fn run_server<W: Threads + Wait + Sync, F: Shelf, O: Sink, D: Disk + Send, R: Door>(
+pub(crate) fn run_server<
+    W: Threads + Wait + Sync,
+    F: Shelf,
+    O: Sink,
+    I: Link,
+    D: Disk + Send,
+    R: Door,
+>(
     rt: &W,
     alloc: Global,
     numbers: ServerNumbers,
-    shelf: &mut F,
-    out: &mut O,
+    devices: &mut Devices<F, O, I, R>,
     disk: D,
-    door: &mut R,
 ) -> (Status, D)
     requires workers { (1 ≤ numbers.workers) × (numbers.workers ≤ 16) }
     requires connections { 1 ≤ numbers.connections }
-    requires shut { IsShut (R.seen door.old) }
-    ensures { (own : LinkState) → ServeEnds D.seen
-        numbers
-        (record { streams = record { shelf = F.seen shelf.old; out = O.writing out.old; own = own; door = R.seen door.old }; disk = disk })
-        (record { streams = record { shelf = F.seen shelf.new; out = O.writing out.new; own = own; door = R.seen door.new }; disk = result.1 }) result.0.0 }
+    requires shut { IsShut (R.seen devices.old.door.now) }
+    ensures same { AreSame devices.old devices.new }
+    ensures ends { ServeEnds D.seen numbers
+        (outside_of (streams_behind F.seen O.writing I.seen R.seen devices.old) disk)
+        (outside_of (streams_behind F.seen O.writing I.seen R.seen devices.new) result.1)
+        result.0.0 }
 {
-    match open_book(alloc, shelf, out, disk) {
-        Ok((book, callers)) => serve_links(rt, alloc, numbers, book, &callers, door),
+    match open_book(alloc, devices.shelf, devices.out, disk) {
+        Ok((book, callers)) => serve_links(rt, alloc, numbers, book, &callers, devices.door),
         Err(given) => given,
     }
 }

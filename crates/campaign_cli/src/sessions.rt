@@ -1,35 +1,33 @@
 //! `session`: answers the requests of the program's own link by the campaign that the disk keeps.
 ghost use Rattle.std.specs.Prelude.{◌≡◌};
-ghost use Rattle.campaign_server.specs.Connections.{Ends};
-ghost use Rattle.campaign_server.specs.Doors.{DoorState};
-ghost use Rattle.campaign_server.specs.Sessions.{IsSession};
-ghost use Rattle.book.specs.Books.{IsSound, Runs};
+ghost use Rattle.campaign_cli.specs.Outside.{AreSame, outside_of, streams_behind};
 ghost use Rattle.campaign_cli.specs.SessionEnds.{Answers, SessionEnds, status_of as status_by};
 
+use crate::devices::Devices;
 use crate::openings::open_book;
 use crate::shelves::Shelf;
 use crate::statuses::Status;
 use book::{Book, Disk};
-use campaign_server::{End, Link, session};
+use campaign_server::{Door, End, Link, session};
 use decimal_rank::Output as Sink;
 use routes::Keys;
 use std::alloc::Global;
 
 /// Reads the settings, opens their campaign from the disk and answers the requests of a link.
-pub(crate) fn hold_session<R, F: Shelf, O: Sink, I: Link, D: Disk>(
-    rt: &R,
+pub(crate) fn hold_session<W, F: Shelf, O: Sink, I: Link, D: Disk, R: Door>(
+    rt: &W,
     alloc: Global,
-    shelf: &mut F,
-    out: &mut O,
-    own: &mut I,
+    devices: &mut Devices<F, O, I, R>,
     disk: D,
 ) -> (Status, D)
-    ensures { (door : DoorState) → SessionEnds D.seen
-        (record { streams = record { shelf = F.seen shelf.old; out = O.writing out.old; own = I.seen own.old; door = door }; disk = disk })
-        (record { streams = record { shelf = F.seen shelf.new; out = O.writing out.new; own = I.seen own.new; door = door }; disk = result.1 }) result.0.0 }
+    ensures same { AreSame devices.old devices.new }
+    ensures ends { SessionEnds D.seen
+        (outside_of (streams_behind F.seen O.writing I.seen R.seen devices.old) disk)
+        (outside_of (streams_behind F.seen O.writing I.seen R.seen devices.new) result.1)
+        result.0.0 }
 {
-    match open_book(alloc, shelf, out, disk) {
-        Ok((book, callers)) => answer_link(rt, alloc, book, &callers, own),
+    match open_book(alloc, devices.shelf, devices.out, disk) {
+        Ok((book, callers)) => answer_link(rt, alloc, book, &callers, devices.own),
         Err(given) => given,
     }
 }

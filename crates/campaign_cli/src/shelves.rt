@@ -21,10 +21,14 @@ pub trait Shelf {
 
         // an absent file is a miss and no fault
         ensures lacks { result ≡ Err ShelfFault.Absent → Lacks (seen self.old) name.now }
-        ensures missed { result ≡ Err ShelfFault.Absent → Rose (seen self.old).misses (seen self.new).misses }
-        ensures no_fault { result ≡ Err ShelfFault.Absent → (seen self.new).faults ≡ (seen self.old).faults }
+        ensures missed { result ≡ Err ShelfFault.Absent
+            → Rose (seen self.old).misses (seen self.new).misses }
+        ensures no_fault { result ≡ Err ShelfFault.Absent
+            → (seen self.new).faults ≡ (seen self.old).faults }
 
         // a failed read is a fault and no miss
-        ensures failed { result ≡ Err ShelfFault.Failed → Rose (seen self.old).faults (seen self.new).faults }
-        ensures no_miss { result ≡ Err ShelfFault.Failed → (seen self.new).misses ≡ (seen self.old).misses };
+        ensures failed { result ≡ Err ShelfFault.Failed
+            → Rose (seen self.old).faults (seen self.new).faults }
+        ensures no_miss { result ≡ Err ShelfFault.Failed
+            → (seen self.new).misses ≡ (seen self.old).misses };
 }

@@ -1,11 +1,12 @@
 //! The line of usage.
-ghost use Rattle.campaign_server.specs.Doors.{DoorState};
-ghost use Rattle.campaign_server.specs.Links.{LinkState};
-ghost use Rattle.campaign_cli.specs.Shelves.{ShelfState};
+ghost use Rattle.campaign_cli.specs.Outside.{AreSame, streams_behind};
 ghost use Rattle.campaign_cli.specs.UsageEnds.{UsageEnds};
 
+use crate::devices::Devices;
 use crate::printing::print;
+use crate::shelves::Shelf;
 use crate::statuses::Status;
+use campaign_server::{Door, Link};
 use decimal_rank::Output as Sink;
 
 /// What is printed where the words are no command.
@@ -13,9 +14,13 @@ pub const USAGE_LINE: &[u8] =
     b"usage: campaign eval RUN QRELS | session | serve --port P --workers W --connections N | drill SEED RUNS TOPICS DOCS | check\n";
 
 /// Prints which commands there are.
-pub(crate) fn tell_usage<O: Sink>(out: &mut O) -> Status
-    ensures { (shelf : ShelfState) (own : LinkState) (door : DoorState) → UsageEnds (record { shelf = shelf; out = O.writing out.old; own = own; door = door })
-        (record { shelf = shelf; out = O.writing out.new; own = own; door = door }) result.0 }
+pub(crate) fn tell_usage<F: Shelf, O: Sink, I: Link, R: Door>(
+    devices: &mut Devices<F, O, I, R>,
+) -> Status
+    ensures same { AreSame devices.old devices.new }
+    ensures ends { UsageEnds
+        (streams_behind F.seen O.writing I.seen R.seen devices.old)
+        (streams_behind F.seen O.writing I.seen R.seen devices.new) result.0 }
 {
-    print(out, USAGE_LINE, Status(2))
+    print(devices.out, USAGE_LINE, Status(2))
 }

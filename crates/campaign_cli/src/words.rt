@@ -3,6 +3,7 @@ ghost use Rattle.std.specs.Prelude.{◌≡◌, ◌≤◌, IfOk, IfSome, map};
 ghost use Rattle.command_words.specs.Words.{view_of};
 ghost use Rattle.campaign_cli.specs.Requests.{IsInRange, all_three, asked, drill_at, drill_by, drill_of, eval_of, meant, request_at, serve_at, serve_of, three_numbers};
 
+use campaign_server::ServerNumbers;
 use command_words::{CommandForm, CommandWords, number_in, read_command};
 use decimal_rank::Memory;
 use drill::{DrillNumbers, are_numbers};
@@ -19,20 +20,13 @@ static FORMS: [CommandForm<'static>; 5] = [
 
 /// A command of the program. `Eval` scores the run in one file against the qrels in another, by the
 /// files' names. `Session` answers the messages of one connection. `Serve` answers those of so many
-/// connections to a port, by so many workers. `Drill` plays a campaign that is generated from numbers. `Check`
-/// tells what the journal holds.
+/// connections to a port, by so many workers. `Drill` plays a campaign that is generated from numbers.
+/// `Check` opens the campaign of the folder, and tells what it is.
 #[derive(Clone, Copy, Debug, PartialEq, Eq)]
 pub enum Command<'a> {
-    Eval {
-        run: &'a [u8],
-        qrels: &'a [u8],
-    },
+    Eval { run: &'a [u8], qrels: &'a [u8] },
     Session,
-    Serve {
-        port: u16,
-        workers: u32,
-        connections: u32,
-    },
+    Serve(ServerNumbers),
     Drill(DrillNumbers),
     Check,
     Usage,
@@ -109,11 +103,11 @@ fn serve_at<'a>(port: Option<u32>, workers: Option<u32>, connections: Option<u32
     ensures in_range { IsInRange result }
 {
     match (port, workers, connections) {
-        (Some(port), Some(workers), Some(connections)) => Command::Serve {
+        (Some(port), Some(workers), Some(connections)) => Command::Serve(ServerNumbers {
             port: port as u16,
             workers,
             connections,
-        },
+        }),
         _ => Command::Usage,
     }
 }

@@ -1,32 +1,32 @@
 -- The settings, and the disk that is opened under their rules.
-use Rattle.std.proofs.Common.{◌≡◌, None, Some, rules}
-use Rattle.campaign_cli.specs.BookEnds.{settings_file, settings_line}
-use Rattle.campaign_cli.specs.Outside.{Prints}
+use Rattle.std.proofs.Common.{◌≡◌, None, Some, refl, rules}
+use Rattle.campaign_cli.specs.BookEnds.{settings_file}
 use Rattle.campaign_settings.specs.Settings.{settings_of}
 use Rattle.campaign_cli.specs.Shelves.{Gives}
-use Rattle.campaign_cli.proofs.Ways.{refused_result, refused_settings, unread_settings}
+use Rattle.campaign_cli.proofs.Ways.{refused_disk, refused_settings, unread_settings}
 use Rattle.campaign_cli.proofs.openings.open_book.Goals as goal
 
 pub returns-in-Err-clause-unopened : goal.returns-in-Err-clause-unopened
-returns-in-Err-clause-unopened g c =
-    let D = g.D.Disk in
-    unread_settings D.seen (g.F.Shelf.seen c.args.shelf.now) (g.F.Shelf.seen c.read.new.shelf) (g.O.Output.writing c.args.out.now) c.args.disk c.in-Err.status.0 c.in-Err.ensures.unread
+returns-in-Err-clause-unopened g c other =
+    let shelf = g.F.Shelf.seen c.args.shelf.now in
+    let out = g.O.Output.writing c.args.out.now in
+    unread_settings g.D.Disk.seen (record other { shelf = shelf; out = out }) (g.F.Shelf.seen c.read.new.shelf) out
+    c.args.disk c.in-Err.status.0 c.in-Err.ensures.unread refl
 
 pub returns-in-Ok-read_settings-clause-unopened : goal.returns-in-Ok-read_settings-clause-unopened
 returns-in-Ok-read_settings-clause-unopened g c =
-    let D = g.D.Disk in
     let old = g.F.Shelf.seen c.args.shelf.now in
     let settings = c.in-Ok-read_settings.settings in
     let given : Gives old settings_file c.in-Ok.text.items = search rules in
     let read : settings_of c.in-Ok.text.items ≡ Some settings = search rules in
-    refused_result D.seen c.in-Ok.text.items settings old (g.F.Shelf.seen c.read.new.shelf) (g.O.Output.writing c.args.out.now) (g.O.Output.writing c.open_settings.new.out)
+    refused_disk g.D.Disk.seen c.in-Ok.text.items settings old (g.F.Shelf.seen c.read.new.shelf)
+    (g.O.Output.writing c.args.out.now) (g.O.Output.writing c.open_settings.new.out)
     c.args.disk given read c.open_settings.result c.open_settings.ensures.refused
 
 pub returns-in-Err-Refused-clause-unopened : goal.returns-in-Err-Refused-clause-unopened
-returns-in-Err-Refused-clause-unopened g c =
-    let D = g.D.Disk in
-    let old = g.F.Shelf.seen c.args.shelf.now in
-    let given : Gives old settings_file c.in-Ok.text.items = search rules in
+returns-in-Err-Refused-clause-unopened g c other =
+    let shelf = g.F.Shelf.seen c.args.shelf.now in
+    let given : Gives shelf settings_file c.in-Ok.text.items = search rules in
     let none : settings_of c.in-Ok.text.items ≡ None = search rules in
-    refused_settings D.seen c.in-Ok.text.items old (g.F.Shelf.seen c.read.new.shelf) (g.O.Output.writing c.args.out.now) (g.O.Output.writing c.print.new.out)
-    c.args.disk c.print.result.0 given none c.print.ensures
+    refused_settings g.D.Disk.seen (record other { shelf = shelf; out = g.O.Output.writing c.args.out.now })
+    (g.F.Shelf.seen c.read.new.shelf) (g.O.Output.writing c.print.new.out) c.args.disk c.in-Ok.text.items c.print.result.0 given none c.print.ensures

@@ -1,16 +1,17 @@
 -- A session with the campaign that was opened, or why there is none.
+use Rattle.campaign_cli.specs.Outside.{streams_behind}
 use Rattle.campaign_cli.proofs.Ways.{held_session, unheld_session}
 use Rattle.campaign_cli.proofs.sessions.hold_session.Goals as goal
 
-pub returns-in-Ok : goal.returns-in-Ok
-returns-in-Ok g c door =
-    let D = g.D.Disk in
-    held_session D.seen (g.F.Shelf.seen c.args.shelf.now) (g.F.Shelf.seen c.open_book.new.shelf) (g.O.Output.writing c.args.out.now) (g.O.Output.writing c.open_book.new.out)
-    (g.I.Link.seen c.args.own.now) (g.I.Link.seen c.answer_link.new.own) door c.args.disk c.answer_link.result.1 c.in-Ok.book c.in-Ok.callers c.answer_link.result.0.0
-    c.in-Ok.ensures.follows c.in-Ok.ensures.out c.in-Ok.ensures.opened c.answer_link.ensures
+pub returns-in-Ok-clause-ends : goal.returns-in-Ok-clause-ends
+returns-in-Ok-clause-ends g c =
+    let old = streams_behind g.F.Shelf.seen g.O.Output.writing g.I.Link.seen g.R.Door.seen c.args.devices.now in
+    held_session g.D.Disk.seen old (g.F.Shelf.seen c.open_book.new.shelf) (g.O.Output.writing c.open_book.new.out)
+    c.args.disk c.answer_link.result.1 c.answer_link.result.0.0 c.in-Ok.ensures.follows c.in-Ok.book c.in-Ok.callers c.in-Ok.ensures.opened
+    (g.I.Link.seen c.answer_link.new.own) c.in-Ok.ensures.out c.answer_link.ensures
 
-pub returns-in-Err : goal.returns-in-Err
-returns-in-Err g c door =
-    let D = g.D.Disk in
-    unheld_session D.seen (g.F.Shelf.seen c.args.shelf.now) (g.F.Shelf.seen c.open_book.new.shelf) (g.O.Output.writing c.args.out.now) (g.O.Output.writing c.open_book.new.out)
-    (g.I.Link.seen c.args.own.now) door c.args.disk c.in-Err.given.1 c.in-Err.given.0.0 c.in-Err.ensures.follows (c.in-Err.ensures.unopened (g.I.Link.seen c.args.own.now) door)
+pub returns-in-Err-clause-ends : goal.returns-in-Err-clause-ends
+returns-in-Err-clause-ends g c =
+    let old = streams_behind g.F.Shelf.seen g.O.Output.writing g.I.Link.seen g.R.Door.seen c.args.devices.now in
+    unheld_session g.D.Disk.seen old (g.F.Shelf.seen c.open_book.new.shelf) (g.O.Output.writing c.open_book.new.out)
+    c.args.disk c.in-Err.given.1 c.in-Err.given.0.0 c.in-Err.ensures.follows (c.in-Err.ensures.unopened old)
