@@ -1,5 +1,5 @@
 -- What each status says, from the way in which a command ended.
-use Rattle.std.proofs.Common.{◌≡◌, ◌≤◌, ◌⊎◌, ◌==◌, inl, inr, ℕ, List, Some, None, refl, sym, ap, subst, ◌∙◌, arith, cond}
+use Rattle.std.proofs.Common.{◌≡◌, ◌≢◌, ◌≤◌, ◌⊎◌, ◌==◌, inl, inr, ℕ, List, None, refl, sym, ap, subst, ◌∙◌, arith, cond}
 use Rattle.std.specs.Io.KnownBytes.{Appends}
 use Rattle.decimal_rank.specs.Causes.{Rose}
 use Rattle.decimal_rank.specs.KnownBytes.{AppendsPart}
@@ -8,7 +8,6 @@ use Rattle.disk_model.specs.Disks.{DiskState}
 use Rattle.book.specs.declared.faults.BookFault.{BookFault}
 use Rattle.book.specs.declared.faults.BookFault.TheVariants as fault
 use Rattle.book.specs.Openings.{Refused}
-use Rattle.book.specs.OpeningLaws.{MayOpen, opens_or_memory}
 use Rattle.campaign_server.specs.declared.ends.End.{End}
 use Rattle.campaign_server.specs.declared.ends.End.TheVariants as end
 use Rattle.campaign_server.specs.declared.ends.ServeEnd.{ServeEnd}
@@ -16,10 +15,8 @@ use Rattle.campaign_server.specs.declared.ends.ServeEnd.TheVariants as serve_end
 use Rattle.campaign_server.specs.declared.numbers.ServerNumbers.{ServerNumbers}
 use Rattle.drill.specs.Summaries.{summary_of}
 use Rattle.drill.specs.declared.numbers.DrillNumbers.{DrillNumbers}
-use Rattle.rulebook.specs.Words.{Text}
 use Rattle.eval.specs.Evaluations.{IsReport, IsInputFault}
 use Rattle.eval.specs.Findings.{AreExclusive}
-use Rattle.campaign_settings.specs.declared.settings.Settings.{Settings}
 use Rattle.campaign_cli.specs.BookEnds.{TellsFault, Unopened, entry_line, header_line, not_begun, not_opened, rules_line, settings_file, settings_line, settings_refused, settings_unread}
 use Rattle.campaign_cli.specs.CheckEnds.{CheckWay, check_text, checked, unshown, untold}
 use Rattle.campaign_cli.specs.DrillEnds.{DrillWay, played, unplayed}
@@ -31,11 +28,11 @@ use Rattle.campaign_cli.specs.ServeEnds.{Served, ServeWay, served, unserved}
 use Rattle.campaign_cli.specs.ServeEnds.{status_of as serve_status}
 use Rattle.campaign_cli.specs.SessionEnds.{Holds, SessionWay, held, unheld, status_of}
 use Rattle.campaign_settings.specs.Settings.{settings_of}
-use Rattle.campaign_cli.specs.Shelves.{Gives, ShelfState}
-use Rattle.campaign_cli.specs.Statuses.{Cause, Done, Usage, Input, File, Disk, Door, Memory, Output, Damaged, Link, Cut, number_of, Says, IsBookRefusal, IsMissing, IsRefusal, IsSaid, IsCut, IsUnopened, ServerComesTo, SessionComesTo, CanDo, CanOpen, HasToRefuse, IsCalm, NeedsBook, TellsRecords, TellsSettings, Statuses}
+use Rattle.campaign_cli.specs.Shelves.{Follows, ShelfState}
+use Rattle.campaign_cli.specs.Statuses.{GivesSettings, Cause, Done, Usage, Input, File, Disk, Door, Memory, Output, Damaged, Link, Cut, number_of, Says, CanDo, CanOpen, HasDamage, HasOtherRules, HasToRefuse, IsBookRefusal, IsCalm, IsCut, IsDamage, IsMissing, IsOutput, IsRefusal, IsSaid, IsUnopened, NeedsBook, NeedsDoor, NeedsFiles, Statuses, TellsSettings}
 use Rattle.campaign_cli.specs.UsageEnds.{UsageWay, told, untold as unasked}
-use Rattle.campaign_cli.proofs.ToldDisks.{damage_told, opening_of, others_told}
-use Rattle.campaign_cli.proofs.ToldFiles.{not_both_missed, not_missed, prints_whole, told_both, told_settings}
+use Rattle.campaign_cli.proofs.ToldDisks.{Opening, check_opening, damage_told, none_opened, others_told, serve_opening, session_opening, settings_told}
+use Rattle.campaign_cli.proofs.ToldFiles.{not_both_missed, prints_whole, told_both}
 
 -- a status has one cause
 
@@ -59,370 +56,257 @@ cause_by-number Cut = refl
 same_cause : (a b : Cause) → number_of a ≡ number_of b → a ≡ b
 same_cause a b e = sym (cause_by-number a) ∙ ap cause_by e ∙ cause_by-number b
 
--- no count of the output falls
-same_out : (old new : Writing) → new ≡ old → old.faults ≤ new.faults
-same_out old new same = omega (arith, ap (λ (w : Writing). w.faults) same)
-
-eval_later : (run qrels : List ℕ) (old new : Streams) (status : ℕ) → EvalWay run qrels old new status → old.out.faults ≤ new.out.faults
-eval_later run qrels old new status (scored r q text gr gq report prints) = prints.later
-eval_later run qrels old new status (refused r q line gr gq fault prints) = prints.later
-eval_later run qrels old new status (unread missed same e) = same_out old.out new.out same
-eval_later run qrels old new status (short same e) = same_out old.out new.out same
-
-drill_later : (numbers : DrillNumbers) (old new : Streams) (status : ℕ) → DrillWay numbers old new status → old.out.faults ≤ new.out.faults
-drill_later numbers old new status (played H plays prints) = prints.later
-drill_later numbers old new status (unplayed same e) = same_out old.out new.out same
-
-usage_later : (old new : Streams) (status : ℕ) → UsageWay old new status → old.out.faults ≤ new.out.faults
-usage_later old new status (told prints) = prints.later
-usage_later old new status (unasked same e) = same_out old.out new.out same
-
-fault_later : (why : BookFault) (old new : Writing) (status : ℕ) → TellsFault why old new status → old.faults ≤ new.faults
-fault_later fault.Disk old new status tells = same_out old new tells.0
-fault_later fault.Header old new status prints = prints.later
-fault_later (fault.Damaged entry) old new status (inl prints) = prints.later
-fault_later (fault.Damaged entry) old new status (inr none) = same_out old new none.0
-fault_later fault.RulesDiffer old new status prints = prints.later
-fault_later fault.Memory old new status tells = same_out old new tells.0
-
 module _ {D : Type 0} (seen : D → DiskState) where
-  -- the status is that of a cause that holds
-  abbrev Told : Request → Outside D → Outside D → ℕ → Type 0
-  Told request old new status = (cause : Cause) × (status ≡ number_of cause) × Says seen cause request old new
+  -- the status is that of a cause that holds, and no count of the output fell
+  record Told (request : Request) (old new : Outside D) (status : ℕ) : Type 0 where
+    cause : Cause
+    status_is : status ≡ number_of cause
+    says : Says seen cause request old new
+    later : old.streams.out.faults ≤ new.streams.out.faults
 
-  says : (request : Request) (old new : Outside D) (status : ℕ) → Told request old new status → (cause : Cause) → status ≡ number_of cause → Says seen cause request old new
-  says request old new status w cause e = subst (λ c. Says seen c request old new) (same_cause w.0 cause (sym w.1 ∙ e)) w.2
+  module _ (request : Request) (old new : Outside D) (status : ℕ) where
+    -- nothing was printed
+    silent : (cause : Cause) → status ≡ number_of cause → Says seen cause request old new → new.streams.out ≡ old.streams.out → Told request old new status
+    silent cause e says same = record { cause = cause; status_is = e; says = says; later = omega (arith, ap (λ (w : Writing). w.faults) same) }
 
-  -- a text was printed, or a part of it was
-  printed : (request : Request) (old new : Outside D) (status : ℕ) (text : List ℕ) (cause : Cause) → Prints old.streams.out new.streams.out text (number_of cause) status
-      → IsSaid seen request old new text
-      → (Appends old.streams.out.written new.streams.out.written text → Says seen cause request old new) → Told request old new status
-  printed request old new status text cause prints said whole = by prints.either
-    where
-      by : ((status ≡ number_of cause) × Appends old.streams.out.written new.streams.out.written text)
-          ⊎ ((status ≡ 8) × Rose old.streams.out.faults new.streams.out.faults × AppendsPart old.streams.out.written new.streams.out.written text)
-          → Told request old new status
-      by (inl all) = (cause, all.0, whole all.1)
-      by (inr part) = (Output, part.0, inl (part.1, (text, said, part.2)))
+    -- a text was printed, or a part of it was
+    printed : (text : List ℕ) (cause : Cause) → Prints old.streams.out new.streams.out text (number_of cause) status → IsSaid seen request old new text
+        → (Appends old.streams.out.written new.streams.out.written text → Says seen cause request old new) → Told request old new status
+    printed text cause prints said whole = by prints.either
+      where
+        by : ((status ≡ number_of cause) × Appends old.streams.out.written new.streams.out.written text)
+            ⊎ ((status ≡ 8) × Rose old.streams.out.faults new.streams.out.faults × AppendsPart old.streams.out.written new.streams.out.written text)
+            → Told request old new status
+        by (inl all) = record { cause = cause; status_is = all.0; says = whole all.1; later = prints.later }
+        by (inr part) = record { cause = Output; status_is = part.0; says = inl (part.1, (text, said, part.2)); later = prints.later }
+
+    done : (text : List ℕ) → IsOutput seen request old new text → Prints old.streams.out new.streams.out text 0 status → Told request old new status
+    done text is prints = printed text Done prints (inl is) (λ all. inl (text, is, all))
+
+    refuses : (text : List ℕ) → IsRefusal seen request old new text → Prints old.streams.out new.streams.out text 3 status → Told request old new status
+    refuses text is prints = printed text Input prints (inr (inl is)) (λ all. (text, is, all))
+
+    damages : (text : List ℕ) → IsDamage seen request old new text → Prints old.streams.out new.streams.out text 9 status → Told request old new status
+    damages text is prints = printed text Damaged prints (inr (inr (inl is))) (λ all. (text, is, all))
+
+    -- why there is no campaign, where the command keeps one
+    none_told : NeedsBook request → (Misses old.streams.shelf new.streams.shelf settings_file → IsMissing request old.streams.shelf new.streams.shelf)
+        → ((text : List ℕ) → IsBookRefusal seen request old new text → IsRefusal seen request old new text)
+        → Unopened seen old new status → Told request old new status
+    none_told needs misses refusal (settings_refused text gives none prints kept) = refuses settings_line (refusal settings_line (inl ((refl, (text, gives, none)), kept))) prints
+    none_told needs misses refusal (settings_unread missed same kept e) = silent File e (misses missed, same, kept) same
+    none_told needs misses refusal (not_begun same kept e) = silent Memory e same same
+    none_told needs misses refusal (not_opened text settings gives is given_up) = by given_up.why given_up.refused given_up.told
+      where
+        none : (why : BookFault) → Refused seen settings.rules old.disk new.disk why → IsUnopened seen request old new why
+        none why r = (needs, (text, settings, gives, is, r))
+
+        by : (why : BookFault) → Refused seen settings.rules old.disk new.disk why → TellsFault why old.streams.out new.streams.out status → Told request old new status
+        by fault.Disk r tells = silent Disk tells.1 (none fault.Disk r, tells.0) tells.0
+        by fault.Header r prints = damages header_line (inl (refl, none fault.Header r)) prints
+        by (fault.Damaged entry) r (inl prints) = damages (entry_line entry) (inr (entry, refl, none (fault.Damaged entry) r)) prints
+        by (fault.Damaged entry) r (inr short_of) = silent Memory short_of.1 short_of.0 short_of.0
+        by fault.RulesDiffer r prints = refuses rules_line (refusal rules_line (inr (refl, none fault.RulesDiffer r))) prints
+        by fault.Memory r tells = silent Memory tells.1 tells.0 tells.0
 
   eval_told : (run qrels : List ℕ) (old new : Outside D) (status : ℕ) → EvalWay run qrels old.streams new.streams status → new.disk ≡ old.disk → Told (Eval run qrels) old new status
-  eval_told run qrels old new status (scored r q text gr gq report prints) kept =
-      printed (Eval run qrels) old new status text Done prints (inl (r, q, gr, gq, report)) (λ all. inl (text, (r, q, gr, gq, report), all))
-  eval_told run qrels old new status (refused r q line gr gq fault prints) kept =
-      printed (Eval run qrels) old new status line Input prints (inr (inl (r, q, gr, gq, fault))) (λ all. (line, (r, q, gr, gq, fault), all))
-  eval_told run qrels old new status (unread missed same e) kept = (File, e, (missed, same, kept))
-  eval_told run qrels old new status (short same e) kept = (Memory, e, same)
-
-  -- why there is no campaign, where the command keeps one
-  unopened_told : (request : Request) (old new : Outside D) (status : ℕ) → NeedsBook request
-      → (Misses old.streams.shelf new.streams.shelf settings_file → IsMissing request old.streams.shelf new.streams.shelf)
-      → ((text : List ℕ) → IsBookRefusal seen request old new text → IsRefusal seen request old new text)
-      → Unopened seen old new status → Told request old new status
-  unopened_told request old new status needs misses refusal (settings_refused text gives none prints kept) =
-      let is = refusal settings_line (inl ((refl, (text, gives, none)), kept)) in
-      printed request old new status settings_line Input prints (inr (inl is)) (λ all. (settings_line, is, all))
-  unopened_told request old new status needs misses refusal (settings_unread missed same kept e) = (File, e, (misses missed, same, kept))
-  unopened_told request old new status needs misses refusal (not_begun same kept e) = (Memory, e, same)
-  unopened_told request old new status needs misses refusal (not_opened text settings gives is given_up) = by given_up.why given_up.refused given_up.told
-    where
-      none : (why : BookFault) → Refused seen settings.rules old.disk new.disk why → IsUnopened seen request old new why
-      none why r = (needs, (text, settings, gives, is, r))
-
-      by : (why : BookFault) → Refused seen settings.rules old.disk new.disk why → TellsFault why old.streams.out new.streams.out status → Told request old new status
-      by fault.Disk r tells = (Disk, tells.1, (none fault.Disk r, tells.0))
-      by fault.Header r prints =
-          printed request old new status header_line Damaged prints (inr (inr (inl (inl (refl, none fault.Header r))))) (λ all. (header_line, inl (refl, none fault.Header r), all))
-      by (fault.Damaged entry) r (inl prints) =
-          printed request old new status (entry_line entry) Damaged prints (inr (inr (inl (inr (entry, refl, none (fault.Damaged entry) r))))) (λ all. (entry_line entry, inr (entry, refl, none (fault.Damaged entry) r), all))
-      by (fault.Damaged entry) r (inr none_told) = (Memory, none_told.1, none_told.0)
-      by fault.RulesDiffer r prints =
-          let is_other = refusal rules_line (inr (refl, none fault.RulesDiffer r)) in
-          printed request old new status rules_line Input prints (inr (inl is_other)) (λ all. (rules_line, is_other, all))
-      by fault.Memory r tells = (Memory, tells.1, tells.0)
+  eval_told run qrels old new status (scored r q text gr gq report prints) kept = done (Eval run qrels) old new status text (r, q, gr, gq, report) prints
+  eval_told run qrels old new status (refused r q line gr gq fault prints) kept = refuses (Eval run qrels) old new status line (r, q, gr, gq, fault) prints
+  eval_told run qrels old new status (unread missed same e) kept = silent (Eval run qrels) old new status File e (missed, same, kept) same
+  eval_told run qrels old new status (short same e) kept = silent (Eval run qrels) old new status Memory e same same
 
   session_told : (old new : Outside D) (status : ℕ) → SessionWay seen old new status → Told Session old new status
-  session_told old new status (held text settings how gives is holds same e) = by how holds e
+  session_told old new status (unheld none own) = none_told Session old new status tt (λ missed. missed) (λ text is. is) none
+  session_told old new status (held text settings how gives is holds same e) = by how (text, settings, gives, is, holds) e
     where
-      comes_to : (h : End) → Holds seen settings old new h → SessionComesTo seen Session old new h
-      comes_to h w = (refl, same, (text, settings, gives, is, w))
-
-      by : (h : End) → Holds seen settings old new h → status ≡ status_of h → Told Session old new status
-      by end.Ended w is_status = (Done, is_status, inr (inl (comes_to end.Ended w)))
-      by end.Cut w is_status = (Cut, is_status, inl (comes_to end.Cut w))
-      by (end.Refused cause) w is_status = (Cut, is_status, inr (inl (cause, comes_to (end.Refused cause) w)))
-      by end.ReadFault w is_status = (Link, is_status, comes_to end.ReadFault w)
-      by end.WriteFault w is_status = (Output, is_status, inr (comes_to end.WriteFault w))
-      by end.Memory w is_status = (Memory, is_status, same)
-      by end.Worn w is_status = (Cut, is_status, inr (inr (comes_to end.Worn w)))
-  session_told old new status (unheld none own) = unopened_told Session old new status tt (λ missed. missed) (λ text is. is) none
+      by : (h : End) → GivesSettings old.streams.shelf (λ settings. Holds seen settings old new h) → status ≡ status_of h → Told Session old new status
+      by end.Ended w is = silent Session old new status Done is (inr (inl (refl, same, w))) same
+      by end.Cut w is = silent Session old new status Cut is (inl (refl, same, w)) same
+      by (end.Refused cause) w is = silent Session old new status Cut is (inr (inl (cause, (refl, same, w)))) same
+      by end.ReadFault w is = silent Session old new status Link is (refl, same, w) same
+      by end.WriteFault w is = silent Session old new status Output is (inr (refl, same, w)) same
+      by end.Memory w is = silent Session old new status Memory is same same
+      by end.Worn w is = silent Session old new status Cut is (inr (inr (refl, same, w))) same
 
   serve_told : (numbers : ServerNumbers) (old new : Outside D) (status : ℕ) → ServeWay seen numbers old new status → Told (Serve numbers) old new status
-  serve_told numbers old new status (served text settings how gives is serves same e) = by how serves e
+  serve_told numbers old new status (unserved none door) = none_told (Serve numbers) old new status tt (λ missed. missed) (λ text is. is) none
+  serve_told numbers old new status (served text settings how gives is serves same e) = by how (text, settings, gives, is, serves) e
     where
-      comes_to : (h : ServeEnd) → Served seen settings numbers old new h → ServerComesTo seen (Serve numbers) old new h
-      comes_to h w = (numbers, refl, same, (text, settings, gives, is, w))
-
-      by : (h : ServeEnd) → Served seen settings numbers old new h → status ≡ serve_status h → Told (Serve numbers) old new status
-      by serve_end.Ended w is_status = (Done, is_status, inr (inr (comes_to serve_end.Ended w)))
-      by serve_end.DoorFault w is_status = (Door, is_status, (comes_to serve_end.DoorFault w, w.serves.fault refl))
-      by serve_end.Memory w is_status = (Memory, is_status, same)
-  serve_told numbers old new status (unserved none door) = unopened_told (Serve numbers) old new status tt (λ missed. missed) (λ text is. is) none
+      by : (h : ServeEnd) → GivesSettings old.streams.shelf (λ settings. Served seen settings numbers old new h) → status ≡ serve_status h → Told (Serve numbers) old new status
+      by serve_end.Ended w is = silent (Serve numbers) old new status Done is (inr (inr (numbers, refl, same, w))) same
+      by serve_end.DoorFault w is = silent (Serve numbers) old new status Door is ((numbers, refl, same, w), w.4.serves.fault refl) same
+      by serve_end.Memory w is = silent (Serve numbers) old new status Memory is same same
 
   check_told : (old new : Outside D) (status : ℕ) → CheckWay seen old new status → Told Check old new status
+  check_told old new status (unshown none) = none_told Check old new status tt (λ missed. missed) (λ text is. is) none
   check_told old new status (checked text settings book gives is shows prints) =
-      printed Check old new status (check_text book.history) Done prints (inl (text, settings, gives, is, (book, shows, refl))) (λ all. inl (check_text book.history, (text, settings, gives, is, (book, shows, refl)), all))
-  check_told old new status (untold text settings book gives is shows same e) = (Memory, e, same)
-  check_told old new status (unshown none) = unopened_told Check old new status tt (λ missed. missed) (λ text is. is) none
+      done Check old new status (check_text book.history) (text, settings, gives, is, (book, shows, refl)) prints
+  check_told old new status (untold text settings book gives is shows same e) = silent Check old new status Memory e same same
 
   drill_told : (numbers : DrillNumbers) (old new : Outside D) (status : ℕ) → DrillWay numbers old.streams new.streams status → Told (Drill numbers) old new status
-  drill_told numbers old new status (played H plays prints) =
-      printed (Drill numbers) old new status (summary_of numbers H) Done prints (inl (H, plays, refl)) (λ all. inl (summary_of numbers H, (H, plays, refl), all))
-  drill_told numbers old new status (unplayed same e) = (Memory, e, same)
-
-  drill_complete : (numbers : DrillNumbers) (old new : Outside D) (status : ℕ) → IsCalm seen old new → DrillWay numbers old.streams new.streams status
-      → (status ≡ 0) ⊎ ((status ≡ 7) ⊎ ((status ≡ 11) × IsCut seen (Drill numbers) old new))
-  drill_complete numbers old new status calm (played H plays prints) = inl (prints_whole old.streams.out new.streams.out (summary_of numbers H) 0 status prints calm.out)
-  drill_complete numbers old new status calm (unplayed same e) = inr (inl e)
+  drill_told numbers old new status (played H plays prints) = done (Drill numbers) old new status (summary_of numbers H) (H, plays, refl) prints
+  drill_told numbers old new status (unplayed same e) = silent (Drill numbers) old new status Memory e same same
 
   usage_told : (old new : Outside D) (status : ℕ) → UsageWay old.streams new.streams status → Told Nothing old new status
   usage_told old new status (told prints) =
       printed Nothing old new status usage_line Usage prints (inr (inr (inr (refl, refl)))) (λ all. (usage_line, (refl, refl), all))
-  usage_told old new status (unasked same e) = (Memory, e, same)
+  usage_told old new status (unasked same e) = silent Nothing old new status Memory e same same
 
   -- where its files and its disk are told and within their grammars, a command is done or memory is short; a session may be cut
   abbrev IsComplete : Request → Outside D → Outside D → ℕ → Type 0
   IsComplete request old new status = (status ≡ 0) ⊎ ((status ≡ 7) ⊎ ((status ≡ 11) × IsCut seen request old new))
 
-  module _ (exclusive : AreExclusive) where
-    eval_complete : (run qrels : List ℕ) (old new : Outside D) (status : ℕ) → CanDo seen (Eval run qrels) old → IsCalm seen old new → EvalWay run qrels old.streams new.streams status
-        → IsComplete (Eval run qrels) old new status
-    eval_complete run qrels old new status can calm (scored r q text gr gq report prints) = inl (prints_whole old.streams.out new.streams.out text 0 status prints calm.out)
-    eval_complete run qrels old new status can calm (refused r q line gr gq fault prints) =
+  module _ (exclusive : AreExclusive) (run qrels : List ℕ) (old new : Outside D) (status : ℕ) (calm : IsCalm seen old new) where
+    eval_complete : CanDo seen (Eval run qrels) old → EvalWay run qrels old.streams new.streams status → IsComplete (Eval run qrels) old new status
+    eval_complete can (scored r q text gr gq report prints) = inl (prints_whole old.streams.out new.streams.out text 0 status prints calm.out)
+    eval_complete can (refused r q line gr gq fault prints) =
         let report = told_both old.streams.shelf run qrels r q (λ r q. (text : List ℕ) × IsReport run r q text) can gr gq in
         absurd (exclusive run qrels r q report.0 line report.1 fault)
-    eval_complete run qrels old new status can calm (unread missed same e) =
+    eval_complete can (unread missed same e) =
         absurd (not_both_missed old.streams.shelf new.streams.shelf run qrels (λ r q. (text : List ℕ) × IsReport run r q text) can calm.shelf missed)
-    eval_complete run qrels old new status can calm (short same e) = inr (inl e)
+    eval_complete can (short same e) = inr (inl e)
 
-    eval_refused : (run qrels : List ℕ) (old new : Outside D) (status : ℕ) → HasToRefuse seen (Eval run qrels) old → IsCalm seen old new → EvalWay run qrels old.streams new.streams status
-        → (status ≡ 3) ⊎ (status ≡ 7)
-    eval_refused run qrels old new status has calm (scored r q text gr gq report prints) =
+    eval_refused : HasToRefuse seen (Eval run qrels) old → EvalWay run qrels old.streams new.streams status → (status ≡ 3) ⊎ (status ≡ 7)
+    eval_refused has (scored r q text gr gq report prints) =
         let fault = told_both old.streams.shelf run qrels r q (λ r q. (line : List ℕ) × IsInputFault run qrels r q line) has gr gq in
         absurd (exclusive run qrels r q text fault.0 report fault.1)
-    eval_refused run qrels old new status has calm (refused r q line gr gq fault prints) = inl (prints_whole old.streams.out new.streams.out line 3 status prints calm.out)
-    eval_refused run qrels old new status has calm (unread missed same e) =
+    eval_refused has (refused r q line gr gq fault prints) = inl (prints_whole old.streams.out new.streams.out line 3 status prints calm.out)
+    eval_refused has (unread missed same e) =
         absurd (not_both_missed old.streams.shelf new.streams.shelf run qrels (λ r q. (line : List ℕ) × IsInputFault run qrels r q line) has calm.shelf missed)
-    eval_refused run qrels old new status has calm (short same e) = inr e
+    eval_refused has (short same e) = inr e
 
-  -- a disk that may be opened is, or memory is short
-  pub unopened_complete : (old new : Outside D) (status : ℕ) → CanOpen seen old → IsCalm seen old new → Unopened seen old new status → status ≡ 7
-  unopened_complete old new status can calm (settings_refused text gives none prints kept) =
-      let read = (told_settings old.streams.shelf text (λ bytes. (settings : Settings) × (settings_of bytes ≡ Some settings) × ((payloads : List Text) × TellsRecords (seen old.disk).content payloads × MayOpen settings.rules payloads)) can gives) in
-      let both : None ≡ Some read.0 = sym none ∙ read.1 in
-      absurd (cc both)
-  unopened_complete old new status can calm (settings_unread missed same kept e) =
-      absurd (not_missed old.streams.shelf new.streams.shelf settings_file can.1 can.0 can.2 can.3 calm.shelf missed)
-  unopened_complete old new status can calm (not_begun same kept e) = e
-  unopened_complete old new status can calm (not_opened text settings gives is given_up) =
-      by (told_settings old.streams.shelf text (λ bytes. (settings : Settings) × (settings_of bytes ≡ Some settings) × ((payloads : List Text) × TellsRecords (seen old.disk).content payloads × MayOpen settings.rules payloads)) can gives)
-    where
-      memory_told : (why : BookFault) → why ≡ fault.Memory → TellsFault why old.streams.out new.streams.out status → status ≡ 7
-      memory_told why is_memory tells =
-          let here : TellsFault fault.Memory old.streams.out new.streams.out status = subst (λ (why : BookFault). TellsFault why old.streams.out new.streams.out status) is_memory tells in
-          here.1
+  module _ (old new : Outside D) (status : ℕ) (calm : IsCalm seen old new) where
+    session_complete : CanOpen seen old → SessionWay seen old new status → IsComplete Session old new status
+    session_complete can (unheld none own) = inr (inl (none_opened seen old new status calm can none))
+    session_complete can (held text settings how gives is holds same e) = by how (text, settings, gives, is, holds) e
+      where
+        by : (h : End) → GivesSettings old.streams.shelf (λ settings. Holds seen settings old new h) → status ≡ status_of h → IsComplete Session old new status
+        by end.Ended w is = inl is
+        by end.Cut w is = inr (inr (is, inl (refl, same, w)))
+        by (end.Refused cause) w is = inr (inr (is, inr (inl (cause, (refl, same, w)))))
+        by end.ReadFault w is = absurd (calm.reading w.4.talk.ends.1)
+        by end.WriteFault w is = absurd (calm.writing (elim w.4.talk.ends [ inl part ↦ part.fault | inr cut ↦ cut.fault ]))
+        by end.Memory w is = inr (inl is)
+        by end.Worn w is = inr (inr (is, inr (inr (refl, same, w))))
 
-      by : (found : Settings) × (settings_of text ≡ Some found) × ((payloads : List Text) × TellsRecords (seen old.disk).content payloads × MayOpen found.rules payloads) → status ≡ 7
-      by (found, reads, (payloads, (bytes, tells, decodes), may)) =
-          let same : found ≡ settings = cc (reads, is) in
-          memory_told given_up.why
-          (opens_or_memory seen settings.rules old.disk bytes payloads tells decodes (subst (λ (s : Settings). MayOpen s.rules payloads) same may) new.disk given_up.why calm.disk given_up.refused)
-          given_up.told
+    serve_complete : (numbers : ServerNumbers) → CanOpen seen old → ServeWay seen numbers old new status → IsComplete (Serve numbers) old new status
+    serve_complete numbers can (unserved none door) = inr (inl (none_opened seen old new status calm can none))
+    serve_complete numbers can (served text settings how gives is serves same e) = by how (text, settings, gives, is, serves) e
+      where
+        by : (h : ServeEnd) → GivesSettings old.streams.shelf (λ settings. Served seen settings numbers old new h) → status ≡ serve_status h → IsComplete (Serve numbers) old new status
+        by serve_end.Ended w is = inl is
+        by serve_end.DoorFault w is = absurd (calm.door (w.4.serves.fault refl))
+        by serve_end.Memory w is = inr (inl is)
 
-  session_complete : (old new : Outside D) (status : ℕ) → CanOpen seen old → IsCalm seen old new → SessionWay seen old new status → IsComplete Session old new status
-  session_complete old new status can calm (held text settings how gives is holds same e) = by how holds e
-    where
-      comes_to : (h : End) → Holds seen settings old new h → SessionComesTo seen Session old new h
-      comes_to h w = (refl, same, (text, settings, gives, is, w))
+    check_complete : CanOpen seen old → CheckWay seen old new status → IsComplete Check old new status
+    check_complete can (unshown none) = inr (inl (none_opened seen old new status calm can none))
+    check_complete can (checked text settings book gives is shows prints) =
+        inl (prints_whole old.streams.out new.streams.out (check_text book.history) 0 status prints calm.out)
+    check_complete can (untold text settings book gives is shows same e) = inr (inl e)
 
-      by : (h : End) → Holds seen settings old new h → status ≡ status_of h → IsComplete Session old new status
-      by end.Ended w is_status = inl is_status
-      by end.Cut w is_status = inr (inr (is_status, inl (comes_to end.Cut w)))
-      by (end.Refused cause) w is_status = inr (inr (is_status, inr (inl (cause, comes_to (end.Refused cause) w))))
-      by end.ReadFault w is_status = absurd (calm.reading w.talk.ends.1)
-      by end.WriteFault w is_status = absurd (calm.writing (elim w.talk.ends [ inl part ↦ part.fault | inr cut ↦ cut.fault ]))
-      by end.Memory w is_status = inr (inl is_status)
-      by end.Worn w is_status = inr (inr (is_status, inr (inr (comes_to end.Worn w))))
-  session_complete old new status can calm (unheld none own) = inr (inl (unopened_complete old new status can calm none))
+    drill_complete : (numbers : DrillNumbers) → DrillWay numbers old.streams new.streams status → IsComplete (Drill numbers) old new status
+    drill_complete numbers (played H plays prints) = inl (prints_whole old.streams.out new.streams.out (summary_of numbers H) 0 status prints calm.out)
+    drill_complete numbers (unplayed same e) = inr (inl e)
 
-  serve_complete : (numbers : ServerNumbers) (old new : Outside D) (status : ℕ) → CanOpen seen old → IsCalm seen old new → ServeWay seen numbers old new status → IsComplete (Serve numbers) old new status
-  serve_complete numbers old new status can calm (served text settings how gives is serves same e) = by how serves e
-    where
-      by : (h : ServeEnd) → Served seen settings numbers old new h → status ≡ serve_status h → IsComplete (Serve numbers) old new status
-      by serve_end.Ended w is_status = inl is_status
-      by serve_end.DoorFault w is_status = absurd (calm.door (w.serves.fault refl))
-      by serve_end.Memory w is_status = inr (inl is_status)
-  serve_complete numbers old new status can calm (unserved none door) = inr (inl (unopened_complete old new status can calm none))
+  -- what a command leaves as it was
+  record Keeps (request : Request) (old new : Outside D) : Type 0 where
+    shelf : Follows old.streams.shelf new.streams.shelf
+    own : request ≢ Session → new.streams.own ≡ old.streams.own
+    no_file : ¬ (NeedsFiles request) → new.streams.shelf ≡ old.streams.shelf
+    no_door : ¬ (NeedsDoor request) → new.streams.door ≡ old.streams.door
+    no_disk : ¬ (NeedsBook request) → new.disk ≡ old.disk
 
-  check_complete : (old new : Outside D) (status : ℕ) → CanOpen seen old → IsCalm seen old new → CheckWay seen old new status → IsComplete Check old new status
-  check_complete old new status can calm (checked text settings book gives is shows prints) = inl (prints_whole old.streams.out new.streams.out (check_text book.history) 0 status prints calm.out)
-  check_complete old new status can calm (untold text settings book gives is shows same e) = inr (inl e)
-  check_complete old new status can calm (unshown none) = inr (inl (unopened_complete old new status can calm none))
+  -- it leaves all but the output
+  keeps_all : (request : Request) (old new : Outside D) → new.streams ≡ record old.streams { out = new.streams.out } → new.disk ≡ old.disk → Keeps request old new
+  keeps_all request old new rest kept =
+      let same : new.streams.shelf ≡ old.streams.shelf = ap (λ (w : Streams). w.shelf) rest in
+      record {
+        shelf = record {
+          files = ap (λ (s : ShelfState). s.files) same;
+          faults = omega (arith, ap (λ (s : ShelfState). s.faults) same);
+          misses = omega (arith, ap (λ (s : ShelfState). s.misses) same);
+        };
+        own = λ other. ap (λ (w : Streams). w.own) rest;
+        no_file = λ other. same;
+        no_door = λ other. ap (λ (w : Streams). w.door) rest;
+        no_disk = λ other. kept;
+      }
 
-  -- settings that have to be refused are
-  not_read : (old : ShelfState) (text : List ℕ) (settings : Settings) → TellsSettings old (λ bytes. settings_of bytes ≡ None) → Gives old settings_file text → settings_of text ≡ Some settings → ⊥
-  not_read old text settings has gives is =
-      let none : settings_of text ≡ None = told_settings old text (λ bytes. settings_of bytes ≡ None) has gives in
-      let both : None ≡ Some settings = sym none ∙ is in
-      cc both
+  module _ (request : Request) (old new : Outside D) (status : ℕ) (w : Told request old new status) (keeps : Keeps request old new)
+      (complete : IsCalm seen old new → CanDo seen request old → IsComplete request old new status) where
+    statuses : (IsCalm seen old new → HasToRefuse seen request old → (status ≡ 3) ⊎ (status ≡ 7))
+        → (IsCalm seen old new → HasDamage seen request old → (status ≡ 9) ⊎ (status ≡ 7))
+        → (IsCalm seen old new → HasOtherRules seen request old → ((status ≡ 3) × Appends old.streams.out.written new.streams.out.written rules_line) ⊎ (status ≡ 7))
+        → Statuses seen request old new status
+    statuses refusing damaging differing = record {
+      known = (w.cause, w.status_is);
+      says = λ cause e. subst (λ c. Says seen c request old new) (same_cause w.cause cause (sym w.status_is ∙ e)) w.says;
+      complete = λ can calm. complete calm can;
+      refused = λ has calm. refusing calm has;
+      damaged = λ has calm. damaging calm has;
+      differs = λ has calm. differing calm has;
+      shelf = keeps.shelf;
+      write_faults = w.later;
+      own = keeps.own;
+      no_file = keeps.no_file;
+      no_door = keeps.no_door;
+      no_disk = keeps.no_disk;
+    }
 
-  unopened_refused : (old new : Outside D) (status : ℕ) → TellsSettings old.streams.shelf (λ bytes. settings_of bytes ≡ None) → IsCalm seen old new → Unopened seen old new status
-      → (status ≡ 3) ⊎ (status ≡ 7)
-  unopened_refused old new status has calm (settings_refused text gives none prints kept) = inl (prints_whole old.streams.out new.streams.out settings_line 3 status prints calm.out)
-  unopened_refused old new status has calm (settings_unread missed same kept e) =
-      absurd (not_missed old.streams.shelf new.streams.shelf settings_file has.1 has.0 has.2 has.3 calm.shelf missed)
-  unopened_refused old new status has calm (not_begun same kept e) = inr e
-  unopened_refused old new status has calm (not_opened text settings gives is given_up) = absurd (not_read old.streams.shelf text settings has gives is)
+    without_book : ¬ (NeedsBook request) → (IsCalm seen old new → HasToRefuse seen request old → (status ≡ 3) ⊎ (status ≡ 7)) → Statuses seen request old new status
+    without_book none refusing = statuses refusing (λ calm has. absurd (none has.0)) (λ calm has. absurd (none has.0))
 
-  session_refused : (old new : Outside D) (status : ℕ) → TellsSettings old.streams.shelf (λ bytes. settings_of bytes ≡ None) → IsCalm seen old new → SessionWay seen old new status
-      → (status ≡ 3) ⊎ (status ≡ 7)
-  session_refused old new status has calm (held text settings how gives is holds same e) = absurd (not_read old.streams.shelf text settings has gives is)
-  session_refused old new status has calm (unheld none own) = unopened_refused old new status has calm none
-
-  serve_refused : (numbers : ServerNumbers) (old new : Outside D) (status : ℕ) → TellsSettings old.streams.shelf (λ bytes. settings_of bytes ≡ None) → IsCalm seen old new → ServeWay seen numbers old new status
-      → (status ≡ 3) ⊎ (status ≡ 7)
-  serve_refused numbers old new status has calm (served text settings how gives is serves same e) = absurd (not_read old.streams.shelf text settings has gives is)
-  serve_refused numbers old new status has calm (unserved none door) = unopened_refused old new status has calm none
-
-  check_refused : (old new : Outside D) (status : ℕ) → TellsSettings old.streams.shelf (λ bytes. settings_of bytes ≡ None) → IsCalm seen old new → CheckWay seen old new status
-      → (status ≡ 3) ⊎ (status ≡ 7)
-  check_refused old new status has calm (checked text settings book gives is shows prints) = absurd (not_read old.streams.shelf text settings has gives is)
-  check_refused old new status has calm (untold text settings book gives is shows same e) = absurd (not_read old.streams.shelf text settings has gives is)
-  check_refused old new status has calm (unshown none) = unopened_refused old new status has calm none
-
-  unopened_later : (old new : Outside D) (status : ℕ) → Unopened seen old new status → old.streams.out.faults ≤ new.streams.out.faults
-  unopened_later old new status (settings_refused text gives none prints kept) = prints.later
-  unopened_later old new status (settings_unread missed same kept e) = same_out old.streams.out new.streams.out same
-  unopened_later old new status (not_begun same kept e) = same_out old.streams.out new.streams.out same
-  unopened_later old new status (not_opened text settings gives is given_up) = fault_later given_up.why old.streams.out new.streams.out status given_up.told
-
-  session_later : (old new : Outside D) (status : ℕ) → SessionWay seen old new status → old.streams.out.faults ≤ new.streams.out.faults
-  session_later old new status (held text settings how gives is holds same e) = same_out old.streams.out new.streams.out same
-  session_later old new status (unheld none own) = unopened_later old new status none
-
-  serve_later : (numbers : ServerNumbers) (old new : Outside D) (status : ℕ) → ServeWay seen numbers old new status → old.streams.out.faults ≤ new.streams.out.faults
-  serve_later numbers old new status (served text settings how gives is serves same e) = same_out old.streams.out new.streams.out same
-  serve_later numbers old new status (unserved none door) = unopened_later old new status none
-
-  check_later : (old new : Outside D) (status : ℕ) → CheckWay seen old new status → old.streams.out.faults ≤ new.streams.out.faults
-  check_later old new status (checked text settings book gives is shows prints) = prints.later
-  check_later old new status (untold text settings book gives is shows same e) = same_out old.streams.out new.streams.out same
-  check_later old new status (unshown none) = unopened_later old new status none
+    with_book : Opening seen old new status → (HasToRefuse seen request old → TellsSettings old.streams.shelf (λ bytes. settings_of bytes ≡ None))
+        → Statuses seen request old new status
+    with_book opening settings = statuses (λ calm has. settings_told seen old new status calm (settings has) opening)
+        (λ calm has. damage_told seen old new status calm has.1 opening) (λ calm has. others_told seen old new status calm has.1 opening)
 
   -- what each status says, by what was asked
   pub by_status : AreExclusive → (request : Request) (old new : Outside D) (status : ℕ) → Ends seen request old new status → Statuses seen request old new status
   by_status exclusive (Eval run qrels) old new status (ends, kept) =
-      let w = eval_told run qrels old new status ends.way kept in
-      record {
-        known = (w.0, w.1);
-        says = says (Eval run qrels) old new status w;
-        complete = λ can calm. eval_complete exclusive run qrels old new status can calm ends.way;
-        refused = λ has calm. eval_refused exclusive run qrels old new status has calm ends.way;
-        damaged = λ has calm. absurd has.0;
-        differs = λ has calm. absurd has.0;
+      without_book (Eval run qrels) old new status (eval_told run qrels old new status ends.way kept)
+      (record {
         shelf = ends.shelf;
-        write_faults = eval_later run qrels old.streams new.streams status ends.way;
         own = λ other. ap (λ (w : Streams). w.own) ends.rest;
         no_file = λ other. absurd (other tt);
         no_door = λ other. ap (λ (w : Streams). w.door) ends.rest;
         no_disk = λ other. kept;
-      }
+      })
+      (λ calm can. eval_complete exclusive run qrels old new status calm can ends.way)
+      (λ none. none) (λ calm has. eval_refused exclusive run qrels old new status calm has ends.way)
   by_status exclusive Session old new status ends =
-      let w = session_told old new status ends.way in
-      record {
-        known = (w.0, w.1);
-        says = says Session old new status w;
-        complete = λ can calm. session_complete old new status can calm ends.way;
-        refused = λ has calm. session_refused old new status has calm ends.way;
-        damaged = λ has calm. damage_told seen old new status calm has.1 (opening_of seen Session old new status tt ends);
-        differs = λ has calm. others_told seen old new status calm has.1 (opening_of seen Session old new status tt ends);
+      with_book Session old new status (session_told old new status ends.way)
+      (record {
         shelf = ends.shelf;
-        write_faults = session_later old new status ends.way;
         own = λ other. absurd (other refl);
         no_file = λ other. absurd (other tt);
         no_door = λ other. ends.door;
         no_disk = λ other. absurd (other tt);
-      }
+      })
+      (λ calm can. session_complete old new status calm can ends.way) (session_opening seen old new status ends.way) (λ has. has)
   by_status exclusive (Serve numbers) old new status ends =
-      let w = serve_told numbers old new status ends.way in
-      record {
-        known = (w.0, w.1);
-        says = says (Serve numbers) old new status w;
-        complete = λ can calm. serve_complete numbers old new status can calm ends.way;
-        refused = λ has calm. serve_refused numbers old new status has calm ends.way;
-        damaged = λ has calm. damage_told seen old new status calm has.1 (opening_of seen (Serve numbers) old new status tt ends);
-        differs = λ has calm. others_told seen old new status calm has.1 (opening_of seen (Serve numbers) old new status tt ends);
+      with_book (Serve numbers) old new status (serve_told numbers old new status ends.way)
+      (record {
         shelf = ends.shelf;
-        write_faults = serve_later numbers old new status ends.way;
         own = λ other. ends.own;
         no_file = λ other. absurd (other tt);
         no_door = λ other. absurd (other tt);
         no_disk = λ other. absurd (other tt);
-      }
+      })
+      (λ calm can. serve_complete old new status calm numbers can ends.way) (serve_opening seen numbers old new status ends.way) (λ has. has)
   by_status exclusive (Drill numbers) old new status (ends, kept) =
-      let w = drill_told numbers old new status ends.way in
-      let same : new.streams.shelf ≡ old.streams.shelf = ap (λ (w : Streams). w.shelf) ends.rest in
-      record {
-        known = (w.0, w.1);
-        says = says (Drill numbers) old new status w;
-        complete = λ can calm. drill_complete numbers old new status calm ends.way;
-        refused = λ has calm. absurd has;
-        damaged = λ has calm. absurd has.0;
-        differs = λ has calm. absurd has.0;
-        shelf = record {
-          files = ap (λ (s : ShelfState). s.files) same;
-          faults = omega (arith, ap (λ (s : ShelfState). s.faults) same);
-          misses = omega (arith, ap (λ (s : ShelfState). s.misses) same);
-        };
-        write_faults = drill_later numbers old.streams new.streams status ends.way;
-        own = λ other. ap (λ (w : Streams). w.own) ends.rest;
-        no_file = λ other. same;
-        no_door = λ other. ap (λ (w : Streams). w.door) ends.rest;
-        no_disk = λ other. kept;
-      }
+      without_book (Drill numbers) old new status (drill_told numbers old new status ends.way) (keeps_all (Drill numbers) old new ends.rest kept)
+      (λ calm can. drill_complete old new status calm numbers ends.way) (λ none. none) (λ calm has. absurd has)
   by_status exclusive Check old new status ends =
-      let w = check_told old new status ends.way in
-      record {
-        known = (w.0, w.1);
-        says = says Check old new status w;
-        complete = λ can calm. check_complete old new status can calm ends.way;
-        refused = λ has calm. check_refused old new status has calm ends.way;
-        damaged = λ has calm. damage_told seen old new status calm has.1 (opening_of seen Check old new status tt ends);
-        differs = λ has calm. others_told seen old new status calm has.1 (opening_of seen Check old new status tt ends);
+      with_book Check old new status (check_told old new status ends.way)
+      (record {
         shelf = ends.shelf;
-        write_faults = check_later old new status ends.way;
         own = λ other. ends.own;
         no_file = λ other. absurd (other tt);
         no_door = λ other. ends.door;
         no_disk = λ other. absurd (other tt);
-      }
+      })
+      (λ calm can. check_complete old new status calm can ends.way) (check_opening seen old new status ends.way) (λ has. has)
   by_status exclusive Nothing old new status (ends, kept) =
-      let w = usage_told old new status ends.way in
-      let same : new.streams.shelf ≡ old.streams.shelf = ap (λ (w : Streams). w.shelf) ends.rest in
-      record {
-        known = (w.0, w.1);
-        says = says Nothing old new status w;
-        complete = λ can calm. absurd can;
-        refused = λ has calm. absurd has;
-        damaged = λ has calm. absurd has.0;
-        differs = λ has calm. absurd has.0;
-        shelf = record {
-          files = ap (λ (s : ShelfState). s.files) same;
-          faults = omega (arith, ap (λ (s : ShelfState). s.faults) same);
-          misses = omega (arith, ap (λ (s : ShelfState). s.misses) same);
-        };
-        write_faults = usage_later old.streams new.streams status ends.way;
-        own = λ other. ap (λ (w : Streams). w.own) ends.rest;
-        no_file = λ other. same;
-        no_door = λ other. ap (λ (w : Streams). w.door) ends.rest;
-        no_disk = λ other. kept;
-      }
+      without_book Nothing old new status (usage_told old new status ends.way) (keeps_all Nothing old new ends.rest kept)
+      (λ calm can. absurd can) (λ none. none) (λ calm has. absurd has)

@@ -14,7 +14,7 @@ use Rattle.campaign_server.specs.Sessions.{IsSession}
 use Rattle.campaign_server.specs.Talks.{Talk}
 use Rattle.campaign_cli.specs.CalmSessions.{CalmSessionsAreAnswered, HasNoDiskFault, IsAnswered, IsCalmEnd}
 use Rattle.campaign_cli.specs.SessionEnds.{SessionWay, held, unheld}
-use Rattle.campaign_cli.proofs.ByStatus.{unopened_complete}
+use Rattle.campaign_cli.proofs.ToldDisks.{none_opened}
 
 -- the disk's count at the end of a talk is no less than at its start
 talk_later : (alone : Bool) (keys : List KeyRow) (n c : ℕ) (S : History) (last : ℕ) (places : List ℕ) (said : List Said) → Talk alone keys n c S last places said → c ≤ last
@@ -66,7 +66,7 @@ module _ {D : Type 0} (seen : D → DiskState) where
   calm_sessions old new status ends can calm = by ends.way
     where
       by : SessionWay seen old new status → ((status ≡ 7) × (new.streams.own ≡ old.streams.own)) ⊎ IsAnswered seen old new status
-      by (unheld none own) = inl (unopened_complete seen old new status can calm none, own)
+      by (unheld none own) = inl (none_opened seen old new status calm can none, own)
       by (held text settings how gives is holds same status_is) =
           let before = old.streams.own in
           let after = new.streams.own in

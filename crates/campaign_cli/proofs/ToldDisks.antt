@@ -1,4 +1,4 @@
--- A disk that is told and damaged, or another campaign's: it isn't opened, and that is told.
+-- Settings and a disk that are told: what is refused or damaged, or another campaign's, is told, and what may be opened is.
 use Rattle.std.proofs.Common.{◌≡◌, ◌⊎◌, inl, inr, ℕ, List, [], ◌∷◌, Option, Some, None, refl, sym, ap, subst, ◌∙◌}
 use Rattle.std.specs.Prelude.{IfSome, take}
 use Rattle.std.specs.Io.KnownBytes.{Appends}
@@ -10,21 +10,20 @@ use Rattle.rulebook.specs.Words.{Text}
 use Rattle.book.specs.declared.faults.BookFault.{BookFault}
 use Rattle.book.specs.declared.faults.BookFault.TheVariants as fault
 use Rattle.book.specs.Books.{Seen}
-use Rattle.book.specs.Openings.{Causes, DiffersFrom, Opened, OpensWith, Reads}
-use Rattle.book.specs.OpeningLaws.{story_start}
+use Rattle.book.specs.Openings.{DiffersFrom, Opened, OpensWith, Reads, Refused}
+use Rattle.book.specs.OpeningLaws.{opens_or_memory, story_start}
 use Rattle.book.specs.Stories.{HasStory}
+use Rattle.campaign_server.specs.declared.numbers.ServerNumbers.{ServerNumbers}
 use Rattle.campaign_settings.specs.declared.settings.Settings.{Settings}
-use Rattle.campaign_cli.specs.BookEnds.{TellsFault, Unopened, entry_line, header_line, not_begun, not_opened, rules_line, settings_file, settings_refused, settings_unread}
+use Rattle.campaign_cli.specs.BookEnds.{TellsFault, Unopened, entry_line, header_line, not_begun, not_opened, rules_line, settings_file, settings_line, settings_refused, settings_unread}
 use Rattle.campaign_cli.specs.CheckEnds.{CheckWay, checked, unshown, untold}
-use Rattle.campaign_cli.specs.Endings.{Ends}
 use Rattle.campaign_cli.specs.Outside.{Outside}
-use Rattle.campaign_cli.specs.Requests.{Request, Eval, Session, Serve, Drill, Check, Nothing}
 use Rattle.campaign_cli.specs.ServeEnds.{ServeWay, served, unserved}
 use Rattle.campaign_cli.specs.SessionEnds.{SessionWay, held, unheld}
 use Rattle.campaign_settings.specs.Settings.{settings_of}
-use Rattle.campaign_cli.specs.Shelves.{Files, file_at}
-use Rattle.campaign_cli.specs.Statuses.{GivesSettings, IsCalm, IsDamaged, IsOfOthers, NeedsBook, TellsDisk}
-use Rattle.campaign_cli.proofs.ToldFiles.{given, not_missed, prints_all, prints_whole}
+use Rattle.campaign_cli.specs.Shelves.{Gives}
+use Rattle.campaign_cli.specs.Statuses.{CanOpen, GivesSettings, IsCalm, IsDamaged, IsOfOthers, TellsDisk, TellsSettings}
+use Rattle.campaign_cli.proofs.ToldFiles.{not_missed, prints_all, prints_whole, told_settings}
 
 -- what was read of bytes that are told
 read_of : (told : Option (List ℕ)) (bytes : List ℕ) (payloads : List Text) → told ≡ Some bytes → Reads told payloads → decode bytes ≡ Some payloads
@@ -63,90 +62,113 @@ module _ {D : Type 0} (seen : D → DiskState) where
       GivesSettings old.streams.shelf (λ settings. (book : Seen D) × Opened seen settings.rules old.disk book) ⊎ Unopened seen old new status
 
   -- so it is with each command that keeps a campaign
-  pub opening_of : (request : Request) (old new : Outside D) (status : ℕ) → NeedsBook request → Ends seen request old new status → Opening old new status
-  opening_of (Eval run qrels) old new status needs ends = absurd needs
-  opening_of Session old new status needs ends = by ends.way
-    where
-      by : SessionWay seen old new status → Opening old new status
-      by (held text settings how gives is holds same e) = inl (text, settings, gives, is, (holds.opened, holds.opens))
-      by (unheld none own) = inr none
-  opening_of (Serve numbers) old new status needs ends = by ends.way
-    where
-      by : ServeWay seen numbers old new status → Opening old new status
-      by (served text settings how gives is serves same e) = inl (text, settings, gives, is, (serves.opened, serves.opens))
-      by (unserved none door) = inr none
-  opening_of (Drill numbers) old new status needs ends = absurd needs
-  opening_of Check old new status needs ends = by ends.way
-    where
-      by : CheckWay seen old new status → Opening old new status
-      by (checked text settings book gives is shows prints) = inl (text, settings, gives, is, (book, shows.opens))
-      by (untold text settings book gives is shows same e) = inl (text, settings, gives, is, (book, shows.opens))
-      by (unshown none) = inr none
-  opening_of Nothing old new status needs ends = absurd needs
+  pub session_opening : (old new : Outside D) (status : ℕ) → SessionWay seen old new status → Opening old new status
+  session_opening old new status (held text settings how gives is holds same e) = inl (text, settings, gives, is, (holds.opened, holds.opens))
+  session_opening old new status (unheld none own) = inr none
 
-  -- With settings that are told and accepted the disk was opened under them, or memory was short, or it wasn't for a fault that is told.
-  data Outcome (old new : Outside D) (status : ℕ) (settings : Settings) : Type 0 where
-    opened : (book : Seen D) → Opened seen settings.rules old.disk book → Outcome old new status settings
-    short : status ≡ 7 → Outcome old new status settings
-    faulty : (why : BookFault) → Causes seen settings.rules old.disk new.disk why → TellsFault why old.streams.out new.streams.out status → Outcome old new status settings
+  pub serve_opening : (numbers : ServerNumbers) (old new : Outside D) (status : ℕ) → ServeWay seen numbers old new status → Opening old new status
+  serve_opening numbers old new status (served text settings how gives is serves same e) = inl (text, settings, gives, is, (serves.opened, serves.opens))
+  serve_opening numbers old new status (unserved none door) = inr none
+
+  pub check_opening : (old new : Outside D) (status : ℕ) → CheckWay seen old new status → Opening old new status
+  check_opening old new status (checked text settings book gives is shows prints) = inl (text, settings, gives, is, (book, shows.opens))
+  check_opening old new status (untold text settings book gives is shows same e) = inl (text, settings, gives, is, (book, shows.opens))
+  check_opening old new status (unshown none) = inr none
 
   module _ (old new : Outside D) (status : ℕ) (calm : IsCalm seen old new) where
-    outcome : (files : Files) (text : List ℕ) (settings : Settings) → old.streams.shelf.files ≡ Some files → file_at files settings_file ≡ Some text → settings_of text ≡ Some settings
-        → Opening old new status → Outcome old new status settings
-    outcome files text settings tells at reads (inl (read, found, gives, is, (book, opens))) =
-        let same : text ≡ read = given old.streams.shelf settings_file read text files tells at gives in
-        let one : found ≡ settings = cc (same, reads, is) in
-        opened book (subst (λ (s : Settings). Opened seen s.rules old.disk book) one opens)
-    outcome files text settings tells at reads (inr none) = by none
+    -- settings that have to be refused are
+    pub settings_told : TellsSettings old.streams.shelf (λ bytes. settings_of bytes ≡ None) → Opening old new status → (status ≡ 3) ⊎ (status ≡ 7)
+    settings_told has opening = by opening
       where
-        by : Unopened seen old new status → Outcome old new status settings
-        by (settings_refused read gives refused prints kept) =
-            let same : text ≡ read = given old.streams.shelf settings_file read text files tells at gives in
-            let both : None ≡ Some settings = sym refused ∙ subst (λ (t : List ℕ). settings_of t ≡ Some settings) same reads in
-            absurd (cc both)
-        by (settings_unread missed same kept e) = absurd (not_missed old.streams.shelf new.streams.shelf settings_file text files tells at calm.shelf missed)
-        by (not_begun same kept e) = short e
-        by (not_opened read found gives is given_up) =
-            let same : text ≡ read = given old.streams.shelf settings_file read text files tells at gives in
-            let one : found ≡ settings = cc (same, reads, is) in
-            faulty given_up.why (subst (λ (s : Settings). Causes seen s.rules old.disk new.disk given_up.why) one given_up.refused.causes) given_up.told
+        not_read : (text : List ℕ) (settings : Settings) → Gives old.streams.shelf settings_file text → settings_of text ≡ Some settings → ⊥
+        not_read text settings gives is =
+            let both : None ≡ Some settings = sym (told_settings old.streams.shelf text (λ bytes. settings_of bytes ≡ None) has gives) ∙ is in
+            cc both
+
+        by : Opening old new status → (status ≡ 3) ⊎ (status ≡ 7)
+        by (inl (text, settings, gives, is, opens)) = absurd (not_read text settings gives is)
+        by (inr (settings_refused text gives none prints kept)) = inl (prints_whole old.streams.out new.streams.out settings_line 3 status prints calm.out)
+        by (inr (settings_unread missed same kept e)) =
+            absurd (not_missed old.streams.shelf new.streams.shelf settings_file has.1 has.0 has.2 has.3 calm.shelf missed)
+        by (inr (not_begun same kept e)) = inr e
+        by (inr (not_opened text settings gives is given_up)) = absurd (not_read text settings gives is)
+
+    -- with settings that are told and accepted there is no campaign for want of memory, or since the disk isn't opened under them
+    module _ (settings : Settings) (told : TellsSettings old.streams.shelf (λ text. settings_of text ≡ Some settings)) where
+      one : (text : List ℕ) (found : Settings) → Gives old.streams.shelf settings_file text → settings_of text ≡ Some found → found ≡ settings
+      one text found gives is =
+          let here = told_settings old.streams.shelf text (λ bytes. settings_of bytes ≡ Some settings) told gives in
+          cc (here, is)
+
+      why_none : (P : Type 0) → (status ≡ 7 → P)
+          → ((why : BookFault) → Refused seen settings.rules old.disk new.disk why → TellsFault why old.streams.out new.streams.out status → P)
+          → Unopened seen old new status → P
+      why_none P short refused (settings_refused text gives none prints kept) =
+          let both : None ≡ Some settings = sym none ∙ told_settings old.streams.shelf text (λ bytes. settings_of bytes ≡ Some settings) told gives in
+          absurd (cc both)
+      why_none P short refused (settings_unread missed same kept e) =
+          absurd (not_missed old.streams.shelf new.streams.shelf settings_file told.1 told.0 told.2 told.3 calm.shelf missed)
+      why_none P short refused (not_begun same kept e) = short e
+      why_none P short refused (not_opened text found gives is given_up) =
+          let same = one text found gives is in
+          refused given_up.why (subst (λ (s : Settings). Refused seen s.rules old.disk new.disk given_up.why) same given_up.refused) given_up.told
+
+    -- a disk that may be opened is, or memory is short
+    pub none_opened : CanOpen seen old → Unopened seen old new status → status ≡ 7
+    none_opened (files, text, there, at, (settings, reads, (payloads, (bytes, tells, decodes), may))) none =
+        why_none settings (files, text, there, at, reads) (status ≡ 7) (λ e. e)
+        (λ why refused tells_fault.
+        let short = opens_or_memory seen settings.rules old.disk bytes payloads tells decodes may new.disk why calm.disk refused in
+        let here : TellsFault fault.Memory old.streams.out new.streams.out status =
+        subst (λ (why : BookFault). TellsFault why old.streams.out new.streams.out status) short tells_fault in
+        here.1) none
 
     -- a damaged disk is told, or memory is short
     pub damage_told : TellsDisk seen old IsDamaged → Opening old new status → (status ≡ 9) ⊎ (status ≡ 7)
-    damage_told (files, text, there, at, (settings, reads, (bytes, tells, damaged))) opening = by (outcome files text settings there at reads opening)
+    damage_told (files, text, there, at, (settings, reads, (bytes, tells, damaged))) opening = by opening
       where
-        told : (why : BookFault) → Causes seen settings.rules old.disk new.disk why → TellsFault why old.streams.out new.streams.out status → (status ≡ 9) ⊎ (status ≡ 7)
-        told fault.Disk rose none = absurd (calm.disk rose)
-        told fault.Header causes prints = inl (prints_whole old.streams.out new.streams.out header_line 9 status prints calm.out)
-        told (fault.Damaged entry) causes (inl prints) = inl (prints_whole old.streams.out new.streams.out (entry_line entry) 9 status prints calm.out)
-        told (fault.Damaged entry) causes (inr none) = inr none.1
-        told fault.RulesDiffer (payloads, read, (some, (H, only, other))) prints =
-            absurd (not_damaged settings.rules bytes payloads (read_of (seen old.disk).content bytes payloads tells read) (H, only.0) damaged)
-        told fault.Memory causes none = inr none.1
+        by_fault : (why : BookFault) → Refused seen settings.rules old.disk new.disk why → TellsFault why old.streams.out new.streams.out status → (status ≡ 9) ⊎ (status ≡ 7)
+        by_fault fault.Disk refused none = absurd (calm.disk refused.causes)
+        by_fault fault.Header refused prints = inl (prints_whole old.streams.out new.streams.out header_line 9 status prints calm.out)
+        by_fault (fault.Damaged entry) refused (inl prints) = inl (prints_whole old.streams.out new.streams.out (entry_line entry) 9 status prints calm.out)
+        by_fault (fault.Damaged entry) refused (inr none) = inr none.1
+        by_fault fault.RulesDiffer refused prints =
+            let differs = refused.causes in
+            absurd (not_damaged settings.rules bytes differs.0 (read_of (seen old.disk).content bytes differs.0 tells differs.1)
+            (differs.2.1.0, differs.2.1.1.0) damaged)
+        by_fault fault.Memory refused none = inr none.1
 
-        by : Outcome old new status settings → (status ≡ 9) ⊎ (status ≡ 7)
-        by (opened book opens) =
-            absurd (not_damaged settings.rules bytes opens.payloads (read_of (seen old.disk).content bytes opens.payloads tells opens.reads) (story_opened settings.rules opens.payloads book.history opens.opens) damaged)
-        by (short e) = inr e
-        by (faulty why causes line) = told why causes line
+        by : Opening old new status → (status ≡ 9) ⊎ (status ≡ 7)
+        by (inl (read, found, gives, is, (book, opens))) =
+            absurd (not_damaged found.rules bytes opens.payloads (read_of (seen old.disk).content bytes opens.payloads tells opens.reads)
+            (story_opened found.rules opens.payloads book.history opens.opens) damaged)
+        by (inr none) = why_none settings (files, text, there, at, reads) ((status ≡ 9) ⊎ (status ≡ 7)) (λ e. inr e) by_fault none
 
     -- another campaign's disk is told, or memory is short
     pub others_told : TellsDisk seen old IsOfOthers → Opening old new status
         → ((status ≡ 3) × Appends old.streams.out.written new.streams.out.written rules_line) ⊎ (status ≡ 7)
-    others_told (files, text, there, at, (settings, reads, (bytes, tells, (payloads, decodes, differs)))) opening = by (outcome files text settings there at reads opening)
+    others_told (files, text, there, at, (settings, reads, (bytes, tells, (payloads, decodes, differs)))) opening = by opening
       where
-        told : (why : BookFault) → Causes seen settings.rules old.disk new.disk why → TellsFault why old.streams.out new.streams.out status
+        by_fault : (why : BookFault) → Refused seen settings.rules old.disk new.disk why → TellsFault why old.streams.out new.streams.out status
             → ((status ≡ 3) × Appends old.streams.out.written new.streams.out.written rules_line) ⊎ (status ≡ 7)
-        told fault.Disk rose none = absurd (calm.disk rose)
-        told fault.Header causes prints = absurd (not_damaged settings.rules bytes payloads decodes (differs.1.0, differs.1.1.0) (inl (no_records (seen old.disk).content bytes tells causes.0)))
-        told (fault.Damaged entry) (read, is, at) line =
-            absurd (at.none (subst (λ (p : List Text). HasStory (take entry p)) (same_records bytes payloads read decodes (read_of (seen old.disk).content bytes read tells is)) (story_start payloads differs.1.0 entry differs.1.1.0)))
-        told fault.RulesDiffer causes prints = inl (prints_all old.streams.out new.streams.out rules_line 3 status prints calm.out)
-        told fault.Memory causes none = inr none.1
+        by_fault fault.Disk refused none = absurd (calm.disk refused.causes)
+        by_fault fault.Header refused prints =
+            absurd (not_damaged settings.rules bytes payloads decodes (differs.1.0, differs.1.1.0)
+            (inl (no_records (seen old.disk).content bytes tells refused.causes.0)))
+        by_fault (fault.Damaged entry) refused line =
+            let at = refused.causes in
+            let same = same_records bytes payloads at.0 decodes (read_of (seen old.disk).content bytes at.0 tells at.1) in
+            absurd (at.2.none (subst (λ (p : List Text). HasStory (take entry p)) same (story_start payloads differs.1.0 entry differs.1.1.0)))
+        by_fault fault.RulesDiffer refused prints = inl (prints_all old.streams.out new.streams.out rules_line 3 status prints calm.out)
+        by_fault fault.Memory refused none = inr none.1
 
-        by : Outcome old new status settings → ((status ≡ 3) × Appends old.streams.out.written new.streams.out.written rules_line) ⊎ (status ≡ 7)
-        by (opened book opens) =
+        by : Opening old new status → ((status ≡ 3) × Appends old.streams.out.written new.streams.out.written rules_line) ⊎ (status ≡ 7)
+        by (inl (read, found, gives, is, (book, opens))) =
             let same = same_records bytes payloads opens.payloads decodes (read_of (seen old.disk).content bytes opens.payloads tells opens.reads) in
-            absurd (not_of_others settings.rules opens.payloads book.history (subst (DiffersFrom settings.rules) same differs) opens.opens)
-        by (short e) = inr e
-        by (faulty why causes line) = told why causes line
+            let there_too : DiffersFrom settings.rules opens.payloads = subst (DiffersFrom settings.rules) same differs in
+            let rules_too : OpensWith settings.rules opens.payloads book.history =
+            subst (λ (s : Settings). OpensWith s.rules opens.payloads book.history) (one settings (files, text, there, at, reads) read found gives is) opens.opens in
+            absurd (not_of_others settings.rules opens.payloads book.history there_too rules_too)
+        by (inr none) =
+            why_none settings (files, text, there, at, reads) (((status ≡ 3) × Appends old.streams.out.written new.streams.out.written rules_line) ⊎ (status ≡ 7))
+            (λ e. inr e) by_fault none
