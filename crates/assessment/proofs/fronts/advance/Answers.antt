@@ -1,4 +1,4 @@
-use Rattle.std.proofs.Common.{◌∙◌, List, Bool, ℕ, true, false, ap, get_or, subst, sym, take}
+use Rattle.std.proofs.Common.{◌∙◌, List, ℕ, true, false, ap, get_or, subst, sym, take}
 use Rattle.depth_pool.specs.declared.runs.RunId.{RunId}
 use Rattle.depth_pool.specs.Holdings.{docs_of}
 use Rattle.assessment.specs.Fronts.{AreDone, HasFronts, Own}

@@ -1,5 +1,4 @@
 -- The fronts stand behind documents that are done.
-use Rattle.std.proofs.Common.{◌≡◌}
 use Rattle.assessment.specs.Fronts.{HasFronts}
 use Rattle.assessment.proofs.fronts.advance.Given as goal
 

@@ -1,4 +1,4 @@
-use Rattle.std.proofs.Common.{◌∙◌, ap, arith, get_or, map, set}
+use Rattle.std.proofs.Common.{◌∙◌, ap, get_or, map, set}
 use Rattle.std.proofs.lemmas.List.Edits.{map_over_more}
 use Rattle.assessment.specs.Fronts.{Own, restarted}
 use Rattle.assessment.proofs.FrontSteps.{all-changed}
