@@ -5,7 +5,7 @@ ghost use Rattle.campaign_settings.specs.Settings.{settings_of};
 
 use crate::setting_faults::Fault;
 use crate::setting_lines::{line_of_caller, line_of_key, line_of_name, line_of_place};
-use campaign_settings::{MOST_CALLERS, NAMES, SettingsEnd, read_settings};
+use campaign_settings::{MOST_CALLERS, NAMES, SettingsEnd, is_key, read_settings};
 use decimal_rank::Memory;
 use rulebook::{MAX_DEPTH, MAX_HOLD, MAX_TERM, MAX_TOPICS};
 use std::alloc::Global;
@@ -268,11 +268,6 @@ fn fault_of_caller<'a>(caller: usize, value: &'a Value) -> Option<(&'a str, Faul
         Some(key) if is_key(key.as_bytes()) => None,
         _ => Some(("key", Fault::Key { caller })),
     }
-}
-
-// Whether a text may be a key.
-fn is_key(text: &[u8]) -> bool {
-    16 <= text.len() && text.len() <= 64 && text.iter().all(|byte| byte.is_ascii_alphanumeric())
 }
 
 fn text_at<'a>(value: &'a Value, key: &str) -> Option<&'a str> {

@@ -25,7 +25,7 @@ static COMMANDS: [(&str, &str, &str); 5] = [
     (
         "check",
         "check",
-        "tells what the journal of this folder holds",
+        "opens the campaign of this folder, and tells what it is",
     ),
 ];
 
