@@ -9,13 +9,44 @@ use Rattle.rulebook.specs.Stories.{AtMost, Story}
 use Rattle.campaign_server.specs.declared.ends.ServeEnd.{ServeEnd}
 use Rattle.campaign_server.specs.declared.ends.ServeEnd.TheVariants as serve_end
 use Rattle.campaign_server.specs.declared.numbers.ServerNumbers.{ServerNumbers}
-use Rattle.campaign_server.specs.Doors.{DoorState, Ended, IsShut, Told}
-use Rattle.campaign_server.specs.Acceptors.{Closes}
+use Rattle.campaign_server.specs.Doors.{DoorState, Ended, IsShut, Opens, Told}
+use Rattle.campaign_server.specs.Acceptors.{Closes, IsAcceptor}
 use Rattle.campaign_server.specs.Records.{AreServed, NoneShort}
 use Rattle.campaign_server.specs.Servers.{Leaves, ServesDoor, Settles}
 use Rattle.campaign_server.specs.Workers.{Worked}
 use Rattle.campaign_server.proofs.ServerEnds.PlaceLemmas.{front_apart}
 use Rattle.campaign_server.proofs.ServerEnds.WorkerLemmas.{most_on, most_same, works_later}
+
+on-port : (port : ℕ) (was is : Option Told) → Opens was port is → IfSome is (λ t. t.port ≡ Some port)
+on-port port (Some t) (Some u) e = ap (λ (told : Told). told.port) e
+on-port port (Some t) None e = absurd e
+on-port port None (Some u) e = absurd e
+on-port port None None e = e
+
+none-given : (port : ℕ) (was is : Option Told) → IfSome was (λ t. (t.port ≡ None) × (t.accepted ≡ 0) × (t.served ≡ [])) → Opens was port is → IfSome is (λ t. t.accepted ≡ 0)
+none-given port (Some t) (Some u) shut e = ap (λ (told : Told). told.accepted) e ∙ shut.1
+none-given port (Some t) None shut e = absurd e
+none-given port None (Some u) shut e = absurd e
+none-given port None None shut e = e
+
+none-handed : (port : ℕ) (was is : Option Told) → IfSome was (λ t. (t.port ≡ None) × (t.accepted ≡ 0) × (t.served ≡ [])) → Opens was port is → IfSome is (λ t. t.served ≡ [])
+none-handed port (Some t) (Some u) shut e = ap (λ (told : Told). told.served) e ∙ shut.2
+none-handed port (Some t) None shut e = absurd e
+none-handed port None (Some u) shut e = absurd e
+none-handed port None None shut e = e
+
+-- a door that was just opened
+pub accepts_on : (port opening limit : ℕ) (was is : DoorState) → IsShut was → Opens was.told port is.told → opening ≤ is.faults
+    → IsAcceptor port opening limit (record { door = is; accepted = 0; ended = false; failed = false })
+accepts_on port opening limit was is shut opens later = record {
+  open_on = on-port port was.told is.told opens;
+  counted = none-given port was.told is.told shut opens;
+  none_served = none-handed port was.told is.told shut opens;
+  none_left = λ wrong. cc wrong;
+  few = omega arith;
+  later = later;
+  fault = λ wrong. cc wrong;
+}
 
 -- a door through which nothing came
 leaves_shut : (keys : List KeyRow) (numbers : ServerNumbers) (start after : Story) (how : ServeEnd) (told : Option Told) → how ≢ serve_end.Ended

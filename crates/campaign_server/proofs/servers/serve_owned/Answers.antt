@@ -1,13 +1,13 @@
-use Rattle.std.proofs.Common.{rules, ◌≡◌, ◌≤◌, ap, refl, subst, sym, vec_len}
+use Rattle.std.proofs.Common.{rules, ◌≡◌, ◌≤◌, ap, false, refl, subst, sym, vec_len}
 use Rattle.decimal_rank.specs.Causes.{Rose}
 use Rattle.rulebook.specs.Stories.{AtMost}
 use Rattle.book.specs.Books.{story_of}
 use Rattle.book.specs.Halls.{seen_as}
 use Rattle.campaign_server.specs.declared.ends.ServeEnd.TheVariants as serve_end
-use Rattle.campaign_server.specs.Acceptors.{Closes}
+use Rattle.campaign_server.specs.Acceptors.{Closes, IsAcceptor}
 use Rattle.campaign_server.specs.Records.{ended_all}
 use Rattle.campaign_server.specs.Workers.{GatheredState, Worked, Works}
-use Rattle.campaign_server.proofs.ServerEnds.ServerLemmas.{serves_closed, serves_none, serves_shut}
+use Rattle.campaign_server.proofs.ServerEnds.ServerLemmas.{accepts_on, serves_closed, serves_none, serves_shut}
 use Rattle.campaign_server.proofs.servers.serve_owned.Goals as goal
 
 pub returns-in_default : goal.returns-in_default
@@ -17,6 +17,11 @@ returns-in_default g c =
 
 pub returns-in_default-with_capacity : goal.returns-in_default-with_capacity
 returns-in_default-with_capacity g c =
+    let start = story_of g.D.Disk.seen c.args.book in
+    serves_none c.args.keys.now c.args.numbers start start (g.R.Door.seen c.args.door) refl c.requires.shut
+
+pub returns-in_default-new : goal.returns-in_default-new
+returns-in_default-new g c =
     let start = story_of g.D.Disk.seen c.args.book in
     serves_none c.args.keys.now c.args.numbers start start (g.R.Door.seen c.args.door) refl c.requires.shut
 
@@ -36,8 +41,17 @@ returns-in-Err-open g c =
     let later : old.faults ≤ new.faults = search rules in
     let most = c.close.ensures in
     let grown : AtMost (story c.args.book) (story c.close.result) =
-    subst (λ s. AtMost (seen_as s) (story c.close.result)) c.in-Ok-new.ensures.pass.0 (record { longer = most.0; later = most.1; opening = most.2 }) in
+    subst (λ s. AtMost (seen_as s) (story c.close.result)) c.in-Ok-new-2.ensures.pass.0 (record { longer = most.0; later = most.1; opening = most.2 }) in
     serves_shut c.args.keys.now c.args.numbers (story c.args.book) (story c.close.result) old new serve_end.DoorFault (λ wrong. cc wrong) grown c.requires.shut same (λ e. rose) later
+
+pub new-requires-3-clause-acceptor : goal.new-requires-3-clause-acceptor
+new-requires-3-clause-acceptor g c κs within =
+    let was = g.R.Door.seen c.args.door in
+    let is = g.R.Door.seen c.open.new.self in
+    let limit = g.J.Opening.limit in
+    let later : g.J.Opening.faults ≤ is.faults = subst (λ n. n ≤ is.faults) (sym c.requires.opening.1) c.open.ensures.cause.later in
+    subst (λ port. IsAcceptor port g.J.Opening.faults limit (record { door = is; accepted = 0; ended = false; failed = false })) (sym c.requires.opening.0)
+    (accepts_on c.args.numbers.port g.J.Opening.faults limit was is c.requires.shut c.in-Ok-open.ensures.opened later)
 
 pub returns : goal.returns
 returns g c =
@@ -53,7 +67,7 @@ returns g c =
     let closes : Closes c.args.numbers.port was c.args.numbers.connections (told c.close-door.result.0) all.share.amount c.close-door.result.1 = search rules in
     let first = c.fill_team.new.first in
     let worked : Worked keys (story c.args.book) workers seen all.pass.mine records all.short =
-    subst (λ s. Worked keys (seen_as s) workers seen all.pass.mine records all.short) c.in-Ok-new.ensures.pass.0
+    subst (λ s. Worked keys (seen_as s) workers seen all.pass.mine records all.short) c.in-Ok-new-2.ensures.pass.0
     (subst (λ p. Worked keys (seen_as p.seen) workers seen all.pass.mine records all.short) c.fill_team.ensures.same
     (subst (λ n. Worked keys (seen_as first.seen) n seen all.pass.mine records all.short) c.fill_team.ensures.len
     (subst (λ (v : GatheredState). Works keys (seen_as first.seen) (vec_len c.fill_team.new.team) v.done) (sym c.all.view_is) c.work_together.ensures.worked))) in
