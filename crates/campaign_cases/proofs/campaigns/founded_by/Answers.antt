@@ -26,6 +26,6 @@ each-allowed (suc (suc (suc (suc level)))) fits = absurd (omega (arith, fits))
 pub found-requires : goal.found-requires
 unfolding is_name
 found-requires c =
-    let r : Rules = c.rules in
+    let r : Rules = record { depth = c.args.depth; term = 600; hold = c.args.hold; level = 1; top_grade = 3; doubles = c.if-is_doubled.doubles; levels = c.in_ok-levels.levels } in
     let settings : are_settings r ≡ true = search rules in
     and_from (are_settings r) (are_levels r) settings (ap allowed c.in_ok-levels.ensures ∙ each-allowed c.args.level c.requires.level)
