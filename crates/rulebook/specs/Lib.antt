@@ -14,6 +14,7 @@ pub mod Roles
 pub mod Legal
 pub mod Entries
 pub mod Scores
+pub mod Systems
 pub mod Plain
 pub mod Stories
 pub mod Additions

@@ -11,6 +11,7 @@ mod lease_laws;
 mod limits;
 mod reply;
 mod rules;
+mod systems;
 
 pub use answer::Answer;
 pub use ask::{Addressed, Ask, Command, Query};
@@ -32,3 +33,4 @@ pub use limits::{
 };
 pub use reply::{Quantity, Refusal, Reply};
 pub use rules::{Caller, Phase, Role, Rules, TopicLevel};
+pub use systems::System;

@@ -1,0 +1,30 @@
+-- Releases that are put in one after another.
+use Rattle.std.proofs.Common.{◌≡◌, ℕ, suc, ◌&&◌, Bool, true, List, [], ◌∷◌, take, drop, refl, sym, ap, ◌∙◌}
+use Rattle.std.specs.Prelude.{fold, insert}
+use Rattle.std.specs.List.{position_or_len}
+use Rattle.std.specs.List.{list_all}
+use Rattle.std.proofs.lemmas.Bool.{and_parts}
+use Rattle.release_archive.specs.declared.kept.Kept.{Kept}
+use Rattle.release_archive.specs.Releases.{is_sound}
+use Rattle.archive_reports.specs.Orders.{by_name, is_before, with_kept}
+
+both : (t u : Bool) → t ≡ true → u ≡ true → (t && u) ≡ true
+both t u is also = ap (λ v. v && u) is ∙ also
+
+insert-all : {X : Type 0} (p : X → Bool) (xs : List X) (i : ℕ) (x : X) → list_all p xs ≡ true → p x ≡ true → list_all p (insert xs i x) ≡ true
+insert-all p xs 0 x all one = both (p x) (list_all p xs) one all
+insert-all p [] (suc i) x all one = both (p x) true one refl
+insert-all p (y ∷ ys) (suc i) x all one =
+    let parts = and_parts (p y) (list_all p ys) all in
+    both (p y) (list_all p (insert ys i x)) parts.0 (insert-all p ys i x parts.1 one)
+
+sorted-all : (more sorted : List Kept) → list_all is_sound more ≡ true → list_all is_sound sorted ≡ true → list_all is_sound (fold with_kept sorted more) ≡ true
+sorted-all [] sorted all here = here
+sorted-all (kept ∷ more) sorted all here =
+    let parts = and_parts (is_sound kept) (list_all is_sound more) all in
+    sorted-all more (with_kept sorted kept) parts.1
+    (insert-all is_sound sorted (position_or_len (λ other. is_before kept.name other.name) sorted) kept here parts.0)
+
+-- sound releases are sound by name
+pub sound-by_name : (all : List Kept) → list_all is_sound all ≡ true → list_all is_sound (by_name all) ≡ true
+sound-by_name all sound = sorted-all all [] sound refl

@@ -1,0 +1,127 @@
+//! Two releases compared by the runs that both have.
+ghost use Rattle.std.specs.Prelude.{◌≡◌, ◌+◌, ◌*◌, ◌-◌, ◌≤◌, ◌<◌, ◌^◌, IsTrue, Some, cond, length};
+ghost use Rattle.rulebook.specs.Spelling.{differ};
+ghost use Rattle.rulebook.specs.Systems.{runs_of};
+ghost use Rattle.archive_reports.specs.Comparisons.{Maps, common_runs, is_concordant, is_discordant, is_tied, map_of, maps_of, pairs_of};
+ghost use Rattle.archive_reports.specs.Counting.{HasRoom, with_maps, with_pair};
+
+use release_archive::Kept;
+use rulebook::System;
+
+/// How two releases agree. `common` is how many runs both have. Of the pairs of two of these, `concordant` are those
+/// whose maps differ in both releases the same way, `discordant` those whose maps differ in both the opposite way, and
+/// `tied` the others.
+#[derive(Clone, Copy, Debug, PartialEq, Eq)]
+pub struct Pairs {
+    pub common: u32,
+    pub concordant: u32,
+    pub discordant: u32,
+    pub tied: u32,
+}
+
+/// How two releases agree, in whichever order they are given. It takes no memory.
+pub fn compare(a: &Kept, b: &Kept) -> Pairs
+    requires few { length a.now.systems ≤ 256 }
+    requires few_others { length b.now.systems ≤ 256 }
+    requires differ { IsTrue (differ (runs_of a.now.systems)) }
+    requires others_differ { IsTrue (differ (runs_of b.now.systems)) }
+    ensures pairs { result ≡ pairs_of a.now.systems b.now.systems }
+    ensures even { result ≡ pairs_of b.now.systems a.now.systems }
+    ensures sum { 2 * (result.concordant + result.discordant + result.tied) ≡ result.common * (result.common - 1) }
+{
+    let others = b.systems.items();
+    let mut pairs = Pairs {
+        common: 0,
+        concordant: 0,
+        discordant: 0,
+        tied: 0,
+    };
+    let mut left = a.systems.items();
+    while let [system, rest @ ..] = left {
+        pairs = with_system(pairs, system, rest, others);
+        left = rest;
+    }
+    pairs
+}
+
+/// The counts with a system of the first release, and with its pairs with the systems behind it.
+fn with_system(pairs: Pairs, system: &System, rest: &[System], others: &[System]) -> Pairs
+    requires room { HasRoom pairs (length rest.now) }
+    requires common { pairs.common < 2 ^ 32 - 1 }
+    ensures { result ≡ with_maps pairs (maps_of others.now system.now) (common_runs rest.now others.now) }
+{
+    match maps_of(others, system) {
+        Some(maps) => with_later(pairs, maps, rest, others),
+        None => pairs,
+    }
+}
+
+fn with_later(pairs: Pairs, maps: (u64, u64), rest: &[System], others: &[System]) -> Pairs
+    requires room { HasRoom pairs (length rest.now) }
+    requires common { pairs.common < 2 ^ 32 - 1 }
+    ensures { result ≡ with_maps pairs (Some maps) (common_runs rest.now others.now) }
+{
+    let mut now = Pairs {
+        common: pairs.common + 1,
+        concordant: pairs.concordant,
+        discordant: pairs.discordant,
+        tied: pairs.tied,
+    };
+    let mut left = rest;
+    while let [system, behind @ ..] = left {
+        if let Some(other) = maps_of(others, system) {
+            now = with_pair(now, maps, other);
+        }
+        left = behind;
+    }
+    now
+}
+
+fn with_pair(pairs: Pairs, x: (u64, u64), y: (u64, u64)) -> Pairs
+    requires { HasRoom pairs 1 }
+    ensures { result ≡ with_pair pairs x y }
+{
+    Pairs {
+        common: pairs.common,
+        concordant: pairs.concordant + u32::from(is_concordant(x, y)),
+        discordant: pairs.discordant + u32::from(is_discordant(x, y)),
+        tied: pairs.tied + u32::from(is_tied(x, y)),
+    }
+}
+
+fn is_concordant(x: (u64, u64), y: (u64, u64)) -> bool
+    ensures { result ≡ is_concordant x y }
+{
+    (x.0 < y.0 && x.1 < y.1) || (y.0 < x.0 && y.1 < x.1)
+}
+
+fn is_discordant(x: (u64, u64), y: (u64, u64)) -> bool
+    ensures { result ≡ is_discordant x y }
+{
+    (x.0 < y.0 && y.1 < x.1) || (y.0 < x.0 && x.1 < y.1)
+}
+
+fn is_tied(x: (u64, u64), y: (u64, u64)) -> bool
+    ensures { result ≡ is_tied x y }
+{
+    x.0 == y.0 || x.1 == y.1
+}
+
+/// A system's map, and that of its run in the other release, where it is there.
+fn maps_of(others: &[System], system: &System) -> Option<(u64, u64)>
+    ensures { result ≡ maps_of others.now system.now }
+{
+    match map_of(others, system.run.bytes()) {
+        Some(other) => Some((system.summary.map, other)),
+        None => None,
+    }
+}
+
+fn map_of(systems: &[System], run: &[u8]) -> Option<u64>
+    ensures { result ≡ map_of systems.now run.now }
+{
+    match systems.iter().find(|system| run == system.run.bytes()) {
+        Some(system) => Some(system.summary.map),
+        None => None,
+    }
+}

@@ -1,0 +1,37 @@
+//! The releases of an archive by name.
+ghost use Rattle.std.specs.Prelude.{◌≡◌, IfOk, OnOk};
+ghost use Rattle.std.specs.List.{position_or_len};
+ghost use Rattle.archive_reports.specs.Orders.{by_name as in_order_of_name, is_before, shown, with_kept};
+
+use decimal_rank::Memory;
+use release_archive::Kept;
+use std::alloc::Global;
+
+/// The releases by name, equal names in the order of the archive.
+pub(crate) fn by_name(alloc: Global, all: &[Kept]) -> Result<Vec<&Kept>, Memory>
+    ensures { IfOk result (λ sorted. shown sorted.items ≡ in_order_of_name all.now) }
+{
+    let mut sorted = Vec::with_capacity(alloc, all.len())?;
+    for kept in all {
+        put_in(&mut sorted, kept)?;
+    }
+    Ok(sorted)
+}
+
+fn put_in<'a>(sorted: &mut Vec<&'a Kept>, kept: &'a Kept) -> Result<(), Memory>
+    ensures { OnOk result (shown sorted.new.items ≡ with_kept (shown sorted.old.items) kept.now) }
+{
+    let place = place_in(sorted, kept.name.bytes());
+    sorted.insert(place, kept)?;
+    Ok(())
+}
+
+/// The place of the first release that a name comes before, or that behind all.
+fn place_in(sorted: &[&Kept], name: &[u8]) -> usize
+    ensures { result ≡ position_or_len (λ kept. is_before name.now kept.name) (shown sorted.now) }
+{
+    match sorted.iter().position(|kept| name < kept.name.bytes()) {
+        Some(place) => place,
+        None => sorted.len(),
+    }
+}
