@@ -24,6 +24,7 @@ impl Drop for System {
 }
 
 impl System {
+    /// The same again.
     pub fn copy(&self) -> Result<System, Memory>
         ensures { IfOk result (λ copy. copy ≡ self.now) }
     {
