@@ -1,6 +1,6 @@
 -- Names that differ.
-use Rattle.std.proofs.Common.{◌≡◌, ℕ, ◌-◌, ◌&&◌, List, [], ◌∷◌, ◌++◌, Option, Some, None, Bool, true, false, length, map, take, drop, refl, sym, ap, ◌∙◌, arith}
-use Rattle.std.specs.Prelude.{IsTrue, find, bytes_eq, not, ◌||◌, slice_get}
+use Rattle.std.proofs.Common.{◌≡◌, ◌-◌, ◌&&◌, List, [], ◌∷◌, ◌++◌, Option, Some, None, Bool, true, false, length, take, drop, refl, sym, ap, ◌∙◌, arith}
+use Rattle.std.specs.Prelude.{bytes_eq, not, ◌||◌, slice_get}
 use Rattle.std.specs.List.{list_all, list_any}
 use Rattle.std.proofs.lemmas.List.{take_all}
 use Rattle.std.proofs.lemmas.List.Folds.{list_all-append, list_any-append}
@@ -19,23 +19,28 @@ among [] text = refl
 among (row ∷ rows) text = ap (λ t. bytes_eq text row.run || t) (among rows text)
 
 split_first : (left : List System) (first : System) (text : Text) (found : Bool) → slice_get left 0 ≡ Some first → text ≡ first.run
-    → found ≡ list_any (λ row. bytes_eq text row.run) (take (length left - 1) (drop 1 left)) → differ (runs_of left) ≡ (not found && differ (runs_of (take (length left - 1) (drop 1 left))))
+    → found ≡ list_any (λ row. bytes_eq text row.run) (take (length left - 1) (drop 1 left))
+    → differ (runs_of left) ≡ (not found && differ (runs_of (take (length left - 1) (drop 1 left))))
 split_first [] first text found here is any = cc
 split_first (row ∷ rows) first text found here is any =
     let whole : take (length (row ∷ rows) - 1) rows ≡ rows = take_all (length (row ∷ rows) - 1) rows (omega arith) in
     let same : row ≡ first = cc in
     let own : text ≡ row.run = is ∙ ap (λ (s : System). s.run) (sym same) in
     let test : list_any (bytes_eq row.run) (runs_of rows) ≡ found =
-    ap (λ t. list_any (bytes_eq t) (runs_of rows)) (sym own) ∙ among rows text ∙ ap (list_any (λ (row : System). bytes_eq text row.run)) (sym whole) ∙ sym any in
+    ap (λ t. list_any (bytes_eq t) (runs_of rows)) (sym own) ∙ among rows text ∙ ap (list_any (λ (row : System). bytes_eq text row.run)) (sym whole)
+    ∙ sym any in
     ap (λ t. not t && differ (runs_of rows)) test ∙ ap (λ rest. not found && differ (runs_of rest)) (sym whole)
 
 pub repeats_first : (left : List System) (first : System) (text : Text) (found : Bool) → slice_get left 0 ≡ Some first → text ≡ first.run
     → found ≡ list_any (λ row. bytes_eq text row.run) (take (length left - 1) (drop 1 left)) → found ≡ true → false ≡ differ (runs_of left)
-repeats_first left first text found here is any there = sym (split_first left first text found here is any ∙ ap (λ t. not t && differ (runs_of (take (length left - 1) (drop 1 left)))) there)
+repeats_first left first text found here is any there =
+    sym (split_first left first text found here is any ∙ ap (λ t. not t && differ (runs_of (take (length left - 1) (drop 1 left)))) there)
 
 pub differs_first : (left : List System) (first : System) (text : Text) (found : Bool) → slice_get left 0 ≡ Some first → text ≡ first.run
-    → found ≡ list_any (λ row. bytes_eq text row.run) (take (length left - 1) (drop 1 left)) → found ≡ false → differ (runs_of left) ≡ differ (runs_of (take (length left - 1) (drop 1 left)))
-differs_first left first text found here is any absent = split_first left first text found here is any ∙ ap (λ t. not t && differ (runs_of (take (length left - 1) (drop 1 left)))) absent
+    → found ≡ list_any (λ row. bytes_eq text row.run) (take (length left - 1) (drop 1 left)) → found ≡ false
+    → differ (runs_of left) ≡ differ (runs_of (take (length left - 1) (drop 1 left)))
+differs_first left first text found here is any absent =
+    split_first left first text found here is any ∙ ap (λ t. not t && differ (runs_of (take (length left - 1) (drop 1 left)))) absent
 
 -- One more name behind names that differ.
 
@@ -72,7 +77,8 @@ differ_more (first ∷ names) name differs absent =
 pub absent_name : (releases : List Kept) (name : Text) → release_named releases name ≡ None → contains_text (names_of releases) name ≡ false
 absent_name [] name none = refl
 absent_name (kept ∷ releases) name none =
-    cond_both (bytes_eq name kept.name) (Some kept) (release_named releases name) (λ found. found ≡ None → (bytes_eq name kept.name || contains_text (names_of releases) name) ≡ false)
+    cond_both (bytes_eq name kept.name) (Some kept) (release_named releases name)
+    (λ found. found ≡ None → (bytes_eq name kept.name || contains_text (names_of releases) name) ≡ false)
     (λ here is. cc is) (λ other is. ap (λ t. t || contains_text (names_of releases) name) other ∙ absent_name releases name is) none
 
 names-more : (releases : List Kept) (kept : Kept) → names_of (releases ++ kept ∷ []) ≡ names_of releases ++ kept.name ∷ []
@@ -83,7 +89,8 @@ both_true : (a b : Bool) → a ≡ true → b ≡ true → (a && b) ≡ true
 both_true a b p q = ap (λ t. t && b) p ∙ q
 
 -- a release behind those of an archive, none of which has its name
-pub kept_more : (releases : List Kept) (kept : Kept) → are_kept releases ≡ true → is_sound kept ≡ true → release_named releases kept.name ≡ None → are_kept (releases ++ kept ∷ []) ≡ true
+pub kept_more : (releases : List Kept) (kept : Kept) → are_kept releases ≡ true → is_sound kept ≡ true → release_named releases kept.name ≡ None
+    → are_kept (releases ++ kept ∷ []) ≡ true
 kept_more releases kept are sound none =
     let parts = and_parts (list_all is_sound releases) (differ (names_of releases)) are in
     both_true (list_all is_sound (releases ++ kept ∷ [])) (differ (names_of (releases ++ kept ∷ [])))
@@ -91,7 +98,8 @@ kept_more releases kept are sound none =
     (ap differ (names-more releases kept) ∙ differ_more (names_of releases) kept.name parts.1 (absent_name releases kept.name none))
 
 -- a release that is found is one of them
-pub named_sound : (releases : List Kept) (name : Text) (kept : Kept) → list_all is_sound releases ≡ true → release_named releases name ≡ Some kept → (is_sound kept ≡ true) × (kept.name ≡ name)
+pub named_sound : (releases : List Kept) (name : Text) (kept : Kept) → list_all is_sound releases ≡ true → release_named releases name ≡ Some kept
+    → (is_sound kept ≡ true) × (kept.name ≡ name)
 named_sound [] name kept all is = cc is
 named_sound (first ∷ releases) name kept all is =
     let parts = and_parts (is_sound first) (list_all is_sound releases) all in
@@ -100,7 +108,8 @@ named_sound (first ∷ releases) name kept all is =
     (λ other later. named_sound releases name kept parts.1 later) is
 
 -- what a copy of one release, or of all, is
-pub finds_named : (releases : List Kept) (name : Text) (found : Option Kept) → are_kept releases ≡ true → found ≡ release_named releases name → Finds (Some releases) name found
+pub finds_named : (releases : List Kept) (name : Text) (found : Option Kept) → are_kept releases ≡ true → found ≡ release_named releases name
+    → Finds (Some releases) name found
 finds_named releases name None are is = record { told = is; sound = tt; named = tt }
 finds_named releases name (Some kept) are is =
     let parts = named_sound releases name kept (and_parts (list_all is_sound releases) (differ (names_of releases)) are).0 (sym is) in

@@ -14,7 +14,8 @@ use trec_formats::is_name;
 /// How many systems a release has at most.
 const MOST_SYSTEMS: usize = 256;
 
-/// A release of a campaign under its name in the archive: the text of its qrels, and its systems by submission.
+/// A release of a campaign under its name in the archive: the text of its qrels, and its systems by
+/// submission.
 #[derive(Debug, PartialEq)]
 pub struct Kept {
     pub name: Text,
@@ -34,6 +35,7 @@ impl Drop for Kept {
 }
 
 impl Kept {
+    /// The same again.
     pub fn copy(&self, alloc: Global) -> Result<Kept, Memory>
         ensures { IfOk result (λ copy. copy ≡ self.now) }
     {
@@ -62,8 +64,8 @@ fn copied_systems(alloc: Global, systems: &[System]) -> Result<Rows<System>, Mem
     Ok(Rows::new(copies))
 }
 
-/// Whether a release is sound: its name and those of its runs and groups are names, it has at most 256 systems,
-/// no two of one run name, and no mean is above 1.
+/// Whether a release is sound: its name and those of its runs and groups are names, it has at most 256
+/// systems, no two of one run name, and no mean is above 1.
 pub fn is_sound(kept: &Kept) -> bool
     ensures { result ≡ sound kept.now }
 {
