@@ -1,10 +1,11 @@
 //! A book: the accepted entries, and the journal that keeps them. A request is answered by the entries;
 //! the entry that it adds joins them once it is journaled.
-ghost use Rattle.std.specs.Prelude.{◌≡◌, length, IsSome, Some};
+ghost use Rattle.std.specs.Prelude.{◌≡◌, length, IfOk, IsSome, IsTrue, Some};
 ghost use Rattle.std.specs.Option.{option_map};
 ghost use Rattle.campaign_core.specs.Tallies.{IsTally, submitted_at};
 ghost use Rattle.rulebook.specs.Campaign.{phase as phase_of};
 ghost use Rattle.rulebook.specs.Stories.{IsAddressed};
+ghost use Rattle.rulebook.specs.Systems.{are_sound_systems, systems};
 ghost use Rattle.book.specs.Books.{Acts, IsSound};
 ghost use Rattle.book.specs.Journaling.{Accepts, HasRoom, KeepsBook};
 
@@ -13,10 +14,10 @@ use crate::journaling::{frame_of, keep};
 use crate::laws::rule_laws;
 use crate::pending::Pending;
 use campaign_core::{Prepared, State, Tally, Verdict};
-use decimal_rank::Memory;
+use decimal_rank::{Memory, Rows};
 use depth_pool::RunId;
 use journal::{Disk, Failed, Journal};
-use rulebook::{Addressed, Answer, Phase};
+use rulebook::{Addressed, Answer, Phase, System};
 use std::alloc::Global;
 use std::marker::{Brand, Model};
 use std::sync::ledger::Blank;
@@ -89,6 +90,14 @@ impl<D: Disk> Book<D> {
         ensures { option_map (λ run. run.name) (submitted_at self.now.history run) ≡ Some result.now }
     {
         self.state.run_name(run)
+    }
+
+    /// The live runs by submission, each with its submitter's name and its sums and means.
+    pub fn systems(&self) -> Result<Rows<System>, Memory>
+        ensures systems { IfOk result (λ rows. rows ≡ systems self.now.history) }
+        ensures sound { IfOk result (λ rows. IsTrue (are_sound_systems rows)) }
+    {
+        self.state.systems()
     }
 
     /// What a book keeps true.

@@ -11,6 +11,7 @@ pub mod LeaseSteps
 pub mod Legality
 pub mod ListSteps
 pub mod LiveRuns
+pub mod LiveSystems
 pub mod PhaseSteps
 pub mod PoolSteps
 pub mod QuietEntries

@@ -13,6 +13,7 @@ mod score_pages;
 mod selection;
 mod state;
 mod submissions;
+mod systems;
 mod tallies;
 mod texts;
 mod topics;

@@ -41,7 +41,7 @@ use std::sync::ledger::Ledger;
 /// A campaign, from its founding on. Contracts see its history and the entry that is prepared, if
 /// one is.
 pub struct State {
-    campaign: Campaign,
+    pub(crate) campaign: Campaign,
     /// The docnos of the history, and then those of the last request that was prepared.
     docnos: Names,
     /// How many docnos the history has.

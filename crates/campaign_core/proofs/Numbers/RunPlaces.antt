@@ -33,7 +33,7 @@ as-long f (p ∷ places) (x ∷ xs) same = ap suc (as-long f places xs (let tail
 
 -- The entries that submit runs, and their runs.
 
-run-there : (H : History) (i : ℕ) (e : Entry) (r : Run) → i < length (submissions H) → run_in (get_or (submissions H) i e).core.command ≡ Some (get_or (runs H) i r)
+pub run-there : (H : History) (i : ℕ) (e : Entry) (r : Run) → i < length (submissions H) → run_in (get_or (submissions H) i e).core.command ≡ Some (get_or (runs H) i r)
 run-there [] i e r within = absurd (omega (arith, within))
 run-there (x ∷ H) i e r within = step (run_in x.core.command) refl i within (λ i within. run-there H i e r within)
   where
@@ -43,7 +43,7 @@ run-there (x ∷ H) i e r within = step (run_in x.core.command) refl i within (�
     step (Some run) is zero within rest = rw is is
     step (Some run) is (suc i) within rest = rw is (rest i (omega (arith, rw is at within)))
 
-runs-long : (H : History) → length (runs H) ≡ length (submissions H)
+pub runs-long : (H : History) → length (runs H) ≡ length (submissions H)
 runs-long [] = refl
 runs-long (x ∷ H) = step (run_in x.core.command) refl (runs-long H)
   where
@@ -87,7 +87,7 @@ no_run = record { name = []; lists = [] }
 abbrev no_submission : Submission
 no_submission = record { place = 0; is_withdrawn = false }
 
-abbrev some_entry : Entry
+abbrev pub some_entry : Entry
 some_entry = record { core = record { caller = record { name = []; role = Organiser }; number = None; moment = 0; command = command.Open }; reply = reply.Done }
 
 -- Tests of entries.

@@ -62,7 +62,7 @@ count-map p f (x ∷ xs) = count_by-cons p (f x) (map f xs) ∙ ap (λ n. cond (
 not-true : (t : Bool) → t ≡ false → not t ≡ true
 not-true t e = ap not e
 
-differ-filter : (p : Text → Bool) (xs : List Text) → differ xs ≡ true → differ (filter p xs) ≡ true
+pub differ-filter : (p : Text → Bool) (xs : List Text) → differ xs ≡ true → differ (filter p xs) ≡ true
 differ-filter p [] differs = refl
 differ-filter p (x ∷ xs) differs =
     let parts = both_true (not (contains_text xs x)) (differ xs) differs in
