@@ -62,7 +62,8 @@ single (first ∷ names) name w differs =
     let parts = and_parts (not (contains_text names first)) (differ names) differs in
     step (bytes_eq name first) refl (not_back (contains_text names first) parts.0) (single names name w parts.1)
   where
-    step : (t : Bool) → bytes_eq name first ≡ t → contains_text names first ≡ false → total (λ m. cond (bytes_eq name m) w 0) names ≡ cond (contains_text names name) w 0
+    step : (t : Bool) → bytes_eq name first ≡ t → contains_text names first ≡ false
+        → total (λ m. cond (bytes_eq name m) w 0) names ≡ cond (contains_text names name) w 0
         → cond t w 0 + total (λ m. cond (bytes_eq name m) w 0) names ≡ cond (t || contains_text names name) w 0
     step true is absent rest =
         let none : contains_text names name ≡ false = ap (contains_text names) ((bytes_eq-Decides name first).0 is) ∙ absent in
@@ -72,7 +73,8 @@ single (first ∷ names) name w differs =
 
 -- a sum over names that differ is one over other names, where only names in both count
 over_names : (names others : List Text) (w : Text → ℕ) → differ names ≡ true → differ others ≡ true
-    → ((name : Text) → contains_text names name ≡ false → w name ≡ 0) → ((name : Text) → contains_text others name ≡ false → w name ≡ 0) → total w names ≡ total w others
+    → ((name : Text) → contains_text names name ≡ false → w name ≡ 0) → ((name : Text) → contains_text others name ≡ false → w name ≡ 0)
+    → total w names ≡ total w others
 over_names names others w first second out out_others =
     total-same w (λ n. total (λ m. cond (bytes_eq n m) (w n) 0) others) names (λ n. sym (single others n (w n) second ∙ counts others n out_others))
     ∙ exchange (λ n m. cond (bytes_eq n m) (w n) 0) names others
@@ -127,9 +129,10 @@ Own systems (system ∷ some) = (map_of systems system.run ≡ Some system.summa
 own-behind : (first : System) (systems some : List System) → contains_text (runs_of some) first.run ≡ false → Own systems some → Own (first ∷ systems) some
 own-behind first systems [] absent own = tt
 own-behind first systems (system ∷ some) absent own =
-    let apart : bytes_eq first.run system.run ≡ false = left (bytes_eq first.run system.run) (contains_text (runs_of some) first.run) absent in
-    (ap (λ t. option_map (λ (s : System). s.summary.map) (cond t (Some first) (find (λ s. bytes_eq system.run s.run) systems))) (sym (same_names first.run system.run) ∙ apart) ∙ own.0,
-        own-behind first systems some (right (bytes_eq first.run system.run) (contains_text (runs_of some) first.run) absent) own.1)
+    let apart : bytes_eq first.run system.run ≡ false = left (bytes_eq first.run system.run) (contains_text (runs_of some) first.run) absent in (
+      ap (λ t. option_map (λ (s : System). s.summary.map) (cond t (Some first) (find (λ s. bytes_eq system.run s.run) systems))) (sym (same_names first.run system.run) ∙ apart) ∙ own.0,
+      own-behind first systems some (right (bytes_eq first.run system.run) (contains_text (runs_of some) first.run) absent) own.1,
+    )
   where
     left : (a b : Bool) → (a || b) ≡ false → a ≡ false
     left false b e = refl
@@ -142,12 +145,14 @@ own-behind first systems (system ∷ some) absent own =
 own-maps : (systems : List System) → differ (runs_of systems) ≡ true → Own systems systems
 own-maps [] differs = tt
 own-maps (system ∷ systems) differs =
-    let parts = and_parts (not (contains_text (runs_of systems) system.run)) (differ (runs_of systems)) differs in
-    (ap (λ t. option_map (λ (s : System). s.summary.map) (cond t (Some system) (find (λ s. bytes_eq system.run s.run) systems))) ((bytes_eq-Decides system.run system.run).1 refl),
-        own-behind system systems systems (not_back (contains_text (runs_of systems) system.run) parts.0) (own-maps systems parts.1))
+    let parts = and_parts (not (contains_text (runs_of systems) system.run)) (differ (runs_of systems)) differs in (
+      ap (λ t. option_map (λ (s : System). s.summary.map) (cond t (Some system) (find (λ s. bytes_eq system.run s.run) systems))) ((bytes_eq-Decides system.run system.run).1 refl),
+      own-behind system systems systems (not_back (contains_text (runs_of systems) system.run) parts.0) (own-maps systems parts.1),
+    )
 
 -- a sum over the runs that both have, as one over the names of the first
-by-names : (f : Maps → ℕ) (systems others some : List System) → Own systems some → total f (common_runs some others) ≡ total (λ n. weigh f (map_of systems n) (map_of others n)) (runs_of some)
+by-names : (f : Maps → ℕ) (systems others some : List System) → Own systems some
+    → total f (common_runs some others) ≡ total (λ n. weigh f (map_of systems n) (map_of others n)) (runs_of some)
 by-names f systems others [] own = refl
 by-names f systems others (system ∷ some) own =
     step (map_of others system.run) (by-names f systems others some own.1)
@@ -167,7 +172,8 @@ module _ (a b : List System) (first : differ (runs_of a) ≡ true) (second : dif
       ∙ over_names (runs_of a) (runs_of b) (λ n. weigh f (map_of a n) (map_of b n)) first second
       (λ n absent. ap (λ found. weigh f found (map_of b n)) (no-map a n absent))
       (λ n absent. ap (λ found. weigh f (map_of a n) found) (no-map b n absent) ∙ to_none (map_of a n))
-      ∙ total-same (λ n. weigh f (map_of a n) (map_of b n)) (λ n. weigh (λ maps. f (turn maps)) (map_of b n) (map_of a n)) (runs_of b) (λ n. weigh-turned f (map_of a n) (map_of b n))
+      ∙ total-same (λ n. weigh f (map_of a n) (map_of b n)) (λ n. weigh (λ maps. f (turn maps)) (map_of b n) (map_of a n)) (runs_of b)
+      (λ n. weigh-turned f (map_of a n) (map_of b n))
       ∙ sym (by-names (λ maps. f (turn maps)) b a b (own-maps b second))
     where
       to_none : (found : Option ℕ) → weigh f found None ≡ 0
@@ -181,15 +187,19 @@ module _ (a b : List System) (first : differ (runs_of a) ≡ true) (second : dif
       ones [] = refl
       ones (x ∷ xs) = let rest = ones xs in omega (arith, rest)
 
-  module _ (p : Maps → Maps → Bool) (symmetric : (x y : Maps) → p x y ≡ p y x) (apart : (x : Maps) → p x x ≡ false) (even : (x y : Maps) → p (turn x) (turn y) ≡ p x y) where
+  module _ (p : Maps → Maps → Bool) (symmetric : (x y : Maps) → p x y ≡ p y x) (apart : (x : Maps) → p x x ≡ false)
+      (even : (x y : Maps) → p (turn x) (turn y) ≡ p x y) where
     -- each pair is counted twice where both orders count
     twice : (xs : List Maps) → total (λ x. count (p x) xs) xs ≡ count_pairs p xs + count_pairs p xs
     twice [] = refl
     twice (x ∷ xs) =
-        let own : cond (p x x) 1 0 + count (p x) xs ≡ count (p x) xs = ap (λ t. let n : ℕ = cond t 1 0 + count (p x) xs in n) (apart x) ∙ zero-add (count (p x) xs) in
-        let split : total (λ y. cond (p y x) 1 0 + count (p y) xs) xs ≡ total (λ y. cond (p y x) 1 0) xs + total (λ y. count (p y) xs) xs = total-add (λ y. cond (p y x) 1 0) (λ y. count (p y) xs) xs in
+        let own : cond (p x x) 1 0 + count (p x) xs ≡ count (p x) xs =
+        ap (λ t. let n : ℕ = cond t 1 0 + count (p x) xs in n) (apart x) ∙ zero-add (count (p x) xs) in
+        let split : total (λ y. cond (p y x) 1 0 + count (p y) xs) xs ≡ total (λ y. cond (p y x) 1 0) xs + total (λ y. count (p y) xs) xs =
+        total-add (λ y. cond (p y x) 1 0) (λ y. count (p y) xs) xs in
         let back : total (λ y. cond (p y x) 1 0) xs ≡ count (p x) xs =
-        total-same (λ y. cond (p y x) 1 0) (λ y. cond (p x y) 1 0) xs (λ y. ap (λ t. let n : ℕ = cond t 1 0 in n) (symmetric y x)) ∙ sym (count-total (p x) xs) in
+        total-same (λ y. cond (p y x) 1 0) (λ y. cond (p x y) 1 0) xs (λ y. ap (λ t. let n : ℕ = cond t 1 0 in n) (symmetric y x))
+        ∙ sym (count-total (p x) xs) in
         let rest = twice xs in
         omega (arith, own, split, back, rest)
 

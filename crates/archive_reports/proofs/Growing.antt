@@ -40,7 +40,9 @@ pub one-release : (releases : List (Bor Kept)) (i : ℕ) (d : Bor Kept) → i < 
 one-release releases i d within =
     let before : List Kept = shown (take i releases) in
     let one : Kept = (get_or releases i d).now in
-    let more : shown (take (i + 1) releases) ≡ before ++ one ∷ [] = ap shown (take_more releases i d within) ∙ map-append (λ (kept : Bor Kept). kept.now) (take i releases) (get_or releases i d ∷ []) in
+    let more : shown (take (i + 1) releases) ≡ before ++ one ∷ [] =
+    ap shown (take_more releases i d within) ∙ map-append (λ (kept : Bor Kept). kept.now) (take i releases) (get_or releases i d ∷ []) in
     ap (λ (some : List Kept). csv_text (rows_in some)) more
-    ∙ ap (λ rows. csv_text (header ∷ rows)) (flat_map-append release_rows before (one ∷ []) ∙ ap (λ rows. flat_map release_rows before ++ rows) (append-nil (release_rows one)))
+    ∙ ap (λ rows. csv_text (header ∷ rows))
+    (flat_map-append release_rows before (one ∷ []) ∙ ap (λ rows. flat_map release_rows before ++ rows) (append-nil (release_rows one)))
     ∙ flat_map-append (row_text default_writer) (header ∷ flat_map release_rows before) (release_rows one)

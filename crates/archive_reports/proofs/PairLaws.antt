@@ -1,6 +1,6 @@
 -- How pairs of runs are counted.
 use Rattle.std.proofs.Common.{◌≡◌, ◌≤◌, ℕ, ◌+◌, ◌*◌, ◌-◌, ◌^◌, ◌<◌, ◌==◌, zero, suc, Bool, true, false, cond, ◌&&◌, ◌||◌, List, [], ◌∷◌, Option, Some, None, length, refl, sym, ap, ◌∙◌, arith, zero-add}
-use Rattle.std.specs.Prelude.{IsTrue, nat_lt, slice_get, take, drop}
+use Rattle.std.specs.Prelude.{nat_lt, take, drop, map}
 use Rattle.std.proofs.Math.Nat.{add-zero, mul-suc, suc-mul}
 use Rattle.std.proofs.lemmas.Bool.{eqb-false, eqb-true, le-ltb, ltb-false, ltb-true}
 use Rattle.std.proofs.lemmas.List.{length-take}
@@ -8,8 +8,8 @@ use Rattle.std.specs.List.{cons_option}
 use Rattle.rulebook.specs.Spelling.{differ}
 use Rattle.rulebook.specs.declared.systems.System.{System}
 use Rattle.rulebook.specs.Systems.{runs_of}
-use Rattle.archive_reports.specs.Comparisons.{Maps, common_runs, count, count_pairs, is_concordant, is_discordant, is_tied, maps_of, pairs_of}
-use Rattle.archive_reports.specs.Counting.{HasRoom, joined, with_maps, with_pair, with_pairs}
+use Rattle.archive_reports.specs.Comparisons.{Maps, common_runs, count, count_pairs, is_concordant, is_discordant, is_tied, maps_of, pairs_among, pairs_of}
+use Rattle.archive_reports.specs.Counting.{HasRoom, joined, present}
 use Rattle.archive_reports.specs.declared.comparisons.Pairs.{Pairs}
 use Rattle.archive_reports.proofs.Evenness.{same-common, same-pairs, turn}
 
@@ -31,14 +31,16 @@ lt-itself n = le-ltb n n (omega arith)
 both-comm : (p q r s : Bool) → ((p && q) || (r && s)) ≡ ((q && p) || (s && r))
 both-comm p q r s = ap (λ t. t || (r && s)) (and-comm p q) ∙ ap (λ t. (q && p) || t) (and-comm r s)
 
-pub concordant-even : (a b : List System) → differ (runs_of a) ≡ true → differ (runs_of b) ≡ true → count_pairs is_concordant (common_runs a b) ≡ count_pairs is_concordant (common_runs b a)
+pub concordant-even : (a b : List System) → differ (runs_of a) ≡ true → differ (runs_of b) ≡ true
+    → count_pairs is_concordant (common_runs a b) ≡ count_pairs is_concordant (common_runs b a)
 concordant-even a b first second =
     same-pairs a b first second is_concordant
     (λ x y. or-comm (nat_lt x.0 y.0 && nat_lt x.1 y.1) (nat_lt y.0 x.0 && nat_lt y.1 x.1))
     (λ x. ap (λ t. (t && nat_lt x.1 x.1) || (t && nat_lt x.1 x.1)) (lt-itself x.0))
     (λ x y. both-comm (nat_lt x.1 y.1) (nat_lt x.0 y.0) (nat_lt y.1 x.1) (nat_lt y.0 x.0))
 
-pub discordant-even : (a b : List System) → differ (runs_of a) ≡ true → differ (runs_of b) ≡ true → count_pairs is_discordant (common_runs a b) ≡ count_pairs is_discordant (common_runs b a)
+pub discordant-even : (a b : List System) → differ (runs_of a) ≡ true → differ (runs_of b) ≡ true
+    → count_pairs is_discordant (common_runs a b) ≡ count_pairs is_discordant (common_runs b a)
 discordant-even a b first second =
     same-pairs a b first second is_discordant
     (λ x y. or-comm (nat_lt x.0 y.0 && nat_lt y.1 x.1) (nat_lt y.0 x.0 && nat_lt x.1 y.1))
@@ -89,11 +91,13 @@ pairs-sum (x ∷ xs) = let here = all-counted x xs in let rest = pairs-sum xs in
         let before : suc n * (suc n - 1) ≡ suc n * n = let one : suc n - 1 ≡ n = omega arith in ap (λ k. suc n * k) one in
         omega (arith, here, rest, square, less, before)
 
-tied-even : (a b : List System) → differ (runs_of a) ≡ true → differ (runs_of b) ≡ true → count_pairs is_tied (common_runs a b) ≡ count_pairs is_tied (common_runs b a)
+tied-even : (a b : List System) → differ (runs_of a) ≡ true → differ (runs_of b) ≡ true
+    → count_pairs is_tied (common_runs a b) ≡ count_pairs is_tied (common_runs b a)
 tied-even a b first second =
     let one = pairs-sum (common_runs a b) in
     let other = pairs-sum (common_runs b a) in
-    let lengths : length (common_runs a b) * (length (common_runs a b) - 1) ≡ length (common_runs b a) * (length (common_runs b a) - 1) = ap (λ n. n * (n - 1)) (same-common a b first second) in
+    let lengths : length (common_runs a b) * (length (common_runs a b) - 1) ≡ length (common_runs b a) * (length (common_runs b a) - 1) =
+    ap (λ n. n * (n - 1)) (same-common a b first second) in
     let c = concordant-even a b first second in
     let d = discordant-even a b first second in
     omega (arith, one, other, lengths, c, d)
@@ -123,49 +127,55 @@ count_pairs-le p (x ∷ xs) few =
     let rest = count_pairs-le p xs (omega (arith, few)) in
     omega (arith, here, rest, few)
 
-common-le : (systems others : List System) → length (common_runs systems others) ≤ length systems
-common-le [] others = omega arith
-common-le (system ∷ systems) others = step (maps_of others system) (common-le systems others)
-  where
-    step : (found : Option Maps) → length (common_runs systems others) ≤ length systems → length (cons_option found (common_runs systems others)) ≤ suc (length systems)
-    step (Some maps) rest = omega (arith, rest)
-    step None rest = omega (arith, rest)
+present-le : (found : List (Option Maps)) → length (present found) ≤ length found
+present-le [] = omega arith
+present-le (Some maps ∷ found) = let rest = present-le found in omega (arith, rest)
+present-le (None ∷ found) = let rest = present-le found in omega (arith, rest)
 
-pub has-room : (pairs : Pairs) (left systems others : List System) (more : ℕ) → length systems ≤ 256 → joined pairs (pairs_of left others) ≡ pairs_of systems others → more ≤ 256 → HasRoom pairs more
-has-room pairs left systems others more few is bound =
-    let most = common-le systems others in
-    let fits : length (common_runs systems others) ≤ 256 = omega (arith, most, few) in
+pub has-room : (pairs : Pairs) (left found : List (Option Maps)) (more : ℕ) → length found ≤ 256
+    → joined pairs (pairs_among (present left)) ≡ pairs_among (present found) → more ≤ 256 → HasRoom pairs more
+has-room pairs left found more few is bound =
+    let most = present-le found in
+    let fits : length (present found) ≤ 256 = omega (arith, most, few) in
     let c = ap (λ (p : Pairs). p.common) is in
     let d = ap (λ (p : Pairs). p.concordant) is in
     let e = ap (λ (p : Pairs). p.discordant) is in
     let f = ap (λ (p : Pairs). p.tied) is in
-    let dl = count_pairs-le is_concordant (common_runs systems others) fits in
-    let el = count_pairs-le is_discordant (common_runs systems others) fits in
-    let fl = count_pairs-le is_tied (common_runs systems others) fits in
+    let dl = count_pairs-le is_concordant (present found) fits in
+    let el = count_pairs-le is_discordant (present found) fits in
+    let fl = count_pairs-le is_tied (present found) fits in
     record {
       concordant = omega (arith, d, dl, fits, bound);
       discordant = omega (arith, e, el, fits, bound);
       tied = omega (arith, f, fl, fits, bound);
     }
 
-pub has-common : (pairs : Pairs) (left systems others : List System) → length systems ≤ 256 → joined pairs (pairs_of left others) ≡ pairs_of systems others → pairs.common < 2 ^ 32 - 1
-has-common pairs left systems others few is =
-    let most = common-le systems others in
+pub has-common : (pairs : Pairs) (left found : List (Option Maps)) → length found ≤ 256
+    → joined pairs (pairs_among (present left)) ≡ pairs_among (present found) → pairs.common < 2 ^ 32 - 1
+has-common pairs left found few is =
+    let most = present-le found in
     let c = ap (λ (p : Pairs). p.common) is in
     omega (arith, most, few, c)
 
-take-le : (n : ℕ) (xs : List System) → length (take n xs) ≤ length xs
+take-le : {X : Type 0} (n : ℕ) (xs : List X) → length (take n xs) ≤ length xs
 take-le n xs = let is = length-take n xs in omega (arith, is)
 
--- a part of some systems is no longer
-pub part-le : (n most : ℕ) (xs : List System) → length xs ≤ most → length (take n (drop 1 xs)) ≤ most
-part-le n most [] few = let none = take-le n [] in omega (arith, none, few)
+-- a part of some runs is no longer
+pub part-le : {X : Type 0} (n most : ℕ) (xs : List X) → length xs ≤ most → length (take n (drop 1 xs)) ≤ most
+part-le {X = X} n most [] few = let none = take-le {X = X} n [] in omega (arith, none, few)
 part-le n most (x ∷ xs) few = let less = take-le n xs in omega (arith, less, few)
 
--- where no system is left, the counts are all
-pub at-end : (pairs : Pairs) (left systems others : List System) → length left < 1 → joined pairs (pairs_of left others) ≡ pairs_of systems others → pairs ≡ pairs_of systems others
-at-end pairs [] systems others none is = by (add-zero pairs.common) (add-zero pairs.concordant) (add-zero pairs.discordant) (add-zero pairs.tied) ∙ is
+-- where no run is left, the counts are all
+pub at-end : (pairs : Pairs) (left found : List (Option Maps)) → length left < 1 → joined pairs (pairs_among (present left)) ≡ pairs_among (present found)
+    → pairs ≡ pairs_among (present found)
+at-end pairs [] found none is = by (add-zero pairs.common) (add-zero pairs.concordant) (add-zero pairs.discordant) (add-zero pairs.tied) ∙ is
   where
-    by : pairs.common + 0 ≡ pairs.common → pairs.concordant + 0 ≡ pairs.concordant → pairs.discordant + 0 ≡ pairs.discordant → pairs.tied + 0 ≡ pairs.tied → pairs ≡ joined pairs (pairs_of [] others)
+    by : pairs.common + 0 ≡ pairs.common → pairs.concordant + 0 ≡ pairs.concordant → pairs.discordant + 0 ≡ pairs.discordant
+        → pairs.tied + 0 ≡ pairs.tied → pairs ≡ joined pairs (pairs_among (present []))
     by a b c d = λ i. record { common = sym a i; concordant = sym b i; discordant = sym c i; tied = sym d i }
-at-end pairs (x ∷ xs) systems others some is = absurd (omega (arith, some))
+at-end pairs (x ∷ xs) found some is = absurd (omega (arith, some))
+
+-- the maps that are there, of each system's
+pub present-map : (others systems : List System) → present (map (maps_of others) systems) ≡ common_runs systems others
+present-map others [] = refl
+present-map others (system ∷ systems) = ap (cons_option (maps_of others system)) (present-map others systems)

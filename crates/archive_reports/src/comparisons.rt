@@ -1,16 +1,19 @@
 //! Two releases compared by the runs that both have.
-ghost use Rattle.std.specs.Prelude.{◌≡◌, ◌+◌, ◌*◌, ◌-◌, ◌≤◌, ◌<◌, ◌^◌, IsTrue, Some, cond, length};
+ghost use Rattle.std.specs.Prelude.{◌≡◌, ◌+◌, ◌*◌, ◌-◌, ◌≤◌, ◌<◌, ◌^◌, IsTrue, Some, length, map, take};
 ghost use Rattle.rulebook.specs.Spelling.{differ};
 ghost use Rattle.rulebook.specs.Systems.{runs_of};
-ghost use Rattle.archive_reports.specs.Comparisons.{Maps, common_runs, is_concordant, is_discordant, is_tied, map_of, maps_of, pairs_of};
-ghost use Rattle.archive_reports.specs.Counting.{HasRoom, with_maps, with_pair};
+ghost use Rattle.archive_reports.specs.Comparisons.{is_concordant, is_discordant, is_tied, map_of, maps_of, pairs_among, pairs_of};
+ghost use Rattle.archive_reports.specs.Counting.{HasRoom, present, with_maps, with_pair};
 
 use release_archive::Kept;
 use rulebook::System;
 
-/// How two releases agree. `common` is how many runs both have. Of the pairs of two of these, `concordant` are those
-/// whose maps differ in both releases the same way, `discordant` those whose maps differ in both the opposite way, and
-/// `tied` the others.
+/// How many systems a release has at most.
+const MOST_SYSTEMS: usize = 256;
+
+/// How two releases agree. `common` is how many runs both have. Of the pairs of two of these,
+/// `concordant` are those whose maps differ in both releases the same way, `discordant` those whose
+/// maps differ in both the opposite way, and `tied` the others.
 #[derive(Clone, Copy, Debug, PartialEq, Eq)]
 pub struct Pairs {
     pub common: u32,
@@ -27,39 +30,62 @@ pub fn compare(a: &Kept, b: &Kept) -> Pairs
     requires others_differ { IsTrue (differ (runs_of b.now.systems)) }
     ensures pairs { result ≡ pairs_of a.now.systems b.now.systems }
     ensures even { result ≡ pairs_of b.now.systems a.now.systems }
-    ensures sum { 2 * (result.concordant + result.discordant + result.tied) ≡ result.common * (result.common - 1) }
+    ensures sum { 2 * (result.concordant + result.discordant + result.tied)
+        ≡ result.common * (result.common - 1) }
 {
-    let others = b.systems.items();
+    let systems = a.systems.items();
+    let found = maps_in_both(systems, b.systems.items());
+    counted(&found[..systems.len()])
+}
+
+/// Each system's map and that of its run in the other release, where it is there, by the places of the
+/// systems.
+fn maps_in_both(systems: &[System], others: &[System]) -> [Option<(u64, u64)>; MOST_SYSTEMS]
+    requires { length systems.now ≤ 256 }
+    ensures { take (length systems.now) result ≡ map (maps_of others.now) systems.now }
+{
+    let mut found = [None; MOST_SYSTEMS];
+    for place in 0..systems.len() {
+        found[place] = maps_of(others, &systems[place]);
+    }
+    found
+}
+
+/// The runs that are there, and their pairs.
+fn counted(found: &[Option<(u64, u64)>]) -> Pairs
+    requires { length found.now ≤ 256 }
+    ensures { result ≡ pairs_among (present found.now) }
+{
     let mut pairs = Pairs {
         common: 0,
         concordant: 0,
         discordant: 0,
         tied: 0,
     };
-    let mut left = a.systems.items();
-    while let [system, rest @ ..] = left {
-        pairs = with_system(pairs, system, rest, others);
+    let mut left = found;
+    while let [maps, rest @ ..] = left {
+        pairs = with_run(pairs, *maps, rest);
         left = rest;
     }
     pairs
 }
 
-/// The counts with a system of the first release, and with its pairs with the systems behind it.
-fn with_system(pairs: Pairs, system: &System, rest: &[System], others: &[System]) -> Pairs
+/// The counts with a run, where it is there, and with its pairs with those behind it.
+fn with_run(pairs: Pairs, maps: Option<(u64, u64)>, rest: &[Option<(u64, u64)>]) -> Pairs
     requires room { HasRoom pairs (length rest.now) }
     requires common { pairs.common < 2 ^ 32 - 1 }
-    ensures { result ≡ with_maps pairs (maps_of others.now system.now) (common_runs rest.now others.now) }
+    ensures { result ≡ with_maps pairs maps (present rest.now) }
 {
-    match maps_of(others, system) {
-        Some(maps) => with_later(pairs, maps, rest, others),
+    match maps {
+        Some(maps) => with_later(pairs, maps, rest),
         None => pairs,
     }
 }
 
-fn with_later(pairs: Pairs, maps: (u64, u64), rest: &[System], others: &[System]) -> Pairs
+fn with_later(pairs: Pairs, maps: (u64, u64), rest: &[Option<(u64, u64)>]) -> Pairs
     requires room { HasRoom pairs (length rest.now) }
     requires common { pairs.common < 2 ^ 32 - 1 }
-    ensures { result ≡ with_maps pairs (Some maps) (common_runs rest.now others.now) }
+    ensures { result ≡ with_maps pairs (Some maps) (present rest.now) }
 {
     let mut now = Pairs {
         common: pairs.common + 1,
@@ -68,8 +94,8 @@ fn with_later(pairs: Pairs, maps: (u64, u64), rest: &[System], others: &[System]
         tied: pairs.tied,
     };
     let mut left = rest;
-    while let [system, behind @ ..] = left {
-        if let Some(other) = maps_of(others, system) {
+    while let [other, behind @ ..] = left {
+        if let Some(other) = *other {
             now = with_pair(now, maps, other);
         }
         left = behind;

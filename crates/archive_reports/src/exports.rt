@@ -16,8 +16,8 @@ use release_archive::Kept;
 use rulebook::System;
 use std::alloc::Global;
 
-/// Appends the releases as CSV: a record of the names of the fields, and then one for each system, by the releases'
-/// names, equal names in the order of `all`.
+/// Appends the releases as CSV: a record of the names of the fields, and then one for each system, by
+/// the releases' names, equal names in the order of `all`. The map has four decimals.
 pub fn write_csv(alloc: Global, all: &[Kept], out: &mut Vec<u8>) -> Result<(), Memory>
     requires { IsTrue (list_all is_sound all.now) }
     ensures text { OnOk result (out.new.items ≡ out.old.items ++ csv_text (rows_of all.now)) }
@@ -34,7 +34,10 @@ fn csv_of(alloc: Global, releases: &[&Kept]) -> Result<Vec<u8>, Memory>
     ensures { IfOk result (λ text. text.items ≡ csv_text (rows_in (shown releases.now))) }
 {
     let mut writer = Writer::from_writer(Vec::new(alloc));
-    write_row(&mut writer, &[b"campaign", b"run", b"group", b"topics", b"map"])?;
+    write_row(
+        &mut writer,
+        &[b"campaign", b"run", b"group", b"topics", b"map"],
+    )?;
     for kept in releases {
         write_release(alloc, &mut writer, kept)?;
     }
@@ -63,7 +66,8 @@ fn write_system(
 ) -> Result<(), Memory>
     requires between { IsBetween writer.old }
     requires sound { IsTrue (is_sound_system system.now) }
-    ensures { OnOk result (Writes writer.old writer.new (csv_text (system_row name.now system.now ∷ []))) }
+    ensures { OnOk result
+        (Writes writer.old writer.new (csv_text (system_row name.now system.now ∷ []))) }
 {
     let mut map = Vec::new(alloc);
     write_four(system.summary.map, &mut map)?;
@@ -81,7 +85,8 @@ fn write_system(
 
 fn write_row(writer: &mut Writer<Vec<u8>>, fields: &[&[u8]]) -> Result<(), Memory>
     requires between { IsBetween writer.old }
-    ensures { OnOk result (Writes writer.old writer.new (csv_text (map (λ field. field.now) fields.now ∷ []))) }
+    ensures { OnOk result
+        (Writes writer.old writer.new (csv_text (map (λ field. field.now) fields.now ∷ []))) }
 {
     match writer.write_fields(fields) {
         Ok(()) => Ok(()),

@@ -8,7 +8,8 @@ use release_archive::Kept;
 use rulebook::System;
 use std::alloc::Global;
 
-/// A run in one release: the release's name, how many topics counted, and the map, in units of 10^-15.
+/// A run in one release: the release's name, how many topics counted, and the map, in units of
+/// 10^-15.
 #[derive(Debug)]
 pub struct HistoryRow {
     pub name: Text,

@@ -1,5 +1,5 @@
 //! The releases of an archive by name.
-ghost use Rattle.std.specs.Prelude.{◌≡◌, IfOk, OnOk};
+ghost use Rattle.std.specs.Prelude.{◌≡◌, ◌≤◌, IfOk, OnOk, length};
 ghost use Rattle.std.specs.List.{position_or_len};
 ghost use Rattle.archive_reports.specs.Orders.{by_name as in_order_of_name, is_before, shown, with_kept};
 
@@ -28,10 +28,19 @@ fn put_in<'a>(sorted: &mut Vec<&'a Kept>, kept: &'a Kept) -> Result<(), Memory>
 
 /// The place of the first release that a name comes before, or that behind all.
 fn place_in(sorted: &[&Kept], name: &[u8]) -> usize
-    ensures { result ≡ position_or_len (λ kept. is_before name.now kept.name) (shown sorted.now) }
+    ensures place { result ≡ position_or_len (λ kept. is_before name.now kept.name) (shown sorted.now) }
+    ensures within { result ≤ length sorted.now }
 {
-    match sorted.iter().position(|kept| name < kept.name.bytes()) {
-        Some(place) => place,
-        None => sorted.len(),
+    for (place, kept) in sorted.iter().enumerate() {
+        if is_before(name, kept.name.bytes()) {
+            return place;
+        }
     }
+    sorted.len()
+}
+
+fn is_before(name: &[u8], next: &[u8]) -> bool
+    ensures { result ≡ is_before name.now next.now }
+{
+    name.cmp(next).is_lt()
 }
