@@ -73,8 +73,8 @@ impl Torn {
         match call {
             DiskCall::Len | DiskCall::Read { .. } => Ok(()),
             DiskCall::Write { place, piece } => {
-                write(&mut self.now, *place, piece)?;
-                self.tear(*place as usize, piece.len());
+                write(&mut self.now, *place, piece.bytes())?;
+                self.tear(*place as usize, piece.bytes().len());
                 Ok(())
             }
             DiskCall::Cut { to } => {

@@ -1,7 +1,6 @@
 -- The images of a disk in memory: its content is one, and one more call adds its own.
 use Rattle.std.proofs.Common.{◌≡◌, ◌⊎◌, inl, inr, ⊎_elim, ℕ, ◌+◌, ◌-◌, ◌≤◌, min, List, [], ◌∷◌, ◌++◌, length, take, drop, refl, sym, ap, ◌∙◌, subst, arith, length-append, length-drop, le_refl}
-use Rattle.std.specs.Prelude.{Some, Vec}
-use Rattle.std.specs.declared.alloc.Global.{Global}
+use Rattle.std.specs.Prelude.{Some}
 use Rattle.std.proofs.lemmas.List.{drop-append-le, drop_all, length-take-le, take-append-le, take_all}
 use mathlib.Core.Logic.{dite}
 use native.Mathlib.Decide.{dec_le}
@@ -16,6 +15,11 @@ abbrev images_push : (calls : List DiskCall) (call : DiskCall) (content : List �
     → images_after (calls ++ call ∷ []) content images image → images_by call (content_after calls content) (images_after calls content images) image
 images_push [] call content images image here = here
 images_push (c ∷ calls) call content images image here = images_push calls call (content_by c content) (images_by c content images) image here
+
+abbrev images_pushed : (calls : List DiskCall) (call : DiskCall) (content : List ℕ) (images : List ℕ → Type 0) (image : List ℕ)
+    → images_by call (content_after calls content) (images_after calls content images) image → images_after (calls ++ call ∷ []) content images image
+images_pushed [] call content images image here = here
+images_pushed (c ∷ calls) call content images image here = images_pushed calls call (content_by c content) (images_by c content images) image here
 
 pub content_push : (calls : List DiskCall) (call : DiskCall) (content : List ℕ) → content_after (calls ++ call ∷ []) content ≡ content_by call (content_after calls content)
 content_push [] call content = refl
@@ -67,14 +71,19 @@ written_within place piece content = dite (dec_le place (length content))
     ∙ ap (λ (xs : List ℕ). xs ++ piece ++ drop (length content + length piece) content) (take_all (length content) content (le_refl (length content)) ∙ sym (take_all place content (omega arith)))
     ∙ ap (λ (xs : List ℕ). take place content ++ piece ++ xs) (drop_all (length content + length piece) content (omega arith) ∙ sym (drop_all (place + length piece) content (omega arith))))
 
+pub length_written_within : (place : ℕ) (piece content : List ℕ) → min place (length content) + length piece ≤ length (written place piece content)
+length_written_within place piece content =
+    subst (λ (bytes : List ℕ). min place (length content) + length piece ≤ length bytes) (written_within place piece content)
+    (let size = length_written (min place (length content)) piece content (omega arith) in omega arith)
+
 content_among : (call : DiskCall) (content : List ℕ) (images : List ℕ → Type 0) → images content → images_by call content images (content_by call content)
 content_among Len content images here = here
 content_among (Read place count) content images here = here
 content_among (Write place piece) content images here = (
   content,
   here,
-  subst (λ (xs : List ℕ). Torn (min place (length content)) (length piece.items) content xs) (written_within place piece.items content)
-      (torn_written (min place (length content)) piece.items content (omega arith)),
+  subst (λ (xs : List ℕ). Torn (min place (length content)) (length piece) content xs) (written_within place piece content)
+      (torn_written (min place (length content)) piece content (omega arith)),
 )
 content_among (Cut to) content images here = (content, here, cut_any)
   where
@@ -101,18 +110,29 @@ images_hold : (calls : List DiskCall) (content : List ℕ) (images : List ℕ �
 images_hold [] content images here = here
 images_hold (call ∷ calls) content images here = images_hold calls (content_by call content) (images_by call content images) (content_among call content images here)
 
-module _ (calls : List DiskCall) (start content : List ℕ) (replayed : content ≡ content_after calls start) where
-  content_now : images_of calls start content
-  content_now = subst (λ (i : List ℕ). images_of calls start i) (sym replayed) (images_hold calls start (λ image. image ≡ start) refl)
+-- the content is among the images of the calls
+pub among : (calls : List DiskCall) (start image : List ℕ) → Images calls start image → images_of calls start image
+among calls start image (inl is) = subst (images_of calls start) (sym is) (images_hold calls start (λ other. other ≡ start) refl)
+among calls start image (inr here) = here
+
+module _ (calls : List DiskCall) (start : List ℕ) where
+  content_now : images_of calls start (content_after calls start)
+  content_now = among calls start (content_after calls start) (inl refl)
+
+  pub images_are : (faults : ℕ) → AreImagesOf calls (seen_after calls start faults)
+  images_are faults = record { start = start; content_is = refl; exactly = λ image. (among calls start image, λ here. inr here) }
+
+  -- where no call was made time stands still
+  pub no_time : (before now : ℕ) → Elapses (seen_after calls start before) (seen_after calls start now)
+  no_time before now = record { later = le_refl (length calls); nothing_else = λ moment image le since. inl since; keeps = λ moment image le past. past }
 
   -- Time goes on by one call.
-  pub one_more : (call : DiskCall) (content' : List ℕ) (before now : ℕ)
-      → Elapses (seen_after calls start content before) (seen_after (calls ++ call ∷ []) start content' now)
-  one_more call content' before now = record {
+  pub one_more : (call : DiskCall) (before now : ℕ) → Elapses (seen_after calls start before) (seen_after (calls ++ call ∷ []) start now)
+  one_more call before now = record {
     later = (let l = longer in omega arith);
-    nothing_else = λ moment image le since. ⊎_elim (λ (is : image ≡ content'). inr (inl is)) (λ since. split moment image since.0 since.1 since.2 since.3) since;
+    nothing_else = λ moment image le since. ⊎_elim (λ (is : image ≡ content_after (calls ++ call ∷ []) start). inr (inl is)) (λ since. split moment image since.0 since.1 since.2 since.3) since;
     keeps = λ moment image le past. ⊎_elim
-        (λ (is : image ≡ content). inr (length calls, le, (let l = longer in omega arith), subst (λ (cs : List DiskCall). images_of cs start image) (sym front) (subst (λ (i : List ℕ). images_of calls start i) (sym is) content_now)))
+        (λ (is : image ≡ content_after calls start). inr (length calls, le, (let l = longer in omega arith), subst (λ (cs : List DiskCall). images_of cs start image) (sym front) (subst (λ (i : List ℕ). images_of calls start i) (sym is) content_now)))
         (λ past. inr (past.0, past.1, (let l = longer in let low : past.0 ≤ length calls = past.2 in omega arith), subst (λ (cs : List DiskCall). images_of cs start image) (sym (take-append-le past.0 calls (call ∷ []) past.2)) past.3))
         past;
   }
@@ -124,67 +144,34 @@ module _ (calls : List DiskCall) (start content : List ℕ) (replayed : content 
       longer = length-append calls (call ∷ [])
 
       split : (moment : ℕ) (image : List ℕ) (count : ℕ) → moment ≤ count → count ≤ length (calls ++ call ∷ []) → images_of (take count (calls ++ call ∷ [])) start image
-          → ImageSince calls start content moment image ⊎ Images (calls ++ call ∷ []) start content' image
+          → ImageSince calls start moment image ⊎ Images (calls ++ call ∷ []) start image
       split moment image count low high here = dite (dec_le count (length calls))
           (λ (within : count ≤ length calls). inl (inr (count, low, within, subst (λ (cs : List DiskCall). images_of cs start image) (take-append-le count calls (call ∷ []) within) here)))
           (λ (beyond : ¬ (count ≤ length calls)). let l = longer in
           inr (inr (subst (λ (cs : List DiskCall). images_of cs start image) (take_all count (calls ++ call ∷ []) (omega arith)) here)))
 
-  -- the content is among the images of the calls
-  among : (image : List ℕ) → Images calls start content image → images_of calls start image
-  among image (inl is) = subst (images_of calls start) (sym (is ∙ replayed)) (images_hold calls start (λ other. other ≡ start) refl)
-  among image (inr here) = here
+  -- an image behind a call is one by it, and the other way round
+  behind : (call : DiskCall) (image : List ℕ) → Images (calls ++ call ∷ []) start image → images_by call (content_after calls start) (images_of calls start) image
+  behind call image here = images_push calls call start (λ other. other ≡ start) image (among (calls ++ call ∷ []) start image here)
 
-  pub images_are : (faults : ℕ) → AreImagesOf calls (seen_after calls start content faults)
-  images_are faults = record { start = start; content_is = ap (λ (bytes : List ℕ). Some bytes) replayed; exactly = λ image. (among image, λ here. inr here) }
+  pub left_by : (call : DiskCall) (image : List ℕ) → images_by call (content_after calls start) (images_of calls start) image → Images (calls ++ call ∷ []) start image
+  left_by call image here = inr (images_pushed calls call start (λ other. other ≡ start) image here)
 
   -- What a crash leaves behind a call.
-  pub quiet : (call : DiskCall) → IsQuiet call → NoFurther (Images calls start content) (Images (calls ++ call ∷ []) start content)
-  quiet call is_quiet image (inl is) = inl is
-  quiet call is_quiet image (inr here) =
-      inr (quiet_among call is_quiet (content_after calls start) (images_of calls start) image (images_hold calls start (λ other. other ≡ start) refl) (images_push calls call start (λ other. other ≡ start) image here))
+  pub quiet : (call : DiskCall) → IsQuiet call → NoFurther (Images calls start) (Images (calls ++ call ∷ []) start)
+  quiet call is_quiet image here = inr (quiet_among call is_quiet (content_after calls start) (images_of calls start) image content_now (behind call image here))
 
-  synced_image : (image : List ℕ) → Images (calls ++ Sync ∷ []) start content image → image ≡ content
-  synced_image image (inl is) = is
-  synced_image image (inr here) = let now : image ≡ content_after calls start = images_push calls Sync start (λ other. other ≡ start) image here in now ∙ sym replayed
+  pub alone : (faults : ℕ) → Alone (seen_after (calls ++ Sync ∷ []) start faults)
+  alone faults image here = ap (λ (i : List ℕ). Some i) (content_push calls Sync start ∙ sym (behind Sync image here))
 
-  pub alone : (faults : ℕ) → Alone (seen_after (calls ++ Sync ∷ []) start content faults)
-  alone faults image here = ap (λ (i : List ℕ). Some i) (sym (synced_image image here))
+  pub written_follows : (place : ℕ) (piece : List ℕ) → place ≤ length (content_after calls start)
+      → Follows (Torn place (length piece)) (Images calls start) (Images (calls ++ Write place piece ∷ []) start)
+  written_follows place piece within image here =
+      let pushed : images_by (Write place piece) (content_after calls start) (images_of calls start) image = behind (Write place piece) image here in
+      let at : min place (length (content_after calls start)) ≡ place = omega arith in
+      (pushed.0, inr pushed.1, subst (λ (n : ℕ). Torn n (length piece) pushed.0 image) at pushed.2)
 
-  pub written_follows : (place : ℕ) (piece : List ℕ) (kept : Vec ℕ Global) → kept.items ≡ piece → place ≤ length content
-      → Follows (Torn place (length piece)) (Images calls start content) (Images (calls ++ Write place kept ∷ []) start (written place piece content))
-  written_follows place piece kept same within image (inl is) = (content, inl refl, subst (λ (i : List ℕ). Torn place (length piece) content i) (sym is) (torn_written place piece content within))
-  written_follows place piece kept same within image (inr here) =
-      let pushed : images_by (Write place kept) (content_after calls start) (images_of calls start) image = images_push calls (Write place kept) start (λ other. other ≡ start) image here in
-      let size : length content ≡ length (content_after calls start) = ap (λ (i : List ℕ). length i) replayed in
-      let at : min place (length (content_after calls start)) ≡ place = omega arith in (
-        pushed.0,
-        inr pushed.1,
-        subst (λ (n : ℕ). Torn n (length piece) pushed.0 image) at
-            (subst (λ (p : List ℕ). Torn (min place (length (content_after calls start))) (length p) pushed.0 image) same pushed.2),
-      )
-
-  pub cut_follows : (to : ℕ) → to ≤ length content → Follows (CutShort to) (Images calls start content) (Images (calls ++ Cut to ∷ []) start (take to content))
-  cut_follows to within image (inl is) = (content, inl refl, subst (λ (i : List ℕ). CutShort to content i) (sym is) (cut_taken to content within))
-  cut_follows to within image (inr here) =
-      let pushed : images_by (Cut to) (content_after calls start) (images_of calls start) image = images_push calls (Cut to) start (λ other. other ≡ start) image here in
+  pub cut_follows : (to : ℕ) → Follows (CutShort to) (Images calls start) (Images (calls ++ Cut to ∷ []) start)
+  cut_follows to image here =
+      let pushed : images_by (Cut to) (content_after calls start) (images_of calls start) image = behind (Cut to) image here in
       (pushed.0, inr pushed.1, pushed.2)
-
--- The same of a disk behind the call, whose calls, start and content are known by equations.
-module _ (calls calls' : List DiskCall) (start start' content content' : List ℕ) (call : DiskCall) (replayed : content ≡ content_after calls start) (calls_are : calls' ≡ calls ++ call ∷ []) (start_is : start' ≡ start) where
-  pub time_behind : (before now : ℕ) → Elapses (seen_after calls start content before) (seen_after calls' start' content' now)
-  time_behind before now =
-      subst (λ (cs : List DiskCall). Elapses (seen_after calls start content before) (seen_after cs start' content' now)) (sym calls_are)
-      (subst (λ (s : List ℕ). Elapses (seen_after calls start content before) (seen_after (calls ++ call ∷ []) s content' now)) (sym start_is)
-      (one_more calls start content replayed call content' before now))
-
-  -- what holds of the images with the call last holds of those of the disk
-  pub behind : (P : (List ℕ → Type 0) → Type 0) (now : List ℕ) → content' ≡ now → P (Images (calls ++ call ∷ []) start now) → P (Images calls' start' content')
-  behind P now content_is holds = subst (λ (cs : List DiskCall). P (Images cs start' content')) (sym calls_are)
-      (subst (λ (s : List ℕ). P (Images (calls ++ call ∷ []) s content')) (sym start_is)
-      (subst (λ (i : List ℕ). P (Images (calls ++ call ∷ []) start i)) (sym content_is) holds))
-
-  -- the content is still that of the calls
-  pub replayed_behind : content' ≡ content_by call content → content' ≡ content_after calls' start'
-  replayed_behind content_is = content_is ∙ ap (content_by call) replayed ∙ sym (content_push calls call start)
-      ∙ ap (λ (cs : List DiskCall). content_after cs start) (sym calls_are) ∙ ap (content_after calls') (sym start_is)

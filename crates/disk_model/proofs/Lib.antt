@@ -1,1 +1,4 @@
+pub mod HeldCalls
 pub mod Images
+pub mod MemoryDisks
+pub mod Syncs

@@ -1,6 +1,5 @@
--- A disk in memory: what its calls so far make of its content, and which images the rules allow.
-use Rattle.std.specs.Prelude.{◌≡◌, ◌≤◌, ◌⊎◌, ◌↔◌, ℕ, List, [], ◌∷◌, Option, None, Some, Vec, length, min, take}
-use Rattle.std.specs.declared.alloc.Global.{Global}
+-- What the calls of a disk make of its content, and which images the rules allow.
+use Rattle.std.specs.Prelude.{◌≡◌, ◌≤◌, ◌⊎◌, ◌↔◌, ℕ, List, [], ◌∷◌, Some, length, min, take}
 use Rattle.std.proofs.Common.{inl, inr, subst, sym, le_refl}
 use Rattle.std.proofs.lemmas.List.{take_all}
 use Rattle.disk_model.specs.declared.disk_calls.DiskCall.{DiskCall}
@@ -11,7 +10,7 @@ use Rattle.disk_model.specs.Disks.{CutShort, DiskState, Torn, written}
 abbrev pub content_by : DiskCall → List ℕ → List ℕ
 content_by Len content = content
 content_by (Read place count) content = content
-content_by (Write place piece) content = written place piece.items content
+content_by (Write place piece) content = written place piece content
 content_by (Cut to) content = take to content
 content_by Sync content = content
 
@@ -27,7 +26,8 @@ IsQuiet Sync = Unit {0}
 abbrev pub images_by : DiskCall → List ℕ → (List ℕ → Type 0) → List ℕ → Type 0
 images_by Len content images image = images image
 images_by (Read place count) content images image = images image
-images_by (Write place piece) content images image = (earlier : List ℕ) × images earlier × Torn (min place (length content)) (length piece.items) earlier image
+images_by (Write place piece) content images image =
+    (earlier : List ℕ) × images earlier × Torn (min place (length content)) (length piece) earlier image
 images_by (Cut to) content images image = (earlier : List ℕ) × images earlier × CutShort to earlier image
 images_by Sync content images image = image ≡ content
 
@@ -50,35 +50,31 @@ pub record AreImagesOf (calls : List DiskCall) (disk : DiskState) : Type 0 where
   pub exactly : (image : List ℕ) → disk.images image ↔ images_of calls start image
 
 -- the images now: the content is one
-abbrev pub Images : List DiskCall → List ℕ → List ℕ → List ℕ → Type 0
-Images calls start content image = (image ≡ content) ⊎ images_of calls start image
+abbrev pub Images : List DiskCall → List ℕ → List ℕ → Type 0
+Images calls start image = (image ≡ content_after calls start) ⊎ images_of calls start image
 
 -- an image after some number of the calls, from that number on
-abbrev pub ImageSince : List DiskCall → List ℕ → List ℕ → ℕ → List ℕ → Type 0
-ImageSince calls start content moment image = (image ≡ content) ⊎ ((count : ℕ) × (moment ≤ count) × (count ≤ length calls) × images_of (take count calls) start image)
+abbrev pub ImageSince : List DiskCall → List ℕ → ℕ → List ℕ → Type 0
+ImageSince calls start moment image = (image ≡ content_after calls start)
+    ⊎ ((count : ℕ) × (moment ≤ count) × (count ≤ length calls) × images_of (take count calls) start image)
 
 -- what a disk tells that made these calls, and of whose calls so many failed
-abbrev pub seen_after : List DiskCall → List ℕ → List ℕ → ℕ → DiskState
-seen_after calls start content faults = record {
-  content = Some content;
-  images = Images calls start content;
+abbrev pub seen_after : List DiskCall → List ℕ → ℕ → DiskState
+seen_after calls start faults = record {
+  content = Some (content_after calls start);
+  images = Images calls start;
   clock = length calls;
-  images_since = ImageSince calls start content;
+  images_since = ImageSince calls start;
   faults = faults;
 }
 
--- the content at the start: it is kept from the first call that changes something on
-abbrev pub begun_with : Option (Vec ℕ Global) → List ℕ → List ℕ
-begun_with None content = content
-begun_with (Some kept) content = kept.items
-
 -- What holds of these images at each moment.
-module _ (calls : List DiskCall) (start content : List ℕ) where
-  pub now_among : (moment : ℕ) (image : List ℕ) → moment ≤ length calls → Images calls start content image → ImageSince calls start content moment image
+module _ (calls : List DiskCall) (start : List ℕ) where
+  pub now_among : (moment : ℕ) (image : List ℕ) → moment ≤ length calls → Images calls start image → ImageSince calls start moment image
   now_among moment image within (inl is) = inl is
   now_among moment image within (inr here) =
       inr (length calls, within, le_refl (length calls), subst (λ (cs : List DiskCall). images_of cs start image) (sym (take_all (length calls) calls (le_refl (length calls)))) here)
 
-  pub only_now_left : (image : List ℕ) → ImageSince calls start content (length calls) image → Images calls start content image
+  pub only_now_left : (image : List ℕ) → ImageSince calls start (length calls) image → Images calls start image
   only_now_left image (inl is) = inl is
   only_now_left image (inr since) = inr (subst (λ (cs : List DiskCall). images_of cs start image) (take_all since.0 calls since.1) since.3)

@@ -1,3 +1,4 @@
 pub mod Disks
 pub mod Calls
-pub mod HeldImages
+pub mod MemoryDisks
+pub mod Syncs

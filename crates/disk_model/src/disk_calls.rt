@@ -1,6 +1,5 @@
-//! The calls of a disk in memory, and what they made of its content.
-ghost use Rattle.std.specs.Prelude.{◌≡◌};
-ghost use Rattle.disk_model.specs.Calls.{begun_with, content_after};
+//! The calls of a disk in memory.
+use decimal_rank::Text;
 
 /// A call that did its work.
 #[derive(Debug, Drop)]
@@ -8,17 +7,7 @@ pub enum DiskCall {
     Len,
     /// So many bytes were read.
     Read { place: u64, count: usize },
-    Write { place: u64, piece: Vec<u8> },
+    Write { place: u64, piece: Text },
     Cut { to: u64 },
     Sync,
-}
-
-/// What the disk holds, and the calls that made it.
-#[derive(Drop)]
-pub(crate) struct Held {
-    // the content at the start, from the first call on that changes it
-    pub(crate) start: Option<Vec<u8>>,
-    pub(crate) content: Vec<u8>,
-    pub(crate) calls: Vec<DiskCall>,
-    ghost replayed: { content.items ≡ content_after calls.items (begun_with start content.items) },
 }

@@ -1,14 +1,13 @@
 -- What a crash may leave is what the calls allow.
-use Rattle.std.proofs.Common.{◌≡◌, rules, subst, sym}
-use Rattle.disk_model.specs.Calls.{AreImagesOf, begun_with}
-use Rattle.disk_model.specs.HeldImages.{seen_with}
+use Rattle.std.proofs.Common.{◌≡◌, List, rules, subst, sym}
+use Rattle.disk_model.specs.declared.disk_calls.DiskCall.{DiskCall}
+use Rattle.disk_model.specs.Calls.{AreImagesOf}
+use Rattle.disk_model.specs.MemoryDisks.{told_by}
 use Rattle.disk_model.proofs.Images.{images_are}
 use Rattle.disk_model.proofs.memory_disk.MemoryDisk.calls.Goals as goal
 
-pub returns : goal.returns
-returns c =
-    let held = c.args.self.now.held in
-    let faults = c.args.self.now.counts.faults in
-    let same : c.deref.result.now ≡ held.calls.items = search rules in
-    subst (λ calls. AreImagesOf calls (seen_with held faults)) (sym same)
-    (images_are held.calls.items (begun_with held.start held.content.items) held.content.items held.replayed faults)
+pub returns-clause-images : goal.returns-clause-images
+returns-clause-images c =
+    let disk = c.args.self.now in
+    let same : c.calls.result.now ≡ disk.held.calls = search rules in
+    subst (λ (calls : List DiskCall). AreImagesOf calls (told_by disk)) (sym same) (images_are disk.held.calls disk.held.start disk.faults)

@@ -1,5 +1,13 @@
--- Time goes on by the call that was kept.
+-- A crash may leave all that is torn of an image from before.
+use Rattle.std.proofs.Common.{ap, ◌∙◌}
+use Rattle.disk_model.specs.declared.disk_calls.DiskCall.TheVariants.{Write}
+use Rattle.disk_model.specs.MemoryDisks.{MemoryDiskState, with_call}
+use Rattle.disk_model.proofs.MemoryDisks.{torn_left}
 use Rattle.disk_model.proofs.memory_disk.MemoryDiskDisk.write_at.Goals as goal
 
-pub returns-clause-time : goal.returns-clause-time
-returns-clause-time c = c.write-kept.ensures.time _ _
+pub returns-in-Ok-clause-torn : goal.returns-in-Ok-clause-torn
+returns-in-Ok-clause-torn c =
+    let held = c.args.self.now.held in
+    let call = Write c.args.place c.args.piece.now in
+    let now = c.in-Ok.ensures.ok ∙ ap (λ (disk : MemoryDiskState). with_call disk.held call) c.self.view_is in
+    rw now (torn_left held c.args.place c.args.piece.now c.requires.within)
