@@ -1,14 +1,14 @@
 -- What each step leaves of the images.
 use Rattle.std.proofs.Common.{◌≡◌, ◌≢◌, ◌⊎◌, inl, inr, ⊎_elim, ℕ, ◌+◌, ◌≤◌, List, [], ◌∷◌, ◌++◌, length, get_or, take, drop, refl, sym, ap, ◌∙◌, arith, append_assoc, length-append}
 use Rattle.std.specs.Prelude.{Some}
-use Rattle.std.proofs.lemmas.List.{append-nil, drop_all, drop_at, drop_more, take-append-drop, take_all, take_at}
+use Rattle.std.proofs.lemmas.List.{append-nil, drop-take, drop_all, drop_at, drop_more, take-append-drop, take_all, take_at}
 use Rattle.std.proofs.lemmas.Bool.{cases_eq}
 use mathlib.Core.Logic.{dite}
 use native.Mathlib.Decide.{dec_le}
 use Rattle.disk_model.specs.Disks.{CutShort, DiskState, EachMoment, Follows, Torn, written}
 use Rattle.journal.specs.Format.{decode, payload_behind, records}
 use Rattle.journal.specs.Frames.{IsFrame}
-use Rattle.journal.specs.Kept.{CutDue, GateDue, IsFront, Settled, Shut, Staged, StandsFor}
+use Rattle.journal.specs.Kept.{ClosesAt, CutDue, EndsClosed, GateDue, IsFront, Settled, Shut, Staged, StandsFor}
 use Rattle.journal.specs.DiskSteps.{ReachesTo, WithStep}
 use Rattle.journal.specs.Moments.{weaker}
 use Rattle.journal.proofs.RecordBytes.{body, frame_gives, front_grows, shut_ends}
@@ -158,22 +158,28 @@ module _ (images after : List ℕ → Type 0) (place : ℕ) (all : List (List �
         inr (get_or image place 0, torn_gate kept.front kept.is_front.size kept.gate bytes from.0 image (staged_is bytes kept from.0 from.1) from.2);
   }
 
+  opened_is : (bytes : List ℕ) (frame : IsFrame bytes) (kept : Staged images place all bytes) → Follows (λ earlier image. image ≡ written place (1 ∷ []) earlier) images after
+      → (image : List ℕ) → after image → image ≡ (kept.front ++ 1 ∷ body bytes frame) ++ 0 ∷ []
+  opened_is bytes frame kept follows image here =
+      let from = follows image here in
+      from.2 ∙ ap (λ (earlier : List ℕ). written place (1 ∷ []) earlier) (staged_is bytes kept from.0 from.1)
+      ∙ written_at_gate kept.front place kept.is_front.size 1 (kept.gate ∷ bytes)
+      ∙ ap (λ (rest : List ℕ). kept.front ++ 1 ∷ rest) (behind_gate kept.front place kept.is_front.size kept.gate bytes ∙ frame.ended)
+      ∙ sym (append_assoc kept.front (1 ∷ body bytes frame) (0 ∷ []))
+
   pub opened : (bytes : List ℕ) → IsFrame bytes → Staged images place all bytes → Follows (λ earlier image. image ≡ written place (1 ∷ []) earlier) images after → Settled after (place + length bytes) (all ++ payload_behind bytes ∷ [])
   opened bytes frame kept follows = record {
     front = kept.front ++ 1 ∷ body bytes frame;
     is_front = front_grows bytes frame kept.front place all kept.is_front;
     gate = 0;
     shut = λ is. omega (arith, is);
-    each = λ image here.
-        let from = follows image here in (
-          [],
-          from.2 ∙ ap (λ (earlier : List ℕ). written place (1 ∷ []) earlier) (staged_is bytes kept from.0 from.1)
-              ∙ written_at_gate kept.front place kept.is_front.size 1 (kept.gate ∷ bytes)
-              ∙ ap (λ (rest : List ℕ). kept.front ++ 1 ∷ rest) (behind_gate kept.front place kept.is_front.size kept.gate bytes ∙ frame.ended)
-              ∙ sym (append_assoc kept.front (1 ∷ body bytes frame) (0 ∷ [])),
-          refl,
-        );
+    each = λ image here. ([], opened_is bytes frame kept follows image here, refl);
   }
+
+  pub ends_closed : (bytes : List ℕ) → IsFrame bytes → Staged images place all bytes → Follows (λ earlier image. image ≡ written place (1 ∷ []) earlier) images after → EndsClosed after (place + length bytes)
+  ends_closed bytes frame kept follows image here =
+      ap (λ (now : List ℕ). drop (place + length bytes) now) (opened_is bytes frame kept follows image here)
+      ∙ drop_at (kept.front ++ 1 ∷ body bytes frame) (0 ∷ []) (place + length bytes) (front_grows bytes frame kept.front place all kept.is_front).size
 
   pub gate_torn : (pending : List (List ℕ)) → GateDue images place all pending → Follows (Torn place 1) images after → GateDue after place all pending
   gate_torn pending kept follows = record {
@@ -194,24 +200,40 @@ module _ (images after : List ℕ → Type 0) (place : ℕ) (all : List (List �
           (λ (long : place + 1 ≤ length image). inr (get_or image place 0, gate_changes kept.front place size kept.tail image first last long))
           (λ (short : ¬ (place + 1 ≤ length image)). inl (sym (take_all place image (omega (arith, short))) ∙ first, end.1))
 
+  -- a 0 is written over a gate that may be open or missing
+  closed_is : (pending : List (List ℕ)) (kept : GateDue images place all pending) → Follows (λ earlier image. image ≡ written place (0 ∷ []) earlier) images after
+      → (image : List ℕ) → after image → (behind : List ℕ) × (image ≡ kept.front ++ 0 ∷ behind)
+  closed_is pending kept follows image here = let from = follows image here in ⊎_elim
+      (λ (end : (from.0 ≡ kept.front) × (kept.tail ≡ [])). with_front from.0 [] from.2 (end.0 ∙ sym (append-nil kept.front)))
+      (λ (found : (gate : ℕ) × (from.0 ≡ kept.front ++ gate ∷ kept.tail)). with_front from.0 (found.0 ∷ kept.tail) from.2 found.1)
+      (kept.each from.0 from.1)
+    where
+      with_front : (earlier rest : List ℕ) → image ≡ written place (0 ∷ []) earlier → earlier ≡ kept.front ++ rest → (behind : List ℕ) × (image ≡ kept.front ++ 0 ∷ behind)
+      with_front earlier rest is was = (
+        drop (place + 1) (kept.front ++ rest),
+        is ∙ ap (λ (bytes : List ℕ). written place (0 ∷ []) bytes) was ∙ written_at_gate kept.front place kept.is_front.size 0 rest,
+      )
+
   pub gate_closed : (pending : List (List ℕ)) → GateDue images place all pending → Follows (λ earlier image. image ≡ written place (0 ∷ []) earlier) images after → CutDue after place all
   gate_closed pending kept follows = record {
     front = kept.front;
     is_front = kept.is_front;
     gate = 0;
     shut = λ is. omega (arith, is);
-    each = λ image here. let from = follows image here in ⊎_elim
-        (λ (end : (from.0 ≡ kept.front) × (kept.tail ≡ [])). closed_front image from.0 [] from.2 (end.0 ∙ sym (append-nil kept.front)))
-        (λ (found : (gate : ℕ) × (from.0 ≡ kept.front ++ gate ∷ kept.tail)). closed_front image from.0 (found.0 ∷ kept.tail) from.2 found.1)
-        (kept.each from.0 from.1);
+    each = λ image here. let found = closed_is pending kept follows image here in (found.0, found.1, tt);
   }
-    where
-      closed_front : (image earlier rest : List ℕ) → image ≡ written place (0 ∷ []) earlier → earlier ≡ kept.front ++ rest → (behind : List ℕ) × (image ≡ kept.front ++ 0 ∷ behind) × Unit {0}
-      closed_front image earlier rest is was = (
-        drop (place + 1) (kept.front ++ rest),
-        is ∙ ap (λ (bytes : List ℕ). written place (0 ∷ []) bytes) was ∙ written_at_gate kept.front place kept.is_front.size 0 rest,
-        tt,
-      )
+
+  pub closes_at : (pending : List (List ℕ)) → GateDue images place all pending → Follows (λ earlier image. image ≡ written place (0 ∷ []) earlier) images after → ClosesAt after place
+  closes_at pending kept follows image here =
+      let found = closed_is pending kept follows image here in
+      (found.0, ap (λ (bytes : List ℕ). drop place bytes) found.1 ∙ drop_at kept.front (0 ∷ found.0) place kept.is_front.size)
+
+-- what stands behind a 0 is cut off
+pub cut_at_closed : (images after : List ℕ → Type 0) (place : ℕ) → Follows (λ earlier image. image ≡ take (place + 1) earlier) images after → ClosesAt images place → EndsClosed after place
+cut_at_closed images after place follows closes image here =
+    let from = follows image here in
+    let was = closes from.0 from.1 in
+    ap (λ (bytes : List ℕ). drop place bytes) from.2 ∙ drop-take place 1 from.0 ∙ ap (λ (bytes : List ℕ). take 1 bytes) was.1
 
 -- What holds of the images, and of those after a step, holds of each moment of the step.
 pub moments_of : {D : Type 0} (seen : D → DiskState) (old new : D) (step : List ℕ → List ℕ → Type 0) (images P : List ℕ → Type 0)

@@ -7,6 +7,10 @@ use Rattle.std.specs.List.{starts_with}
 abbrev pub header : List ℕ
 header = 80 ∷ 79 ∷ 79 ∷ 76 ∷ 74 ∷ 82 ∷ 78 ∷ 76 ∷ 1 ∷ 0 ∷ 0 ∷ 0 ∷ 0 ∷ 0 ∷ 0 ∷ 0 ∷ []
 
+-- a journal without records: the header and a closed gate
+abbrev pub empty_journal : List ℕ
+empty_journal = header ++ 0 ∷ []
+
 -- the length that the four bytes behind a gate tell
 abbrev pub told_length : List ℕ → ℕ
 told_length behind = from_le_bytes w32 (take 4 behind)

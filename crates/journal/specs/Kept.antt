@@ -37,6 +37,14 @@ Settled images place all = Staged images place all []
 abbrev pub CutDue : (List ℕ → Type 0) → ℕ → List (List ℕ) → Type 0
 CutDue images place all = Shut images place all (λ behind. Unit {0})
 
+-- each image has a 0 at this place, as a writer closes a gate
+abbrev pub ClosesAt : (List ℕ → Type 0) → ℕ → Type 0
+ClosesAt images place = (image : List ℕ) → images image → (behind : List ℕ) × (drop place image ≡ 0 ∷ behind)
+
+-- and ends with it
+abbrev pub EndsClosed : (List ℕ → Type 0) → ℕ → Type 0
+EndsClosed images place = (image : List ℕ) → images image → drop place image ≡ 0 ∷ []
+
 -- Each image is the records, some gate, and the same bytes behind it; or there is no gate, and nothing behind.
 pub record GateDue (images : List ℕ → Type 0) (place : ℕ) (all pending : List (List ℕ)) : Type 0 where
   pub front : List ℕ

@@ -2,12 +2,12 @@
 ghost use Rattle.std.specs.Prelude.{◌≡◌, ◌≢◌, ℕ, ◌+◌, ◌≤◌, ◌^◌, [], ◌∷◌, ◌++◌, List, None, Some, length, true, IfErr, IfOk, IfSome, OnErr, OnOk};
 ghost use Rattle.decimal_rank.specs.Causes.{HasCause, Rose};
 ghost use Rattle.disk_model.specs.Disks.{EachMoment, NoFurther};
-ghost use Rattle.journal.specs.declared.dues.Due.TheVariants.{Nothing};
+ghost use Rattle.journal.specs.declared.dues.Due.TheVariants.{Gate, Nothing};
 ghost use Rattle.journal.specs.declared.opening.OpenFault.{OpenFault};
 ghost use Rattle.journal.specs.declared.opening.OpenFault.TheVariants.{Disk as DiskFault};
-ghost use Rattle.journal.specs.Format.{decode, place_behind};
+ghost use Rattle.journal.specs.Format.{decode, empty_journal, place_behind};
 ghost use Rattle.journal.specs.Journals.{KeepsRecords};
-ghost use Rattle.journal.specs.Kept.{KeepsSome, Settled, StandsFor, StandsForOneOf, StillKeeps, payloads};
+ghost use Rattle.journal.specs.Kept.{EndsClosed, KeepsSome, Settled, StandsFor, StandsForOneOf, StillKeeps, payloads};
 ghost use Rattle.journal.specs.Moments.{DecodesAs, Turned, Turns};
 
 use crate::appends::append_frame;
@@ -53,6 +53,9 @@ impl<D: Disk> Journal<D> {
             IfSome (D.seen disk).content (λ bytes. decode bytes ≡ Some (payloads opened.1.items))) }
         ensures settled { IfOk result (λ opened.
             Settled (D.seen opened.0.disk).images opened.0.place (payloads opened.1.items)) }
+        ensures founded { IfOk result (λ opened. IfSome (D.seen disk).content
+            (λ bytes. length bytes ≤ 17 → (image : List ℕ)
+            → (D.seen opened.0.disk).images image → image ≡ empty_journal)) }
         ensures nothing_due { IfOk result (λ opened. opened.0.due ≡ Nothing) }
         ensures any_moment { IfOk result
             (λ opened. Turned D.seen disk opened.0.disk (DecodesAs (D.seen disk).content)) }
@@ -91,6 +94,7 @@ impl<D: Disk> Journal<D> {
         ensures added { OnOk result ((all pending : List (List ℕ))
             → KeepsRecords D.seen self.old all pending
             → Settled (D.seen self.new.disk).images self.new.place (all ++ frame.now ∷ [])) }
+        ensures closed { OnOk result (EndsClosed (D.seen self.new.disk).images self.new.place) }
         ensures nothing_due { OnOk result (self.new.due ≡ Nothing) }
         ensures place { OnOk result (self.new.place ≡ self.old.place + 5 + length frame.now) }
         ensures place_err { OnErr result (self.new.place ≡ self.old.place) }
@@ -117,6 +121,8 @@ impl<D: Disk> Journal<D> {
         ensures mended { OnOk result ((all pending : List (List ℕ))
             → KeepsRecords D.seen self.old all pending
             → Settled (D.seen self.new.disk).images self.new.place all) }
+        ensures closed { self.old.due ≡ Gate
+            → OnOk result (EndsClosed (D.seen self.new.disk).images self.new.place) }
         ensures nothing_due { OnOk result (self.new.due ≡ Nothing) }
         ensures place { self.new.place ≡ self.old.place }
         ensures kept { (all pending : List (List ℕ)) → KeepsRecords D.seen self.old all pending

@@ -1,12 +1,12 @@
 //! Opening a journal. The bytes are read whole, at once; what a crash left behind the last whole record
 //! is mended. Bytes with another header are left as they are.
-ghost use Rattle.std.specs.Prelude.{◌≡◌, ◌≢◌, ℕ, ◌≤◌, ◌<◌, ◌^◌, [], List, None, Some, length, true, IfErr, IfOk, IfSome, OnOk, nat_eq};
+ghost use Rattle.std.specs.Prelude.{◌≡◌, ◌≢◌, ℕ, ◌≤◌, ◌<◌, ◌^◌, List, None, Some, length, true, IfErr, IfOk, IfSome, OnOk, nat_eq};
 ghost use Rattle.std.specs.List.{starts_with};
 ghost use Rattle.decimal_rank.specs.Causes.{HasCause, Rose};
 ghost use Rattle.disk_model.specs.Disks.{EachMoment, NoFurther};
 ghost use Rattle.journal.specs.declared.opening.OpenFault.{OpenFault};
 ghost use Rattle.journal.specs.declared.opening.OpenFault.TheVariants.{Disk as DiskFault, Memory as MemoryFault};
-ghost use Rattle.journal.specs.Format.{decode, header};
+ghost use Rattle.journal.specs.Format.{decode, empty_journal, header};
 ghost use Rattle.journal.specs.Kept.{Settled, payloads};
 ghost use Rattle.journal.specs.Moments.{DecodesAs, Turned, Turns};
 
@@ -50,6 +50,9 @@ pub(crate) fn take_up<D: Disk>(alloc: Global, disk: &mut D) -> Result<Records, O
         (λ bytes. decode bytes ≡ Some (payloads found.payloads.items))) }
     ensures settled { IfOk result
         (λ found. Settled (D.seen disk.new).images found.place (payloads found.payloads.items)) }
+    ensures founded { IfOk result (λ _. IfSome (D.seen disk.old).content
+        (λ bytes. length bytes ≤ 17 → (image : List ℕ)
+        → (D.seen disk.new).images image → image ≡ empty_journal)) }
     ensures within { IfOk result (λ found. found.place < 2 ^ 40) }
     ensures any_moment { IfOk result
         (λ _. Turned D.seen disk.old disk.new (DecodesAs (D.seen disk.old).content)) }
@@ -114,7 +117,8 @@ fn zeros(alloc: Global, count: usize) -> Result<Vec<u8>, Memory>
 // Makes an empty journal of a disk that has no more bytes than one.
 fn found<D: Disk>(disk: &mut D) -> Result<(), Failed>
     requires { (image : List ℕ) → (D.seen disk.old).images image → length image ≤ 17 }
-    ensures settled { OnOk result (Settled (D.seen disk.new).images 16 []) }
+    ensures founded { OnOk result ((image : List ℕ) → (D.seen disk.new).images image
+        → image ≡ empty_journal) }
     ensures any_moment { EachMoment D.seen disk.old disk.new (λ image. length image ≤ 17) }
     ensures cause { HasCause (D.seen disk.old).faults (D.seen disk.new).faults result }
 {

@@ -3,7 +3,7 @@ use Rattle.std.proofs.Common.{ℕ, List, inl, rules}
 use Rattle.std.proofs.lemmas.Result.{on_ok_weaker}
 use Rattle.journal.specs.Kept.{Keeps, StandsFor}
 use Rattle.journal.specs.Moments.{joined}
-use Rattle.journal.proofs.Keeping.{cut_where_shut, gate_where_gate}
+use Rattle.journal.proofs.Keeping.{cut_where_shut, gate_where_gate, not_gate}
 use Rattle.journal.proofs.mends.mend_due.Goals as goal
 
 pub returns-in-Nothing : goal.returns-in-Nothing
@@ -12,6 +12,7 @@ returns-in-Nothing g c =
     let cut = c.mend_cut.ensures in
     record {
       mended = on_ok_weaker c.mend_cut.result (λ settles all pending keeps. settles all (shut all pending keeps)) cut.mended;
+      closed = λ is_gate. absurd (not_gate c.args.due.now c.in-Nothing.is is_gate);
       nothing_due = cut.nothing_due;
       kept = λ all pending keeps. inl (cut.kept all (shut all pending keeps));
       any_moment = λ all pending keeps. cut.any_moment all pending (shut all pending keeps);
@@ -23,9 +24,12 @@ returns-in_ok-close_gate-in-Gate g c =
     let images = (g.D.Disk.seen c.args.disk.now).images in
     let gate = gate_where_gate images c.args.place c.args.due.now c.in-Gate.is in
     let shut = λ (all pending : List (List ℕ)) (keeps : Keeps images c.args.place c.args.due.now all pending). c.in_ok-close_gate-in-Gate.ensures.done all pending (gate all pending keeps) in
+    let kept = c.requires.kept in
+    let closes = c.in_ok-close_gate-in-Gate.ensures.closed kept.0 kept.1 (gate kept.0 kept.1 kept.2) in
     let cut = c.mend_cut-in-Gate.ensures in
     record {
       mended = on_ok_weaker c.mend_cut-in-Gate.result (λ settles all pending keeps. settles all (shut all pending keeps)) cut.mended;
+      closed = λ is_gate. on_ok_weaker c.mend_cut-in-Gate.result (λ ends. ends closes) cut.closed;
       nothing_due = cut.nothing_due;
       kept = λ all pending keeps. inl (cut.kept all (shut all pending keeps));
       any_moment = λ all pending keeps. joined g.D.Disk.seen c.args.disk.now c.close_gate.new.disk c.mend_cut-in-Gate.new.disk (StandsFor all pending)

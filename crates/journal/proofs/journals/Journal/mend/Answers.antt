@@ -1,8 +1,9 @@
 -- What a journal keeps after a mend.
-use Rattle.std.proofs.Common.{ℕ, List, subst}
+use Rattle.std.proofs.Common.{◌≡◌, ℕ, List, subst}
 use Rattle.std.specs.Prelude.{OnOk}
 use Rattle.journal.specs.Journals.{JournalState, KeepsRecords}
-use Rattle.journal.specs.Kept.{Settled}
+use Rattle.journal.specs.Kept.{EndsClosed, Settled}
+use Rattle.journal.specs.declared.dues.Due.TheVariants.{Gate}
 use Rattle.journal.proofs.Keeping.{kept_of_some}
 use Rattle.journal.proofs.journals.Journal.mend.Goals as goal
 
@@ -16,3 +17,8 @@ returns-clause-mended g c = subst
     (λ (journal : JournalState g.row.D.Denot). OnOk c.mend_due.result ((all pending : List (List ℕ)) → KeepsRecords g.D.Disk.seen journal all pending
     → Settled (g.D.Disk.seen c.mend_due.new.disk).images c.self.inside.place all))
     c.self.view_is c.mend_due.ensures.mended
+
+pub returns-clause-closed : goal.returns-clause-closed
+returns-clause-closed g c = subst
+    (λ (journal : JournalState g.row.D.Denot). journal.due ≡ Gate → OnOk c.mend_due.result (EndsClosed (g.D.Disk.seen c.mend_due.new.disk).images c.self.inside.place))
+    c.self.view_is c.mend_due.ensures.closed
