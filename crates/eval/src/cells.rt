@@ -14,7 +14,7 @@ use trec_formats::{QrelTable, TopicList};
 pub(crate) fn cells_of(
     alloc: Global,
     lists: &[TopicList],
-    qrels: &QrelTable,
+    qrels: &QrelTable<'_>,
 ) -> Result<Vec<Cell>, Memory>
     requires lists { AreRankedLists lists.now }
     requires few { length qrels.now ≤ 268435456 }
@@ -29,7 +29,7 @@ pub(crate) fn cells_of(
 fn cells_on(
     alloc: Global,
     lists: &[TopicList],
-    qrels: &QrelTable,
+    qrels: &QrelTable<'_>,
     judgements: &Judgements,
 ) -> Result<Vec<Cell>, Memory>
     requires lists { AreRankedLists lists.now }
@@ -52,7 +52,7 @@ fn cells_on(
 fn topic_cell(
     alloc: Global,
     docs: &[Text],
-    qrels: &QrelTable,
+    qrels: &QrelTable<'_>,
     topic: &[u8],
     tally: Tally,
 ) -> Result<Cell, Memory>

@@ -76,7 +76,7 @@ fn report(
     alloc: Global,
     run: &[u8],
     lists: &[TopicList],
-    qrels: &QrelTable,
+    qrels: &QrelTable<'_>,
 ) -> Result<Vec<u8>, Memory>
     requires lists { AreRankedLists lists.now }
     requires few { length qrels.now ≤ 268435456 }

@@ -4,10 +4,11 @@ ghost use Rattle.std.specs.List.{IsDistinct, list_any};
 ghost use Rattle.decimal_rank.specs.Names.{number_of, with_name};
 ghost use Rattle.eval.specs.Evaluations.{topics_of};
 ghost use Rattle.eval.specs.Tables.{no_tally, tally_more, tally_on};
+ghost use Rattle.trec_formats.specs.LineViews.{qrel_shown};
 
 use decimal_rank::{Memory, Names, Text};
 use std::alloc::Global;
-use trec_formats::{QrelLine, topic_number};
+use trec_formats::{QrelView, topic_number};
 
 /// The least grade of a relevant document.
 pub(crate) const LEVEL: u8 = 1;
@@ -28,34 +29,39 @@ pub(crate) struct Judgements {
 }
 
 /// The topics of qrels, and how the documents of each are judged.
-pub(crate) fn judgements_of(alloc: Global, qrels: &[QrelLine]) -> Result<Judgements, Memory>
+pub(crate) fn judgements_of(alloc: Global, qrels: &[QrelView<'_>]) -> Result<Judgements, Memory>
     requires { length qrels.now ≤ 268435456 }
-    ensures topics { IfOk result (λ judgements. judgements.topics ≡ topics_of qrels.now) }
-    ensures tallies { IfOk result (λ judgements. judgements.tallies.items ≡ map (tally_on qrels.now) (topics_of qrels.now)) }
+    ensures topics { IfOk result (λ judgements. judgements.topics ≡ topics_of (map qrel_shown qrels.now)) }
+    ensures tallies { IfOk result (λ judgements. judgements.tallies.items ≡ map (tally_on (map qrel_shown qrels.now)) (topics_of (map qrel_shown qrels.now))) }
 {
     let mut topics = Names::new(alloc);
     let mut tallies = Vec::new(alloc);
     for line in qrels {
-        let place = place_of(&mut topics, &mut tallies, &line.topic)?;
+        let place = place_of(alloc, &mut topics, &mut tallies, line.topic)?;
         count(&mut tallies[place], line.grade);
     }
     Ok(Judgements { topics, tallies })
 }
 
 /// The place of a topic, which joins the others with nothing judged where it's new.
-fn place_of(topics: &mut Names, tallies: &mut Vec<Tally>, topic: &Text) -> Result<usize, Memory>
+fn place_of(
+    alloc: Global,
+    topics: &mut Names,
+    tallies: &mut Vec<Tally>,
+    topic: &[u8],
+) -> Result<usize, Memory>
     requires { length topics.old + 1 < 2 ^ 32 }
     ensures topics { OnOk result (topics.new ≡ with_name topics.old topic.now) }
     ensures place { IfOk result (λ place. number_of topics.new topic.now ≡ Some place) }
     ensures distinct { OnOk result (IsDistinct bytes_eq topics.new) }
     ensures tallies { OnOk result (tallies.new.items ≡ (if list_any (bytes_eq topic.now) topics.old then tallies.old.items else tallies.old.items ++ no_tally ∷ [])) }
 {
-    if let Some(number) = topic_number(topics, topic.bytes()) {
+    if let Some(number) = topic_number(topics, topic) {
         // names tell with their length that no name stands twice
         let _names = topics.len();
         return Ok(number.0 as usize);
     }
-    let number = topics.add(topic.copy()?)?;
+    let number = topics.add(Text::from_slice(alloc, topic)?)?;
     // as above
     let _names = topics.len();
     tallies.push(Tally {

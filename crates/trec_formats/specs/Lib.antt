@@ -1,4 +1,5 @@
 pub mod Counts
+pub mod DocnoKeys
 pub mod Documents
 pub mod FaultNames
 pub mod Faults

@@ -6,8 +6,9 @@ ghost use Rattle.decimal_rank.specs.TextKeys.{text_key};
 ghost use Rattle.trec_formats.specs.Documents.{names, same_by, AreByDocument};
 ghost use Rattle.trec_formats.specs.Faults.{IsDistinct, IsTwice, IfFault};
 
+use crate::document_keys::DocumentKeys;
 use crate::faults::{FormatEnd, Kind};
-use decimal_rank::{Chains, Secret, Sought, first_found};
+use decimal_rank::{Chains, Sought, first_found};
 use std::alloc::Global;
 
 /// As many lines as a table numbers.
@@ -50,7 +51,7 @@ impl<'a, L: DocumentLine> Sought<L> for Document<'a> {
 /// A table that finds lines by the documents that they name.
 #[derive(Drop)]
 pub(crate) struct DocumentTable {
-    pub(crate) secret: Secret,
+    pub(crate) keys: DocumentKeys,
     pub(crate) chains: Chains,
 }
 
@@ -61,24 +62,24 @@ pub(crate) fn table_of<L: DocumentLine>(
     lines: &[L],
 ) -> Result<DocumentTable, FormatEnd>
     ensures distinct { OnOk result (IsDistinct (same_by L.topic_of L.doc_of) lines.now) }
-    ensures found { IfOk result (λ table. AreByDocument L.topic_of L.doc_of table.secret table.chains lines.now) }
+    ensures found { IfOk result (λ table. AreByDocument L.topic_of L.doc_of table.keys table.chains lines.now) }
     ensures fault { IfFault result (IsTwice (same_by L.topic_of L.doc_of) L.number_of lines.now) }
 {
     if lines.len() > MOST_LINES {
         return Err(FormatEnd::Memory);
     }
-    let secret = Secret::drawn();
+    let keys = DocumentKeys::drawn(lines.len());
     let mut chains = Chains::with_room(alloc, lines.len() as u32)?;
     let mut newest: &[u8] = &[];
-    let mut newest_key = secret.key_of(newest);
+    let mut newest_key = keys.of_topic(newest);
     for (i, line) in lines.iter().enumerate() {
         let document = Document {
             topic: line.topic(),
             doc: line.doc(),
         };
-        newest_key = topic_key(&secret, newest, newest_key, document.topic);
+        newest_key = topic_key(&keys, newest, newest_key, document.topic);
         newest = document.topic;
-        let key = newest_key.wrapping_add(secret.key_of(document.doc));
+        let key = newest_key.wrapping_add(keys.of_docno(document.doc));
         if let Some(first) = first_found(&chains, &lines[..i], key, &document) {
             let kind = Kind::Twice {
                 first: first.number(),
@@ -87,7 +88,7 @@ pub(crate) fn table_of<L: DocumentLine>(
         }
         chains.push(key)?;
     }
-    Ok(DocumentTable { secret, chains })
+    Ok(DocumentTable { keys, chains })
 }
 
 /// The line of a document, in lines of which the table is, by the key of its topic.
@@ -97,30 +98,30 @@ pub(crate) fn line_of<'a, L: DocumentLine>(
     document: Document<'_>,
     topic_key: u64,
 ) -> Option<&'a L>
-    requires found { AreByDocument L.topic_of L.doc_of table.now.secret table.now.chains lines.now }
-    requires key { topic_key ≡ text_key table.now.secret document.topic.now }
+    requires found { AreByDocument L.topic_of L.doc_of table.now.keys table.now.chains lines.now }
+    requires key { topic_key ≡ text_key table.now.keys.secret document.topic.now }
     ensures { option_map (λ line. line.now) result ≡ find (names L.topic_of L.doc_of document.entry.topic.now document.entry.doc.now) lines.now }
 {
-    let key = topic_key.wrapping_add(table.secret.key_of(document.doc));
+    let key = topic_key.wrapping_add(table.keys.of_docno(document.doc));
     first_found(&table.chains, lines, key, &document)
 }
 
 /// The key of a topic, which is at hand where it's the newest, as mostly, since the lines of a topic
 /// stand together.
-fn topic_key(secret: &Secret, newest: &[u8], newest_key: u64, topic: &[u8]) -> u64
-    requires { newest_key ≡ text_key secret.now newest.now }
-    ensures { result ≡ text_key secret.now topic.now }
+fn topic_key(keys: &DocumentKeys, newest: &[u8], newest_key: u64, topic: &[u8]) -> u64
+    requires { newest_key ≡ text_key keys.now.secret newest.now }
+    ensures { result ≡ text_key keys.now.secret topic.now }
 {
     if topic == newest {
         return newest_key;
     }
-    new_key(secret, topic)
+    new_key(keys, topic)
 }
 
 // apart, since it's rarely called
 #[inline(never)]
-fn new_key(secret: &Secret, topic: &[u8]) -> u64
-    ensures { result ≡ text_key secret.now topic.now }
+fn new_key(keys: &DocumentKeys, topic: &[u8]) -> u64
+    ensures { result ≡ text_key keys.now.secret topic.now }
 {
-    secret.key_of(topic)
+    keys.of_topic(topic)
 }

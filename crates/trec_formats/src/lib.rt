@@ -1,6 +1,7 @@
 //! The run, qrels and topics formats of TREC: their texts as lines and as topics, and the ranked lists of a run.
 #![tactic(auto)]
 
+mod document_keys;
 mod documents;
 mod faults;
 mod field_bytes;
@@ -30,7 +31,7 @@ pub use laws::{one_qrels_reading, one_rankable_reading, one_run_reading};
 pub use lists::{TopicList, rank_run};
 pub use names::{is_docno, is_name};
 pub use qrel_tables::{QrelTable, read_qrel_table};
-pub use qrels::{QrelLine, read_qrels};
+pub use qrels::{QrelLine, QrelView, read_qrels};
 pub use qrels_text::write_qrels;
 pub use run_reader::RunReader;
 pub use runs::{RunLine, read_lists, read_run};

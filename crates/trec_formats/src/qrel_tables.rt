@@ -4,36 +4,38 @@ ghost use Rattle.std.specs.Prelude.{◌≡◌, ◌≤◌, length, map, IfOk};
 ghost use Rattle.decimal_rank.specs.TextKeys.{text_key};
 ghost use Rattle.trec_formats.specs.Documents.{AreByDocument};
 ghost use Rattle.trec_formats.specs.Faults.{IfFault};
+ghost use Rattle.trec_formats.specs.LineViews.{qrel_shown};
 ghost use Rattle.trec_formats.specs.Qrels.{grade_on, IsQrels, IsQrelsFault};
 
 use crate::documents::{Document, DocumentTable, line_of, table_of};
 use crate::faults::FormatEnd;
-use crate::qrels::{QrelLine, read_lines};
+use crate::qrels::{QrelView, read_lines};
 use decimal_rank::{Memory, Text};
 use std::alloc::Global;
 use std::marker::Model;
 
-/// The lines of a qrels text, found by topic and docno. Contracts see the list of the lines.
+/// The lines of a qrels text, lent from it and found by topic and docno. Contracts see the list of the lines.
 #[derive(Drop)]
-pub struct QrelTable {
-    lines: Vec<QrelLine>,
+pub struct QrelTable<'a> {
+    lines: Vec<QrelView<'a>>,
     table: DocumentTable,
 }
 
-impl Model for QrelTable {
-    ghost use Rattle.std.specs.Prelude.{List};
+impl<'a> Model for QrelTable<'a> {
+    ghost use Rattle.std.specs.Prelude.{List, map};
+    ghost use Rattle.trec_formats.specs.LineViews.{qrel_shown};
     ghost use Rattle.trec_formats.specs.declared.qrels.QrelLine.{QrelLine};
     ghost use Rattle.trec_formats.specs.Documents.{AreByDocument};
 
     ghost Value = { List QrelLine };
 
-    ghost view = { λ qrels. qrels.lines.items };
+    ghost view = { λ qrels. map qrel_shown qrels.lines.items };
 
-    ghost invariant = { λ qrels. AreByDocument (λ line. line.topic) (λ line. line.doc) qrels.table.secret qrels.table.chains qrels.lines.items };
+    ghost invariant = { λ qrels. AreByDocument (λ view. view.topic.now) (λ view. view.doc.now) qrels.table.keys qrels.table.chains qrels.lines.items };
 }
 
 /// The lines of a qrels text in a table, or the text's first fault.
-pub fn read_qrel_table(alloc: Global, bytes: &[u8]) -> Result<QrelTable, FormatEnd>
+pub fn read_qrel_table(alloc: Global, bytes: &[u8]) -> Result<QrelTable<'_>, FormatEnd>
     requires { length bytes.now ≤ 268435456 }
     ensures lines { IfOk result (λ lines. IsQrels bytes.now lines) }
     ensures few { IfOk result (λ lines. length lines ≤ length bytes.now) }
@@ -44,20 +46,12 @@ pub fn read_qrel_table(alloc: Global, bytes: &[u8]) -> Result<QrelTable, FormatE
     Ok(QrelTable { lines, table })
 }
 
-impl QrelTable {
+impl<'a> QrelTable<'a> {
     /// The lines in the order of the text.
-    pub fn lines(&self) -> &[QrelLine]
-        ensures { result.now ≡ self.now }
+    pub fn lines(&self) -> &[QrelView<'a>]
+        ensures { map qrel_shown result.now ≡ self.now }
     {
         self.lines.as_slice()
-    }
-
-    /// The lines in the order of the text, without the table.
-    pub fn into_lines(self) -> Vec<QrelLine>
-        ensures { result.items ≡ self }
-    {
-        let QrelTable { lines, .. } = self;
-        lines
     }
 
     /// The grade of each document on a topic, in their order; none where the lines don't judge it.
@@ -76,15 +70,15 @@ impl QrelTable {
 /// The grade of each document on a topic, in lines of which the table is.
 fn grades_of(
     alloc: Global,
-    lines: &[QrelLine],
+    lines: &[QrelView<'_>],
     table: &DocumentTable,
     topic: &[u8],
     docs: &[Text],
 ) -> Result<Vec<Option<u8>>, Memory>
-    requires { AreByDocument (λ line. line.topic) (λ line. line.doc) table.now.secret table.now.chains lines.now }
-    ensures { IfOk result (λ grades. grades.items ≡ map (grade_on lines.now topic.now) docs.now) }
+    requires { AreByDocument (λ view. view.topic.now) (λ view. view.doc.now) table.now.keys table.now.chains lines.now }
+    ensures { IfOk result (λ grades. grades.items ≡ map (grade_on (map qrel_shown lines.now) topic.now) docs.now) }
 {
-    let topic_key = table.secret.key_of(topic);
+    let topic_key = table.keys.of_topic(topic);
     let mut grades = Vec::with_capacity(alloc, docs.len())?;
     for doc in docs {
         let document = Document {
@@ -98,14 +92,14 @@ fn grades_of(
 
 /// The grade of a document on a topic, in lines of which the table is, by the key of the topic.
 fn grade_of(
-    lines: &[QrelLine],
+    lines: &[QrelView<'_>],
     table: &DocumentTable,
     document: Document<'_>,
     topic_key: u64,
 ) -> Option<u8>
-    requires found { AreByDocument (λ line. line.topic) (λ line. line.doc) table.now.secret table.now.chains lines.now }
-    requires key { topic_key ≡ text_key table.now.secret document.topic.now }
-    ensures { result ≡ grade_on lines.now document.entry.topic.now document.entry.doc.now }
+    requires found { AreByDocument (λ view. view.topic.now) (λ view. view.doc.now) table.now.keys table.now.chains lines.now }
+    requires key { topic_key ≡ text_key table.now.keys.secret document.topic.now }
+    ensures { result ≡ grade_on (map qrel_shown lines.now) document.entry.topic.now document.entry.doc.now }
 {
     match line_of(table, lines, document, topic_key) {
         Some(line) => Some(line.grade),

@@ -1,7 +1,8 @@
 //! Judgements in the format of qrels, each on a line of four fields.
-ghost use Rattle.std.specs.Prelude.{◌≡◌, ◌≢◌, ◌≤◌, ℕ, [], ◌∷◌, length, Ok, Err, IfOk, MatchOption, MatchResult};
+ghost use Rattle.std.specs.Prelude.{◌≡◌, ◌≢◌, ◌≤◌, [], ◌∷◌, length, map, Ok, Err, IfOk, MatchOption, MatchResult};
 ghost use Rattle.trec_formats.specs.Lines.{fields_of};
 ghost use Rattle.trec_formats.specs.Faults.{IfFault};
+ghost use Rattle.trec_formats.specs.LineViews.{qrel_shown};
 ghost use Rattle.trec_formats.specs.Qrels.{qrel_of, IsEachRead, IsQrels, IsQrelsFault};
 
 use crate::documents::DocumentLine;
@@ -9,7 +10,7 @@ use crate::faults::{FormatEnd, Kind};
 use crate::lines::{cut_field, next_row};
 use crate::names::{grade_of, is_docno, is_name};
 use crate::qrel_tables::read_qrel_table;
-use decimal_rank::Text;
+use decimal_rank::{Memory, Text};
 use std::alloc::Global;
 
 /// One judgement of a qrels text.
@@ -22,19 +23,29 @@ pub struct QrelLine {
     pub grade: u8,
 }
 
-impl DocumentLine for QrelLine {
-    ghost topic_of = { λ line. line.topic };
+/// One judgement of a qrels text, lent from the text.
+#[derive(Clone, Copy)]
+pub struct QrelView<'a> {
+    /// Its line in the text, from 1.
+    pub line: u32,
+    pub topic: &'a [u8],
+    pub doc: &'a [u8],
+    pub grade: u8,
+}
 
-    ghost doc_of = { λ line. line.doc };
+impl<'a> DocumentLine for QrelView<'a> {
+    ghost topic_of = { λ view. view.topic.now };
 
-    ghost number_of = { λ line. line.line };
+    ghost doc_of = { λ view. view.doc.now };
+
+    ghost number_of = { λ view. view.line };
 
     fn topic(&self) -> &[u8] {
-        self.topic.bytes()
+        self.topic
     }
 
     fn doc(&self) -> &[u8] {
-        self.doc.bytes()
+        self.doc
     }
 
     fn number(&self) -> u32 {
@@ -56,19 +67,11 @@ fn four_fields(line: &[u8]) -> Option<(&[u8], &[u8], &[u8], &[u8])>
     }
 }
 
-/// What a line says.
-#[derive(Drop)]
-struct QrelFields<'a> {
-    topic: &'a [u8],
-    doc: &'a [u8],
-    grade: u8,
-}
-
-/// What a line says, or its fault.
+/// What the line of a number says, or its fault.
 #[tactic(auto, unfolding(crate::specs::Qrels::qrel_of))]
-fn qrel_fields(line: &[u8]) -> Result<QrelFields<'_>, Kind>
-    ensures { (number : ℕ) → MatchResult result
-        (λ f. qrel_of (number, fields_of line.now) ≡ Ok (record { line = number; topic = f.topic.now; doc = f.doc.now; grade = f.grade }))
+fn qrel_view(number: u32, line: &[u8]) -> Result<QrelView<'_>, Kind>
+    ensures { MatchResult result
+        (λ view. qrel_of (number, fields_of line.now) ≡ Ok (qrel_shown view))
         (λ kind. qrel_of (number, fields_of line.now) ≡ Err kind) }
 {
     let Some((topic, _, doc, grade)) = four_fields(line) else {
@@ -83,13 +86,18 @@ fn qrel_fields(line: &[u8]) -> Result<QrelFields<'_>, Kind>
     let Some(grade) = grade_of(grade) else {
         return Err(Kind::Grade);
     };
-    Ok(QrelFields { topic, doc, grade })
+    Ok(QrelView {
+        line: number,
+        topic,
+        doc,
+        grade,
+    })
 }
 
 /// The lines of a text, of which some may say the same.
-pub(crate) fn read_lines(alloc: Global, bytes: &[u8]) -> Result<Vec<QrelLine>, FormatEnd>
+pub(crate) fn read_lines(alloc: Global, bytes: &[u8]) -> Result<Vec<QrelView<'_>>, FormatEnd>
     requires { length bytes.now ≤ 268435456 }
-    ensures lines { IfOk result (λ lines. IsEachRead bytes.now (Ok lines.items)) }
+    ensures lines { IfOk result (λ lines. IsEachRead bytes.now (Ok (map qrel_shown lines.items))) }
     ensures few { IfOk result (λ lines. length lines.items ≤ length bytes.now) }
     ensures fault { IfFault result (λ fault. IsEachRead bytes.now (Err fault)) }
 {
@@ -99,19 +107,30 @@ pub(crate) fn read_lines(alloc: Global, bytes: &[u8]) -> Result<Vec<QrelLine>, F
     while let Some(row) = next_row(number, rest) {
         number = row.number;
         rest = row.rest;
-        let fields = match qrel_fields(row.line) {
-            Ok(fields) => fields,
+        let view = match qrel_view(number, row.line) {
+            Ok(view) => view,
             Err(kind) => return Err(FormatEnd::at(number, kind)),
         };
-        lines.push(QrelLine {
-            line: number,
-            topic: Text::from_slice(alloc, fields.topic)?,
-            doc: Text::from_slice(alloc, fields.doc)?,
-            grade: fields.grade,
-        })?;
+        lines.push(view)?;
     }
     if lines.is_empty() {
         return Err(FormatEnd::at(0, Kind::Empty));
+    }
+    Ok(lines)
+}
+
+/// Lines that have texts of their own.
+fn owned(alloc: Global, views: &[QrelView<'_>]) -> Result<Vec<QrelLine>, Memory>
+    ensures { IfOk result (λ lines. lines.items ≡ map qrel_shown views.now) }
+{
+    let mut lines = Vec::with_capacity(alloc, views.len())?;
+    for view in views {
+        lines.push(QrelLine {
+            line: view.line,
+            topic: Text::from_slice(alloc, view.topic)?,
+            doc: Text::from_slice(alloc, view.doc)?,
+            grade: view.grade,
+        })?;
     }
     Ok(lines)
 }
@@ -124,5 +143,5 @@ pub fn read_qrels(alloc: Global, bytes: &[u8]) -> Result<Vec<QrelLine>, FormatEn
     ensures fault { IfFault result (IsQrelsFault bytes.now) }
 {
     let table = read_qrel_table(alloc, bytes)?;
-    Ok(table.into_lines())
+    Ok(owned(alloc, table.lines())?)
 }

@@ -10,7 +10,7 @@ ghost use Rattle.trec_formats.specs.Lists.{IsRankedRun, IsRankedRunFault};
 ghost use Rattle.trec_formats.specs.PackedRuns.{kept_lines, ArePlaced};
 ghost use Rattle.trec_formats.specs.Counts.{IsTally};
 ghost use Rattle.trec_formats.specs.RunFields.{kept_fields};
-ghost use Rattle.trec_formats.specs.RunStates.{is_break, row_if, AreEnded, AreWithin, HasRoom, IsFaultBehind, IsRead, IsFaulty, IsHeld, IsWithin, IsAt, IsAfter, HasFailed, held_by};
+ghost use Rattle.trec_formats.specs.RunStates.{is_break, row_if, AreEnded, AreWithin, HasRoom, IsFaultBehind, IsRead, IsFaulty, IsHeld, IsWithin, IsAt, IsAfter, IsSound, HasFailed, held_by};
 ghost use Rattle.trec_formats.specs.Runs.{run_of, count_on, IsRun, IsRunFault};
 
 use crate::faults::{FormatEnd, FormatFault, Kind};
@@ -211,30 +211,20 @@ fn end_run(alloc: Global, reading: Reading) -> Result<PackedRun, FormatEnd>
     Ok(ended.run)
 }
 
-/// The lines of a run that ends here.
-fn end_lines(alloc: Global, reading: Reading) -> Result<Vec<RunLine>, FormatEnd>
-    requires within { IsWithin reading }
-    requires long { reading.ended.number ≤ 268435456 }
-    requires read { (text : List ℕ) × IsRead text reading }
-    ensures lines { IfOk result (λ lines. (text : List ℕ) → IsRead text reading → IsRun text lines.items) }
-    ensures ascending { IfOk result (λ lines. IsStrictlyIncreasing (map (λ line. line.line) lines.items)) }
-    ensures short { IfOk result (λ lines. (topic : List ℕ) → count_on topic lines.items ≤ 1000) }
-    ensures fault { IfFault result (λ fault. (text : List ℕ) → IsRead text reading → IsRunFault text fault) }
+/// What a run is read as that got so far and ends here.
+fn end_progress(alloc: Global, progress: Progress) -> Result<PackedRun, FormatEnd>
+    requires { (fed : ℕ) × IsSound fed progress }
+    ensures lines { IfOk result (λ run. (text : List ℕ) → IsAt text progress → IsRun text (kept_lines run)) }
+    ensures ascending { IfOk result (λ run. IsStrictlyIncreasing (map (λ line. line.line) (kept_lines run))) }
+    ensures short { IfOk result (λ run. (topic : List ℕ) → count_on topic (kept_lines run) ≤ 1000) }
+    ensures fault { IfFault result (λ fault. (text : List ℕ) → IsAt text progress → IsRunFault text fault) }
+    ensures failed { progress ≡ Progress.Failed → result ≡ Err FormatEnd.Memory }
 {
-    let run = end_run(alloc, reading)?;
-    Ok(unpacked(alloc, run.bytes.as_slice(), run.lines.as_slice())?)
-}
-
-/// The ranked lists of a run that ends here.
-fn end_lists(alloc: Global, reading: Reading) -> Result<Vec<TopicList>, FormatEnd>
-    requires within { IsWithin reading }
-    requires long { reading.ended.number ≤ 268435456 }
-    requires read { (text : List ℕ) × IsRead text reading }
-    ensures lists { IfOk result (λ lists. (text : List ℕ) → IsRead text reading → IsRankedRun text lists.items) }
-    ensures fault { IfFault result (λ fault. (text : List ℕ) → IsRead text reading → IsRankedRunFault text fault) }
-{
-    let run = end_run(alloc, reading)?;
-    rank_packed(alloc, run)
+    match progress {
+        Progress::Reads(reading) => end_run(alloc, reading),
+        Progress::Faulty(fault) => Err(FormatEnd::Fault(fault)),
+        Progress::Failed => Err(FormatEnd::Memory),
+    }
 }
 
 impl RunReader {
@@ -283,11 +273,8 @@ impl RunReader {
             progress,
             ..
         } = self;
-        match progress {
-            Progress::Reads(reading) => end_lines(alloc, reading),
-            Progress::Faulty(fault) => Err(FormatEnd::Fault(fault)),
-            Progress::Failed => Err(FormatEnd::Memory),
-        }
+        let run = end_progress(alloc, progress)?;
+        Ok(unpacked(alloc, run.bytes.as_slice(), run.lines.as_slice())?)
     }
 
     /// The ranked lists of the run, as `rank_run` makes them of its lines, or its first fault. The lines are
@@ -302,10 +289,7 @@ impl RunReader {
             progress,
             ..
         } = self;
-        match progress {
-            Progress::Reads(reading) => end_lists(alloc, reading),
-            Progress::Faulty(fault) => Err(FormatEnd::Fault(fault)),
-            Progress::Failed => Err(FormatEnd::Memory),
-        }
+        let run = end_progress(alloc, progress)?;
+        rank_packed(alloc, run)
     }
 }

@@ -25,7 +25,7 @@ pub fn qrels_of(alloc: Global, text: &str) -> Result<Vec<QrelLine>, FormatEnd> {
     read_qrels(alloc, short(text.as_bytes())?)
 }
 
-pub fn table_of(alloc: Global, text: &str) -> Result<QrelTable, FormatEnd> {
+pub fn table_of(alloc: Global, text: &str) -> Result<QrelTable<'_>, FormatEnd> {
     read_qrel_table(alloc, short(text.as_bytes())?)
 }
 

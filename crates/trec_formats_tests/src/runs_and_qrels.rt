@@ -9,7 +9,7 @@ use std::test::Fail;
 use trec_formats::{FormatEnd, Kind, QrelLine, QrelTable, RunLine, TopicList, rank_run, read_run};
 
 /// The grades of three documents on a topic.
-fn grades_on(alloc: Global, table: &QrelTable, topic: &str) -> Result<Vec<Option<u8>>, Memory> {
+fn grades_on(alloc: Global, table: &QrelTable<'_>, topic: &str) -> Result<Vec<Option<u8>>, Memory> {
     let docs = [
         Text::from_slice(alloc, b"A")?,
         Text::from_slice(alloc, b"B")?,

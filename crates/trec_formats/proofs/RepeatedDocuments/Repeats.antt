@@ -6,7 +6,7 @@ use Rattle.std.proofs.lemmas.List.{take-append-drop, drop_more, take_more, take_
 use Rattle.std.proofs.lemmas.Option.{slice_get-map}
 use Rattle.std.proofs.lemmas.Slice.Eq.{bytes_eq-Decides}
 use Rattle.decimal_rank.specs.Buckets.{Buckets, with_item}
-use Rattle.decimal_rank.specs.declared.secrets.Secret.{Secret}
+use Rattle.trec_formats.specs.declared.document_keys.DocumentKeys.{DocumentKeys}
 use Rattle.trec_formats.specs.declared.faults.Kind.TheVariants.{Twice}
 use Rattle.trec_formats.specs.Documents.{names, same_by, document_key, AreByDocument}
 use Rattle.decimal_rank.specs.Searches.{AreUnder}
@@ -33,30 +33,30 @@ module _ {L : Type 0} (topic doc : L → List ℕ) (number : L → ℕ) where
   abbrev is_of : List ℕ → List ℕ → L → Bool
   is_of = names topic doc
 
-  abbrev bucket : Secret → ℕ → L → ℕ
-  bucket secret room line = document_key secret (topic line) (doc line) % room
+  abbrev bucket : DocumentKeys → ℕ → L → ℕ
+  bucket keys room line = document_key keys (topic line) (doc line) % room
 
   -- these lines are distinct, and each is in the bucket of its document
-  pub record HaveSeen (secret : Secret) (table : Buckets) (lines : List L) : Type 0 where
-    pub items_are : AreByDocument topic doc secret table lines
+  pub record HaveSeen (keys : DocumentKeys) (table : Buckets) (lines : List L) : Type 0 where
+    pub items_are : AreByDocument topic doc keys table lines
     pub distinct : IsDistinct same lines
 
-  pub seen_none : (secret : Secret) (table : Buckets) → table.items ≡ [] → HaveSeen secret table []
-  seen_none secret table empty = record { items_are = empty; distinct = distinct_nil same number }
+  pub seen_none : (keys : DocumentKeys) (table : Buckets) → table.items ≡ [] → HaveSeen keys table []
+  seen_none keys table empty = record { items_are = empty; distinct = distinct_nil same number }
 
   -- lines of a document are in the bucket of its key
-  pub seen_under : (secret : Secret) (table : Buckets) (lines : List L) (t d : List ℕ) (key : ℕ) → AreByDocument topic doc secret table lines → key ≡ document_key secret t d → AreUnder (is_of t d) table lines key
-  seen_under secret table lines t d key items_are keyed = record {
-    sized = ap length items_are ∙ length-map lines (bucket secret table.room);
+  pub seen_under : (keys : DocumentKeys) (table : Buckets) (lines : List L) (t d : List ℕ) (key : ℕ) → AreByDocument topic doc keys table lines → key ≡ document_key keys t d → AreUnder (is_of t d) table lines key
+  seen_under keys table lines t d key items_are keyed = record {
+    sized = ap length items_are ∙ length-map lines (bucket keys table.room);
     each = λ i line got yes.
         let parts = both (bytes_eq t (topic line)) (bytes_eq d (doc line)) yes in
         let topics : topic line ≡ t = sym ((bytes_eq-Decides _ _).0 parts.0) in
         let docs : doc line ≡ d = sym ((bytes_eq-Decides _ _).0 parts.1) in
-        let keys : document_key secret (topic line) (doc line) ≡ key = ap (λ a. document_key secret a (doc line)) topics ∙ ap (λ b. document_key secret t b) docs ∙ sym keyed in
+        let same_key : document_key keys (topic line) (doc line) ≡ key = ap (λ a. document_key keys a (doc line)) topics ∙ ap (λ b. document_key keys t b) docs ∙ sym keyed in
         ap (λ items. slice_get items i) items_are
-        ∙ slice_get-map (bucket secret table.room) lines i
-        ∙ ap (option_map (bucket secret table.room)) got
-        ∙ ap (λ k. Some (k % table.room)) keys;
+        ∙ slice_get-map (bucket keys table.room) lines i
+        ∙ ap (option_map (bucket keys table.room)) got
+        ∙ ap (λ k. Some (k % table.room)) same_key;
   }
 
   -- a line, and the document that it names
@@ -67,23 +67,23 @@ module _ {L : Type 0} (topic doc : L → List ℕ) (number : L → ℕ) where
   found_by : (line : L) (t d : List ℕ) (lines : List L) → Names line t d → find (same line) lines ≡ find (is_of t d) lines
   found_by line t d lines names = ap (λ a. find (is_of a (doc line)) lines) (sym names.topic_is) ∙ ap (λ b. find (is_of t b) lines) (sym names.doc_is)
 
-  seen_push : (secret : Secret) (table : Buckets) (lines : List L) (line : L) (t d : List ℕ) (key : ℕ) → HaveSeen secret table lines → Names line t d → key ≡ document_key secret t d → find (is_of t d) lines ≡ None → HaveSeen secret (with_item table key) (lines ++ line ∷ [])
-  seen_push secret table lines line t d key w names keyed none =
-      let keys : key ≡ document_key secret (topic line) (doc line) = keyed ∙ ap (λ a. document_key secret a d) names.topic_is ∙ ap (document_key secret (topic line)) names.doc_is in
+  seen_push : (keys : DocumentKeys) (table : Buckets) (lines : List L) (line : L) (t d : List ℕ) (key : ℕ) → HaveSeen keys table lines → Names line t d → key ≡ document_key keys t d → find (is_of t d) lines ≡ None → HaveSeen keys (with_item table key) (lines ++ line ∷ [])
+  seen_push keys table lines line t d key w names keyed none =
+      let same_key : key ≡ document_key keys (topic line) (doc line) = keyed ∙ ap (λ a. document_key keys a d) names.topic_is ∙ ap (document_key keys (topic line)) names.doc_is in
       record {
         items_are =
             ap (λ items. items ++ key % table.room ∷ []) w.items_are
-            ∙ ap (λ k. map (bucket secret table.room) lines ++ k % table.room ∷ []) keys
-            ∙ sym (map-append (bucket secret table.room) lines (line ∷ []));
+            ∙ ap (λ k. map (bucket keys table.room) lines ++ k % table.room ∷ []) same_key
+            ∙ sym (map-append (bucket keys table.room) lines (line ∷ []));
         distinct = distinct_push same number lines line (found_by line t d lines names ∙ none) w.distinct;
       }
 
-  pub seen_next : (secret : Secret) (table more : Buckets) (lines : List L) (i : ℕ) (line : L) (t d : List ℕ) (key : ℕ) → i < length lines → line ≡ get_or lines i line → HaveSeen secret table (take i lines) → Names line t d → key ≡ document_key secret t d → find (is_of t d) (take i lines) ≡ None → more ≡ with_item table key → HaveSeen secret more (take (i + 1) lines)
-  seen_next secret table more lines i line t d key within item w names keyed none more_is =
-      rw (more_is, take_more lines i line within, ← item) (seen_push secret table (take i lines) line t d key w names keyed none)
+  pub seen_next : (keys : DocumentKeys) (table more : Buckets) (lines : List L) (i : ℕ) (line : L) (t d : List ℕ) (key : ℕ) → i < length lines → line ≡ get_or lines i line → HaveSeen keys table (take i lines) → Names line t d → key ≡ document_key keys t d → find (is_of t d) (take i lines) ≡ None → more ≡ with_item table key → HaveSeen keys more (take (i + 1) lines)
+  seen_next keys table more lines i line t d key within item w names keyed none more_is =
+      rw (more_is, take_more lines i line within, ← item) (seen_push keys table (take i lines) line t d key w names keyed none)
 
-  pub seen_twice : (secret : Secret) (table : Buckets) (lines : List L) (i : ℕ) (line first : L) (t d : List ℕ) → i < length lines → line ≡ get_or lines i line → HaveSeen secret table (take i lines) → Names line t d → find (is_of t d) (take i lines) ≡ Some first → IsTwice same number lines (record { line = number line; kind = Twice (number first) })
-  seen_twice secret table lines i line first t d within item w names there = record {
+  pub seen_twice : (keys : DocumentKeys) (table : Buckets) (lines : List L) (i : ℕ) (line first : L) (t d : List ℕ) → i < length lines → line ≡ get_or lines i line → HaveSeen keys table (take i lines) → Names line t d → find (is_of t d) (take i lines) ≡ Some first → IsTwice same number lines (record { line = number line; kind = Twice (number first) })
+  seen_twice keys table lines i line first t d within item w names there = record {
     before = take i lines;
     again = line;
     after = drop (i + 1) lines;
@@ -95,5 +95,5 @@ module _ {L : Type 0} (topic doc : L → List ℕ) (number : L → ℕ) where
     kind = refl;
   }
 
-  pub seen_all : (secret : Secret) (table : Buckets) (lines : List L) (i : ℕ) → length lines ≤ i → HaveSeen secret table (take i lines) → HaveSeen secret table lines
-  seen_all secret table lines i all w = rw (← take_all i lines all) w
+  pub seen_all : (keys : DocumentKeys) (table : Buckets) (lines : List L) (i : ℕ) → length lines ≤ i → HaveSeen keys table (take i lines) → HaveSeen keys table lines
+  seen_all keys table lines i all w = rw (← take_all i lines all) w

@@ -10,7 +10,7 @@ find_step : {X Y : Type 0} (shown : X → Y) (p : Y → Bool) (x : X) (xs : List
 find_step shown p x xs true is rest = rw is refl
 find_step shown p x xs false is rest = rw is rest
 
-find_shown : {X Y : Type 0} (shown : X → Y) (p : Y → Bool) (xs : List X) → find p (map shown xs) ≡ option_map shown (find (λ x. p (shown x)) xs)
+pub find_shown : {X Y : Type 0} (shown : X → Y) (p : Y → Bool) (xs : List X) → find p (map shown xs) ≡ option_map shown (find (λ x. p (shown x)) xs)
 find_shown shown p [] = refl
 find_shown shown p (x ∷ xs) = find_step shown p x xs (p (shown x)) refl (find_shown shown p xs)
 

@@ -9,7 +9,7 @@ pub returns-in-Some-clause-topics : goal.returns-in-Some-clause-topics
 returns-in-Some-clause-topics c =
     let topics = c.args.topics.now in
     let number : number_of topics c.args.topic.now ≡ Some c.in-Some.number.0 =
-    ap (number_of topics) (sym c.bytes.ensures) ∙ sym c.topic_number.ensures ∙ ap (option_map (λ number. number.0)) c.in-Some.is in
+    sym c.topic_number.ensures ∙ ap (option_map (λ number. number.0)) c.in-Some.is in
     let among : list_any (bytes_eq c.args.topic.now) topics ≡ true = is_among topics c.args.topic.now c.in-Some.number.0 number in
     rw among refl
 
@@ -17,6 +17,6 @@ pub returns-in-Some-clause-tallies : goal.returns-in-Some-clause-tallies
 returns-in-Some-clause-tallies c =
     let topics = c.args.topics.now in
     let number : number_of topics c.args.topic.now ≡ Some c.in-Some.number.0 =
-    ap (number_of topics) (sym c.bytes.ensures) ∙ sym c.topic_number.ensures ∙ ap (option_map (λ number. number.0)) c.in-Some.is in
+    sym c.topic_number.ensures ∙ ap (option_map (λ number. number.0)) c.in-Some.is in
     let among : list_any (bytes_eq c.args.topic.now) topics ≡ true = is_among topics c.args.topic.now c.in-Some.number.0 number in
     rw among refl

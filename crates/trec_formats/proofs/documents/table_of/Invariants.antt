@@ -6,6 +6,6 @@ use Rattle.trec_formats.proofs.documents.table_of.Given as goal
 
 abbrev pub invariant-loop-i : goal.invariant-loop-i
 invariant-loop-i g l = record {
-  seen : HaveSeen g.L.DocumentLine.topic_of g.L.DocumentLine.doc_of g.L.DocumentLine.number_of l.secret l.chains (take l.i l.lines);
-  key : l.newest_key ≡ text_key l.secret l.newest;
+  seen : HaveSeen g.L.DocumentLine.topic_of g.L.DocumentLine.doc_of g.L.DocumentLine.number_of l.keys l.chains (take l.i l.lines);
+  key : l.newest_key ≡ text_key l.keys.secret l.newest;
 }

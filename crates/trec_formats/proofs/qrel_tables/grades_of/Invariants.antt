@@ -1,7 +1,8 @@
 -- The grades are those of the documents so far, in their order.
 use Rattle.std.proofs.Common.{◌≡◌, map, take}
+use Rattle.trec_formats.specs.LineViews.{qrel_shown}
 use Rattle.trec_formats.specs.Qrels.{grade_on}
 use Rattle.trec_formats.proofs.qrel_tables.grades_of.Given as goal
 
 abbrev pub invariant-loop-doc : goal.invariant-loop-doc
-invariant-loop-doc l = l.grades.items ≡ map (grade_on l.lines l.topic) (take l.doc-index l.docs)
+invariant-loop-doc l = l.grades.items ≡ map (grade_on (map qrel_shown l.lines) l.topic) (take l.doc-index l.docs)

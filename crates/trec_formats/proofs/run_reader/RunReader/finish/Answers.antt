@@ -1,9 +1,4 @@
-use Rattle.std.proofs.Common.{subst, sym}
-use Rattle.trec_formats.specs.RunStates.{IsAt, RunFed}
-use Rattle.trec_formats.proofs.RunTexts.RunEnds.{faulty_here}
 use Rattle.trec_formats.proofs.run_reader.RunReader.finish.Goals as goal
 
-pub returns-in-Faulty-clause-fault : goal.returns-in-Faulty-clause-fault
-returns-in-Faulty-clause-fault c = λ text after.
-    let was = subst (λ (r : RunFed). IsAt text r.progress) (sym c.self.view_is) after in
-    faulty_here text c.in-Faulty.fault (subst (IsAt text) c.in-Faulty.is was)
+pub returns-clause-short : goal.returns-clause-short
+returns-clause-short c = rw (c.in_ok-unpacked.ensures, c.as_slice.ensures.value, c.as_slice-2.ensures.value) c.in_ok-run.ensures.short
