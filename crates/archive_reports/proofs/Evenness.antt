@@ -1,15 +1,15 @@
 -- Two releases compare alike in either order.
-use Rattle.std.proofs.Common.{◌≡◌, ◌⊎◌, inl, inr, ℕ, ◌+◌, ◌*◌, ◌-◌, ◌==◌, suc, Bool, true, false, cond, not, ◌&&◌, ◌||◌, List, [], ◌∷◌, Option, Some, None, length, map, refl, sym, ap, subst, ◌∙◌, arith, zero-add}
-use Rattle.std.specs.Prelude.{IsTrue, bytes_eq, find}
-use Rattle.std.specs.List.{cons_option, filter_map, list_any}
+use Rattle.std.proofs.Common.{◌≡◌, ℕ, ◌+◌, Bool, true, false, cond, not, ◌||◌, List, [], ◌∷◌, Option, Some, None, length, refl, sym, ap, ◌∙◌, arith, zero-add}
+use Rattle.std.specs.Prelude.{bytes_eq, find}
+use Rattle.std.specs.List.{cons_option}
 use Rattle.std.specs.Option.{option_map}
-use Rattle.std.proofs.lemmas.Bool.{and_parts, cond_both, false≢true}
+use Rattle.std.proofs.lemmas.Bool.{and_parts, false≢true}
 use Rattle.std.proofs.lemmas.Slice.Eq.{bytes_eq-Decides}
 use Rattle.rulebook.specs.Spelling.{differ}
 use Rattle.rulebook.specs.Words.{Text, contains_text}
 use Rattle.rulebook.specs.declared.systems.System.{System}
 use Rattle.rulebook.specs.Systems.{runs_of}
-use Rattle.archive_reports.specs.Comparisons.{Maps, common_runs, count, count_pairs, is_concordant, is_discordant, is_tied, map_of, maps_of}
+use Rattle.archive_reports.specs.Comparisons.{Maps, common_runs, count, count_pairs, map_of}
 
 -- Sums
 

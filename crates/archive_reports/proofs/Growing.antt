@@ -1,10 +1,10 @@
 -- Records that are written one after another.
-use Rattle.std.proofs.Common.{◌≡◌, ℕ, ◌+◌, ◌<◌, ◌++◌, ◌∷◌, [], List, Some, length, map, take, get_or, refl, sym, ap, subst, ◌∙◌, append_assoc}
+use Rattle.std.proofs.Common.{◌≡◌, ℕ, ◌+◌, ◌<◌, ◌++◌, ◌∷◌, [], List, Some, length, map, take, get_or, sym, ap, ◌∙◌, append_assoc}
 use Rattle.std.specs.List.{flat_map}
-use Rattle.std.proofs.lemmas.List.{append-nil, take_all, take_more}
+use Rattle.std.proofs.lemmas.List.{append-nil, take_more}
 use Rattle.std.proofs.lemmas.List.Concat.{flat_map-append}
 use Rattle.std.proofs.lemmas.List.{map-append}
-use Rattle.csv.specs.Writing.{default_writer, row_text, text_written}
+use Rattle.csv.specs.Writing.{default_writer, row_text}
 use Rattle.csv.specs.declared.writer.Writer.{Writer}
 use Rattle.std.specs.declared.alloc.Global.{Global}
 use Rattle.std.specs.declared.vec.Vec.{Vec}
@@ -12,7 +12,7 @@ use Rattle.rulebook.specs.declared.systems.System.{System}
 use Rattle.release_archive.specs.declared.kept.Kept.{Kept}
 use denote.Ref.{Bor}
 use Rattle.archive_reports.specs.Orders.{shown}
-use Rattle.archive_reports.specs.Exports.{IsBetween, Row, Writes, bytes_of, csv_text, header, release_rows, rows_in, system_row}
+use Rattle.archive_reports.specs.Exports.{IsBetween, Row, Writes, csv_text, header, release_rows, rows_in, system_row}
 
 -- nothing is written yet
 pub writes-none : (w : Writer (Vec ℕ Global)) → IsBetween w → Writes w w []

@@ -1,5 +1,5 @@
 -- How pairs of runs are counted.
-use Rattle.std.proofs.Common.{◌≡◌, ◌≤◌, ℕ, ◌+◌, ◌*◌, ◌-◌, ◌^◌, ◌<◌, ◌==◌, zero, suc, Bool, true, false, cond, ◌&&◌, ◌||◌, List, [], ◌∷◌, Option, Some, None, length, refl, sym, ap, ◌∙◌, arith, zero-add}
+use Rattle.std.proofs.Common.{◌≡◌, ◌≤◌, ℕ, ◌+◌, ◌*◌, ◌-◌, ◌^◌, ◌<◌, ◌==◌, zero, suc, Bool, true, false, cond, ◌&&◌, ◌||◌, List, [], ◌∷◌, Option, Some, None, length, refl, sym, ap, ◌∙◌, arith}
 use Rattle.std.specs.Prelude.{nat_lt, take, drop, map}
 use Rattle.std.proofs.Math.Nat.{add-zero, mul-suc, suc-mul}
 use Rattle.std.proofs.lemmas.Bool.{eqb-false, eqb-true, le-ltb, ltb-false, ltb-true}
@@ -11,7 +11,7 @@ use Rattle.rulebook.specs.Systems.{runs_of}
 use Rattle.archive_reports.specs.Comparisons.{Maps, common_runs, count, count_pairs, is_concordant, is_discordant, is_tied, maps_of, pairs_among, pairs_of}
 use Rattle.archive_reports.specs.Counting.{HasRoom, joined, present}
 use Rattle.archive_reports.specs.declared.comparisons.Pairs.{Pairs}
-use Rattle.archive_reports.proofs.Evenness.{same-common, same-pairs, turn}
+use Rattle.archive_reports.proofs.Evenness.{same-common, same-pairs}
 
 or-comm : (a b : Bool) → (a || b) ≡ (b || a)
 or-comm true true = refl

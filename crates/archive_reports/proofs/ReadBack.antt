@@ -1,14 +1,14 @@
 -- What is written is read back.
-use Rattle.std.proofs.Common.{◌≡◌, ℕ, ◌++◌, ◌∷◌, [], List, Some, None, map, refl, sym, ap, subst, ◌∙◌}
+use Rattle.std.proofs.Common.{◌≡◌, ℕ, ◌++◌, ◌∷◌, [], List, map, refl, sym}
 use Rattle.csv.specs.Machine.{next_record}
-use Rattle.csv.specs.Reading.{AreRecords, Reached, default_config, strip_bom}
-use Rattle.csv.specs.Writing.{default_writer, read_back, row_text}
+use Rattle.csv.specs.Reading.{Reached, default_config, strip_bom}
+use Rattle.csv.specs.Writing.{read_back}
 use Rattle.csv.specs.declared.parser.State.TheVariants as st
 use Rattle.csv.proofs.RoundTrip.{read-write}
 use Rattle.rulebook.specs.declared.systems.System.{System}
 use Rattle.release_archive.specs.declared.kept.Kept.{Kept}
 use Rattle.std.specs.List.{flat_map}
-use Rattle.archive_reports.specs.Exports.{ReadsAs, Row, csv_text, header, release_rows, rows_in, system_row}
+use Rattle.archive_reports.specs.Exports.{ReadsAs, Row, csv_text, release_rows, rows_in, system_row}
 
 -- each record has a field
 Filled : List Row → Type 0

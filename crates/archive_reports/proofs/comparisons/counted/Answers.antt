@@ -1,4 +1,4 @@
-use Rattle.archive_reports.proofs.PairLaws.{at-end, has-common, has-room, part-le}
+use Rattle.archive_reports.proofs.PairLaws.{has-common, has-room, part-le}
 use Rattle.archive_reports.proofs.comparisons.counted.Goals as goal
 
 pub with_run-pairs-requires-clause-room : goal.with_run-pairs-requires-clause-room

@@ -5,7 +5,7 @@ use Rattle.csv.specs.Writing.{text_written}
 use Rattle.release_archive.specs.declared.kept.Kept.{Kept}
 use Rattle.release_archive.specs.Releases.{is_sound}
 use Rattle.archive_reports.specs.Orders.{shown}
-use Rattle.archive_reports.specs.Exports.{Writes, bytes_of, csv_text, header, release_rows, rows_in}
+use Rattle.archive_reports.specs.Exports.{Writes, bytes_of, csv_text, release_rows, rows_in}
 use Rattle.archive_reports.proofs.Growing.{one-release}
 use Rattle.archive_reports.proofs.SortedReleases.{sound-at}
 use Rattle.archive_reports.proofs.exports.csv_of.Goals as goal

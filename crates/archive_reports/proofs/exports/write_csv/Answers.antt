@@ -1,4 +1,4 @@
-use Rattle.std.proofs.Common.{sym, ap, ◌∙◌}
+use Rattle.std.proofs.Common.{ap, ◌∙◌}
 use Rattle.std.specs.List.{list_all}
 use Rattle.release_archive.specs.Releases.{is_sound}
 use Rattle.archive_reports.specs.Orders.{by_name, shown}

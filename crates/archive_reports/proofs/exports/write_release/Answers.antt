@@ -1,4 +1,4 @@
-use Rattle.std.proofs.Common.{◌≡◌, [], ◌∷◌, map, get_or, sym, ap, subst, ◌∙◌}
+use Rattle.std.proofs.Common.{[], ◌∷◌, map, get_or, sym, ap, subst, ◌∙◌}
 use Rattle.std.proofs.lemmas.List.{take_all}
 use Rattle.archive_reports.specs.Exports.{Writes, csv_text, system_row}
 use Rattle.archive_reports.proofs.Growing.{one-system, writes-none, writes-on}

@@ -1,8 +1,7 @@
-use Rattle.std.proofs.Common.{rules, ◌≡◌, ◌++◌, ◌∷◌, [], Some, None, Option, sym, ap, ◌∙◌}
+use Rattle.std.proofs.Common.{rules, ◌≡◌, None, Option, sym}
 use Rattle.std.specs.Prelude.{find, bytes_eq}
 use Rattle.std.proofs.lemmas.List.{append-nil}
 use Rattle.rulebook.specs.declared.systems.System.{System}
-use Rattle.archive_reports.specs.Histories.{row_of}
 use Rattle.archive_reports.proofs.histories.add_row.Goals as goal
 
 pub returns-in-None : goal.returns-in-None
