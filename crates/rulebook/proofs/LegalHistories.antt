@@ -1,6 +1,7 @@
 -- What holds of each list of entries that can come about.
 pub mod Added
 pub mod GrantedLeases
+pub mod HoldingRuns
 pub mod JournalSizes
 pub mod LeaseEntries
 pub mod LegalWalk

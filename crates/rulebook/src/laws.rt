@@ -3,6 +3,7 @@
 ghost use Rattle.rulebook.specs.Additions.{AddedAreAccepted, EntriesAreFew, FoundingFits, LegalFit, MomentsAreInTime, RunsAreFew};
 ghost use Rattle.rulebook.specs.Entries.{GradedAreOnTrail, GradedAreThere, LabelledAreListed, LabelsJoin, QuietEntriesKeepGrades, RulingsJoin};
 ghost use Rattle.rulebook.specs.Facts.{GradesTellTheirLeases, KeptRepliesAreFirst, LabelsAreFew, LabelsAreTheLastGrades, LabelsGoByLeases, LeasesEndOnce, LiveRunsAreNotWithdrawn, NumbersAreUsedOnce, TopicsAreGivenOnce};
+ghost use Rattle.rulebook.specs.Holders.{HoldersHold};
 ghost use Rattle.rulebook.specs.Limits.{LimitsAreTheRules};
 ghost use Rattle.rulebook.specs.Plain.{CommandsAreAnsweredShort, EntriesArePlain, RepliesArePlain};
 
@@ -128,4 +129,9 @@ pub fn labels_are_few()
 /// A withdrawn run is no live run, so it holds nothing.
 pub fn live_runs_are_not_withdrawn()
     ensures { LiveRunsAreNotWithdrawn }
+{}
+
+/// The holders of a document are the live runs that hold it, by their numbers of submission.
+pub fn holders_hold()
+    ensures { HoldersHold }
 {}

@@ -12,6 +12,7 @@ use Rattle.rulebook.specs.Words.{Text}
 use Rattle.rulebook.specs.Answers.{Answer, answer}
 use Rattle.rulebook.specs.Campaign.{History, live, phase, pool}
 use Rattle.rulebook.specs.Grades.{relevant_count, non_relevant_count}
+use Rattle.rulebook.specs.Holders.{holders}
 use Rattle.rulebook.proofs.WorkedRows.SmallCampaign.{X, group, organiser, submitted, with_topic}
 use Rattle.rulebook.proofs.WorkedRows.JudgedCampaign.{after, all_graded, c_leased, lease, leased, p, q, refused, replied, told_at}
 
@@ -76,6 +77,12 @@ live-runs = refl
 
 pool-without-Y : pool y_withdrawn (codes "1") ≡ codes "a" ∷ codes "b" ∷ codes "e" ∷ []
 pool-without-Y = refl
+
+holder-before : map (λ run. run.0) (holders d_leased (codes "1") (codes "d")) ≡ 1 ∷ []
+holder-before = refl
+
+no-holder-then : holders y_withdrawn (codes "1") (codes "d") ≡ []
+no-holder-then = refl
 
 grade-of-its-document : replied y_withdrawn q (command.Grade 3 1) 1000 ≡ reply.Graded (codes "1") (codes "d") 1
 grade-of-its-document = refl
