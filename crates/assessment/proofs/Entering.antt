@@ -34,7 +34,7 @@ module _ {run : RunId} {lists : List (List DocId)} {old : TopicsView} (room : Ha
 
   -- the lists that are left are for topics that are there
   within : {done left : List (List DocId)} {docs : List DocId} {now : TopicsView} → IsEnteredTo run lists old done (docs ∷ left) now → length done < length old.topics
-  within {done} {left} {docs} at = omega (arith, room.as_many, ap length at.whole, length-append done (docs ∷ left))
+  within {done} {left} {docs} at = omega (arith, room.on_topics.as_many, ap length at.whole, length-append done (docs ∷ left))
 
   as-many : {done left : List (List DocId)} {now : TopicsView} → IsEnteredTo run lists old done left now → length now.topics ≡ length old.topics
   as-many {done} {now = now} at =
@@ -49,7 +49,7 @@ module _ {run : RunId} {lists : List (List DocId)} {old : TopicsView} (room : Ha
       record {
         on_topic = at-each (AwaitsRun docs) now.topics (length done) (inside at)
             (λ d. subst (AwaitsRun docs) (sym (at.rest (length done) d (omega arith)))
-            (subst (λ (list : List DocId). AwaitsRun list (get_or old.topics (length done) d)) next (room.on_topics (length done) docs d (within at))));
+            (subst (λ (list : List DocId). AwaitsRun list (get_or old.topics (length done) d)) next (room.on_topics.on_topics (length done) docs d (within at))));
         on_board = λ len has. some-room (has_length len) docs left (rooms_for len now.board) (at.rooms len) has;
       }
 

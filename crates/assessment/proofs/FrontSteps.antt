@@ -1,5 +1,5 @@
 -- The fronts of a topic's runs, through each of its changes.
-use Rattle.std.proofs.Common.{◌≡◌, ◌≢◌, ◌≤◌, ◌<◌, ◌+◌, ℕ, suc, zero, Bool, true, false, cond, drop, not, List, [], ◌∷◌, ◌++◌, Option, Some, get_or, length, map, set, replicate, take, refl, sym, ap, subst, ◌∙◌, arith, eqb-true, find, ne_eqb, nat_lt, unwrap_or, ⊎_elim}
+use Rattle.std.proofs.Common.{◌≡◌, ◌≢◌, ◌≤◌, ◌<◌, ℕ, suc, zero, Bool, true, false, cond, drop, not, List, [], ◌∷◌, ◌++◌, Option, Some, get_or, length, map, set, replicate, take, refl, sym, ap, subst, ◌∙◌, arith, eqb-true, find, ne_eqb, nat_lt, unwrap_or, ⊎_elim}
 use Rattle.std.specs.Prelude.{◌==◌}
 use Rattle.std.specs.List.{All, position}
 use Rattle.std.specs.Str.{bytes_eq}

@@ -8,3 +8,5 @@ mod Regrading
 mod RoomCounts
 mod RunSteps
 mod Standing
+mod WaitingChanges
+mod WaitingSteps

@@ -27,6 +27,11 @@ no-rooms (room ∷ rooms) none =
     let here : ◌≡◌ {A = ℕ} (cond (room == room) 1 0) 1 = ap (λ t. let n : ℕ = cond t 1 0 in n) (eq-eqb room room refl) in
     absurd (omega (arith, none room, count_by-cons (λ (other : ℕ). other == room) room rooms, here))
 
+-- room for one list that is made and used
+pub used-room : (t : Bool) (before between after : ℕ) → between ≡ before + (if t then 1 else 0) → after ≡ between - (if t then 1 else 0) → before ≡ 0 → after ≡ 0
+used-room true before between after made used none = omega (arith, made, used, none)
+used-room false before between after made used none = omega (arith, made, used, none)
+
 module _ {X : Type 0} (p : X → Bool) where
   -- the room once an element was taken out that is counted first
   pub taken : (x : X) (xs : List X) (rooms after : ℕ) → rooms ≡ count_by p (x ∷ xs) → after ≡ rooms - (if p x then 1 else 0) → after ≡ count_by p xs

@@ -81,6 +81,26 @@ pub without-keeps : (run : RunId) (topics : List TopicFacts) → map grades (map
 without-keeps run [] = refl
 without-keeps run (topic ∷ topics) = ap (λ gs. topic.graded ∷ gs) (without-keeps run topics)
 
+-- topics that have a run each, with its lists
+pub each-alike : (run : RunId) (lists : List (List DocId)) (old new : List TopicView) → length new ≡ length old → length lists ≡ length old
+    → ((k : ℕ) (d e : TopicView) (docs : List DocId) → k < length new → (get_or new k d).facts ≡ with_list run (get_or lists k docs) (get_or old k e).facts) → map facts_of new ≡ each_with_list run lists (map facts_of old)
+each-alike run [] [] [] long many alike = refl
+each-alike run [] [] (n ∷ new) long many alike = cc long
+each-alike run [] (o ∷ old) new long many alike = cc many
+each-alike run (docs ∷ lists) [] new long many alike = cc many
+each-alike run (docs ∷ lists) (o ∷ old) [] long many alike = cc long
+each-alike run (docs ∷ lists) (o ∷ old) (n ∷ new) long many alike =
+    let head : n.facts ≡ with_list run docs o.facts = alike 0 n o docs (omega arith) in
+    let rest : map facts_of new ≡ each_with_list run lists (map facts_of old) =
+    each-alike run lists old new (omega (arith, long)) (omega (arith, many)) (λ k d e docs within. alike (suc k) d e docs (omega (arith, within))) in
+    ap (λ t. t ∷ map facts_of new) head ∙ ap (λ ts. with_list run docs o.facts ∷ ts) rest
+
+-- topics keep their grades where a run enters
+pub each-keeps : (run : RunId) (lists : List (List DocId)) (topics : List TopicFacts) → map grades (each_with_list run lists topics) ≡ map grades topics
+each-keeps run [] topics = refl
+each-keeps run (docs ∷ lists) [] = refl
+each-keeps run (docs ∷ lists) (topic ∷ topics) = ap (λ gs. topic.graded ∷ gs) (each-keeps run lists topics)
+
 -- no list of a run yet
 pub no-lists : (run : RunId) (before : RankedLists) (other : RunId) (on : ℕ) → before other on ≡ with_lists run [] before other on
 no-lists run before other on = step (run.0 == other.0)

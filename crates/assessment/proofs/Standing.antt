@@ -207,17 +207,19 @@ module _ {board : Scores} {topics : List TopicView} {number : ℕ} {run : RunId}
     stands = subst (StandsFor later) (ap (set (map graded_of topics) number) seen_is ∙ sym (map-set graded_of topics number U)) (step (map graded_of topics) at.standing.stands);
   }
 
-  pub list-there : (later : Scores) → 0 < length docs → ((other : RunId) (on : ℕ) → docs_at later other on ≡ (if (run.0 == other.0) && (number == on) then Some docs else docs_at board other on))
-      → (other : RunId) (on : ℕ) → docs_at later other on ≡ (if (run.0 == other.0) && (number == on) then unless_empty docs else docs_at board other on)
-  list-there later filled lists other on =
-      lists other on ∙ ap (λ (o : Option (List DocId)). if (run.0 == other.0) && (number == on) then o else docs_at board other on) (sym (unless-filled docs filled))
-
   -- without one, where it is empty
   pub left-standing : IsStanding (set topics number U) board
   left-standing = record {
     few = omega (arith, at.standing.few, length-set topics number U);
     stands = subst (StandsFor board) (sym (map-set_same graded_of topics number U T at.within (ap (λ (facts : TopicFacts). facts.graded) at.entered ∙ ap graded_of at.there))) at.standing.stands;
   }
+
+-- a list on the board, or none where it is empty
+module _ (board : Scores) (number : ℕ) (run : RunId) (docs : List DocId) where
+  pub list-there : (later : Scores) → 0 < length docs → ((other : RunId) (on : ℕ) → docs_at later other on ≡ (if (run.0 == other.0) && (number == on) then Some docs else docs_at board other on))
+      → (other : RunId) (on : ℕ) → docs_at later other on ≡ (if (run.0 == other.0) && (number == on) then unless_empty docs else docs_at board other on)
+  list-there later filled lists other on =
+      lists other on ∙ ap (λ (o : Option (List DocId)). if (run.0 == other.0) && (number == on) then o else docs_at board other on) (sym (unless-filled docs filled))
 
   pub list-none : length docs ≡ 0 → docs_at board run number ≡ None
       → (other : RunId) (on : ℕ) → docs_at board other on ≡ (if (run.0 == other.0) && (number == on) then unless_empty docs else docs_at board other on)
@@ -229,6 +231,16 @@ module _ {board : Scores} {topics : List TopicView} {number : ℕ} {run : RunId}
           ap (λ (r : RunId). docs_at board r on) other_is ∙ ap (λ n. docs_at board run n) (sym (eqb-true number on at)) ∙ none ∙ sym (unless-none docs empty)
       step true same false _ = refl
       step false _ t _ = refl
+
+-- a board that stands for a topic's grades still, with one more list
+pub listed-standing : (topics : List TopicView) (board later : Scores) (number : ℕ) (T : TopicView) (seen : List Graded) → number < length topics → T ≡ get_or topics number T → seen ≡ T.facts.graded → IsStanding topics board
+    → ((grades : List (List Graded)) → StandsFor board grades → StandsFor later (set grades number seen)) → IsStanding topics later
+listed-standing topics board later number T seen within there seen_is standing step = record {
+  few = standing.few;
+  stands = subst (StandsFor later)
+      (ap (set (map graded_of topics) number) seen_is ∙ sym (map-set graded_of topics number T) ∙ map-set_same graded_of topics number T T within (ap graded_of there))
+      (step (map graded_of topics) standing.stands);
+}
 
 -- topics that keep their facts, with a board that keeps its topics
 pub standing-same : (topics others : List TopicView) (board other : Scores) → map facts_of topics ≡ map facts_of others → board.topics ≡ other.topics → IsStanding others other → IsStanding topics board

@@ -38,8 +38,12 @@ has_length len (doc ∷ docs) = length (doc ∷ docs) == len
 abbrev pub IsReservedFor : List (List DocId) → Scores → Type 0
 IsReservedFor lists board = (len : ℕ) → rooms_for len board ≡ count_by (has_length len) lists
 
--- there is room for a run on each topic, and on the board for its lists
-pub record HasRooms (lists : List (List DocId)) (topics : List TopicView) (board : Scores) : Type 0 where
+-- there is room for a run on each topic
+pub record HavePlaces (lists : List (List DocId)) (topics : List TopicView) : Type 0 where
   pub as_many : length lists ≡ length topics
   pub on_topics : (on : ℕ) (docs : List DocId) (topic : TopicView) → on < length topics → AwaitsRun (slice_index_or lists on docs) (slice_index_or topics on topic)
+
+-- and on the board for its lists
+pub record HasRooms (lists : List (List DocId)) (topics : List TopicView) (board : Scores) : Type 0 where
+  pub on_topics : HavePlaces lists topics
   pub on_board : IsReservedFor lists board

@@ -42,6 +42,18 @@ at_place (suc place) change (x ∷ xs) = x ∷ at_place place change xs
 abbrev pub after_run : RunId → List (List DocId) → TopicsFacts → TopicsFacts
 after_run run lists all = record all { topics = each_with_list run lists all.topics; lists = with_lists run lists all.lists }
 
+-- with one more run, whose lists are those that there were
+abbrev pub after_entry : RunId → List (List DocId) → TopicsFacts → TopicsFacts
+after_entry run lists all = record all { topics = each_with_list run lists all.topics }
+
+-- with the lists of a run that is there
+abbrev pub after_lists : RunId → List (List DocId) → TopicsFacts → TopicsFacts
+after_lists run lists all = record all { lists = with_lists run lists all.lists }
+
+-- with its list on one topic
+abbrev pub after_one_list : ℕ → RunId → List DocId → TopicsFacts → TopicsFacts
+after_one_list number run docs all = record all { lists = λ other on. if (run.0 == other.0) && (number == on) then unless_empty docs else all.lists other on }
+
 -- without a run that is withdrawn
 abbrev pub after_withdrawal : RunId → TopicsFacts → TopicsFacts
 after_withdrawal run all = record all { topics = map (without_list run) all.topics; lists = without_lists run all.lists }
@@ -69,9 +81,13 @@ abbrev pub after_list : ℕ → RunId → List DocId → TopicsFacts → TopicsF
 after_list number run docs all =
     record all { topics = at_place number (with_list run docs) all.topics; lists = λ other on. if (run.0 == other.0) && (number == on) then unless_empty docs else all.lists other on }
 
+-- a run that is on no topic
+abbrev pub IsOnNone : RunId → TopicsFacts → Type 0
+IsOnNone run all = All (λ topic. has_run run topic.pool ≡ false) all.topics
+
 -- a run that is on no topic, and has no list
 pub record IsNewRun (run : RunId) (all : TopicsFacts) : Type 0 where
-  pub on_topics : All (λ topic. has_run run topic.pool ≡ false) all.topics
+  pub on_topics : IsOnNone run all
   pub on_board : (on : ℕ) → all.lists run on ≡ None
 
 -- a run that isn't on this topic, and has no list there

@@ -6,15 +6,17 @@
 //! commit      the pending change is made, without memory; at rest again
 //! cancel      the room of the pending change is given back; at rest again
 //! ```
-ghost use Rattle.std.specs.Prelude.{◌≡◌, ◌+◌, ◌<◌, ◌≤◌, [], List, IfOk, IfSome, IsSome, None, OnErr, OnOk, Some, length};
+ghost use Rattle.std.specs.Prelude.{◌≡◌, ◌+◌, ◌<◌, ◌≤◌, [], List, IfOk, IfSome, IsSome, None, OnErr, OnOk, Some, false, length, true};
 ghost use Rattle.depth_pool.specs.declared.runs.RunId.{RunId};
 ghost use Rattle.assessment.specs.Costs.{HaveLists, change_steps};
 ghost use Rattle.assessment.specs.Changes.{Fits, IsIdle, after, facts};
-ghost use Rattle.assessment.specs.TopicsFacts.{new_topics};
+ghost use Rattle.assessment.specs.TopicsFacts.{new_topics, told};
 
 use crate::change::Change;
 use crate::effects::{give_back, make, make_room};
+use crate::runs::list_runs;
 use crate::topics::Topics;
+use crate::waiting::Waiting;
 use decimal_rank::{Memory, Steps};
 use lease_desk::Desk;
 use std::alloc::Global;
@@ -26,6 +28,8 @@ use std::sync::ledger::Ledger;
 pub struct Assessment {
     topics: Topics,
     desk: Desk,
+    // none but in a replay
+    waiting: Waiting,
     pending: Option<Change>,
 }
 
@@ -34,9 +38,9 @@ impl Model for Assessment {
 
     ghost Value = { AssessmentView };
 
-    ghost view = { λ all. record { topics = all.topics; leases = all.desk.leases; pending = all.pending } };
+    ghost view = { λ all. record { topics = all.topics; leases = all.desk.leases; waiting = all.waiting; pending = all.pending } };
 
-    ghost invariant = { λ all. IsKept all.pending all.topics all.desk };
+    ghost invariant = { λ all. IsKept all.pending all.topics all.desk all.waiting };
 }
 
 // a call of its own, so that no caller's proof takes an assessment apart
@@ -45,6 +49,7 @@ impl Drop for Assessment {
         let Assessment {
             topics: _,
             desk: _,
+            waiting: _,
             pending: _,
         } = self;
     }
@@ -53,13 +58,38 @@ impl Drop for Assessment {
 impl Assessment {
     /// No topic and no lease yet.
     pub fn new(alloc: Global) -> Result<Assessment, Memory>
-        ensures facts { IfOk result (λ all. facts all ≡ record { topics = new_topics []; leases = [] }) }
+        ensures facts { IfOk result (λ all. facts all ≡ record { topics = new_topics []; leases = []; on_board = true }) }
         ensures pending { IfOk result (λ all. all.pending ≡ None) }
     {
-        let topics = Topics::new(alloc, Vec::new(alloc))?;
+        begun(alloc, true)
+    }
+
+    /// The same for a replay: the runs' lists wait until its end, so that no change meanwhile costs what the
+    /// board takes to follow it.
+    pub fn replayed(alloc: Global) -> Result<Assessment, Memory>
+        ensures facts { IfOk result (λ all. facts all ≡ record { topics = new_topics []; leases = []; on_board = false }) }
+        ensures pending { IfOk result (λ all. all.pending ≡ None) }
+    {
+        begun(alloc, false)
+    }
+
+    /// Puts the lists of the runs that wait on the board.
+    pub fn with_lists(self, alloc: Global) -> Result<Assessment, Memory>
+        requires { self.pending ≡ None }
+        ensures facts { IfOk result (λ all. facts all ≡ record (facts self) { on_board = true }) }
+        ensures pending { IfOk result (λ all. all.pending ≡ None) }
+    {
+        let Assessment {
+            topics,
+            desk,
+            waiting,
+            pending: _,
+        } = self;
+        let topics = list_runs(topics, waiting.into_runs())?;
         Ok(Assessment {
             topics,
-            desk: Desk::new(alloc),
+            desk,
+            waiting: Waiting::new(alloc, true),
             pending: None,
         })
     }
@@ -73,7 +103,7 @@ impl Assessment {
         ensures facts { facts self.new ≡ facts self.old }
     {
         self.cancel();
-        match make_room(&mut self.topics, &mut self.desk, &change) {
+        match make_room(&mut self.topics, &mut self.desk, &mut self.waiting, &change) {
             Ok(()) => {
                 self.pending = Some(change);
                 Ok(())
@@ -94,7 +124,13 @@ impl Assessment {
         ensures cost { (runs : List RunId) → HaveLists runs (facts self.old).topics → IfSome self.old.pending (λ change. steps.new ≤ steps.old + change_steps runs change (facts self.old).topics) }
     {
         if let Some(change) = self.pending.take() {
-            make(&mut self.topics, &mut self.desk, change, steps);
+            make(
+                &mut self.topics,
+                &mut self.desk,
+                &mut self.waiting,
+                change,
+                steps,
+            );
         }
     }
 
@@ -104,7 +140,7 @@ impl Assessment {
         ensures idle { IsIdle self.new }
     {
         if let Some(change) = self.pending.take() {
-            give_back(&mut self.topics, &self.desk, &change);
+            give_back(&mut self.topics, &self.desk, &self.waiting, &change);
             drop(change);
         }
     }
@@ -122,7 +158,10 @@ impl Assessment {
     pub fn topics(&self) -> &Topics
         ensures topics { result.now ≡ self.now.topics }
         ensures unreserved { self.now.pending ≡ None → (result.now.board.rooms ≡ []) }
+        ensures lists { (facts self.now).on_board ≡ true → ((facts self.now).topics ≡ told result.now) }
     {
+        // no list waits where they are put on the board at once
+        let _is_on_board = self.waiting.is_on_board();
         &self.topics
     }
 
@@ -132,4 +171,17 @@ impl Assessment {
     {
         &self.desk
     }
+}
+
+fn begun(alloc: Global, is_on_board: bool) -> Result<Assessment, Memory>
+    ensures facts { IfOk result (λ all. facts all ≡ record { topics = new_topics []; leases = []; on_board = is_on_board }) }
+    ensures pending { IfOk result (λ all. all.pending ≡ None) }
+{
+    let topics = Topics::new(alloc, Vec::new(alloc))?;
+    Ok(Assessment {
+        topics,
+        desk: Desk::new(alloc),
+        waiting: Waiting::new(alloc, is_on_board),
+        pending: None,
+    })
 }

@@ -1,29 +1,37 @@
 //! What each change takes: room first, then its effect, or its room given back.
-ghost use Rattle.std.specs.Prelude.{◌≡◌, ◌+◌, ◌≤◌, [], List, OnErr, OnOk};
+ghost use Rattle.std.specs.Prelude.{◌≡◌, ◌+◌, ◌≤◌, [], List, OnErr, OnOk, length};
 ghost use Rattle.depth_pool.specs.declared.runs.RunId.{RunId};
 ghost use Rattle.assessment.specs.Costs.{HaveLists, change_steps};
-ghost use Rattle.assessment.specs.TopicsFacts.{IsAtRest, told};
-ghost use Rattle.assessment.specs.Changes.{Fits, HasRoom, IsLeft, IsReady, after, facts_in};
+ghost use Rattle.assessment.specs.TopicsFacts.{IsAtRest, IsNewRun, after_run, told};
+ghost use Rattle.assessment.specs.Changes.{AreUnchanged, Fits, HasRoom, HasRunRoom, IsLeft, IsReady, MayCome, after, facts_in, listed};
+ghost use Rattle.assessment.specs.WaitingRuns.{IsWaitingAs};
 
 use crate::change::{Change, Grant, Mark};
 use crate::runs::enter_run;
 use crate::topics::Topics;
-use decimal_rank::{Memory, Steps};
+use crate::waiting::Waiting;
+use decimal_rank::{Memory, Ranking, Steps};
+use depth_pool::RunId;
 use lease_desk::{Desk, LeaseEnd};
 use std::sync::ledger::Ledger;
 
 /// Makes room for a change. Where memory is short no room is kept on the board.
-pub(crate) fn make_room(topics: &mut Topics, desk: &mut Desk, change: &Change) -> Result<(), Memory>
-    requires fits { Fits change.now (facts_in topics.old desk.old.leases) }
+pub(crate) fn make_room(
+    topics: &mut Topics,
+    desk: &mut Desk,
+    waiting: &mut Waiting,
+    change: &Change,
+) -> Result<(), Memory>
+    requires fits { Fits change.now (facts_in topics.old desk.old.leases waiting.old) }
     requires none { topics.old.board.rooms ≡ [] }
-    ensures ok { OnOk result (HasRoom change.now topics.new desk.new) }
+    ensures ok { OnOk result (HasRoom change.now topics.new desk.new waiting.new) }
     ensures err { OnErr result ((topics.new.board.rooms ≡ [])) }
-    ensures facts { facts_in topics.new desk.new.leases ≡ facts_in topics.old desk.old.leases }
+    ensures same { AreUnchanged topics.old topics.new desk.old.leases desk.new.leases waiting.old waiting.new }
 {
     match change {
         Change::Nothing => Ok(()),
         Change::Topics(_) => Ok(()),
-        Change::Run(_, lists) => topics.reserve_run(lists.as_slice()),
+        Change::Run(_, lists) => make_run_room(topics, waiting, lists.as_slice()),
         Change::Withdraw(_) => Ok(()),
         Change::Lease(_) => desk.reserve(),
         Change::Grade(_, label) => topics.reserve_mark(label.topic, label.doc),
@@ -33,13 +41,33 @@ pub(crate) fn make_room(topics: &mut Topics, desk: &mut Desk, change: &Change) -
     }
 }
 
+// Makes room for a run with these lists: on the board too, unless its lists are to wait.
+fn make_run_room(
+    topics: &mut Topics,
+    waiting: &mut Waiting,
+    lists: &[Ranking],
+) -> Result<(), Memory>
+    requires as_many { length lists.now ≡ length topics.old.topics }
+    requires none { topics.old.board.rooms ≡ [] }
+    ensures ok { OnOk result (HasRunRoom waiting.new.on_board lists.now topics.new waiting.new) }
+    ensures err { OnErr result ((topics.new.board.rooms ≡ [])) }
+    ensures facts { told topics.new ≡ told topics.old }
+    ensures waiting { IsWaitingAs waiting.old.runs waiting.old waiting.new }
+{
+    if waiting.is_on_board() {
+        return topics.reserve_run(lists);
+    }
+    waiting.reserve()?;
+    topics.reserve_places(lists)
+}
+
 /// Gives the room of a change back.
-pub(crate) fn give_back(topics: &mut Topics, desk: &Desk, change: &Change)
-    requires { HasRoom change.now topics.old desk.now }
+pub(crate) fn give_back(topics: &mut Topics, desk: &Desk, waiting: &Waiting, change: &Change)
+    requires { HasRoom change.now topics.old desk.now waiting.now }
     ensures { IsAtRest (told topics.old) topics.new }
 {
     match change {
-        Change::Run(_, lists) => topics.cancel_run(lists.as_slice()),
+        Change::Run(_, lists) => give_run_room_back(topics, waiting, lists.as_slice()),
         Change::Nothing => {}
         Change::Topics(_) => {}
         Change::Withdraw(_) => {}
@@ -51,22 +79,38 @@ pub(crate) fn give_back(topics: &mut Topics, desk: &Desk, change: &Change)
     }
 }
 
+fn give_run_room_back(topics: &mut Topics, waiting: &Waiting, lists: &[Ranking])
+    requires { HasRunRoom waiting.now.on_board lists.now topics.old waiting.now }
+    ensures { IsAtRest (told topics.old) topics.new }
+{
+    if waiting.is_on_board() {
+        topics.cancel_run(lists);
+    }
+}
+
 /// Makes a change, for which there is room.
 pub(crate) fn make<L: Ledger>(
     topics: &mut Topics,
     desk: &mut Desk,
+    waiting: &mut Waiting,
     change: Change,
     steps: &mut Steps<L>,
 )
-    requires { IsReady change topics.old desk.old }
-    ensures effect { IsLeft (after change (facts_in topics.old desk.old.leases)) topics.new desk.new.leases }
+    requires { IsReady change topics.old desk.old waiting.old }
+    ensures effect { IsLeft (after change (facts_in topics.old desk.old.leases waiting.old)) topics.new desk.new.leases waiting.new }
     ensures cost { (runs : List RunId) → HaveLists runs (told topics.old) → steps.new ≤ steps.old + change_steps runs change (told topics.old) }
 {
     match change {
         Change::Nothing => {}
-        Change::Topics(given) => *topics = given,
-        Change::Run(run, lists) => enter_run(topics, run, lists),
-        Change::Withdraw(run) => topics.leave(run),
+        Change::Topics(given) => {
+            *topics = given;
+            waiting.clear();
+        }
+        Change::Run(run, lists) => enter(topics, waiting, run, lists),
+        Change::Withdraw(run) => {
+            topics.leave(run);
+            waiting.leave(run);
+        }
         Change::Lease(grant) => {
             let Grant {
                 topic,
@@ -84,4 +128,22 @@ pub(crate) fn make<L: Ledger>(
         Change::Amend(label) => topics.mark(Mark::Label(label), steps),
         Change::Rule(ruling) => topics.mark(Mark::Ruling(ruling), steps),
     }
+}
+
+// Adds a run, for which there is room: its lists come on the board, or wait.
+fn enter(topics: &mut Topics, waiting: &mut Waiting, run: RunId, lists: Vec<Ranking>)
+    requires room { HasRunRoom waiting.old.on_board lists.items topics.old waiting.old }
+    requires is_new { IsNewRun run (listed waiting.old.runs (told topics.old)) }
+    requires may_come { MayCome topics.old waiting.old }
+    ensures facts { listed waiting.new.runs (told topics.new) ≡ after_run run lists.items (listed waiting.old.runs (told topics.old)) }
+    ensures same_way { waiting.new.on_board ≡ waiting.old.on_board }
+    ensures none { topics.new.board.rooms ≡ [] }
+    ensures may_come { MayCome topics.new waiting.new }
+{
+    if waiting.is_on_board() {
+        enter_run(topics, run, lists);
+        return;
+    }
+    topics.enter(run, lists.as_slice());
+    waiting.enter(run, lists);
 }

@@ -10,6 +10,7 @@ mod fronts;
 mod runs;
 mod topic;
 mod topics;
+mod waiting;
 
 pub use assessment::Assessment;
 pub use change::{Change, Grant, Label, Ruling};

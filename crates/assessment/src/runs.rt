@@ -1,14 +1,17 @@
 //! A run on all topics: room for its lists, its entry, and its withdrawal.
-ghost use Rattle.std.specs.Prelude.{◌≡◌, ◌+◌, ◌<◌, ℕ, [], List, All, IsTrue, OnErr, OnOk, if◌then◌else◌, length, map, slice_index_or};
+ghost use Rattle.std.specs.Prelude.{◌≡◌, ◌+◌, ◌<◌, ℕ, false, [], List, All, IfOk, IsTrue, None, OnErr, OnOk, if◌then◌else◌, length, map, slice_index_or};
 ghost use Rattle.decimal_rank.specs.declared.naming.DocId.{DocId};
 ghost use Rattle.depth_pool.specs.Holdings.{has_run};
 ghost use Rattle.score_index.specs.Scores.{KeepsScores, rooms_for};
-ghost use Rattle.assessment.specs.RunLists.{HasRooms, IsReservedFor, has_length};
+ghost use Rattle.assessment.specs.RunLists.{HasRooms, HavePlaces, IsReservedFor, each_with_list, has_length};
 ghost use Rattle.assessment.specs.TopicFacts.{AwaitsRun, TopicView, facts_of, without_list};
-ghost use Rattle.assessment.specs.TopicsFacts.{IsAtRest, IsNewRun, after_run, told};
+ghost use Rattle.assessment.specs.Changes.{listed};
+ghost use Rattle.assessment.specs.WaitingRuns.{AreWaiting, lists_of};
+ghost use Rattle.assessment.specs.TopicsFacts.{IsAtRest, IsNewRun, after_lists, after_run, told};
 
 use crate::topic::Topic;
 use crate::topics::Topics;
+use crate::waiting::WaitingRun;
 use decimal_rank::{Memory, Ranking};
 use depth_pool::RunId;
 use score_index::Board;
@@ -78,6 +81,46 @@ pub(crate) fn enter_run(topics: &mut Topics, run: RunId, lists: Vec<Ranking>)
         topics.enter_list(number, run, list);
         number += 1;
     }
+}
+
+/// Adds a run, for which there is room, to each topic.
+pub(crate) fn enter_each(topics: &mut [Topic], run: RunId, lists: &[Ranking])
+    requires room { HavePlaces lists.now topics.old }
+    requires is_new { All (λ topic. has_run run topic.facts.pool ≡ false) topics.old }
+    ensures { map facts_of topics.new ≡ each_with_list run lists.now (map facts_of topics.old) }
+{
+    for number in 0..topics.len() {
+        topics[number].enter(run, &lists[number]);
+    }
+}
+
+/// Puts the lists of runs on the board.
+pub(crate) fn list_runs(topics: Topics, runs: Vec<WaitingRun>) -> Result<Topics, Memory>
+    requires waiting { AreWaiting (length topics.topics) (told topics).lists (map lists_of runs.items) }
+    requires none { topics.board.rooms ≡ [] }
+    ensures { IfOk result (IsAtRest (listed (map lists_of runs.items) (told topics))) }
+{
+    let mut topics = topics;
+    for one in runs {
+        let WaitingRun { run, lists } = one;
+        list_run(&mut topics, run, lists)?;
+    }
+    Ok(topics)
+}
+
+// Puts the lists of a run on the board, one for each topic.
+fn list_run(topics: &mut Topics, run: RunId, lists: Vec<Ranking>) -> Result<(), Memory>
+    requires as_many { length lists.items ≡ length topics.old.topics }
+    requires is_new { (on : ℕ) → (told topics.old).lists run on ≡ None }
+    requires none { topics.old.board.rooms ≡ [] }
+    ensures { OnOk result (IsAtRest (after_lists run lists.items (told topics.old)) topics.new) }
+{
+    let mut number = 0;
+    for list in lists {
+        topics.list(number, run, list)?;
+        number += 1;
+    }
+    Ok(())
 }
 
 /// Takes a run out of each topic.

@@ -1,16 +1,16 @@
 //! The topics of a campaign by number, with one board of the runs' lists on them. The board stands
 //! for the topics' grades.
-ghost use Rattle.std.specs.Prelude.{◌≡◌, ◌+◌, ◌<◌, ◌≤◌, ◌^◌, [], List, IfOk, OnErr, OnOk, length, map, slice_get, vec_len};
+ghost use Rattle.std.specs.Prelude.{◌≡◌, ◌+◌, ◌<◌, ◌≤◌, ◌^◌, [], List, IfOk, None, OnErr, OnOk, length, map, slice_get, vec_len};
 ghost use Rattle.std.specs.Option.{IsSomeAnd};
 ghost use Rattle.score_index.specs.Standing.{StandsFor};
 ghost use Rattle.depth_pool.specs.declared.runs.RunId.{RunId};
 ghost use Rattle.assessment.specs.Costs.{HaveLists, grade_steps};
-ghost use Rattle.assessment.specs.RunLists.{HasRooms, IsReservedFor};
+ghost use Rattle.assessment.specs.RunLists.{HasRooms, HavePlaces, IsReservedFor};
 ghost use Rattle.assessment.specs.TopicFacts.{AwaitsMark, MayMark, doc_of, facts_of, graded_of, new_topic};
-ghost use Rattle.assessment.specs.TopicsFacts.{AwaitsList, Becomes, IsAtRest, IsEntered, IsNewOn, IsUnchanged, UsesRoom, after_list, after_mark, after_withdrawal, new_topics, told, topic_of};
+ghost use Rattle.assessment.specs.TopicsFacts.{AwaitsList, Becomes, IsAtRest, IsEntered, IsNewOn, IsOnNone, IsUnchanged, UsesRoom, after_entry, after_list, after_mark, after_one_list, after_withdrawal, new_topics, told, topic_of};
 
 use crate::change::Mark;
-use crate::runs::{drop_lists, leave_each, reserve_lists, reserve_places};
+use crate::runs::{drop_lists, enter_each, leave_each, reserve_lists, reserve_places};
 use crate::topic::{Topic, TopicRules};
 use decimal_rank::{DocId, Memory, Ranking, Steps};
 use depth_pool::RunId;
@@ -99,6 +99,41 @@ impl Topics {
         if list.len() > 0 {
             self.board.add_run(run, number as u16, list, topic.grades());
         }
+    }
+
+    /// Makes room for a run with these lists, one for each topic, whose lists are to wait.
+    pub(crate) fn reserve_places(&mut self, lists: &[Ranking]) -> Result<(), Memory>
+        requires { length lists.now ≡ length self.old.topics }
+        ensures room { OnOk result (HavePlaces lists.now self.new.topics) }
+        ensures unchanged { IsUnchanged self.old self.new }
+    {
+        reserve_places(&mut self.topics, lists)
+    }
+
+    /// Adds a run, for which there is room, to each topic. Its lists don't come on the board.
+    pub(crate) fn enter(&mut self, run: RunId, lists: &[Ranking])
+        requires room { HavePlaces lists.now self.old.topics }
+        requires is_new { IsOnNone run (told self.old) }
+        ensures { Becomes (after_entry run lists.now (told self.old)) self.old self.new }
+    {
+        enter_each(&mut self.topics, run, lists);
+    }
+
+    /// Puts the list of a run on a topic on the board, where it has documents.
+    pub(crate) fn list(&mut self, number: usize, run: RunId, list: Ranking) -> Result<(), Memory>
+        requires topic { number < length self.old.topics }
+        requires is_new { (told self.old).lists run number ≡ None }
+        requires none { self.old.board.rooms ≡ [] }
+        ensures { OnOk result (IsAtRest (after_one_list number run list (told self.old)) self.new) }
+    {
+        // a board that stands for grades does so on each topic
+        each_topic_stands();
+        if list.len() > 0 {
+            self.board.reserve(&list)?;
+            self.board
+                .add_run(run, number as u16, list, self.topics[number].grades());
+        }
+        Ok(())
     }
 
     /// Takes a run out of each topic, and its lists off the board.

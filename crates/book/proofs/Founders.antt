@@ -1,6 +1,7 @@
 -- The first entry of a campaign, by its spelling.
 use Rattle.std.proofs.Common.{◌≡◌, ◌≢◌, ℕ, suc, ◌+◌, ◌-◌, Bool, true, false, List, [], ◌∷◌, take, refl, sym, ap, subst, ◌∙◌, arith}
-use Rattle.std.specs.Prelude.{◌&&◌}
+use Rattle.std.specs.Prelude.{◌&&◌, Err, IfErr, IfOk, Ok, Result}
+use Rattle.campaign_core.specs.Seen.{Seen as Campaign}
 use Rattle.trec_formats.specs.Names.{is_name}
 use Rattle.record_codec.specs.Laws.{OneSpelling}
 use Rattle.rulebook.specs.declared.rules.Rules.{Rules}
@@ -11,8 +12,10 @@ use Rattle.rulebook.specs.Campaign.{History, rules_of}
 use Rattle.rulebook.specs.Legal.{founding}
 use Rattle.rulebook.specs.Spelling.{IsSpelling, are_rules, entry_bytes, has_spelling}
 use Rattle.rulebook.specs.Words.{Text}
+use Rattle.book.specs.declared.faults.BookFault.{BookFault}
+use Rattle.book.specs.declared.faults.BookFault.TheVariants as fault
 use Rattle.book.specs.Openings.{DiffersFrom, OpensWith}
-use Rattle.book.specs.Replays.{BreaksOff, GoesOn}
+use Rattle.book.specs.Replays.{BreaksOff, GoesOn, Replays, Stops}
 use Rattle.book.specs.Stories.{BreaksAt, HasStory, IsOnlyStory, IsStory}
 
 second_of_both : (s t : Bool) → (s && t) ≡ true → t ≡ true
@@ -124,3 +127,9 @@ module _ (spelling : OneSpelling) (first : Text) where
 
   pub differs_from : (others : List Text) (H : History) (rules : Rules) → IsOnlyStory (first ∷ others) H → first ≢ entry_bytes (founding rules).core → DiffersFrom rules (first ∷ others)
   differs_from others H rules only other = ((λ is. cc), (H, only, λ is. other (founder_spells others H only.0 rules is)))
+
+-- a replay that ends well, or finds no memory at its end
+pub finishes : (rules : Rules) (payloads : List Text) (H : History) (made : Result Campaign BookFault) → IfOk made (λ state. state.history ≡ H) → IfErr made (λ why. why ≡ fault.Memory)
+    → OpensWith rules payloads H → Replays rules payloads made
+finishes rules payloads H (Ok state) is none opens = subst (OpensWith rules payloads) (sym is) opens
+finishes rules payloads H (Err why) none is opens = subst (Stops rules payloads) (sym is) tt

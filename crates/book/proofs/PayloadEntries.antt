@@ -13,7 +13,8 @@ use Rattle.rulebook.specs.Roles.{may_give}
 use Rattle.rulebook.specs.Spelling.{IsSpelling, entry_bytes, has_spelling}
 use Rattle.rulebook.specs.Words.{Text}
 use Rattle.book.specs.Laws.{Laws}
-use Rattle.book.specs.Replays.{AddsAt, Enters, EntersCore, Follows, added_again}
+use Rattle.campaign_core.specs.Replays.{EntersCore, added_again}
+use Rattle.book.specs.Replays.{Enters, Follows}
 use Rattle.book.proofs.Requests.{accepted_givable, accepted_short, accepted_spells}
 
 both : (s t : Bool) → s ≡ true → t ≡ true → (s && t) ≡ true
@@ -27,16 +28,6 @@ pub addressed_core : (core : EntryCore) → (may_give core.caller.role core.comm
 addressed_core core givable spells short =
     both (may_give core.caller.role core.command && has_spelling core) (nat_le (length (entry_bytes core)) MAX_ENTRY_BYTES)
     (both (may_give core.caller.role core.command) (has_spelling core) givable spells) (le-leb (length (entry_bytes core)) MAX_ENTRY_BYTES short)
-
--- the prepared entry was added, or another request's moment is later
-pub enters_at : (H : History) (core : EntryCore) (e : Entry) (entered : Bool) (after : History) → added_again H core ≡ e ∷ [] → AddsAt H e core.moment entered after → EntersCore H core entered after
-enters_at H core e true after added (moment, grown) = (e, added, moment, grown)
-enters_at H core e false after added (other, same) =
-    (same, λ x is_x moment. let is : e ≡ x = cc (added, is_x) in other (ap (λ (e : Entry). e.core.moment) is ∙ moment))
-
--- nothing is added
-pub enters_none : (H : History) (core : EntryCore) (after : History) → added_again H core ≡ [] → after ≡ H → EntersCore H core false after
-enters_none H core after none same = (same, λ x is_x moment. let wrong : [] ≡ x ∷ [] = sym none ∙ is_x in absurd (cc wrong))
 
 -- a payload that is no spelling
 pub enters_unread : (H : History) (bytes : Text) → ((core : EntryCore) → IsSpelling bytes core → ⊥) → Enters H bytes false H

@@ -1,11 +1,8 @@
 -- How records become entries, one after another.
-use Rattle.std.specs.Prelude.{◌≡◌, ◌≢◌, ℕ, ◌+◌, ◌<◌, Bool, true, false, List, [], ◌∷◌, ◌++◌, Option, None, Some, Result, Ok, Err, length, take}
+use Rattle.std.specs.Prelude.{◌≡◌, ℕ, ◌+◌, ◌<◌, Bool, true, false, List, [], ◌∷◌, ◌++◌, Option, None, Some, Result, Ok, Err, length, take}
 use Rattle.campaign_core.specs.Seen.{Seen as Campaign}
 use Rattle.rulebook.specs.declared.entry.Entry.{Entry}
 use Rattle.rulebook.specs.declared.rules.Rules.{Rules}
-use Rattle.rulebook.specs.declared.ask.Ask.TheVariants.{Act}
-use Rattle.rulebook.specs.declared.entry.EntryCore.{EntryCore}
-use Rattle.rulebook.specs.Answers.{answer}
 use Rattle.rulebook.specs.Campaign.{History}
 use Rattle.rulebook.specs.Legal.{IsAccepted, IsLegal}
 use Rattle.rulebook.specs.Spelling.{entry_bytes}
@@ -23,20 +20,6 @@ Follows H bytes e = IsAccepted H e × (entry_bytes e.core ≡ bytes)
 abbrev pub Enters : History → Text → Bool → History → Type 0
 Enters H bytes true after = (e : Entry) × Follows H bytes e × (after ≡ H ++ e ∷ []) × IsLegal after × ((other : Entry) → Follows H bytes other → other ≡ e)
 Enters H bytes false after = (after ≡ H) × ((e : Entry) → Follows H bytes e → ⊥)
-
--- what the rules add for an entry's own request
-abbrev pub added_again : History → EntryCore → History
-added_again H core = (answer H core.caller core.number (Act core.command) core.moment).added
-
--- the prepared entry has this moment and was added, or it has another
-abbrev pub AddsAt : History → Entry → ℕ → Bool → History → Type 0
-AddsAt H e moment true after = (e.core.moment ≡ moment) × (after ≡ H ++ e ∷ [])
-AddsAt H e moment false after = (e.core.moment ≢ moment) × (after ≡ H)
-
--- an entry was added that the core's request adds at its own moment, or it adds none
-abbrev pub EntersCore : History → EntryCore → Bool → History → Type 0
-EntersCore H core true after = (e : Entry) × (added_again H core ≡ e ∷ []) × (e.core.moment ≡ core.moment) × (after ≡ H ++ e ∷ [])
-EntersCore H core false after = (after ≡ H) × ((e : Entry) → added_again H core ≡ e ∷ [] → e.core.moment ≡ core.moment → ⊥)
 
 -- where the entries are the only story of some payloads, the later ones are that of these and more
 abbrev pub GoesOn : History → List Text → History → Type 0

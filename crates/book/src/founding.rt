@@ -6,7 +6,7 @@ ghost use Rattle.rulebook.specs.Spelling.{are_rules, entry_bytes};
 ghost use Rattle.book.specs.Laws.{Laws};
 ghost use Rattle.book.specs.Stories.{HasStory, IsOnlyStory};
 
-use campaign_core::State;
+use campaign_core::{Replay, State};
 use decimal_rank::{Memory, Rows, Text};
 use journal::Frame;
 use record_codec::{CodecFault, read_entry, write_entry};
@@ -78,9 +78,9 @@ pub(crate) fn founded(alloc: Global, rules: Rules) -> Result<(State, Frame), Mem
 }
 
 /// The campaign that a first record founds. None is that it founds none.
-pub(crate) fn begin(alloc: Global, first: &[u8]) -> Result<Option<State>, Memory>
+pub(crate) fn begin(alloc: Global, first: &[u8]) -> Result<Option<Replay>, Memory>
     requires spelling { OneSpelling }
-    ensures { IfOk result (λ begun. MatchOption begun (HasStory (first.now ∷ []) → ⊥) (λ state. IsOnlyStory (first.now ∷ []) state.history)) }
+    ensures { IfOk result (λ begun. MatchOption begun (HasStory (first.now ∷ []) → ⊥) (IsOnlyStory (first.now ∷ []))) }
 {
     let core = match read_entry(alloc, first) {
         Ok(core) => core,
@@ -90,5 +90,5 @@ pub(crate) fn begin(alloc: Global, first: &[u8]) -> Result<Option<State>, Memory
     let Some(rules) = rules_founded(core) else {
         return Ok(None);
     };
-    Ok(Some(State::found(alloc, rules)?))
+    Ok(Some(Replay::found(alloc, rules)?))
 }

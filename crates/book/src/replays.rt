@@ -1,5 +1,6 @@
 //! Records as the entries of a campaign: the first founds it, and each other is entered behind it.
-ghost use Rattle.std.specs.Prelude.{◌≡◌, ◌∷◌, [], IsTrue};
+ghost use Rattle.std.specs.Prelude.{◌≡◌, ◌∷◌, [], IfErr, IfOk, IsTrue};
+ghost use Rattle.book.specs.declared.faults.BookFault.TheVariants as fault;
 ghost use Rattle.std.specs.Str.{bytes_eq};
 ghost use Rattle.journal.specs.Kept.{payloads as payloads_of};
 ghost use Rattle.record_codec.specs.Laws.{OneSpelling};
@@ -13,7 +14,7 @@ ghost use Rattle.book.specs.Stories.{IsOnlyStory};
 use crate::faults::BookFault;
 use crate::founding::{begin, founding_bytes};
 use crate::record_entries::enter_all;
-use campaign_core::State;
+use campaign_core::{Replay, State};
 use decimal_rank::Memory;
 use rulebook::Rules;
 use std::alloc::Global;
@@ -28,30 +29,40 @@ fn are_equal(first: &[u8], second: &[u8]) -> bool
 // is the spelling of their founding entry.
 fn replay_others(
     alloc: Global,
-    state: State,
+    replay: Replay,
     first: &[u8],
     others: &[Vec<u8>],
     wanted: &[u8],
 ) -> Result<State, BookFault>
     requires laws { Laws }
     requires spelling { OneSpelling }
-    requires begun { IsOnlyStory (first.now ∷ []) state.history }
+    requires begun { IsOnlyStory (first.now ∷ []) replay }
     ensures { (rules : CampaignRules) → IsTrue (are_rules rules) → wanted.now ≡ entry_bytes (founding rules).core
         → Replays rules (first.now ∷ payloads_of others.now) result }
 {
-    let mut state = state;
-    match enter_all(alloc, &mut state, others) {
+    let mut replay = replay;
+    match enter_all(alloc, &mut replay, others) {
         Ok(None) => {
             if are_equal(first, wanted) {
-                return Ok(state);
+                return finished(alloc, replay);
             }
             Err(BookFault::RulesDiffer)
         }
         Ok(Some(count)) => {
-            let _legal = state.entries();
+            let _legal = replay.entries();
             let entry = count as u32 + 2;
             Err(BookFault::Damaged { entry })
         }
+        Err(Memory) => Err(BookFault::Memory),
+    }
+}
+
+fn finished(alloc: Global, replay: Replay) -> Result<State, BookFault>
+    ensures history { IfOk result (λ state. state.history ≡ replay) }
+    ensures memory { IfErr result (λ why. why ≡ fault.Memory) }
+{
+    match replay.finish(alloc) {
+        Ok(state) => Ok(state),
         Err(Memory) => Err(BookFault::Memory),
     }
 }
@@ -72,7 +83,7 @@ pub(crate) fn replay(
         return Err(BookFault::Memory);
     };
     match begin(alloc, first) {
-        Ok(Some(state)) => replay_others(alloc, state, first, others, &wanted),
+        Ok(Some(replay)) => replay_others(alloc, replay, first, others, &wanted),
         Ok(None) => Err(BookFault::Damaged { entry: 1 }),
         Err(Memory) => Err(BookFault::Memory),
     }

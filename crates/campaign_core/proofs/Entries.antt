@@ -1,7 +1,9 @@
 -- What one more entry makes of the history, and of what is known of it.
 pub mod Answered
+pub mod BoardSteps
 pub mod CommitCosts
 pub mod Commits
+pub mod EnteredAgain
 pub mod FittingChanges
 pub mod GrowingNames
 pub mod HistoryGrowth

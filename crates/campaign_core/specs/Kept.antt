@@ -1,5 +1,5 @@
 -- What a state keeps true of its fields.
-use Rattle.std.specs.Prelude.{◌≡◌, ◌<◌, ◌≤◌, ◌++◌, ◌∷◌, ℕ, false, List, [], All, MatchOption, None, Some, Result, Ok, Err, IsTrue, length, map, vec_len, vec_capacity}
+use Rattle.std.specs.Prelude.{◌≡◌, ◌<◌, ◌≤◌, ◌++◌, ◌∷◌, ℕ, false, true, List, [], All, MatchOption, None, Some, Result, Ok, Err, IsTrue, length, map, vec_len, vec_capacity}
 use Rattle.rulebook.specs.declared.limits.TheConstants.{MAX_RUNS, MAX_ENTRIES, MAX_LINES, MAX_DOCNOS, MAX_MOMENT, MAX_TOPICS}
 use Rattle.rulebook.specs.declared.entry.Entry.{Entry}
 use Rattle.rulebook.specs.Words.{Text}
@@ -135,9 +135,17 @@ IsPrepared campaign names numbers core (Err refusal) =
 IsPrepared campaign names numbers core (Ok entry) =
     (entry.core ≡ core) × (ruled campaign.history.items core.caller core.moment core.command ≡ Ok entry.reply) × IsReadyWith campaign names numbers entry
 
+-- a campaign whose entries are entered again is known, with its docnos and numbers, and no change is pending
+pub record IsReplayed (campaign : Campaign) (docnos : List Text) (numbers : List Numbered) : Type 0 where
+  pub known : IsKnown campaign
+  pub idle : campaign.assessment.pending ≡ None
+  pub docnos_are : docnos ≡ names_of campaign.history.items
+  pub numbers_are : numbers ≡ numbers_of campaign.history.items
+
 -- The campaign is known, and the first docnos and numbers are those of its history. Others may follow, from requests that weren't committed.
 pub record IsKept (s : Inside) : Type 0 where
   pub known : IsKnown s.campaign
+  pub on_board : (facts s.campaign.assessment).on_board ≡ true
   pub docnos_are : BeginsWith (names_of s.campaign.history.items) s.docnos
   pub docnos_kept_are : s.docnos_kept ≡ length (names_of s.campaign.history.items)
   pub numbers_are : BeginsWith (numbers_of s.campaign.history.items) s.numbers

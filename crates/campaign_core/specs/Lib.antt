@@ -14,6 +14,7 @@ pub mod Labelling
 pub mod Leasing
 pub mod Texts
 pub mod Printed
+pub mod Replays
 pub mod Scoring
 pub mod Submissions
 pub mod Tallies

@@ -1,10 +1,11 @@
 //! A campaign: its history, and what is known of it by numbers. An accepted entry has room made for its
 //! change first, and joins the history with its change then.
-ghost use Rattle.std.specs.Prelude.{◌≡◌, ◌+◌, ◌≤◌, ◌++◌, ◌∷◌, [], IfOk, IsTrue, None, OnErr, OnOk, is_some, map};
+ghost use Rattle.std.specs.Prelude.{◌≡◌, ◌+◌, ◌≤◌, ◌++◌, ◌∷◌, [], IfOk, IsTrue, None, OnErr, OnOk, is_some, map, true};
 ghost use Rattle.std.specs.List.{list_any, position};
 ghost use Rattle.std.specs.Str.{bytes_eq};
 ghost use Rattle.assessment.specs.Changes.{Fits, facts};
 ghost use Rattle.assessment.specs.TopicFacts.{facts_of};
+ghost use Rattle.assessment.specs.TopicsFacts.{new_topics};
 ghost use Rattle.rulebook.specs.Answers.{moment_after, unknown_line};
 ghost use Rattle.rulebook.specs.Campaign.{has_topics, opens, publishes, rules_of, title, topics as topics_of, topics_in};
 ghost use Rattle.rulebook.specs.Legal.{founding};
@@ -41,12 +42,18 @@ pub(crate) struct Campaign {
 }
 
 impl Campaign {
-    /// A campaign of these rules, with its founding entry alone.
-    pub(crate) fn found(alloc: Global, rules: Rules) -> Result<Campaign, Memory>
-        requires { IsTrue (are_rules rules) }
+    /// A campaign of these rules, with its founding entry alone and an assessment before any topic.
+    pub(crate) fn found(
+        alloc: Global,
+        rules: Rules,
+        assessment: Assessment,
+    ) -> Result<Campaign, Memory>
+        requires rules { IsTrue (are_rules rules) }
+        requires no_topics { (facts assessment).topics ≡ new_topics [] }
+        requires no_leases { (facts assessment).leases ≡ [] }
         ensures history { IfOk result (λ campaign. campaign.history.items ≡ founding rules ∷ []) }
         ensures known { IfOk result IsKnown }
-        ensures idle { IfOk result (λ campaign. campaign.assessment.pending ≡ None) }
+        ensures assessment { IfOk result (λ campaign. campaign.assessment ≡ assessment) }
     {
         let core = founding_core(alloc, rules)?;
         let mut history = Vec::new(alloc);
@@ -54,13 +61,37 @@ impl Campaign {
             core,
             reply: Reply::Done,
         })?;
-        let assessment = Assessment::new(alloc)?;
         Ok(Campaign {
             history,
             phase: Phase::Collecting,
             assessment,
             submissions: Vec::new(alloc),
             lines: 0,
+        })
+    }
+
+    /// Puts the runs' lists on the board that wait for the end of a replay.
+    pub(crate) fn with_lists(self, alloc: Global) -> Result<Campaign, Memory>
+        requires known { IsKnown self }
+        requires idle { self.assessment.pending ≡ None }
+        ensures history { IfOk result (λ campaign. campaign.history.items ≡ self.history.items) }
+        ensures known { IfOk result IsKnown }
+        ensures on_board { IfOk result (λ campaign. (facts campaign.assessment).on_board ≡ true) }
+        ensures idle { IfOk result (λ campaign. campaign.assessment.pending ≡ None) }
+    {
+        let Campaign {
+            history,
+            phase,
+            assessment,
+            submissions,
+            lines,
+        } = self;
+        Ok(Campaign {
+            history,
+            phase,
+            assessment: assessment.with_lists(alloc)?,
+            submissions,
+            lines,
         })
     }
 
@@ -160,6 +191,7 @@ impl Campaign {
         ensures history { self.new.history.items ≡ self.old.history.items ++ entry ∷ [] }
         ensures known { IsKnown self.new }
         ensures idle { self.new.assessment.pending ≡ None }
+        ensures on_board { (facts self.new.assessment).on_board ≡ (facts self.old.assessment).on_board }
         ensures cost { steps.new ≤ steps.old + commit_steps self.old.history.items entry.core.command }
     {
         self.phase = phase_after(&entry.core.command, self.phase);

@@ -8,6 +8,7 @@ mod laws;
 mod pages;
 mod pools;
 mod queries;
+mod replays;
 mod request_numbers;
 mod score_pages;
 mod selection;
@@ -20,6 +21,7 @@ mod topics;
 mod verdict;
 
 pub use laws::{boards_score_by_the_rules, queues_are_in_the_rules_order};
+pub use replays::Replay;
 pub use state::State;
 pub use tallies::Tally;
 pub use verdict::{Prepared, Verdict};

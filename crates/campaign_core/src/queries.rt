@@ -1,8 +1,9 @@
 //! Queries: whether they are refused, and the page that is told.
-ghost use Rattle.std.specs.Prelude.{◌≡◌, ◌==◌, ◌&&◌, IfOk};
+ghost use Rattle.std.specs.Prelude.{◌≡◌, ◌==◌, ◌&&◌, IfOk, true};
 ghost use Rattle.rulebook.specs.declared.rules.Phase.TheVariants.{Published};
 ghost use Rattle.rulebook.specs.Answers.{reply_of, told as told_of};
 ghost use Rattle.rulebook.specs.Refusals.{is_phase};
+ghost use Rattle.assessment.specs.Changes.{facts};
 ghost use Rattle.campaign_core.specs.Kept.{IsKnownWith};
 
 use crate::campaign::Campaign;
@@ -25,7 +26,8 @@ pub(crate) fn told(
     query: Query,
     orders: &mut Vec<DocnoOrder>,
 ) -> Result<Reply, Memory>
-    requires { IsKnownWith docnos.now campaign.now }
+    requires known { IsKnownWith docnos.now campaign.now }
+    requires on_board { (facts campaign.now.assessment).on_board ≡ true }
     ensures { IfOk result (λ reply. reply ≡ reply_of (told_of campaign.now.history.items who.now now query)) }
 {
     let topics = campaign.topics();

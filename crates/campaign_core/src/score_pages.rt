@@ -1,5 +1,6 @@
 //! The pages of the scores of runs.
-ghost use Rattle.std.specs.Prelude.{◌≡◌, ◌++◌, ℕ, List, IfOk, IsTrue, OnOk, map};
+ghost use Rattle.std.specs.Prelude.{◌≡◌, ◌++◌, ℕ, List, IfOk, IsTrue, OnOk, map, true};
+ghost use Rattle.assessment.specs.Changes.{facts};
 ghost use Rattle.assessment.specs.TopicFacts.{facts_of};
 ghost use Rattle.rulebook.specs.declared.reply.Reply.TheVariants as reply;
 ghost use Rattle.rulebook.specs.Answers.{reply_of, scores_ruling};
@@ -28,7 +29,8 @@ pub(crate) fn scores_reply(
     who: &Caller,
     name: &Text,
 ) -> Result<Reply, Memory>
-    requires { IsKnown campaign.now }
+    requires known { IsKnown campaign.now }
+    requires on_board { (facts campaign.now.assessment).on_board ≡ true }
     ensures { IfOk result (λ reply. reply ≡ reply_of (scores_ruling campaign.now.history.items who.now name.now)) }
 {
     let number = match run_asked(&campaign.history, &campaign.submissions, who, name) {
@@ -48,7 +50,8 @@ pub(crate) fn scores_reply(
 
 /// The summaries of the live runs, by submission.
 pub(crate) fn table_reply(alloc: Global, campaign: &Campaign) -> Result<Reply, Memory>
-    requires { IsKnown campaign.now }
+    requires known { IsKnown campaign.now }
+    requires on_board { (facts campaign.now.assessment).on_board ≡ true }
     ensures { IfOk result (λ told. told ≡ reply.Page (table_page campaign.now.history.items)) }
 {
     let topics = campaign.assessment.topics();

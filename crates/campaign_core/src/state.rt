@@ -1,6 +1,6 @@
 //! The state of a campaign. A request is answered first; the change of an accepted one is given room then, and
 //! made when its entry joins the history.
-ghost use Rattle.std.specs.Prelude.{◌≡◌, ◌+◌, ◌<◌, ◌≤◌, ◌∷◌, [], ◌++◌, ℕ, length, IfOk, IsSome, OnOk, OnErr, IsTrue, None, Some};
+ghost use Rattle.std.specs.Prelude.{◌≡◌, ◌+◌, ◌<◌, ◌≤◌, ◌∷◌, [], ◌++◌, ℕ, length, IfOk, IsSome, OnOk, OnErr, IsTrue, None, Some, true};
 ghost use Rattle.std.specs.Option.{option_map};
 ghost use Rattle.rulebook.specs.declared.ask.Ask.TheVariants.{Act};
 ghost use Rattle.rulebook.specs.Spelling.{are_rules};
@@ -10,7 +10,9 @@ ghost use Rattle.rulebook.specs.Legal.{is_well_addressed, founding, IsLegal};
 ghost use Rattle.campaign_core.specs.Costs.{commit_steps};
 ghost use Rattle.campaign_core.specs.Decisions.{IsNew};
 ghost use Rattle.campaign_core.specs.Growth.{BeginsWith};
-ghost use Rattle.campaign_core.specs.Kept.{IsPrepared, IsUnchanged};
+ghost use Rattle.assessment.specs.Changes.{facts};
+ghost use Rattle.campaign_core.specs.Kept.{IsKnown, IsPrepared, IsUnchanged};
+ghost use Rattle.campaign_core.specs.Numbers.{names_of};
 ghost use Rattle.campaign_core.specs.NumberedRequests.{AddsNumber, numbers_of, place_of, repeated_reply};
 ghost use Rattle.campaign_core.specs.Lendings.{IsBoardOf, IsQueueOf};
 ghost use Rattle.campaign_core.specs.State.{IsAtRest, IsFirst, IsVerdict};
@@ -24,6 +26,7 @@ use crate::request_numbers::RequestNumbers;
 use crate::submissions::name_of;
 use crate::tallies::{Tally, tally_of};
 use crate::verdict::{Prepared, Verdict};
+use assessment::Assessment;
 use decimal_rank::{Memory, Names, Steps};
 use depth_pool::RunId;
 use mtf_queue::Queue;
@@ -93,7 +96,8 @@ impl State {
         ensures history { IfOk result (λ state. state.history ≡ founding rules ∷ []) }
         ensures prepared { IfOk result (λ state. state.prepared ≡ None) }
     {
-        let campaign = Campaign::found(alloc, rules)?;
+        let assessment = Assessment::new(alloc)?;
+        let campaign = Campaign::found(alloc, rules, assessment)?;
         Ok(State {
             campaign,
             docnos: Names::new(alloc),
@@ -103,6 +107,33 @@ impl State {
             prepared: None,
             orders: Vec::new(alloc),
         })
+    }
+
+    /// What a replay came to.
+    pub(crate) fn replayed(
+        alloc: Global,
+        campaign: Campaign,
+        docnos: Names,
+        numbers: RequestNumbers,
+    ) -> State
+        requires known { IsKnown campaign }
+        requires on_board { (facts campaign.assessment).on_board ≡ true }
+        requires idle { campaign.assessment.pending ≡ None }
+        requires docnos { docnos ≡ names_of campaign.history.items }
+        requires numbers { numbers ≡ numbers_of campaign.history.items }
+        ensures { result ≡ record { history = campaign.history.items; prepared = None } }
+    {
+        let docnos_kept = docnos.len();
+        let numbers_kept = numbers.len();
+        State {
+            campaign,
+            docnos,
+            docnos_kept,
+            numbers,
+            numbers_kept,
+            prepared: None,
+            orders: Vec::new(alloc),
+        }
     }
 
     /// How many entries the history has.
@@ -330,7 +361,7 @@ fn kept_reply(
 
 /// The entry of a command, whose change then waits, with its docnos and its number added; or the
 /// first refusal of the command.
-fn prepared(
+pub(crate) fn prepared(
     campaign: &mut Campaign,
     docnos: &mut Names,
     numbers: &mut RequestNumbers,

@@ -1,5 +1,6 @@
 //! How the judgements and the runs of a campaign stand, from the counts that are kept.
-ghost use Rattle.std.specs.Prelude.{◌≡◌, ◌≤◌, ◌^◌, ◌||◌, ℕ, List, Some, is_none, length, map, nat_lt};
+ghost use Rattle.std.specs.Prelude.{◌≡◌, ◌≤◌, ◌^◌, ◌||◌, ℕ, List, Some, is_none, length, map, nat_lt, true};
+ghost use Rattle.assessment.specs.Changes.{facts};
 ghost use Rattle.assessment.specs.TopicFacts.{facts_of};
 ghost use Rattle.lease_desk.specs.declared.leases.Lease.{Lease};
 ghost use Rattle.rulebook.specs.Campaign.{History, Run};
@@ -28,7 +29,8 @@ pub struct Tally {
 
 /// The counts are those that the topics keep, and each live run is looked at once.
 pub(crate) fn tally_of(campaign: &Campaign) -> Tally
-    requires { IsKnown campaign.now }
+    requires known { IsKnown campaign.now }
+    requires on_board { (facts campaign.now.assessment).on_board ≡ true }
     ensures { IsTally campaign.now.history.items result }
 {
     let (relevant, judged) = judgements(campaign.topics());
@@ -70,7 +72,8 @@ fn counts_of(topic: &Topic) -> (u32, u32)
 
 /// The live run with the greatest mean average precision, the earliest submitted of several, and that mean.
 fn best_of(campaign: &Campaign) -> (Option<RunId>, u64)
-    requires { IsKnown campaign.now }
+    requires known { IsKnown campaign.now }
+    requires on_board { (facts campaign.now.assessment).on_board ≡ true }
     ensures { IsBest campaign.now.history.items result.0 result.1 }
 {
     let topics = campaign.assessment.topics();

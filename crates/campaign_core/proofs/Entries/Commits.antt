@@ -361,7 +361,7 @@ module _ (laws : Laws) where
       → (((later : List LabelledTopic) → ((d : TopicFacts) → later ≡ set (map labelled_of (topics_of s)) number (labelled_of (step (get_or (topics_of s) number d)))) → All (IsLabelled (s.history.items ++ e ∷ []) (names_of (s.history.items ++ e ∷ []))) later)
       × ((later : List LabelledTopic) → ((d : TopicFacts) → later ≡ set (map labelled_of (topics_of s)) number (labelled_of (step (get_or (topics_of s) number d)))) → All (IsFew (length s.history.items + 1)) later))
       → IsLeased (s.history.items ++ e ∷ []) (names_of (s.history.items ++ e ∷ [])) later
-      → IsAssessmentOf (s.history.items ++ e ∷ []) (record { topics = record (facts s.assessment).topics { topics = at_place number step (topics_of s) }; leases = later })
+      → IsAssessmentOf (s.history.items ++ e ∷ []) (record (facts s.assessment) { topics = record (facts s.assessment).topics { topics = at_place number step (topics_of s) }; leases = later })
   marked-assessed s e number step later kept_s plain same labels leased =
       let H = s.history.items in
       let J : History = H ++ e ∷ [] in

@@ -75,6 +75,7 @@ kept-on old new kept same docnos_kept numbers_kept docnos numbers ready =
     let back = sym same.history_is in
     record {
       known = known-still old.campaign new.campaign same kept.known;
+      on_board = ap (λ (known : Facts). known.on_board) same.facts_are ∙ kept.on_board;
       docnos_are = subst (λ (H : History). BeginsWith (names_of H) new.docnos) back (subst (λ (names : List Text). BeginsWith names new.docnos) (names-cut old kept) docnos);
       docnos_kept_are = docnos_kept ∙ kept.docnos_kept_are ∙ ap (λ (H : History). length (names_of H)) back;
       numbers_are = subst (λ (H : History). BeginsWith (numbers_of H) new.numbers) back (subst (λ (all : List Numbered). BeginsWith all new.numbers) (numbers-cut old kept) numbers);

@@ -81,9 +81,13 @@ founded-submissions H rules all is none = rw (is, none) (record { places_are = r
 pub founded-runs : (H : History) (rules : Rules) → H ≡ founding rules ∷ [] → RunsAreKnown H
 founded-runs H rules is = rw is (record { names_differ = refl; withdrawn_taken = λ name away. cc away })
 
-pub founded-assessed : (H : History) (rules : Rules) (known : Facts) → H ≡ founding rules ∷ [] → known ≡ record { topics = new_topics []; leases = [] } → IsAssessmentOf H known
+-- an assessment that begins
+pub is-begun : (known : Facts) → known.topics ≡ new_topics [] → known.leases ≡ [] → known ≡ record { topics = new_topics []; leases = []; on_board = known.on_board }
+is-begun known topics leases = λ i. record { topics = topics i; leases = leases i; on_board = known.on_board }
+
+pub founded-assessed : (H : History) (rules : Rules) (known : Facts) → H ≡ founding rules ∷ [] → known ≡ record { topics = new_topics []; leases = []; on_board = known.on_board } → IsAssessmentOf H known
 founded-assessed H rules known is known_is =
-    let start : Facts = record { topics = new_topics []; leases = [] } in
+    let start : Facts = record { topics = new_topics []; leases = []; on_board = known.on_board } in
     let first : IsAssessmentOf (founding rules ∷ []) start = record {
       knows = record {
         topics_are = refl;
@@ -98,9 +102,9 @@ founded-assessed H rules known is known_is =
     } in
     subst (λ (H : History). IsAssessmentOf H known) (sym is) (subst (IsAssessmentOf (founding rules ∷ [])) (sym known_is) first)
 
-pub founded-unjudged : (H : History) (rules : Rules) (known : Facts) → H ≡ founding rules ∷ [] → known ≡ record { topics = new_topics []; leases = [] } → IsUnjudged H (map labelled_of known.topics.topics)
+pub founded-unjudged : (H : History) (rules : Rules) (known : Facts) → H ≡ founding rules ∷ [] → known ≡ record { topics = new_topics []; leases = []; on_board = known.on_board } → IsUnjudged H (map labelled_of known.topics.topics)
 founded-unjudged H rules known is known_is =
-    let start : Facts = record { topics = new_topics []; leases = [] } in
+    let start : Facts = record { topics = new_topics []; leases = []; on_board = known.on_board } in
     let first : IsUnjudged (founding rules ∷ []) (map labelled_of start.topics.topics) = record {
       no_lease = refl;
       no_label = refl;

@@ -13,9 +13,8 @@ use Rattle.rulebook.specs.Grades.{trail}
 use Rattle.rulebook.specs.JudgingOrder.{comes_before}
 use Rattle.rulebook.specs.Words.{Text}
 use Rattle.assessment.specs.TopicFacts.{TopicFacts, judged_of}
-use Rattle.campaign_core.specs.Kept.{KnowsAll}
 use Rattle.campaign_core.specs.Labelling.{IsLabelled, graded_in}
-use Rattle.campaign_core.specs.LendingLaws.{IsInRulesOrder, judged_in, number_of}
+use Rattle.campaign_core.specs.LendingLaws.{IsInRulesOrder, number_of}
 use Rattle.campaign_core.specs.Lendings.{IsQueueOf}
 use Rattle.campaign_core.specs.Numbers.{are_named, names_of}
 use Rattle.campaign_core.specs.Topics.{KeptTopic, kept, kept_of, labelled_of, pool_of, topic_ids}

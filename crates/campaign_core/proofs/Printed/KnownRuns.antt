@@ -6,9 +6,10 @@ use Rattle.depth_pool.specs.declared.runs.RunId.{RunId}
 use Rattle.lease_desk.specs.declared.leases.Lease.{Lease}
 use Rattle.score_index.specs.Scores.{Scores, docs_at, levels_of}
 use Rattle.score_index.specs.Standing.{StandsFor}
+use Rattle.assessment.specs.Changes.{facts}
 use Rattle.assessment.specs.RunLists.{RankedLists}
 use Rattle.assessment.specs.TopicFacts.{TopicView, facts_of, graded_of as graded_in}
-use Rattle.assessment.specs.TopicsFacts.{TopicsView, told}
+use Rattle.assessment.specs.TopicsFacts.{TopicsFacts, TopicsView, told}
 use Rattle.rulebook.specs.Campaign.{History, Run, level}
 use Rattle.rulebook.specs.Legal.{IsLegal}
 use Rattle.rulebook.specs.Words.{Text}
@@ -54,12 +55,12 @@ listed-at H names lists are = λ run on d within.
     are run on ∙ ap (λ id. option_map_or (λ topic. option_map_or (ranked_on names topic) (run_at H run) None) id None) (slice_get-get_or (topic_ids H) on d within)
 
 -- a live run, by the topics and the board that a campaign lends
-pub known-run : (campaign : Campaign) (all : TopicsView) (items : List TopicView) (board : Scores) (number : RunId) (run : Run) → IsKnown campaign → all ≡ campaign.assessment.topics
+pub known-run : (campaign : Campaign) (all : TopicsView) (items : List TopicView) (board : Scores) (number : RunId) (run : Run) → IsKnown campaign → (facts campaign.assessment).topics ≡ told all
     → items ≡ all.topics → board ≡ all.board → StandsFor board (map graded_in all.topics) → run_at campaign.history.items number ≡ Some run → KnowsRun campaign.history.items (map facts_of items) board number run
-known-run campaign all items board number run known all_is items_are board_is stands run_is =
+known-run campaign all items board number run known told_is items_are board_is stands run_is =
     let H = campaign.history.items in
     knows-run H all items board campaign.assessment.leases number run known.legal
-    (subst (λ (all : TopicsView). KnowsAll H (told all).topics campaign.assessment.leases) (sym all_is) known.assessed.knows)
-    (ap (λ (all : TopicsView). (told all).levels) all_is ∙ known.assessed.levels_are)
-    (subst (λ (all : TopicsView). AreListed H (names_of H) (told all).lists) (sym all_is) (listed-at H (names_of H) _ known.assessed.lists_are))
+    (subst (λ (facts : TopicsFacts). KnowsAll H facts.topics campaign.assessment.leases) told_is known.assessed.knows)
+    (ap (λ (facts : TopicsFacts). facts.levels) (sym told_is) ∙ known.assessed.levels_are)
+    (subst (λ (facts : TopicsFacts). AreListed H (names_of H) facts.lists) told_is (listed-at H (names_of H) _ known.assessed.lists_are))
     items_are board_is stands run_is

@@ -17,5 +17,5 @@ returns-in_default c = begins_none c.requires.spelling c.args.first.now c.in-Ok.
 
 pub returns : goal.returns
 returns c =
-    subst (λ (H : History). IsOnlyStory (c.args.first.now ∷ []) H) (sym c.in_ok-found.ensures.history)
+    subst (λ (H : History). IsOnlyStory (c.args.first.now ∷ []) H) (sym c.in_ok-found.ensures)
     (begins c.requires.spelling c.args.first.now c.in-Ok.core c.in-Some.rules c.in-Ok.ensures.entry c.in-Some.ensures)

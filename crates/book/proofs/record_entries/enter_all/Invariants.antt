@@ -5,4 +5,4 @@ use Rattle.book.specs.Replays.{GoesOn}
 use Rattle.book.proofs.record_entries.enter_all.Given as goal
 
 abbrev pub invariant-loop-place : goal.invariant-loop-place
-invariant-loop-place l = GoesOn l.initial.state.history (take l.place (payloads_of l.payloads)) l.state.history × (length l.state.history ≡ length l.initial.state.history + l.place)
+invariant-loop-place l = GoesOn l.initial.replay (take l.place (payloads_of l.payloads)) l.replay × (length l.replay ≡ length l.initial.replay + l.place)

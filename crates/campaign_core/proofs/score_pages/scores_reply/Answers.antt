@@ -21,7 +21,7 @@ asked c = subst (λ (H : History). IsRunAsked H c.args.who.now c.args.name.now (
 scored : (c : After-board-board) (run : IsRunOf c.args.campaign.now.history.items c.args.who.now c.args.name.now c.in-Ok.number)
     → KnowsRun c.args.campaign.now.history.items (map facts_of c.items-items.result.now) c.board-board.result.now (record { 0 = c.in-Ok.number }) run.run
 scored c run =
-    known-run c.args.campaign.now c.topics-topics.result.now c.items-items.result.now c.board-board.result.now (record { 0 = c.in-Ok.number }) run.run c.requires c.topics-topics.ensures.topics c.items-items.ensures.topics c.board-board.ensures.board c.board-board.ensures.stands
+    known-run c.args.campaign.now c.topics-topics.result.now c.items-items.result.now c.board-board.result.now (record { 0 = c.in-Ok.number }) run.run c.requires.known (c.topics-topics.ensures.lists c.requires.on_board) c.items-items.ensures.topics c.board-board.ensures.board c.board-board.ensures.stands
     (at-live c.args.campaign.now.history.items (record { 0 = c.in-Ok.number }) run.run run.there (ap (is_withdrawn c.args.campaign.now.history.items) run.name_is ∙ run.live))
 
 pub returns-in-Err : goal.returns-in-Err
@@ -34,7 +34,7 @@ pub overflow_cast-run : goal.overflow_cast-run
 overflow_cast-run c =
     let run = asked (goal.at.overflow_cast-run c).In-Ok in
     let found = run-found c.args.campaign.now.history.items c.args.name.now c.in-Ok.number run.first in
-    omega (arith, found.within, c.requires.runs_fit)
+    omega (arith, found.within, c.requires.known.runs_fit)
 
 pub write_scores-requires : goal.write_scores-requires
 write_scores-requires c =

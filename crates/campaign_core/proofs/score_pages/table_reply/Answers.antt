@@ -19,13 +19,13 @@ use Rattle.campaign_core.proofs.Entries.WithdrawalSteps.{flag-there}
 use Rattle.campaign_core.proofs.score_pages.table_reply.Goals as goal
 
 pub overflow_cast-run : goal.overflow_cast-run
-overflow_cast-run c = omega (arith, runs-many c.args.campaign.now.history.items c.args.campaign.now.submissions.items c.requires.submissions_are, c.loop-number-test.true, c.requires.runs_fit)
+overflow_cast-run c = omega (arith, runs-many c.args.campaign.now.history.items c.args.campaign.now.submissions.items c.requires.known.submissions_are, c.loop-number-test.true, c.requires.known.runs_fit)
 
 pub index-requires : goal.index-requires
 index-requires c =
     let H = c.args.campaign.now.history.items in
     let all = c.deref-submission-items.result.now in
-    let are : AreSubmissions H all = subst (AreSubmissions H) (sym c.deref-submission-items.ensures.value) c.requires.submissions_are in
+    let are : AreSubmissions H all = subst (AreSubmissions H) (sym c.deref-submission-items.ensures.value) c.requires.known.submissions_are in
     let none : Submission = record { place = 0; is_withdrawn = false } in
     let placed = entry-within H all c.loop-number.number none are c.loop-number-test.true in
     let counted : length H ≡ vec_len c.args.campaign.now.history = search rules in
@@ -35,7 +35,7 @@ pub loop-number-preserved-then-is_withdrawn : goal.loop-number-preserved-then-is
 loop-number-preserved-then-is_withdrawn c =
     let H = c.args.campaign.now.history.items in
     let all = c.deref-submission-items.result.now in
-    let are : AreSubmissions H all = subst (AreSubmissions H) (sym c.deref-submission-items.ensures.value) c.requires.submissions_are in
+    let are : AreSubmissions H all = subst (AreSubmissions H) (sym c.deref-submission-items.ensures.value) c.requires.known.submissions_are in
     let n = c.loop-number.number in
     let within : n < length (runs H) = omega (arith, runs-many H all are, c.loop-number-test.true) in
     let away : is_withdrawn H (get_or (runs H) n no_run).name ≡ true = sym (flag-there H all n _ are c.loop-number-test.true) ∙ c.if-is_withdrawn.true in
@@ -45,7 +45,7 @@ pub loop-number-preserved : goal.loop-number-preserved
 loop-number-preserved c =
     let H = c.args.campaign.now.history.items in
     let all = c.deref-submission-items.result.now in
-    let are : AreSubmissions H all = subst (AreSubmissions H) (sym c.deref-submission-items.ensures.value) c.requires.submissions_are in
+    let are : AreSubmissions H all = subst (AreSubmissions H) (sym c.deref-submission-items.ensures.value) c.requires.known.submissions_are in
     let n = c.loop-number.number in
     let e = c.index.result.now in
     let within : n < length (runs H) = omega (arith, runs-many H all are, c.loop-number-test.true) in
@@ -55,7 +55,7 @@ loop-number-preserved c =
     let submits : run_in e.core.command ≡ Some run = ap (λ (e : Entry). run_in e.core.command) c.index.ensures ∙ at.run_is in
     let name_is : c.name_of-name.result.now ≡ run.name = c.name_of-name.ensures ∙ ap (λ (o : Option Run). option_map_or (λ run. run.name) o []) submits in
     let knows : KnowsRun H (map facts_of c.items-items.result.now) c.board-board.result.now (record { 0 = n }) run =
-    known-run c.args.campaign.now c.topics-topics.result.now c.items-items.result.now c.board-board.result.now (record { 0 = n }) run c.requires c.topics-topics.ensures.topics c.items-items.ensures.topics c.board-board.ensures.board c.board-board.ensures.stands
+    known-run c.args.campaign.now c.topics-topics.result.now c.items-items.result.now c.board-board.result.now (record { 0 = n }) run c.requires.known (c.topics-topics.ensures.lists c.requires.on_board) c.items-items.ensures.topics c.board-board.ensures.board c.board-board.ensures.stands
     (at-live H (record { 0 = n }) run (get-there (runs H) n no_run within) stays) in
     c.in_ok-write_run_summary.ensures H run knows name_is
     ∙ ap (λ (text : Text). text ++ summary_lines H run) c.loop-number.invariant
@@ -65,5 +65,5 @@ loop-number-preserved c =
 pub returns : goal.returns
 returns c =
     let H = c.args.campaign.now.history.items in
-    let past : length (runs H) ≤ c.loop-number.number = omega (arith, runs-many H c.args.campaign.now.submissions.items c.requires.submissions_are, c.loop-number-test.false) in
+    let past : length (runs H) ≤ c.loop-number.number = omega (arith, runs-many H c.args.campaign.now.submissions.items c.requires.known.submissions_are, c.loop-number-test.false) in
     ap reply.Page (c.new.ensures ∙ c.loop-number.invariant ∙ ap (λ rs. flat_map (summary_lines H) (live_of H rs)) (take_all c.loop-number.number (runs H) past) ∙ ap (flat_map (summary_lines H)) (sym (live-runs H)))

@@ -2,7 +2,6 @@ use Rattle.std.proofs.Common.{◌≡◌, None, subst, sym}
 use Rattle.campaign_core.specs.Decisions.{IsNew}
 use Rattle.campaign_core.specs.Kept.{IsUnchanged}
 use Rattle.campaign_core.specs.declared.campaign.Campaign.{Campaign}
-use Rattle.campaign_core.proofs.Entries.KeptStates.{unchanged}
 use Rattle.campaign_core.proofs.state.prepared.Goals as goal
 
 pub decided-requires-clause-new : goal.decided-requires-clause-new

@@ -15,7 +15,7 @@ use Rattle.campaign_core.proofs.tallies.best_of.Goals as goal
 use Rattle.campaign_core.proofs.tallies.best_of.Goals.{then-better, else-better}
 
 pub overflow_cast-run : goal.overflow_cast-run
-overflow_cast-run c = omega (arith, runs-many c.args.campaign.now.history.items c.args.campaign.now.submissions.items c.requires.submissions_are, c.loop-number-test.true, c.requires.runs_fit)
+overflow_cast-run c = omega (arith, runs-many c.args.campaign.now.history.items c.args.campaign.now.submissions.items c.requires.known.submissions_are, c.loop-number-test.true, c.requires.known.runs_fit)
 
 pub loop-number-init : goal.loop-number-init
 loop-number-init c = record { best_is = refl; greatest_is = refl; none_yet = λ none. refl; fits = omega arith }
@@ -25,7 +25,7 @@ loop-number-preserved-then-is_withdrawn c =
     let H = c.args.campaign.now.history.items in
     let all = c.deref-submission-items.result.now in
     let n = c.loop-number.number in
-    let are : AreSubmissions H all = subst (AreSubmissions H) (sym c.deref-submission-items.ensures.value) c.requires.submissions_are in
+    let are : AreSubmissions H all = subst (AreSubmissions H) (sym c.deref-submission-items.ensures.value) c.requires.known.submissions_are in
     let passed : live_of H (take (n + 1) (runs H)) ≡ live_of H (take n (runs H)) =
     live-passed H n no_run (omega (arith, runs-many H all are, c.loop-number-test.true)) (sym (flag-there H all n _ are c.loop-number-test.true) ∙ c.if-is_withdrawn.true) in
     record {
@@ -42,7 +42,7 @@ abbrev all_of : goal.Joined-better → List Submission
 all_of c = c.deref-submission-items.result.now
 
 are : (c : goal.Joined-better) → AreSubmissions (history c) (all_of c)
-are c = subst (AreSubmissions (history c)) (sym c.deref-submission-items.ensures.value) c.requires.submissions_are
+are c = subst (AreSubmissions (history c)) (sym c.deref-submission-items.ensures.value) c.requires.known.submissions_are
 
 -- the run of the loop
 abbrev run_of : goal.Joined-better → Run
@@ -61,7 +61,7 @@ value_is : (c : goal.Joined-better) → c.map_of-value.result ≡ map_of (histor
 value_is c =
     let number : RunId = record { 0 = c.loop-number.number } in
     c.map_of-value.ensures.map (history c) (run_of c)
-    (known-run c.args.campaign.now c.topics-topics.result.now c.items-items.result.now c.board-board.result.now number (run_of c) c.requires c.topics-topics.ensures.topics c.items-items.ensures.topics c.board-board.ensures.board c.board-board.ensures.stands
+    (known-run c.args.campaign.now c.topics-topics.result.now c.items-items.result.now c.board-board.result.now number (run_of c) c.requires.known (c.topics-topics.ensures.lists c.requires.on_board) c.items-items.ensures.topics c.board-board.ensures.board c.board-board.ensures.stands
     (at-live (history c) number (run_of c) (there c) (stays c)))
 
 live_more : (c : goal.Joined-better) → live_of (history c) (take (c.loop-number.number + 1) (runs (history c))) ≡ live_of (history c) (take c.loop-number.number (runs (history c))) ++ run_of c ∷ []
@@ -111,7 +111,7 @@ loop-number-preserved c =
 pub returns : goal.returns
 returns c =
     let H = c.args.campaign.now.history.items in
-    let past : length (runs H) ≤ c.loop-number.number = omega (arith, runs-many H c.args.campaign.now.submissions.items c.requires.submissions_are, c.loop-number-test.false, ap length c.deref-submission-items.ensures.value) in
+    let past : length (runs H) ≤ c.loop-number.number = omega (arith, runs-many H c.args.campaign.now.submissions.items c.requires.known.submissions_are, c.loop-number-test.false, ap length c.deref-submission-items.ensures.value) in
     let whole : live_of H (take c.loop-number.number (runs H)) ≡ live H = ap (live_of H) (take_all c.loop-number.number (runs H) past) ∙ sym (live-runs H) in
     record {
       best = c.loop-number.invariant.best_is ∙ ap (λ (rs : List Run). option_map Some (first_best (map_of H) rs)) whole;

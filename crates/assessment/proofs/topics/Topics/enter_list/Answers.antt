@@ -31,11 +31,11 @@ invariant_of-self-else-len-gt0 c = left-standing (on_topic (goal.at.invariant_of
 pub returns-then-len-gt0-clause-facts : goal.returns-then-len-gt0-clause-facts
 returns-then-len-gt0-clause-facts c =
     let entered = on_topic (goal.at.returns-then-len-gt0-clause-facts c).After-len in
-    entered-facts entered c.add_run.new.self (list-there entered c.add_run.new.self (omega (arith, c.len.ensures.len, c.if-len-gt0.true)) c.add_run.ensures.lists) c.add_run.ensures.shape
+    entered-facts entered c.add_run.new.self (list-there c.self.inside.board c.args.number c.args.run c.args.list c.add_run.new.self (omega (arith, c.len.ensures.len, c.if-len-gt0.true)) c.add_run.ensures.lists) c.add_run.ensures.shape
     ∙ ap (after_list c.args.number c.args.run c.args.list) (ap told c.self.view_is)
 
 pub returns-else-len-gt0-clause-facts : goal.returns-else-len-gt0-clause-facts
 returns-else-len-gt0-clause-facts c =
     let entered = on_topic (goal.at.returns-else-len-gt0-clause-facts c).After-len in
     let none : docs_at c.self.inside.board c.args.run c.args.number ≡ None = ap (λ (v : TopicsView). docs_at v.board c.args.run c.args.number) c.self.view_is ∙ c.requires.is_new.on_board in
-    entered-facts entered c.self.inside.board (list-none entered (omega (arith, c.len.ensures.len, c.if-len-gt0.false)) none) refl ∙ ap (after_list c.args.number c.args.run c.args.list) (ap told c.self.view_is)
+    entered-facts entered c.self.inside.board (list-none c.self.inside.board c.args.number c.args.run c.args.list (omega (arith, c.len.ensures.len, c.if-len-gt0.false)) none) refl ∙ ap (after_list c.args.number c.args.run c.args.list) (ap told c.self.view_is)

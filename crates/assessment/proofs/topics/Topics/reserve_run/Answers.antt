@@ -33,4 +33,4 @@ returns-clause-ok c =
     let asked : length c.args.lists.now ≡ length all.topics.items = c.requires.as_many ∙ ap (λ (v : TopicsView). length v.topics) (sym c.self.view_is) in
     let as_many : length c.args.lists.now ≡ length new = asked ∙ sym (c.reserve_places.auto.topics ∙ ap length c.deref_mut.ensures.value) in
     subst (λ (topics : List TopicView). OnOk c.reserve_lists.result (HasRooms c.args.lists.now topics board)) (sym (with_items_is all.topics new long))
-    (on-ok c.reserve_lists.result (λ rooms. record { as_many = as_many; on_topics = c.in_ok-reserve_places.ensures.room; on_board = rooms }) c.reserve_lists.ensures.ok)
+    (on-ok c.reserve_lists.result (λ rooms. record { on_topics = record { as_many = as_many; on_topics = c.in_ok-reserve_places.ensures.room }; on_board = rooms }) c.reserve_lists.ensures.ok)

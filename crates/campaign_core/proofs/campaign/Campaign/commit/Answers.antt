@@ -1,7 +1,7 @@
 use Rattle.std.proofs.Common.{◌≡◌, ◌+◌, ◌≤◌, ◌++◌, ◌∷◌, [], ℕ, Option, ap, arith, subst, ◌∙◌, refl}
 use Rattle.std.proofs.lemmas.Int.{ints}
 use Rattle.std.specs.Prelude.{IfSome}
-use Rattle.assessment.specs.Changes.{after, facts}
+use Rattle.assessment.specs.Changes.{Facts, after, facts}
 use Rattle.assessment.specs.Costs.{change_steps}
 use Rattle.assessment.specs.declared.change.Change.{Change}
 use Rattle.rulebook.specs.declared.entry.Entry.{Entry}
@@ -9,6 +9,7 @@ use Rattle.rulebook.specs.Campaign.{History, line_count}
 use Rattle.campaign_core.specs.Growth.{lists_in}
 use Rattle.campaign_core.specs.Numbers.{names_of}
 use Rattle.campaign_core.specs.Submissions.{AreSubmissions}
+use Rattle.campaign_core.proofs.Entries.BoardSteps.{stays-on}
 use Rattle.campaign_core.proofs.Entries.CommitCosts.{change-within, have-lists, live_numbers}
 use Rattle.campaign_core.proofs.Entries.Commits.{Laws, carried-out, known-after, lines-fit}
 use Rattle.campaign_core.proofs.campaign.Campaign.commit.Goals as goal
@@ -58,3 +59,11 @@ returns-clause-cost g c =
     (c.commit.ensures.cost (live_numbers H) (have-lists H known c.requires.known.assessed)) in
     let within = change-within H known c.requires.known.assessed (names_of (H ++ e ∷ [])) e ready.change ready.carries_out in
     omega (arith, took, within)
+
+pub returns-clause-on_board : goal.returns-clause-on_board
+returns-clause-on_board g c =
+    let s = c.args.self.now in
+    let ready = c.requires.ready in
+    let facts_are : facts c.commit.new.self ≡ after ready.change (facts s.assessment) =
+    subst (λ (o : Option Change). IfSome o (λ change. facts c.commit.new.self ≡ after change (facts s.assessment))) ready.awaits.waits c.commit.ensures.facts in
+    ap (λ (known : Facts). known.on_board) facts_are ∙ stays-on ready.change (facts s.assessment)

@@ -1,11 +1,11 @@
 use Rattle.std.proofs.Common.{rules}
 use Rattle.assessment.specs.Changes.{facts}
-use Rattle.campaign_core.proofs.Entries.ReadyEntries.{founded-assessed, founded-legal, founded-runs, founded-submissions, founded-unjudged}
+use Rattle.campaign_core.proofs.Entries.ReadyEntries.{founded-assessed, founded-legal, founded-runs, founded-submissions, founded-unjudged, is-begun}
 use Rattle.campaign_core.proofs.campaign.Campaign.found.Goals as goal
 
 pub returns-clause-known : goal.returns-clause-known
 returns-clause-known c = record {
-  legal = founded-legal c.push.new.self.items c.args.rules (search rules) c.requires;
+  legal = founded-legal c.push.new.self.items c.args.rules (search rules) c.requires.rules;
   phase_is = search rules;
   moment_fits = search rules;
   entries_fit = search rules;
@@ -16,6 +16,6 @@ returns-clause-known c = record {
   submissions_are = founded-submissions c.push.new.self.items c.args.rules _ (search rules) (search rules);
   runs_known = founded-runs c.push.new.self.items c.args.rules (search rules);
   lines_are = search rules;
-  assessed = founded-assessed c.push.new.self.items c.args.rules (facts c.in_ok-assessment.assessment) (search rules) c.in_ok-assessment.ensures.facts;
-  unjudged = λ collecting. founded-unjudged c.push.new.self.items c.args.rules (facts c.in_ok-assessment.assessment) (search rules) c.in_ok-assessment.ensures.facts;
+  assessed = founded-assessed c.push.new.self.items c.args.rules (facts c.args.assessment) (search rules) (is-begun (facts c.args.assessment) c.requires.no_topics c.requires.no_leases);
+  unjudged = λ collecting. founded-unjudged c.push.new.self.items c.args.rules (facts c.args.assessment) (search rules) (is-begun (facts c.args.assessment) c.requires.no_topics c.requires.no_leases);
 }

@@ -2,10 +2,12 @@ use Rattle.std.proofs.Common.{◌≡◌, ◌∙◌, ap, arith, length, map, subs
 use Rattle.std.proofs.lemmas.List.{length-map}
 use Rattle.std.proofs.lemmas.Slice.Zip.{AllZip-long}
 use Rattle.score_index.specs.Standing.{StandsAt, StandsFor}
+use Rattle.assessment.specs.Changes.{facts}
 use Rattle.assessment.specs.TopicFacts.{facts_of, graded_of}
-use Rattle.assessment.specs.TopicsFacts.{TopicsView}
+use Rattle.assessment.specs.TopicsFacts.{TopicsFacts, TopicsView, told}
 use Rattle.campaign_core.specs.Lendings.{IsBoardOf}
 use Rattle.campaign_core.specs.Numbers.{names_of}
+use Rattle.campaign_core.specs.Scoring.{AreListed}
 use Rattle.campaign_core.specs.Seen.{Seen}
 use Rattle.campaign_core.specs.Topics.{kept, kept_of, topic_ids}
 use Rattle.campaign_core.proofs.Printed.KnownRuns.{board-of, listed-at}
@@ -16,8 +18,10 @@ returns-clause-board c =
     let H = c.self.inside.campaign.history.items in
     let all = c.self.inside.campaign.assessment.topics in
     let known = c.self.invariant.known.assessed in
+    let told_is : (facts c.self.inside.campaign.assessment).topics ≡ told all = c.topics.ensures.lists c.self.invariant.on_board ∙ ap told c.topics.ensures.topics in
+    let listed = subst (λ (facts : TopicsFacts). AreListed H (names_of H) facts.lists) told_is (listed-at H (names_of H) _ known.lists_are) in
     subst (λ (s : Seen). IsBoardOf s.history c.board.result.now) c.self.view_is
-    (board-of H all c.board.result.now c.self.inside.campaign.assessment.leases known.knows known.levels_are (listed-at H (names_of H) _ known.lists_are)
+    (board-of H all c.board.result.now c.self.inside.campaign.assessment.leases known.knows known.levels_are listed
     (c.board.ensures.board ∙ ap (λ (topics : TopicsView). topics.board) c.topics.ensures.topics)
     (subst (λ (topics : TopicsView). StandsFor c.board.result.now (map graded_of topics.topics)) c.topics.ensures.topics c.board.ensures.stands))
 

@@ -4,8 +4,8 @@ use Rattle.campaign_core.specs.declared.state.State.TheInside.{Inside}
 use Rattle.campaign_core.proofs.Entries.KeptStates.{idle-of, kept-idle, names-cut, names-kept, numbers-begin, unchanged}
 use Rattle.campaign_core.proofs.state.State.tell.Goals as goal
 
-pub told-requires : goal.told-requires
-told-requires c = record { known = c.self.invariant.known; docnos_are = c.cut.ensures ∙ names-cut c.self.inside c.self.invariant }
+pub told-requires-clause-known : goal.told-requires-clause-known
+told-requires-clause-known c = record { known = c.self.invariant.known; docnos_are = c.cut.ensures ∙ names-cut c.self.inside c.self.invariant }
 
 pub invariant_of-self : goal.invariant_of-self
 invariant_of-self c =

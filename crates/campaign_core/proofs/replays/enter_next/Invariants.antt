@@ -1,5 +1,5 @@
--- The ledger that is committed is the blank's.
-use Rattle.book.proofs.record_entries.add_at.Given as goal
+-- The ledger of the commit is the blank's.
+use Rattle.campaign_core.proofs.replays.enter_next.Given as goal
 
 abbrev pub ghosts-commit : goal.ghosts-commit
 ghosts-commit a = record { name = a.blank.name; parts = a.blank.parts }
