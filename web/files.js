@@ -24,10 +24,14 @@ export async function chosenText(field) {
     tell(file === undefined ? texts.file.none : texts.file.tooLong, "refused");
     return null;
   }
+  return textOf(file);
+}
+
+/** The text of a file, or null where it was written since it was chosen, which is told. */
+export async function textOf(file) {
   try {
     return await file.text();
   } catch {
-    // a file that was written since it was chosen
     tell(texts.file.changed, "refused");
     return null;
   }

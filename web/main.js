@@ -4,6 +4,7 @@ import * as assess from "./assess.js";
 import { askAgain, giveUp, goOn, isBusy, leftOver, listen, query } from "./client.js";
 import { tell } from "./dialogs.js";
 import { button, el, form, labelled, plainText } from "./elements.js";
+import { setUpFrame } from "./frame.js";
 import * as organise from "./organise.js";
 import * as release from "./release.js";
 import { drop, dropAll, keep, kept } from "./session.js";
@@ -160,23 +161,8 @@ function found() {
 
 // ---- the beginning
 
-// A key that is held down presses no button again, and sends no form.
-function pressOnce(event) {
-  const isPress = event.key === "Enter" || event.key === " ";
-  if (event.repeat && isPress && event.target.closest("button, input, select, summary, a") !== null) {
-    event.preventDefault();
-  }
-}
-
 async function begin() {
-  for (const element of document.querySelectorAll("[data-text]")) {
-    element.textContent = texts[element.dataset.text];
-  }
-  document.querySelector(".skip").addEventListener("click", (event) => {
-    event.preventDefault();
-    main.focus();
-  });
-  document.addEventListener("keydown", pressOnce, { capture: true });
+  setUpFrame();
   listen({ lost, found, keyRefused });
   addEventListener("hashchange", () => showView(true));
   await readSettings();

@@ -15,7 +15,8 @@ let place = null;
 /** Shows the view in an element. */
 export async function show(main) {
   place = el("div");
-  main.append(el("h1", {}, texts.release.heading), place);
+  const others = el("p", {}, el("a", { href: "archive.html" }, texts.release.archive));
+  main.append(el("h1", {}, texts.release.heading), place, others);
   await look();
 }
 

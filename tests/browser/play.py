@@ -9,6 +9,7 @@ import subprocess
 import sys
 import time
 
+import archive
 import checks
 from checks import has, holds, same
 from page import Keys, Page
@@ -440,8 +441,23 @@ def campaign_is_published(campaign):
 def nothing_more_was_done(campaign):
     """The journal has README's commands and no more, though answers were lost and keys pressed twice."""
     campaign.server.kill()
-    told = campaign.server.checked().splitlines()
+    told = campaign.server.told("check").splitlines()
     same("the journal", told[:2], ["entries 50", "phase published"])
+
+
+def archive_is_drawn(campaign):
+    """The page of the archive: over files that are made here, and over what the program prints of README's release."""
+    page, city, server = campaign.page, campaign.city, campaign.server
+    archive.draws(page, f"{campaign.front.address}/web/", campaign.file, campaign.looks)
+    same("the archived release", server.told("archive", "trec-2026"), "archived trec-2026\n")
+    archive.draws_real(page, campaign.file, server.told("history", "city.prf"), server.told("export"))
+    city.here()
+    page.click("a", "Releases of other years")
+    page.found("h1", "Archive")
+    page.settled()
+    page.click("nav a", "The campaign")
+    page.found("h1")
+    same("what the tab keeps", page.kept()["campaign.role"], '"group"')
 
 
 # ---- a campaign whose leases end soon
@@ -594,6 +610,7 @@ def play(program, folder, pictures):
         organiser_rules(campaign)
         campaign_is_published(campaign)
         nothing_more_was_done(campaign)
+        archive_is_drawn(campaign)
         second_campaign(campaign)
         ben = one_document_at_once(campaign)
         leases_end(campaign)
@@ -606,7 +623,7 @@ def play(program, folder, pictures):
         campaign.end()
     shots = len(campaign.page.shots)
     same("documents that were graded by one key each", by_keys, 13)
-    same("screenshots", shots, 35)
+    same("screenshots", shots, 39)
     holds(f"enough was tried: {checks.tried} checks", checks.tried >= 310)
     print(f"tests/web: {by_keys} documents were graded by as many keys, checks: {checks.tried}")
     print(f"tests/web: {shots} screenshots are in {pictures}")

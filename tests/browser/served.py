@@ -81,9 +81,9 @@ class Server:
         self.process.kill()
         self.process.wait()
 
-    def checked(self):
-        """What `check` tells of the journal, while no server has it."""
-        ran = subprocess.run([self.program, "check"], cwd=self.folder, stdout=subprocess.PIPE, check=True)
+    def told(self, *words):
+        """What a call of the program prints in this folder; one that asks the journal is made while no server has it."""
+        ran = subprocess.run([self.program, *words], cwd=self.folder, stdout=subprocess.PIPE, check=True)
         return ran.stdout.decode()
 
     def asked(self, path, key, body=None):
