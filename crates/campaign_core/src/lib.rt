@@ -7,6 +7,7 @@ mod docnos;
 mod laws;
 mod pages;
 mod pools;
+mod preparations;
 mod queries;
 mod replays;
 mod request_numbers;

@@ -10,8 +10,9 @@ ghost use Rattle.campaign_core.specs.NumberedRequests.{numbers_of};
 ghost use Rattle.campaign_core.specs.Replays.{EntersCore, IsNext, MayFollow};
 
 use crate::campaign::Campaign;
+use crate::preparations::prepared;
 use crate::request_numbers::RequestNumbers;
-use crate::state::{State, prepared};
+use crate::state::State;
 use assessment::Assessment;
 use decimal_rank::{Memory, Names, Steps};
 use rulebook::{Entry, EntryCore, MAX_ENTRIES, Rules};

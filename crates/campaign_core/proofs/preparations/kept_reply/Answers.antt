@@ -2,7 +2,7 @@ use Rattle.std.proofs.Common.{◌≡◌, ◌∙◌, None, Option, Some, ap, sym}
 use Rattle.rulebook.specs.declared.reply.Reply.{Reply}
 use Rattle.campaign_core.specs.NumberedRequests.{numbers_of, place_of}
 use Rattle.campaign_core.proofs.Numbers.UsedNumbers.{no-reply, reply-again, reply_by, used-at, within-at}
-use Rattle.campaign_core.proofs.state.kept_reply.Goals as goal
+use Rattle.campaign_core.proofs.preparations.kept_reply.Goals as goal
 
 pub returns-in_default-2 : goal.returns-in_default-2
 returns-in_default-2 c =

@@ -10,8 +10,8 @@ use Rattle.campaign_core.proofs.Entries.FittingChanges.{fits}
 use Rattle.campaign_core.proofs.Entries.KeptStates.{unchanged}
 use Rattle.campaign_core.proofs.Entries.ReadyEntries.{prepared-entry}
 use Rattle.campaign_core.proofs.Numbers.UsedNumbers.{unused-kept}
-use Rattle.campaign_core.proofs.state.decided.Goals.{After-len}
-use Rattle.campaign_core.proofs.state.decided.Goals as goal
+use Rattle.campaign_core.proofs.preparations.decided.Goals.{After-len}
+use Rattle.campaign_core.proofs.preparations.decided.Goals as goal
 
 pub decide-requires : goal.decide-requires
 decide-requires c = record { asked = record { asked = c.requires.new.asked; command_is = refl }; names = c.requires.new.names_are }

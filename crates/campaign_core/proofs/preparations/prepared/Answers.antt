@@ -2,7 +2,7 @@ use Rattle.std.proofs.Common.{◌≡◌, None, subst, sym}
 use Rattle.campaign_core.specs.Decisions.{IsNew}
 use Rattle.campaign_core.specs.Kept.{IsUnchanged}
 use Rattle.campaign_core.specs.declared.campaign.Campaign.{Campaign}
-use Rattle.campaign_core.proofs.state.prepared.Goals as goal
+use Rattle.campaign_core.proofs.preparations.prepared.Goals as goal
 
 pub decided-requires-clause-new : goal.decided-requires-clause-new
 decided-requires-clause-new c = subst (λ (campaign : Campaign). IsNew campaign c.args.docnos.now c.args.numbers.now c.args.core) (sym c.lead_fronts.ensures) c.requires.new
