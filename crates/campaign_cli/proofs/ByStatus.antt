@@ -17,10 +17,11 @@ use Rattle.drill.specs.Summaries.{summary_of}
 use Rattle.drill.specs.declared.numbers.DrillNumbers.{DrillNumbers}
 use Rattle.eval.specs.Evaluations.{IsReport, IsInputFault}
 use Rattle.eval.specs.Findings.{AreExclusive}
-use Rattle.campaign_cli.specs.BookEnds.{TellsFault, Unopened, entry_line, header_line, not_begun, not_opened, rules_line, settings_file, settings_line, settings_refused, settings_unread}
-use Rattle.campaign_cli.specs.CheckEnds.{CheckWay, check_text, checked, unshown, untold}
+use Rattle.campaign_cli.specs.BookEnds.{GivesSettings, TellsFault, Unopened, entry_line, header_line, not_begun, not_opened, rules_line, settings_file, settings_line, settings_refused, settings_unread}
+use Rattle.campaign_cli.specs.BookKinds.{CanOpen, IsBookRefusal, TellsSettings}
+use Rattle.campaign_cli.specs.CheckEnds.{CheckWay, Tells, check_text, shown, unshown}
 use Rattle.campaign_cli.specs.DrillEnds.{DrillWay, played, unplayed}
-use Rattle.campaign_cli.specs.Endings.{Ends}
+use Rattle.campaign_cli.specs.Endings.{Ends, kind_of}
 use Rattle.campaign_cli.specs.EvalEnds.{EvalWay, scored, refused, unread, short}
 use Rattle.campaign_cli.specs.Outside.{Outside, Streams, Prints, Misses}
 use Rattle.campaign_cli.specs.Requests.{Request, Eval, Session, Serve, Drill, Check, Nothing, usage_line}
@@ -29,7 +30,7 @@ use Rattle.campaign_cli.specs.ServeEnds.{status_of as serve_status}
 use Rattle.campaign_cli.specs.SessionEnds.{Holds, SessionWay, held, unheld, status_of}
 use Rattle.campaign_settings.specs.Settings.{settings_of}
 use Rattle.campaign_cli.specs.Shelves.{Follows, ShelfState}
-use Rattle.campaign_cli.specs.Statuses.{GivesSettings, Cause, Done, Usage, Input, File, Disk, Door, Memory, Output, Damaged, Link, Cut, number_of, Says, CanDo, CanOpen, HasDamage, HasOtherRules, HasToRefuse, IsBookRefusal, IsCalm, IsCut, IsDamage, IsMissing, IsOutput, IsRefusal, IsSaid, IsUnopened, NeedsBook, NeedsDoor, NeedsFiles, Statuses, TellsSettings}
+use Rattle.campaign_cli.specs.Statuses.{Cause, Done, Usage, Input, File, Disk, Door, Memory, Output, Damaged, Link, Cut, number_of, Says, HasDamage, HasOtherRules, IsCalm, IsCut, IsDamage, IsSaid, IsUnopened, Statuses}
 use Rattle.campaign_cli.specs.UsageEnds.{UsageWay, told, untold as unasked}
 use Rattle.campaign_cli.proofs.ToldDisks.{Opening, check_opening, damage_told, none_opened, others_told, serve_opening, session_opening, settings_told}
 use Rattle.campaign_cli.proofs.ToldFiles.{not_both_missed, prints_whole, told_both}
@@ -80,23 +81,23 @@ module _ {D : Type 0} (seen : D → DiskState) where
         by (inl all) = record { cause = cause; status_is = all.0; says = whole all.1; later = prints.later }
         by (inr part) = record { cause = Output; status_is = part.0; says = inl (part.1, (text, said, part.2)); later = prints.later }
 
-    done : (text : List ℕ) → IsOutput seen request old new text → Prints old.streams.out new.streams.out text 0 status → Told request old new status
+    done : (text : List ℕ) → (kind_of seen request).output old new text → Prints old.streams.out new.streams.out text 0 status → Told request old new status
     done text is prints = printed text Done prints (inl is) (λ all. inl (text, is, all))
 
-    refuses : (text : List ℕ) → IsRefusal seen request old new text → Prints old.streams.out new.streams.out text 3 status → Told request old new status
+    refuses : (text : List ℕ) → (kind_of seen request).refusal old new text → Prints old.streams.out new.streams.out text 3 status → Told request old new status
     refuses text is prints = printed text Input prints (inr (inl is)) (λ all. (text, is, all))
 
     damages : (text : List ℕ) → IsDamage seen request old new text → Prints old.streams.out new.streams.out text 9 status → Told request old new status
     damages text is prints = printed text Damaged prints (inr (inr (inl is))) (λ all. (text, is, all))
 
     -- why there is no campaign, where the command keeps one
-    none_told : NeedsBook request → (Misses old.streams.shelf new.streams.shelf settings_file → IsMissing request old.streams.shelf new.streams.shelf)
-        → ((text : List ℕ) → IsBookRefusal seen request old new text → IsRefusal seen request old new text)
+    none_told : (kind_of seen request).keeps_book → (Misses old.streams.shelf new.streams.shelf settings_file → (kind_of seen request).misses old new)
+        → ((text : List ℕ) → IsBookRefusal seen old new text → (kind_of seen request).refusal old new text)
         → Unopened seen old new status → Told request old new status
-    none_told needs misses refusal (settings_refused text gives none prints kept) = refuses settings_line (refusal settings_line (inl ((refl, (text, gives, none)), kept))) prints
+    none_told needs misses refusal (settings_refused none prints kept) = refuses settings_line (refusal settings_line (inl (refl, none, kept))) prints
     none_told needs misses refusal (settings_unread missed same kept e) = silent File e (misses missed, same, kept) same
     none_told needs misses refusal (not_begun same kept e) = silent Memory e same same
-    none_told needs misses refusal (not_opened text settings gives is given_up) = by given_up.why given_up.refused given_up.told
+    none_told needs misses refusal (not_opened (text, settings, gives, is, given_up)) = by given_up.why given_up.refused given_up.told
       where
         none : (why : BookFault) → Refused seen settings.rules old.disk new.disk why → IsUnopened seen request old new why
         none why r = (needs, (text, settings, gives, is, r))
@@ -105,8 +106,8 @@ module _ {D : Type 0} (seen : D → DiskState) where
         by fault.Disk r tells = silent Disk tells.1 (none fault.Disk r, tells.0) tells.0
         by fault.Header r prints = damages header_line (inl (refl, none fault.Header r)) prints
         by (fault.Damaged entry) r (inl prints) = damages (entry_line entry) (inr (entry, refl, none (fault.Damaged entry) r)) prints
-        by (fault.Damaged entry) r (inr short_of) = silent Memory short_of.1 short_of.0 short_of.0
-        by fault.RulesDiffer r prints = refuses rules_line (refusal rules_line (inr (refl, none fault.RulesDiffer r))) prints
+        by (fault.Damaged entry) r (inr untold) = silent Memory untold.1 untold.0 untold.0
+        by fault.RulesDiffer r prints = refuses rules_line (refusal rules_line (inr (refl, (text, settings, gives, is, r)))) prints
         by fault.Memory r tells = silent Memory tells.1 tells.0 tells.0
 
   eval_told : (run qrels : List ℕ) (old new : Outside D) (status : ℕ) → EvalWay run qrels old.streams new.streams status → new.disk ≡ old.disk → Told (Eval run qrels) old new status
@@ -117,7 +118,7 @@ module _ {D : Type 0} (seen : D → DiskState) where
 
   session_told : (old new : Outside D) (status : ℕ) → SessionWay seen old new status → Told Session old new status
   session_told old new status (unheld none own) = none_told Session old new status tt (λ missed. missed) (λ text is. is) none
-  session_told old new status (held text settings how gives is holds same e) = by how (text, settings, gives, is, holds) e
+  session_told old new status (held how gives same e) = by how gives e
     where
       by : (h : End) → GivesSettings old.streams.shelf (λ settings. Holds seen settings old new h) → status ≡ status_of h → Told Session old new status
       by end.Ended w is = silent Session old new status Done is (inr (inl (refl, same, w))) same
@@ -130,7 +131,7 @@ module _ {D : Type 0} (seen : D → DiskState) where
 
   serve_told : (numbers : ServerNumbers) (old new : Outside D) (status : ℕ) → ServeWay seen numbers old new status → Told (Serve numbers) old new status
   serve_told numbers old new status (unserved none door) = none_told (Serve numbers) old new status tt (λ missed. missed) (λ text is. is) none
-  serve_told numbers old new status (served text settings how gives is serves same e) = by how (text, settings, gives, is, serves) e
+  serve_told numbers old new status (served how gives same e) = by how gives e
     where
       by : (h : ServeEnd) → GivesSettings old.streams.shelf (λ settings. Served seen settings numbers old new h) → status ≡ serve_status h → Told (Serve numbers) old new status
       by serve_end.Ended w is = silent (Serve numbers) old new status Done is (inr (inr (numbers, refl, same, w))) same
@@ -139,9 +140,11 @@ module _ {D : Type 0} (seen : D → DiskState) where
 
   check_told : (old new : Outside D) (status : ℕ) → CheckWay seen old new status → Told Check old new status
   check_told old new status (unshown none) = none_told Check old new status tt (λ missed. missed) (λ text is. is) none
-  check_told old new status (checked text settings book gives is shows prints) =
-      done Check old new status (check_text book.history) (text, settings, gives, is, (book, shows, refl)) prints
-  check_told old new status (untold text settings book gives is shows same e) = silent Check old new status Memory e same same
+  check_told old new status (shown (text, settings, gives, is, (book, shows, tells))) = by tells
+    where
+      by : Tells book.history old.streams.out new.streams.out status → Told Check old new status
+      by (inl prints) = done Check old new status (check_text book.history) (text, settings, gives, is, (book, shows, refl)) prints
+      by (inr untold) = silent Check old new status Memory untold.1 untold.0 untold.0
 
   drill_told : (numbers : DrillNumbers) (old new : Outside D) (status : ℕ) → DrillWay numbers old.streams new.streams status → Told (Drill numbers) old new status
   drill_told numbers old new status (played H plays prints) = done (Drill numbers) old new status (summary_of numbers H) (H, plays, refl) prints
@@ -157,7 +160,7 @@ module _ {D : Type 0} (seen : D → DiskState) where
   IsComplete request old new status = (status ≡ 0) ⊎ ((status ≡ 7) ⊎ ((status ≡ 11) × IsCut seen request old new))
 
   module _ (exclusive : AreExclusive) (run qrels : List ℕ) (old new : Outside D) (status : ℕ) (calm : IsCalm seen old new) where
-    eval_complete : CanDo seen (Eval run qrels) old → EvalWay run qrels old.streams new.streams status → IsComplete (Eval run qrels) old new status
+    eval_complete : (kind_of seen (Eval run qrels)).can_do old → EvalWay run qrels old.streams new.streams status → IsComplete (Eval run qrels) old new status
     eval_complete can (scored r q text gr gq report prints) = inl (prints_whole old.streams.out new.streams.out text 0 status prints calm.out)
     eval_complete can (refused r q line gr gq fault prints) =
         let report = told_both old.streams.shelf run qrels r q (λ r q. (text : List ℕ) × IsReport run r q text) can gr gq in
@@ -166,7 +169,7 @@ module _ {D : Type 0} (seen : D → DiskState) where
         absurd (not_both_missed old.streams.shelf new.streams.shelf run qrels (λ r q. (text : List ℕ) × IsReport run r q text) can calm.shelf missed)
     eval_complete can (short same e) = inr (inl e)
 
-    eval_refused : HasToRefuse seen (Eval run qrels) old → EvalWay run qrels old.streams new.streams status → (status ≡ 3) ⊎ (status ≡ 7)
+    eval_refused : (kind_of seen (Eval run qrels)).has_to_refuse old → EvalWay run qrels old.streams new.streams status → (status ≡ 3) ⊎ (status ≡ 7)
     eval_refused has (scored r q text gr gq report prints) =
         let fault = told_both old.streams.shelf run qrels r q (λ r q. (line : List ℕ) × IsInputFault run qrels r q line) has gr gq in
         absurd (exclusive run qrels r q text fault.0 report fault.1)
@@ -178,7 +181,7 @@ module _ {D : Type 0} (seen : D → DiskState) where
   module _ (old new : Outside D) (status : ℕ) (calm : IsCalm seen old new) where
     session_complete : CanOpen seen old → SessionWay seen old new status → IsComplete Session old new status
     session_complete can (unheld none own) = inr (inl (none_opened seen old new status calm can none))
-    session_complete can (held text settings how gives is holds same e) = by how (text, settings, gives, is, holds) e
+    session_complete can (held how gives same e) = by how gives e
       where
         by : (h : End) → GivesSettings old.streams.shelf (λ settings. Holds seen settings old new h) → status ≡ status_of h → IsComplete Session old new status
         by end.Ended w is = inl is
@@ -191,7 +194,7 @@ module _ {D : Type 0} (seen : D → DiskState) where
 
     serve_complete : (numbers : ServerNumbers) → CanOpen seen old → ServeWay seen numbers old new status → IsComplete (Serve numbers) old new status
     serve_complete numbers can (unserved none door) = inr (inl (none_opened seen old new status calm can none))
-    serve_complete numbers can (served text settings how gives is serves same e) = by how (text, settings, gives, is, serves) e
+    serve_complete numbers can (served how gives same e) = by how gives e
       where
         by : (h : ServeEnd) → GivesSettings old.streams.shelf (λ settings. Served seen settings numbers old new h) → status ≡ serve_status h → IsComplete (Serve numbers) old new status
         by serve_end.Ended w is = inl is
@@ -200,9 +203,9 @@ module _ {D : Type 0} (seen : D → DiskState) where
 
     check_complete : CanOpen seen old → CheckWay seen old new status → IsComplete Check old new status
     check_complete can (unshown none) = inr (inl (none_opened seen old new status calm can none))
-    check_complete can (checked text settings book gives is shows prints) =
+    check_complete can (shown (text, settings, gives, is, (book, shows, inl prints))) =
         inl (prints_whole old.streams.out new.streams.out (check_text book.history) 0 status prints calm.out)
-    check_complete can (untold text settings book gives is shows same e) = inr (inl e)
+    check_complete can (shown (text, settings, gives, is, (book, shows, inr untold))) = inr (inl untold.1)
 
     drill_complete : (numbers : DrillNumbers) → DrillWay numbers old.streams new.streams status → IsComplete (Drill numbers) old new status
     drill_complete numbers (played H plays prints) = inl (prints_whole old.streams.out new.streams.out (summary_of numbers H) 0 status prints calm.out)
@@ -212,9 +215,9 @@ module _ {D : Type 0} (seen : D → DiskState) where
   record Keeps (request : Request) (old new : Outside D) : Type 0 where
     shelf : Follows old.streams.shelf new.streams.shelf
     own : request ≢ Session → new.streams.own ≡ old.streams.own
-    no_file : ¬ (NeedsFiles request) → new.streams.shelf ≡ old.streams.shelf
-    no_door : ¬ (NeedsDoor request) → new.streams.door ≡ old.streams.door
-    no_disk : ¬ (NeedsBook request) → new.disk ≡ old.disk
+    no_file : ¬ ((kind_of seen request).reads_files) → new.streams.shelf ≡ old.streams.shelf
+    no_door : ¬ ((kind_of seen request).takes_links) → new.streams.door ≡ old.streams.door
+    no_disk : ¬ ((kind_of seen request).keeps_book) → new.disk ≡ old.disk
 
   -- it leaves all but the output
   keeps_all : (request : Request) (old new : Outside D) → new.streams ≡ record old.streams { out = new.streams.out } → new.disk ≡ old.disk → Keeps request old new
@@ -233,8 +236,8 @@ module _ {D : Type 0} (seen : D → DiskState) where
       }
 
   module _ (request : Request) (old new : Outside D) (status : ℕ) (w : Told request old new status) (keeps : Keeps request old new)
-      (complete : IsCalm seen old new → CanDo seen request old → IsComplete request old new status) where
-    statuses : (IsCalm seen old new → HasToRefuse seen request old → (status ≡ 3) ⊎ (status ≡ 7))
+      (complete : IsCalm seen old new → (kind_of seen request).can_do old → IsComplete request old new status) where
+    statuses : (IsCalm seen old new → (kind_of seen request).has_to_refuse old → (status ≡ 3) ⊎ (status ≡ 7))
         → (IsCalm seen old new → HasDamage seen request old → (status ≡ 9) ⊎ (status ≡ 7))
         → (IsCalm seen old new → HasOtherRules seen request old → ((status ≡ 3) × Appends old.streams.out.written new.streams.out.written rules_line) ⊎ (status ≡ 7))
         → Statuses seen request old new status
@@ -253,10 +256,10 @@ module _ {D : Type 0} (seen : D → DiskState) where
       no_disk = keeps.no_disk;
     }
 
-    without_book : ¬ (NeedsBook request) → (IsCalm seen old new → HasToRefuse seen request old → (status ≡ 3) ⊎ (status ≡ 7)) → Statuses seen request old new status
+    without_book : ¬ ((kind_of seen request).keeps_book) → (IsCalm seen old new → (kind_of seen request).has_to_refuse old → (status ≡ 3) ⊎ (status ≡ 7)) → Statuses seen request old new status
     without_book none refusing = statuses refusing (λ calm has. absurd (none has.0)) (λ calm has. absurd (none has.0))
 
-    with_book : Opening seen old new status → (HasToRefuse seen request old → TellsSettings old.streams.shelf (λ bytes. settings_of bytes ≡ None))
+    with_book : Opening seen old new status → ((kind_of seen request).has_to_refuse old → TellsSettings old.streams.shelf (λ bytes. settings_of bytes ≡ None))
         → Statuses seen request old new status
     with_book opening settings = statuses (λ calm has. settings_told seen old new status calm (settings has) opening)
         (λ calm has. damage_told seen old new status calm has.1 opening) (λ calm has. others_told seen old new status calm has.1 opening)
@@ -280,7 +283,7 @@ module _ {D : Type 0} (seen : D → DiskState) where
         shelf = ends.shelf;
         own = λ other. absurd (other refl);
         no_file = λ other. absurd (other tt);
-        no_door = λ other. ends.door;
+        no_door = λ other. ap (λ (w : Streams). w.door) ends.rest;
         no_disk = λ other. absurd (other tt);
       })
       (λ calm can. session_complete old new status calm can ends.way) (session_opening seen old new status ends.way) (λ has. has)
@@ -288,7 +291,7 @@ module _ {D : Type 0} (seen : D → DiskState) where
       with_book (Serve numbers) old new status (serve_told numbers old new status ends.way)
       (record {
         shelf = ends.shelf;
-        own = λ other. ends.own;
+        own = λ other. ap (λ (w : Streams). w.own) ends.rest;
         no_file = λ other. absurd (other tt);
         no_door = λ other. absurd (other tt);
         no_disk = λ other. absurd (other tt);
@@ -301,9 +304,9 @@ module _ {D : Type 0} (seen : D → DiskState) where
       with_book Check old new status (check_told old new status ends.way)
       (record {
         shelf = ends.shelf;
-        own = λ other. ends.own;
+        own = λ other. ap (λ (w : Streams). w.own) ends.rest;
         no_file = λ other. absurd (other tt);
-        no_door = λ other. ends.door;
+        no_door = λ other. ap (λ (w : Streams). w.door) ends.rest;
         no_disk = λ other. absurd (other tt);
       })
       (λ calm can. check_complete old new status calm can ends.way) (check_opening seen old new status ends.way) (λ has. has)

@@ -67,7 +67,7 @@ module _ {D : Type 0} (seen : D → DiskState) where
     where
       by : SessionWay seen old new status → ((status ≡ 7) × (new.streams.own ≡ old.streams.own)) ⊎ IsAnswered seen old new status
       by (unheld none own) = inl (none_opened seen old new status calm can none, own)
-      by (held text settings how gives is holds same status_is) =
+      by (held how (text, settings, gives, is, holds) same status_is) =
           let before = old.streams.own in
           let after = new.streams.own in
           let talks : List Said → Type 0 = IsSession seen settings.callers holds.opened before.clock holds.closed after.clock in

@@ -15,14 +15,15 @@ use Rattle.book.specs.OpeningLaws.{opens_or_memory, story_start}
 use Rattle.book.specs.Stories.{HasStory}
 use Rattle.campaign_server.specs.declared.numbers.ServerNumbers.{ServerNumbers}
 use Rattle.campaign_settings.specs.declared.settings.Settings.{Settings}
-use Rattle.campaign_cli.specs.BookEnds.{TellsFault, Unopened, entry_line, header_line, not_begun, not_opened, rules_line, settings_file, settings_line, settings_refused, settings_unread}
-use Rattle.campaign_cli.specs.CheckEnds.{CheckWay, checked, unshown, untold}
+use Rattle.campaign_cli.specs.BookEnds.{GivesSettings, TellsFault, Unopened, entry_line, header_line, not_begun, not_opened, rules_line, settings_file, settings_line, settings_refused, settings_unread}
+use Rattle.campaign_cli.specs.BookKinds.{CanOpen, TellsSettings}
+use Rattle.campaign_cli.specs.CheckEnds.{CheckWay, shown, unshown}
 use Rattle.campaign_cli.specs.Outside.{Outside}
 use Rattle.campaign_cli.specs.ServeEnds.{ServeWay, served, unserved}
 use Rattle.campaign_cli.specs.SessionEnds.{SessionWay, held, unheld}
 use Rattle.campaign_settings.specs.Settings.{settings_of}
 use Rattle.campaign_cli.specs.Shelves.{Gives}
-use Rattle.campaign_cli.specs.Statuses.{CanOpen, GivesSettings, IsCalm, IsDamaged, IsOfOthers, TellsDisk, TellsSettings}
+use Rattle.campaign_cli.specs.Statuses.{IsCalm, IsDamaged, IsOfOthers, TellsDisk}
 use Rattle.campaign_cli.proofs.ToldFiles.{not_missed, prints_all, prints_whole, told_settings}
 
 -- what was read of bytes that are told
@@ -63,16 +64,15 @@ module _ {D : Type 0} (seen : D → DiskState) where
 
   -- so it is with each command that keeps a campaign
   pub session_opening : (old new : Outside D) (status : ℕ) → SessionWay seen old new status → Opening old new status
-  session_opening old new status (held text settings how gives is holds same e) = inl (text, settings, gives, is, (holds.opened, holds.opens))
+  session_opening old new status (held how (text, settings, gives, is, holds) same e) = inl (text, settings, gives, is, (holds.opened, holds.opens))
   session_opening old new status (unheld none own) = inr none
 
   pub serve_opening : (numbers : ServerNumbers) (old new : Outside D) (status : ℕ) → ServeWay seen numbers old new status → Opening old new status
-  serve_opening numbers old new status (served text settings how gives is serves same e) = inl (text, settings, gives, is, (serves.opened, serves.opens))
+  serve_opening numbers old new status (served how (text, settings, gives, is, serves) same e) = inl (text, settings, gives, is, (serves.opened, serves.opens))
   serve_opening numbers old new status (unserved none door) = inr none
 
   pub check_opening : (old new : Outside D) (status : ℕ) → CheckWay seen old new status → Opening old new status
-  check_opening old new status (checked text settings book gives is shows prints) = inl (text, settings, gives, is, (book, shows.opens))
-  check_opening old new status (untold text settings book gives is shows same e) = inl (text, settings, gives, is, (book, shows.opens))
+  check_opening old new status (shown (text, settings, gives, is, (book, shows, tells))) = inl (text, settings, gives, is, (book, shows.opens))
   check_opening old new status (unshown none) = inr none
 
   module _ (old new : Outside D) (status : ℕ) (calm : IsCalm seen old new) where
@@ -87,11 +87,11 @@ module _ {D : Type 0} (seen : D → DiskState) where
 
         by : Opening old new status → (status ≡ 3) ⊎ (status ≡ 7)
         by (inl (text, settings, gives, is, opens)) = absurd (not_read text settings gives is)
-        by (inr (settings_refused text gives none prints kept)) = inl (prints_whole old.streams.out new.streams.out settings_line 3 status prints calm.out)
+        by (inr (settings_refused none prints kept)) = inl (prints_whole old.streams.out new.streams.out settings_line 3 status prints calm.out)
         by (inr (settings_unread missed same kept e)) =
             absurd (not_missed old.streams.shelf new.streams.shelf settings_file has.1 has.0 has.2 has.3 calm.shelf missed)
         by (inr (not_begun same kept e)) = inr e
-        by (inr (not_opened text settings gives is given_up)) = absurd (not_read text settings gives is)
+        by (inr (not_opened (text, settings, gives, is, given_up))) = absurd (not_read text settings gives is)
 
     -- with settings that are told and accepted there is no campaign for want of memory, or since the disk isn't opened under them
     module _ (settings : Settings) (told : TellsSettings old.streams.shelf (λ text. settings_of text ≡ Some settings)) where
@@ -103,13 +103,13 @@ module _ {D : Type 0} (seen : D → DiskState) where
       why_none : (P : Type 0) → (status ≡ 7 → P)
           → ((why : BookFault) → Refused seen settings.rules old.disk new.disk why → TellsFault why old.streams.out new.streams.out status → P)
           → Unopened seen old new status → P
-      why_none P short refused (settings_refused text gives none prints kept) =
+      why_none P short refused (settings_refused (text, gives, none) prints kept) =
           let both : None ≡ Some settings = sym none ∙ told_settings old.streams.shelf text (λ bytes. settings_of bytes ≡ Some settings) told gives in
           absurd (cc both)
       why_none P short refused (settings_unread missed same kept e) =
           absurd (not_missed old.streams.shelf new.streams.shelf settings_file told.1 told.0 told.2 told.3 calm.shelf missed)
       why_none P short refused (not_begun same kept e) = short e
-      why_none P short refused (not_opened text found gives is given_up) =
+      why_none P short refused (not_opened (text, found, gives, is, given_up)) =
           let same = one text found gives is in
           refused given_up.why (subst (λ (s : Settings). Refused seen s.rules old.disk new.disk given_up.why) same given_up.refused) given_up.told
 

@@ -7,7 +7,8 @@ use Rattle.decimal_rank.specs.Writings.{Writing}
 use Rattle.campaign_cli.specs.BookEnds.{settings_file}
 use Rattle.campaign_cli.specs.Outside.{Misses, Prints}
 use Rattle.campaign_cli.specs.Shelves.{Files, Gives, ShelfState, file_at}
-use Rattle.campaign_cli.specs.Statuses.{TellsBoth, TellsSettings}
+use Rattle.campaign_cli.specs.BookKinds.{TellsSettings}
+use Rattle.campaign_cli.specs.EvalEnds.{TellsBoth}
 
 -- what was given of a file that is told is the file
 pub given : (shelf : ShelfState) (name bytes there : List ℕ) (files : Files) → shelf.files ≡ Some files → file_at files name ≡ Some there → Gives shelf name bytes → there ≡ bytes

@@ -21,16 +21,16 @@ use Rattle.drill.specs.Summaries.{summary_of}
 use Rattle.drill.specs.declared.numbers.DrillNumbers.{DrillNumbers}
 use Rattle.campaign_settings.specs.declared.settings.Settings.{Settings}
 use Rattle.campaign_cli.specs.declared.statuses.Status.{Status}
-use Rattle.campaign_cli.specs.BookEnds.{IsOpened, IsRefused, Unopened, not_begun, not_opened, settings_file, settings_line, settings_refused, settings_unread}
-use Rattle.campaign_cli.specs.CheckEnds.{CheckEnds, CheckWay, Tells, checked, unshown, untold}
+use Rattle.campaign_cli.specs.BookEnds.{GivesSettings, IsOpened, IsRefused, Unopened, not_begun, not_opened, settings_file, settings_unread}
+use Rattle.campaign_cli.specs.CheckEnds.{CheckEnds, Shows, Tells, shown, unshown}
 use Rattle.campaign_cli.specs.DrillEnds.{DrillEnds, played, unplayed}
 use Rattle.campaign_cli.specs.EvalEnds.{EvalEnds, scored, refused, short}
 use Rattle.campaign_cli.specs.Outside.{Outside, Streams, Prints, IsUnread, outside_of}
 use Rattle.campaign_cli.specs.Endings.{Ends as Finishes}
 use Rattle.campaign_cli.specs.Requests.{Request, Eval, Session, Serve, Drill, Check, Nothing}
 use Rattle.campaign_cli.specs.UsageEnds.{untold as unasked}
-use Rattle.campaign_cli.specs.ServeEnds.{Closes, ServeEnds, ServersStand, served, unserved}
-use Rattle.campaign_cli.specs.SessionEnds.{Answers, SessionEnds, SessionsStand, held, unheld}
+use Rattle.campaign_cli.specs.ServeEnds.{Closes, ServeEnds, Served, ServersStand, served, unserved}
+use Rattle.campaign_cli.specs.SessionEnds.{Answers, Holds, SessionEnds, SessionsStand, held, unheld}
 use Rattle.campaign_settings.specs.Settings.{settings_of}
 use Rattle.campaign_cli.specs.Shelves.{Follows, Gives, ShelfState, file_at}
 
@@ -74,17 +74,11 @@ drill_played numbers old out H text status plays is prints =
     record { way = played H plays (subst (λ (t : List ℕ). Prints old.out out t 0 status) is prints); rest = refl }
 
 module _ {D : Type 0} (seen : D → DiskState) where
-  module _ (old : Streams) (later : ShelfState) (out : Writing) (disk : D) where
-    -- the settings weren't read
-    pub unread_settings : (status : ℕ) → IsUnread old.shelf later settings_file status → out ≡ old.out
-        → Unopened seen (outside_of old disk) (outside_of (record old { shelf = later; out = out }) disk) status
-    unread_settings status (inl missed) same = settings_unread missed.1 same refl missed.0
-    unread_settings status (inr is) same = not_begun same refl is
-
-    -- settings that are refused
-    pub refused_settings : (text : List ℕ) (status : ℕ) → Gives old.shelf settings_file text → settings_of text ≡ None → Prints old.out out settings_line 3 status
-        → Unopened seen (outside_of old disk) (outside_of (record old { shelf = later; out = out }) disk) status
-    refused_settings text status gives none prints = settings_refused text gives none prints refl
+  -- the settings weren't read
+  pub unread_settings : (old : Streams) (later : ShelfState) (disk : D) (status : ℕ) → IsUnread old.shelf later settings_file status
+      → Unopened seen (outside_of old disk) (outside_of (record old { shelf = later }) disk) status
+  unread_settings old later disk status (inl missed) = settings_unread missed.1 refl refl missed.0
+  unread_settings old later disk status (inr is) = not_begun refl refl is
 
   -- a disk that wasn't opened
   pub refused_disk : {T : Type 0} (text : List ℕ) (settings : Settings) (shelf later : ShelfState) (out written : Writing) (disk : D)
@@ -93,63 +87,64 @@ module _ {D : Type 0} (seen : D → DiskState) where
       → IfErr result (λ ended. (other : Streams) → Unopened seen (outside_of (record other { shelf = shelf; out = out }) disk)
       (outside_of (record other { shelf = later; out = written }) ended.1) ended.0.0)
   refused_disk text settings shelf later out written disk gives is (Ok found) none = tt
-  refused_disk text settings shelf later out written disk gives is (Err ended) given_up = λ other. not_opened text settings gives is given_up
+  refused_disk text settings shelf later out written disk gives is (Err ended) given_up = λ other. not_opened (text, settings, gives, is, given_up)
 
-  module _ (old : Streams) (later : ShelfState) (out : Writing) (disk after : D) (status : ℕ) (follows : Follows old.shelf later) where
-    module _ (book : Seen D) (callers : List KeyRow) (opened : IsOpened seen old.shelf disk book callers) where
-      -- a campaign that was opened answers a link
-      pub held_session : (own : LinkState) → out ≡ old.out → Answers seen callers book old.own own after status
-          → SessionEnds seen (outside_of old disk) (outside_of (record old { shelf = later; out = out; own = own }) after) status
-      held_session own same answers = record {
-        way = held opened.text opened.settings answers.how opened.given opened.read (record {
-          opened = book;
-          closed = answers.closed;
-          opens = opened.opened;
-          talk = subst (λ (callers : List KeyRow). Ends (IsSession seen callers book old.own.clock answers.closed own.clock) old.own own answers.how) opened.callers_are answers.talk;
-          runs = answers.runs;
-          sound = answers.sound;
-          closes = answers.closes;
-        }) same answers.status_is;
-        shelf = follows;
-        door = refl;
-      }
+  -- a campaign that was opened
+  module _ (old : Streams) (later : ShelfState) (out : Writing) (disk after : D) (status : ℕ) (follows : Follows old.shelf later)
+      (book : Seen D) (callers : List KeyRow) (opened : IsOpened seen old.shelf disk book callers) where
+    given : (P : Settings → Type 0) → P opened.settings → GivesSettings old.shelf P
+    given P holds = (opened.text, opened.settings, opened.given, opened.read, holds)
 
-      -- a campaign that was opened takes the links of a door
-      pub served_links : (numbers : ServerNumbers) (door : DoorState) → out ≡ old.out → Closes seen callers numbers book old.door door after status
-          → ServeEnds seen numbers (outside_of old disk) (outside_of (record old { shelf = later; out = out; door = door }) after) status
-      served_links numbers door same closes = record {
-        way = served opened.text opened.settings closes.how opened.given opened.read (record {
-          opened = book;
-          closed = closes.closed;
-          opens = opened.opened;
-          serves = subst (λ (callers : List KeyRow). ServesBook seen callers numbers book closes.closed old.door door closes.how) opened.callers_are closes.serves;
-          sound = closes.sound;
-          closes = closes.closes;
-        }) same closes.status_is;
-        shelf = follows;
-        own = refl;
-      }
+    -- it answers a link
+    pub held_session : (own : LinkState) → out ≡ old.out → Answers seen callers book old.own own after status
+        → SessionEnds seen (outside_of old disk) (outside_of (record old { shelf = later; out = out; own = own }) after) status
+    held_session own same answers =
+        let new = outside_of (record old { shelf = later; out = out; own = own }) after in
+        record {
+          way = held answers.how (given (λ settings. Holds seen settings (outside_of old disk) new answers.how) (record {
+            opened = book;
+            closed = answers.closed;
+            opens = opened.opened;
+            talk = subst (λ (callers : List KeyRow). Ends (IsSession seen callers book old.own.clock answers.closed own.clock) old.own own answers.how)
+                opened.callers_are answers.talk;
+            runs = answers.runs;
+            sound = answers.sound;
+            closes = answers.closes;
+          })) same answers.status_is;
+          shelf = follows;
+          rest = refl;
+        }
 
-      -- a campaign that was opened is shown
-      pub shown_campaign : (between : Writing) → between ≡ old.out → Tells book.history between out status → after ≡ book.disk
-          → CheckEnds seen (outside_of old disk) (outside_of (record old { shelf = later; out = out }) after) status
-      shown_campaign between same tells closes =
-          record { way = by (subst (λ (o : Writing). Tells book.history o out status) same tells); shelf = follows; own = refl; door = refl }
-        where
-          by : Tells book.history old.out out status → CheckWay seen (outside_of old disk) (outside_of (record old { shelf = later; out = out }) after) status
-          by (inl prints) = checked opened.text opened.settings book opened.given opened.read (record { opens = opened.opened; closes = closes }) prints
-          by (inr none) = untold opened.text opened.settings book opened.given opened.read (record { opens = opened.opened; closes = closes }) none.0 none.1
+    -- it takes the links of a door
+    pub served_links : (numbers : ServerNumbers) (door : DoorState) → out ≡ old.out → Closes seen callers numbers book old.door door after status
+        → ServeEnds seen numbers (outside_of old disk) (outside_of (record old { shelf = later; out = out; door = door }) after) status
+    served_links numbers door same closes =
+        let new = outside_of (record old { shelf = later; out = out; door = door }) after in
+        record {
+          way = served closes.how (given (λ settings. Served seen settings numbers (outside_of old disk) new closes.how) (record {
+            opened = book;
+            closed = closes.closed;
+            opens = opened.opened;
+            serves = subst (λ (callers : List KeyRow). ServesBook seen callers numbers book closes.closed old.door door closes.how)
+                opened.callers_are closes.serves;
+            sound = closes.sound;
+            closes = closes.closes;
+          })) same closes.status_is;
+          shelf = follows;
+          rest = refl;
+        }
 
-    -- there is no campaign
-    module _ (none : Unopened seen (outside_of old disk) (outside_of (record old { shelf = later; out = out }) after) status) where
-      pub unheld_session : SessionEnds seen (outside_of old disk) (outside_of (record old { shelf = later; out = out }) after) status
-      unheld_session = record { way = unheld none refl; shelf = follows; door = refl }
-
-      pub unserved_links : (numbers : ServerNumbers) → ServeEnds seen numbers (outside_of old disk) (outside_of (record old { shelf = later; out = out }) after) status
-      unserved_links numbers = record { way = unserved none refl; shelf = follows; own = refl }
-
-      pub unshown_campaign : CheckEnds seen (outside_of old disk) (outside_of (record old { shelf = later; out = out }) after) status
-      unshown_campaign = record { way = unshown none; shelf = follows; own = refl; door = refl }
+    -- it is shown
+    pub shown_campaign : (between : Writing) → between ≡ old.out → Tells book.history between out status → after ≡ book.disk
+        → CheckEnds seen (outside_of old disk) (outside_of (record old { shelf = later; out = out }) after) status
+    shown_campaign between same tells closes =
+        let new = outside_of (record old { shelf = later; out = out }) after in
+        let Does : Settings → Type 0 = λ settings. (book : Seen D) × Shows seen settings (outside_of old disk) new book × Tells book.history old.out out status in
+        record {
+          way = shown (given Does (book, record { opens = opened.opened; closes = closes }, subst (λ (o : Writing). Tells book.history o out status) same tells));
+          shelf = follows;
+          rest = refl;
+        }
 
   -- what a disk stands for at the end, where no call on it failed since the opening
   stands : (disk after : D) (closed : Seen D) → IsSound seen closed → closed.opening ≡ (seen disk).faults → after ≡ closed.disk
@@ -170,8 +165,8 @@ module _ {D : Type 0} (seen : D → DiskState) where
   -- there was no memory to read the words: nothing was done, whatever they ask for
   pub without_memory : (request : Request) (old : Outside D) → Finishes seen request old old 7
   without_memory (Eval run qrels) old = (record { way = short refl refl; shelf = still old.streams.shelf; rest = refl }, refl)
-  without_memory Session old = record { way = unheld (not_begun refl refl refl) refl; shelf = still old.streams.shelf; door = refl }
-  without_memory (Serve numbers) old = record { way = unserved (not_begun refl refl refl) refl; shelf = still old.streams.shelf; own = refl }
+  without_memory Session old = record { way = unheld (not_begun refl refl refl) refl; shelf = still old.streams.shelf; rest = refl }
+  without_memory (Serve numbers) old = record { way = unserved (not_begun refl refl refl) refl; shelf = still old.streams.shelf; rest = refl }
   without_memory (Drill numbers) old = (record { way = unplayed refl refl; rest = refl }, refl)
-  without_memory Check old = record { way = unshown (not_begun refl refl refl); shelf = still old.streams.shelf; own = refl; door = refl }
+  without_memory Check old = record { way = unshown (not_begun refl refl refl); shelf = still old.streams.shelf; rest = refl }
   without_memory Nothing old = (record { way = unasked refl refl; rest = refl }, refl)

@@ -31,6 +31,15 @@ header_line = codes "damaged header\n"
 abbrev pub entry_line : ℕ → List ℕ
 entry_line entry = codes "damaged entry " ++ decimal entry ++ codes "\n"
 
+-- the shelf may give the settings, and they have this property
+abbrev pub GivesSettings : ShelfState → (Settings → Type 0) → Type 0
+GivesSettings shelf P =
+    (text : List ℕ) × (settings : Settings) × Gives shelf settings_file text × (settings_of text ≡ Some settings) × P settings
+
+-- the shelf may give settings that are refused
+abbrev pub RefusesSettings : ShelfState → Type 0
+RefusesSettings shelf = (text : List ℕ) × Gives shelf settings_file text × (settings_of text ≡ None)
+
 -- what is told of a disk that isn't opened: a line with its status, or the status alone
 abbrev pub TellsFault : BookFault → Writing → Writing → ℕ → Type 0
 TellsFault fault.Disk old new status = (new ≡ old) × (status ≡ 5)
@@ -58,13 +67,14 @@ module _ {D : Type 0} (seen : D → DiskState) where
   -- the ways in which there is no campaign
   pub data Unopened (old new : Outside D) (status : ℕ) : Type 0 where
     -- the settings are refused: the line that names their file is printed, and the disk is as it was
-    settings_refused : (text : List ℕ) → Gives old.streams.shelf settings_file text → settings_of text ≡ None
-        → Prints old.streams.out new.streams.out settings_line 3 status → new.disk ≡ old.disk → Unopened old new status
+    settings_refused : RefusesSettings old.streams.shelf → Prints old.streams.out new.streams.out settings_line 3 status
+        → new.disk ≡ old.disk → Unopened old new status
     -- the settings weren't read, and the disk is as it was
-    settings_unread : Misses old.streams.shelf new.streams.shelf settings_file → new.streams.out ≡ old.streams.out → new.disk ≡ old.disk → status ≡ 4
-        → Unopened old new status
+    settings_unread : Misses old.streams.shelf new.streams.shelf settings_file → new.streams.out ≡ old.streams.out
+        → new.disk ≡ old.disk → status ≡ 4 → Unopened old new status
     -- there was no memory for the settings, and the disk is as it was
     not_begun : new.streams.out ≡ old.streams.out → new.disk ≡ old.disk → status ≡ 7 → Unopened old new status
     -- the settings are read, and the disk isn't opened under their rules
-    not_opened : (text : List ℕ) (settings : Settings) → Gives old.streams.shelf settings_file text → settings_of text ≡ Some settings
-        → IsRefused settings.rules old.disk new.disk old.streams.out new.streams.out status → Unopened old new status
+    not_opened : GivesSettings old.streams.shelf
+        (λ settings. IsRefused settings.rules old.disk new.disk old.streams.out new.streams.out status)
+        → Unopened old new status

@@ -15,7 +15,8 @@ use Rattle.campaign_cli.specs.Outside.{Outside}
 use Rattle.campaign_cli.specs.SessionEnds.{SessionEnds, status_of}
 use Rattle.campaign_settings.specs.Settings.{settings_of}
 use Rattle.campaign_cli.specs.Shelves.{Gives}
-use Rattle.campaign_cli.specs.Statuses.{CanOpen, IsCalm}
+use Rattle.campaign_cli.specs.BookKinds.{CanOpen}
+use Rattle.campaign_cli.specs.Statuses.{IsCalm}
 
 -- no answer tells a fault of the disk
 abbrev pub HasNoDiskFault : List Said → Type 0

@@ -1,5 +1,5 @@
 -- How `check` ends.
-use Rattle.std.specs.Prelude.{◌≡◌, ◌⊎◌, ℕ, List, ◌++◌, Some, codes, decimal, length}
+use Rattle.std.specs.Prelude.{◌≡◌, ◌⊎◌, ℕ, List, ◌++◌, codes, decimal, length}
 use Rattle.decimal_rank.specs.Writings.{Writing}
 use Rattle.disk_model.specs.Disks.{DiskState}
 use Rattle.book.specs.Books.{Seen}
@@ -9,10 +9,11 @@ use Rattle.rulebook.specs.declared.rules.Phase.TheVariants.{Collecting, Judging,
 use Rattle.rulebook.specs.Campaign.{History, phase}
 use Rattle.rulebook.specs.Scores.{table_page}
 use Rattle.campaign_settings.specs.declared.settings.Settings.{Settings}
-use Rattle.campaign_cli.specs.BookEnds.{Unopened, settings_file}
+use Rattle.campaign_cli.specs.BookEnds.{GivesSettings, Unopened}
+use Rattle.campaign_cli.specs.BookKinds.{book_kind}
+use Rattle.campaign_cli.specs.Kinds.{Kind}
 use Rattle.campaign_cli.specs.Outside.{Outside, Prints}
-use Rattle.campaign_settings.specs.Settings.{settings_of}
-use Rattle.campaign_cli.specs.Shelves.{Gives, Follows}
+use Rattle.campaign_cli.specs.Shelves.{Follows}
 
 abbrev pub phase_word : Phase → List ℕ
 phase_word Collecting = codes "collecting"
@@ -35,18 +36,20 @@ module _ {D : Type 0} (seen : D → DiskState) where
 
   -- the ways in which `check` ends
   pub data CheckWay (old new : Outside D) (status : ℕ) : Type 0 where
-    -- the settings are read and the disk is opened: what its campaign is is printed
-    checked : (text : List ℕ) (settings : Settings) (book : Seen D) → Gives old.streams.shelf settings_file text → settings_of text ≡ Some settings
-        → Shows settings old new book → Prints old.streams.out new.streams.out (check_text book.history) 0 status → CheckWay old new status
-    -- there was no memory for what is to be printed
-    untold : (text : List ℕ) (settings : Settings) (book : Seen D) → Gives old.streams.shelf settings_file text → settings_of text ≡ Some settings
-        → Shows settings old new book → new.streams.out ≡ old.streams.out → status ≡ 7 → CheckWay old new status
+    -- the settings are read and the disk is opened: what its campaign is is printed, or there was no memory for it
+    shown : GivesSettings old.streams.shelf (λ settings. (book : Seen D) × Shows settings old new book
+        × Tells book.history old.streams.out new.streams.out status) → CheckWay old new status
     -- there is no campaign
     unshown : Unopened seen old new status → CheckWay old new status
 
   pub record CheckEnds (old new : Outside D) (status : ℕ) : Type 0 where
     pub way : CheckWay old new status
     pub shelf : Follows old.streams.shelf new.streams.shelf
-    -- the own link and the door are as they were
-    pub own : new.streams.own ≡ old.streams.own
-    pub door : new.streams.door ≡ old.streams.door
+    -- of the streams all but the shelf and the output is as it was
+    pub rest : new.streams ≡ record old.streams { shelf = new.streams.shelf; out = new.streams.out }
+
+  abbrev pub check_kind : Kind D
+  check_kind = record (book_kind seen CheckEnds) {
+    output = λ old new text.
+        GivesSettings old.streams.shelf (λ settings. (book : Seen D) × Shows settings old new book × (text ≡ check_text book.history));
+  }

@@ -4,6 +4,7 @@ use Rattle.rulebook.specs.Campaign.{History}
 use Rattle.drill.specs.Plays.{IsPlayed}
 use Rattle.drill.specs.Summaries.{summary_of}
 use Rattle.drill.specs.declared.numbers.DrillNumbers.{DrillNumbers}
+use Rattle.campaign_cli.specs.Kinds.{Kind, plain_kind}
 use Rattle.campaign_cli.specs.Outside.{Streams, Prints}
 
 -- the ways in which `drill` ends
@@ -17,3 +18,9 @@ pub record DrillEnds (numbers : DrillNumbers) (old new : Streams) (status : ℕ)
   pub way : DrillWay numbers old new status
   -- all but the output is as it was
   pub rest : new ≡ record old { out = new.out }
+
+abbrev pub drill_kind : {D : Type 0} → DrillNumbers → Kind D
+drill_kind numbers = record (plain_kind (λ old new status. DrillEnds numbers old.streams new.streams status × (new.disk ≡ old.disk))) {
+  output = λ old new text. (H : History) × IsPlayed numbers H × (text ≡ summary_of numbers H);
+  can_do = λ old. Unit {0};
+}

@@ -1,21 +1,26 @@
 -- How the program ends, by what its words ask for.
-use Rattle.std.specs.Prelude.{◌≡◌, ℕ}
+use Rattle.std.specs.Prelude.{ℕ}
 use Rattle.disk_model.specs.Disks.{DiskState}
-use Rattle.campaign_cli.specs.CheckEnds.{CheckEnds}
-use Rattle.campaign_cli.specs.DrillEnds.{DrillEnds}
-use Rattle.campaign_cli.specs.EvalEnds.{EvalEnds}
+use Rattle.campaign_cli.specs.CheckEnds.{check_kind}
+use Rattle.campaign_cli.specs.DrillEnds.{drill_kind}
+use Rattle.campaign_cli.specs.EvalEnds.{eval_kind}
+use Rattle.campaign_cli.specs.Kinds.{Kind}
 use Rattle.campaign_cli.specs.Outside.{Outside}
 use Rattle.campaign_cli.specs.Requests.{Request, Eval, Session, Serve, Drill, Check, Nothing}
-use Rattle.campaign_cli.specs.ServeEnds.{ServeEnds}
-use Rattle.campaign_cli.specs.SessionEnds.{SessionEnds}
-use Rattle.campaign_cli.specs.UsageEnds.{UsageEnds}
+use Rattle.campaign_cli.specs.ServeEnds.{serve_kind}
+use Rattle.campaign_cli.specs.SessionEnds.{session_kind}
+use Rattle.campaign_cli.specs.UsageEnds.{usage_kind}
 
 module _ {D : Type 0} (seen : D → DiskState) where
+  -- the page of each command
+  abbrev pub kind_of : Request → Kind D
+  kind_of (Eval run qrels) = eval_kind run qrels
+  kind_of Session = session_kind seen
+  kind_of (Serve numbers) = serve_kind seen numbers
+  kind_of (Drill numbers) = drill_kind numbers
+  kind_of Check = check_kind seen
+  kind_of Nothing = usage_kind
+
   -- The program was asked this and ended with the status; the outside was as the first, and is as the second.
   abbrev pub Ends : Request → Outside D → Outside D → ℕ → Type 0
-  Ends (Eval run qrels) old new status = EvalEnds run qrels old.streams new.streams status × (new.disk ≡ old.disk)
-  Ends Session old new status = SessionEnds seen old new status
-  Ends (Serve numbers) old new status = ServeEnds seen numbers old new status
-  Ends (Drill numbers) old new status = DrillEnds numbers old.streams new.streams status × (new.disk ≡ old.disk)
-  Ends Check old new status = CheckEnds seen old new status
-  Ends Nothing old new status = UsageEnds old.streams new.streams status × (new.disk ≡ old.disk)
+  Ends request = (kind_of request).ends

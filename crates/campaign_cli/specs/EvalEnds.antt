@@ -1,8 +1,9 @@
 -- How `eval` ends.
-use Rattle.std.specs.Prelude.{◌≡◌, ◌⊎◌, ℕ, List}
+use Rattle.std.specs.Prelude.{◌≡◌, ◌⊎◌, ℕ, List, Some}
 use Rattle.eval.specs.Evaluations.{IsReport, IsInputFault}
+use Rattle.campaign_cli.specs.Kinds.{Kind, plain_kind}
 use Rattle.campaign_cli.specs.Outside.{Streams, Prints, Misses}
-use Rattle.campaign_cli.specs.Shelves.{Gives, Follows}
+use Rattle.campaign_cli.specs.Shelves.{Files, Follows, Gives, ShelfState, file_at}
 
 -- the ways in which `eval` ends
 pub data EvalWay (run qrels : List ℕ) (old new : Streams) (status : ℕ) : Type 0 where
@@ -23,3 +24,23 @@ pub record EvalEnds (run qrels : List ℕ) (old new : Streams) (status : ℕ) : 
   pub shelf : Follows old.shelf new.shelf
   -- all but the shelf and the output is as it was
   pub rest : new ≡ record old { shelf = new.shelf; out = new.out }
+
+-- the shelf may give both files, and their bytes have this property
+abbrev pub GivesBoth : ShelfState → List ℕ → List ℕ → (List ℕ → List ℕ → Type 0) → Type 0
+GivesBoth shelf run qrels P = (r : List ℕ) × (q : List ℕ) × Gives shelf run r × Gives shelf qrels q × P r q
+
+-- the shelf tells both files, and their bytes have this property
+abbrev pub TellsBoth : ShelfState → List ℕ → List ℕ → (List ℕ → List ℕ → Type 0) → Type 0
+TellsBoth shelf run qrels P =
+    (files : Files) × (r : List ℕ) × (q : List ℕ) × (shelf.files ≡ Some files) × (file_at files run ≡ Some r)
+    × (file_at files qrels ≡ Some q) × P r q
+
+abbrev pub eval_kind : {D : Type 0} → List ℕ → List ℕ → Kind D
+eval_kind run qrels = record (plain_kind (λ old new status. EvalEnds run qrels old.streams new.streams status × (new.disk ≡ old.disk))) {
+  reads_files = Unit {0};
+  misses = λ old new. Misses old.streams.shelf new.streams.shelf run ⊎ Misses old.streams.shelf new.streams.shelf qrels;
+  output = λ old new text. GivesBoth old.streams.shelf run qrels (λ r q. IsReport run r q text);
+  refusal = λ old new text. GivesBoth old.streams.shelf run qrels (λ r q. IsInputFault run qrels r q text);
+  can_do = λ old. TellsBoth old.streams.shelf run qrels (λ r q. (text : List ℕ) × IsReport run r q text);
+  has_to_refuse = λ old. TellsBoth old.streams.shelf run qrels (λ r q. (text : List ℕ) × IsInputFault run qrels r q text);
+}

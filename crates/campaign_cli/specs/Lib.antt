@@ -1,9 +1,11 @@
 pub mod BookEnds
+pub mod BookKinds
 pub mod CalmSessions
 pub mod CheckEnds
 pub mod DrillEnds
 pub mod Endings
 pub mod EvalEnds
+pub mod Kinds
 pub mod Outside
 pub mod Requests
 pub mod ServeEnds

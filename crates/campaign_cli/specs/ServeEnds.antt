@@ -1,5 +1,5 @@
 -- How `serve` ends.
-use Rattle.std.specs.Prelude.{◌≡◌, ℕ, List, None, Some}
+use Rattle.std.specs.Prelude.{◌≡◌, ℕ, List, None}
 use Rattle.decimal_rank.specs.Causes.{Rose}
 use Rattle.disk_model.specs.Disks.{DiskState}
 use Rattle.book.specs.Books.{IsSound, Seen}
@@ -12,10 +12,11 @@ use Rattle.campaign_server.specs.Doors.{DoorState}
 use Rattle.campaign_server.specs.Servers.{ServesBook}
 use Rattle.routes.specs.declared.keys.KeyRow.{KeyRow}
 use Rattle.campaign_settings.specs.declared.settings.Settings.{Settings}
-use Rattle.campaign_cli.specs.BookEnds.{Unopened, settings_file}
+use Rattle.campaign_cli.specs.BookEnds.{GivesSettings, Unopened}
+use Rattle.campaign_cli.specs.BookKinds.{book_kind}
+use Rattle.campaign_cli.specs.Kinds.{Kind}
 use Rattle.campaign_cli.specs.Outside.{Outside}
-use Rattle.campaign_settings.specs.Settings.{settings_of}
-use Rattle.campaign_cli.specs.Shelves.{Gives, Follows}
+use Rattle.campaign_cli.specs.Shelves.{Follows}
 
 -- the status by an end
 abbrev pub status_of : ServeEnd → ℕ
@@ -51,18 +52,21 @@ module _ {D : Type 0} (seen : D → DiskState) where
   -- the ways in which `serve` ends
   pub data ServeWay (numbers : ServerNumbers) (old new : Outside D) (status : ℕ) : Type 0 where
     -- the settings are read and the disk is opened: the requests of the door's links are answered, and nothing is printed
-    served : (text : List ℕ) (settings : Settings) (how : ServeEnd) → Gives old.streams.shelf settings_file text → settings_of text ≡ Some settings
-        → Served settings numbers old new how → new.streams.out ≡ old.streams.out → status ≡ status_of how → ServeWay numbers old new status
+    served : (how : ServeEnd) → GivesSettings old.streams.shelf (λ settings. Served settings numbers old new how)
+        → new.streams.out ≡ old.streams.out → status ≡ status_of how → ServeWay numbers old new status
     -- there is no campaign, and the door is as it was
     unserved : Unopened seen old new status → new.streams.door ≡ old.streams.door → ServeWay numbers old new status
 
   pub record ServeEnds (numbers : ServerNumbers) (old new : Outside D) (status : ℕ) : Type 0 where
     pub way : ServeWay numbers old new status
     pub shelf : Follows old.streams.shelf new.streams.shelf
-    -- the own link is as it was
-    pub own : new.streams.own ≡ old.streams.own
+    -- of the streams all but the shelf, the output and the door is as it was
+    pub rest : new.streams ≡ record old.streams { shelf = new.streams.shelf; out = new.streams.out; door = new.streams.door }
 
   -- Where no call on the disk failed, each of its images holds the entries at the end, and no other.
   abbrev pub ServersStand : Type 0
   ServersStand = (settings : Settings) (numbers : ServerNumbers) (old new : Outside D) (how : ServeEnd) (server : Served settings numbers old new how)
       → ¬ (Rose (seen old.disk).faults (seen new.disk).faults) → StandsFor (seen new.disk).images server.closed.history None
+
+  abbrev pub serve_kind : ServerNumbers → Kind D
+  serve_kind numbers = record (book_kind seen (ServeEnds numbers)) { takes_links = Unit {0} }

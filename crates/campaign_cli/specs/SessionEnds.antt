@@ -1,5 +1,5 @@
 -- How `session` ends.
-use Rattle.std.specs.Prelude.{◌≡◌, ℕ, List, None, Some}
+use Rattle.std.specs.Prelude.{◌≡◌, ℕ, List, None}
 use Rattle.decimal_rank.specs.Causes.{Rose}
 use Rattle.disk_model.specs.Disks.{DiskState}
 use Rattle.book.specs.Books.{IsSound, Runs, Seen}
@@ -12,10 +12,11 @@ use Rattle.campaign_server.specs.Links.{LinkState}
 use Rattle.campaign_server.specs.Sessions.{IsSession}
 use Rattle.routes.specs.declared.keys.KeyRow.{KeyRow}
 use Rattle.campaign_settings.specs.declared.settings.Settings.{Settings}
-use Rattle.campaign_cli.specs.BookEnds.{Unopened, settings_file}
+use Rattle.campaign_cli.specs.BookEnds.{GivesSettings, Unopened}
+use Rattle.campaign_cli.specs.BookKinds.{book_kind}
+use Rattle.campaign_cli.specs.Kinds.{Kind}
 use Rattle.campaign_cli.specs.Outside.{Outside}
-use Rattle.campaign_settings.specs.Settings.{settings_of}
-use Rattle.campaign_cli.specs.Shelves.{Gives, Follows}
+use Rattle.campaign_cli.specs.Shelves.{Follows}
 
 -- the status by an end
 abbrev pub status_of : End → ℕ
@@ -57,18 +58,21 @@ module _ {D : Type 0} (seen : D → DiskState) where
   -- the ways in which `session` ends
   pub data SessionWay (old new : Outside D) (status : ℕ) : Type 0 where
     -- the settings are read and the disk is opened: the requests of the own link are answered, and nothing is printed
-    held : (text : List ℕ) (settings : Settings) (how : End) → Gives old.streams.shelf settings_file text → settings_of text ≡ Some settings
-        → Holds settings old new how → new.streams.out ≡ old.streams.out → status ≡ status_of how → SessionWay old new status
+    held : (how : End) → GivesSettings old.streams.shelf (λ settings. Holds settings old new how)
+        → new.streams.out ≡ old.streams.out → status ≡ status_of how → SessionWay old new status
     -- there is no campaign
     unheld : Unopened seen old new status → new.streams.own ≡ old.streams.own → SessionWay old new status
 
   pub record SessionEnds (old new : Outside D) (status : ℕ) : Type 0 where
     pub way : SessionWay old new status
     pub shelf : Follows old.streams.shelf new.streams.shelf
-    -- the door is as it was
-    pub door : new.streams.door ≡ old.streams.door
+    -- of the streams all but the shelf, the output and the own link is as it was
+    pub rest : new.streams ≡ record old.streams { shelf = new.streams.shelf; out = new.streams.out; own = new.streams.own }
 
   -- Where no call on the disk failed, each of its images holds the entries at the end, and no other.
   abbrev pub SessionsStand : Type 0
   SessionsStand = (settings : Settings) (old new : Outside D) (how : End) (session : Holds settings old new how)
       → ¬ (Rose (seen old.disk).faults (seen new.disk).faults) → StandsFor (seen new.disk).images session.closed.history None
+
+  abbrev pub session_kind : Kind D
+  session_kind = book_kind seen SessionEnds

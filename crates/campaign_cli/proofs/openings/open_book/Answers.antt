@@ -1,17 +1,15 @@
 -- The settings, and the disk that is opened under their rules.
 use Rattle.std.proofs.Common.{◌≡◌, None, Some, refl, rules}
-use Rattle.campaign_cli.specs.BookEnds.{settings_file}
+use Rattle.campaign_cli.specs.BookEnds.{settings_file, settings_refused}
 use Rattle.campaign_settings.specs.Settings.{settings_of}
 use Rattle.campaign_cli.specs.Shelves.{Gives}
-use Rattle.campaign_cli.proofs.Ways.{refused_disk, refused_settings, unread_settings}
+use Rattle.campaign_cli.proofs.Ways.{refused_disk, unread_settings}
 use Rattle.campaign_cli.proofs.openings.open_book.Goals as goal
 
 pub returns-in-Err-clause-unopened : goal.returns-in-Err-clause-unopened
 returns-in-Err-clause-unopened g c other =
-    let shelf = g.F.Shelf.seen c.args.shelf.now in
-    let out = g.O.Output.writing c.args.out.now in
-    unread_settings g.D.Disk.seen (record other { shelf = shelf; out = out }) (g.F.Shelf.seen c.read.new.shelf) out
-    c.args.disk c.in-Err.status.0 c.in-Err.ensures.unread refl
+    unread_settings g.D.Disk.seen (record other { shelf = g.F.Shelf.seen c.args.shelf.now; out = g.O.Output.writing c.args.out.now })
+    (g.F.Shelf.seen c.read.new.shelf) c.args.disk c.in-Err.status.0 c.in-Err.ensures.unread
 
 pub returns-in-Ok-read_settings-clause-unopened : goal.returns-in-Ok-read_settings-clause-unopened
 returns-in-Ok-read_settings-clause-unopened g c =
@@ -25,8 +23,6 @@ returns-in-Ok-read_settings-clause-unopened g c =
 
 pub returns-in-Err-Refused-clause-unopened : goal.returns-in-Err-Refused-clause-unopened
 returns-in-Err-Refused-clause-unopened g c other =
-    let shelf = g.F.Shelf.seen c.args.shelf.now in
-    let given : Gives shelf settings_file c.in-Ok.text.items = search rules in
+    let given : Gives (g.F.Shelf.seen c.args.shelf.now) settings_file c.in-Ok.text.items = search rules in
     let none : settings_of c.in-Ok.text.items ≡ None = search rules in
-    refused_settings g.D.Disk.seen (record other { shelf = shelf; out = g.O.Output.writing c.args.out.now })
-    (g.F.Shelf.seen c.read.new.shelf) (g.O.Output.writing c.print.new.out) c.args.disk c.in-Ok.text.items c.print.result.0 given none c.print.ensures
+    settings_refused (c.in-Ok.text.items, given, none) c.print.ensures refl

@@ -1,6 +1,8 @@
 -- A server of the campaign that was opened, or why there is none.
+use Rattle.std.proofs.Common.{refl}
+use Rattle.campaign_cli.specs.ServeEnds.{unserved}
 use Rattle.campaign_cli.specs.Outside.{streams_behind}
-use Rattle.campaign_cli.proofs.Ways.{served_links, unserved_links}
+use Rattle.campaign_cli.proofs.Ways.{served_links}
 use Rattle.campaign_cli.proofs.servers.run_server.Goals as goal
 
 pub returns-in-Ok-clause-ends : goal.returns-in-Ok-clause-ends
@@ -13,5 +15,4 @@ returns-in-Ok-clause-ends g c =
 pub returns-in-Err-clause-ends : goal.returns-in-Err-clause-ends
 returns-in-Err-clause-ends g c =
     let old = streams_behind g.F.Shelf.seen g.O.Output.writing g.I.Link.seen g.R.Door.seen c.args.devices.now in
-    unserved_links g.D.Disk.seen old (g.F.Shelf.seen c.open_book.new.shelf) (g.O.Output.writing c.open_book.new.out)
-    c.args.disk c.in-Err.given.1 c.in-Err.given.0.0 c.in-Err.ensures.follows (c.in-Err.ensures.unopened old) c.args.numbers
+    record { way = unserved (c.in-Err.ensures.unopened old) refl; shelf = c.in-Err.ensures.follows; rest = refl }
