@@ -1,13 +1,7 @@
 -- What each status says, from the way in which a command ended.
-use Rattle.std.proofs.Common.{◌≡◌, ◌≢◌, ◌≤◌, ◌⊎◌, ◌==◌, inl, inr, ℕ, List, None, refl, sym, ap, subst, ◌∙◌, arith, cond}
+use Rattle.std.proofs.Common.{◌≡◌, ◌⊎◌, ◌==◌, inl, inr, ℕ, List, None, refl, sym, ap, subst, ◌∙◌, cond}
 use Rattle.std.specs.Io.KnownBytes.{Appends}
-use Rattle.decimal_rank.specs.Causes.{Rose}
-use Rattle.decimal_rank.specs.KnownBytes.{AppendsPart}
-use Rattle.decimal_rank.specs.Writings.{Writing}
 use Rattle.disk_model.specs.Disks.{DiskState}
-use Rattle.book.specs.declared.faults.BookFault.{BookFault}
-use Rattle.book.specs.declared.faults.BookFault.TheVariants as fault
-use Rattle.book.specs.Openings.{Refused}
 use Rattle.campaign_server.specs.declared.ends.End.{End}
 use Rattle.campaign_server.specs.declared.ends.End.TheVariants as end
 use Rattle.campaign_server.specs.declared.ends.ServeEnd.{ServeEnd}
@@ -17,21 +11,24 @@ use Rattle.drill.specs.Summaries.{summary_of}
 use Rattle.drill.specs.declared.numbers.DrillNumbers.{DrillNumbers}
 use Rattle.eval.specs.Evaluations.{IsReport, IsInputFault}
 use Rattle.eval.specs.Findings.{AreExclusive}
-use Rattle.campaign_cli.specs.BookEnds.{GivesSettings, TellsFault, Unopened, entry_line, header_line, not_begun, not_opened, rules_line, settings_file, settings_line, settings_refused, settings_unread}
-use Rattle.campaign_cli.specs.BookKinds.{CanOpen, IsBookRefusal, TellsSettings}
+use Rattle.campaign_cli.specs.BookEnds.{GivesSettings, rules_line}
+use Rattle.campaign_cli.specs.BookKinds.{CanOpen, TellsSettings}
 use Rattle.campaign_cli.specs.CheckEnds.{CheckWay, Tells, check_text, shown, unshown}
 use Rattle.campaign_cli.specs.DrillEnds.{DrillWay, played, unplayed}
 use Rattle.campaign_cli.specs.Endings.{Ends, kind_of}
 use Rattle.campaign_cli.specs.EvalEnds.{EvalWay, scored, refused, unread, short}
-use Rattle.campaign_cli.specs.Outside.{Outside, Streams, Prints, Misses}
-use Rattle.campaign_cli.specs.Requests.{Request, Eval, Session, Serve, Drill, Check, Nothing, usage_line}
+use Rattle.campaign_cli.specs.Outside.{Outside, Streams}
+use Rattle.campaign_cli.specs.ReportEnds.{CompareWay, ListingWay, export_text, history_text}
+use Rattle.campaign_cli.specs.Requests.{Request, Eval, Session, Serve, Drill, Check, Archive, RunHistory, Compare, Export, Nothing, usage_line}
 use Rattle.campaign_cli.specs.ServeEnds.{Served, ServeWay, served, unserved}
 use Rattle.campaign_cli.specs.ServeEnds.{status_of as serve_status}
 use Rattle.campaign_cli.specs.SessionEnds.{Holds, SessionWay, held, unheld, status_of}
 use Rattle.campaign_settings.specs.Settings.{settings_of}
-use Rattle.campaign_cli.specs.Shelves.{Follows, ShelfState}
-use Rattle.campaign_cli.specs.Statuses.{Cause, Done, Usage, Input, File, Disk, Door, Memory, Output, Damaged, Link, Cut, number_of, Says, HasDamage, HasOtherRules, IsCalm, IsCut, IsDamage, IsSaid, IsUnopened, Statuses}
+use Rattle.campaign_cli.specs.Statuses.{Cause, Done, Usage, Input, File, Disk, Door, Memory, Output, Damaged, Link, Cut, Keeper, Unpublished, Differs, Unknown, number_of, Says, HasDamage, HasOtherRules, IsCalm, IsComplete, Statuses}
 use Rattle.campaign_cli.specs.UsageEnds.{UsageWay, told, untold as unasked}
+use Rattle.campaign_cli.proofs.ArchiveWays.{archive_complete, archive_later, archive_opening, archive_told}
+use Rattle.campaign_cli.proofs.ReportWays.{compare_complete, compare_told, listing_complete, listing_told, report_keeps}
+use Rattle.campaign_cli.proofs.Told.{Keeps, Told, done, keeps_all, none_told, printed, refuses, same_archive, silent}
 use Rattle.campaign_cli.proofs.ToldDisks.{Opening, check_opening, damage_told, none_opened, others_told, serve_opening, session_opening, settings_told}
 use Rattle.campaign_cli.proofs.ToldFiles.{not_both_missed, prints_whole, told_both}
 
@@ -39,7 +36,7 @@ use Rattle.campaign_cli.proofs.ToldFiles.{not_both_missed, prints_whole, told_bo
 
 abbrev cause_by : ℕ → Cause
 cause_by n =
-    cond (n == 0) Done (cond (n == 2) Usage (cond (n == 3) Input (cond (n == 4) File (cond (n == 5) Disk (cond (n == 6) Door (cond (n == 7) Memory (cond (n == 8) Output (cond (n == 9) Damaged (cond (n == 10) Link Cut)))))))))
+    cond (n == 0) Done (cond (n == 2) Usage (cond (n == 3) Input (cond (n == 4) File (cond (n == 5) Disk (cond (n == 6) Door (cond (n == 7) Memory (cond (n == 8) Output (cond (n == 9) Damaged (cond (n == 10) Link (cond (n == 11) Cut (cond (n == 12) Keeper (cond (n == 13) Unpublished (cond (n == 14) Differs Unknown)))))))))))))
 
 cause_by-number : (cause : Cause) → cause_by (number_of cause) ≡ cause
 cause_by-number Done = refl
@@ -53,114 +50,62 @@ cause_by-number Output = refl
 cause_by-number Damaged = refl
 cause_by-number Link = refl
 cause_by-number Cut = refl
+cause_by-number Keeper = refl
+cause_by-number Unpublished = refl
+cause_by-number Differs = refl
+cause_by-number Unknown = refl
 
 same_cause : (a b : Cause) → number_of a ≡ number_of b → a ≡ b
 same_cause a b e = sym (cause_by-number a) ∙ ap cause_by e ∙ cause_by-number b
 
 module _ {D : Type 0} (seen : D → DiskState) where
-  -- the status is that of a cause that holds, and no count of the output fell
-  record Told (request : Request) (old new : Outside D) (status : ℕ) : Type 0 where
-    cause : Cause
-    status_is : status ≡ number_of cause
-    says : Says seen cause request old new
-    later : old.streams.out.faults ≤ new.streams.out.faults
+  eval_told : (run qrels : List ℕ) (old new : Outside D) (status : ℕ) → EvalWay run qrels old.streams new.streams status → new.disk ≡ old.disk → Told seen (Eval run qrels) old new status
+  eval_told run qrels old new status (scored r q text gr gq report prints) kept = done seen (Eval run qrels) old new status text (r, q, gr, gq, report) prints
+  eval_told run qrels old new status (refused r q line gr gq fault prints) kept = refuses seen (Eval run qrels) old new status line (r, q, gr, gq, fault) prints
+  eval_told run qrels old new status (unread missed same e) kept = silent seen (Eval run qrels) old new status File e (missed, same, kept) same
+  eval_told run qrels old new status (short same e) kept = silent seen (Eval run qrels) old new status Memory e same same
 
-  module _ (request : Request) (old new : Outside D) (status : ℕ) where
-    -- nothing was printed
-    silent : (cause : Cause) → status ≡ number_of cause → Says seen cause request old new → new.streams.out ≡ old.streams.out → Told request old new status
-    silent cause e says same = record { cause = cause; status_is = e; says = says; later = omega (arith, ap (λ (w : Writing). w.faults) same) }
-
-    -- a text was printed, or a part of it was
-    printed : (text : List ℕ) (cause : Cause) → Prints old.streams.out new.streams.out text (number_of cause) status → IsSaid seen request old new text
-        → (Appends old.streams.out.written new.streams.out.written text → Says seen cause request old new) → Told request old new status
-    printed text cause prints said whole = by prints.either
-      where
-        by : ((status ≡ number_of cause) × Appends old.streams.out.written new.streams.out.written text)
-            ⊎ ((status ≡ 8) × Rose old.streams.out.faults new.streams.out.faults × AppendsPart old.streams.out.written new.streams.out.written text)
-            → Told request old new status
-        by (inl all) = record { cause = cause; status_is = all.0; says = whole all.1; later = prints.later }
-        by (inr part) = record { cause = Output; status_is = part.0; says = inl (part.1, (text, said, part.2)); later = prints.later }
-
-    done : (text : List ℕ) → (kind_of seen request).output old new text → Prints old.streams.out new.streams.out text 0 status → Told request old new status
-    done text is prints = printed text Done prints (inl is) (λ all. inl (text, is, all))
-
-    refuses : (text : List ℕ) → (kind_of seen request).refusal old new text → Prints old.streams.out new.streams.out text 3 status → Told request old new status
-    refuses text is prints = printed text Input prints (inr (inl is)) (λ all. (text, is, all))
-
-    damages : (text : List ℕ) → IsDamage seen request old new text → Prints old.streams.out new.streams.out text 9 status → Told request old new status
-    damages text is prints = printed text Damaged prints (inr (inr (inl is))) (λ all. (text, is, all))
-
-    -- why there is no campaign, where the command keeps one
-    none_told : (kind_of seen request).keeps_book → (Misses old.streams.shelf new.streams.shelf settings_file → (kind_of seen request).misses old new)
-        → ((text : List ℕ) → IsBookRefusal seen old new text → (kind_of seen request).refusal old new text)
-        → Unopened seen old new status → Told request old new status
-    none_told needs misses refusal (settings_refused none prints kept) = refuses settings_line (refusal settings_line (inl (refl, none, kept))) prints
-    none_told needs misses refusal (settings_unread missed same kept e) = silent File e (misses missed, same, kept) same
-    none_told needs misses refusal (not_begun same kept e) = silent Memory e same same
-    none_told needs misses refusal (not_opened (text, settings, gives, is, given_up)) = by given_up.why given_up.refused given_up.told
-      where
-        none : (why : BookFault) → Refused seen settings.rules old.disk new.disk why → IsUnopened seen request old new why
-        none why r = (needs, (text, settings, gives, is, r))
-
-        by : (why : BookFault) → Refused seen settings.rules old.disk new.disk why → TellsFault why old.streams.out new.streams.out status → Told request old new status
-        by fault.Disk r tells = silent Disk tells.1 (none fault.Disk r, tells.0) tells.0
-        by fault.Header r prints = damages header_line (inl (refl, none fault.Header r)) prints
-        by (fault.Damaged entry) r (inl prints) = damages (entry_line entry) (inr (entry, refl, none (fault.Damaged entry) r)) prints
-        by (fault.Damaged entry) r (inr untold) = silent Memory untold.1 untold.0 untold.0
-        by fault.RulesDiffer r prints = refuses rules_line (refusal rules_line (inr (refl, (text, settings, gives, is, r)))) prints
-        by fault.Memory r tells = silent Memory tells.1 tells.0 tells.0
-
-  eval_told : (run qrels : List ℕ) (old new : Outside D) (status : ℕ) → EvalWay run qrels old.streams new.streams status → new.disk ≡ old.disk → Told (Eval run qrels) old new status
-  eval_told run qrels old new status (scored r q text gr gq report prints) kept = done (Eval run qrels) old new status text (r, q, gr, gq, report) prints
-  eval_told run qrels old new status (refused r q line gr gq fault prints) kept = refuses (Eval run qrels) old new status line (r, q, gr, gq, fault) prints
-  eval_told run qrels old new status (unread missed same e) kept = silent (Eval run qrels) old new status File e (missed, same, kept) same
-  eval_told run qrels old new status (short same e) kept = silent (Eval run qrels) old new status Memory e same same
-
-  session_told : (old new : Outside D) (status : ℕ) → SessionWay seen old new status → Told Session old new status
-  session_told old new status (unheld none own) = none_told Session old new status tt (λ missed. missed) (λ text is. is) none
+  session_told : (old new : Outside D) (status : ℕ) → SessionWay seen old new status → Told seen Session old new status
+  session_told old new status (unheld none own) = none_told seen Session old new status tt (λ missed. missed) (λ text is. is) none
   session_told old new status (held how gives same e) = by how gives e
     where
-      by : (h : End) → GivesSettings old.streams.shelf (λ settings. Holds seen settings old new h) → status ≡ status_of h → Told Session old new status
-      by end.Ended w is = silent Session old new status Done is (inr (inl (refl, same, w))) same
-      by end.Cut w is = silent Session old new status Cut is (inl (refl, same, w)) same
-      by (end.Refused cause) w is = silent Session old new status Cut is (inr (inl (cause, (refl, same, w)))) same
-      by end.ReadFault w is = silent Session old new status Link is (refl, same, w) same
-      by end.WriteFault w is = silent Session old new status Output is (inr (refl, same, w)) same
-      by end.Memory w is = silent Session old new status Memory is same same
-      by end.Worn w is = silent Session old new status Cut is (inr (inr (refl, same, w))) same
+      by : (h : End) → GivesSettings old.streams.shelf (λ settings. Holds seen settings old new h) → status ≡ status_of h → Told seen Session old new status
+      by end.Ended w is = silent seen Session old new status Done is (inr (inl (refl, same, w))) same
+      by end.Cut w is = silent seen Session old new status Cut is (inl (refl, same, w)) same
+      by (end.Refused cause) w is = silent seen Session old new status Cut is (inr (inl (cause, (refl, same, w)))) same
+      by end.ReadFault w is = silent seen Session old new status Link is (refl, same, w) same
+      by end.WriteFault w is = silent seen Session old new status Output is (inr (refl, same, w)) same
+      by end.Memory w is = silent seen Session old new status Memory is same same
+      by end.Worn w is = silent seen Session old new status Cut is (inr (inr (refl, same, w))) same
 
-  serve_told : (numbers : ServerNumbers) (old new : Outside D) (status : ℕ) → ServeWay seen numbers old new status → Told (Serve numbers) old new status
-  serve_told numbers old new status (unserved none door) = none_told (Serve numbers) old new status tt (λ missed. missed) (λ text is. is) none
+  serve_told : (numbers : ServerNumbers) (old new : Outside D) (status : ℕ) → ServeWay seen numbers old new status → Told seen (Serve numbers) old new status
+  serve_told numbers old new status (unserved none door) = none_told seen (Serve numbers) old new status tt (λ missed. missed) (λ text is. is) none
   serve_told numbers old new status (served how gives same e) = by how gives e
     where
-      by : (h : ServeEnd) → GivesSettings old.streams.shelf (λ settings. Served seen settings numbers old new h) → status ≡ serve_status h → Told (Serve numbers) old new status
-      by serve_end.Ended w is = silent (Serve numbers) old new status Done is (inr (inr (numbers, refl, same, w))) same
-      by serve_end.DoorFault w is = silent (Serve numbers) old new status Door is ((numbers, refl, same, w), w.4.serves.fault refl) same
-      by serve_end.Memory w is = silent (Serve numbers) old new status Memory is same same
+      by : (h : ServeEnd) → GivesSettings old.streams.shelf (λ settings. Served seen settings numbers old new h) → status ≡ serve_status h → Told seen (Serve numbers) old new status
+      by serve_end.Ended w is = silent seen (Serve numbers) old new status Done is (inr (inr (numbers, refl, same, w))) same
+      by serve_end.DoorFault w is = silent seen (Serve numbers) old new status Door is ((numbers, refl, same, w), w.4.serves.fault refl) same
+      by serve_end.Memory w is = silent seen (Serve numbers) old new status Memory is same same
 
-  check_told : (old new : Outside D) (status : ℕ) → CheckWay seen old new status → Told Check old new status
-  check_told old new status (unshown none) = none_told Check old new status tt (λ missed. missed) (λ text is. is) none
+  check_told : (old new : Outside D) (status : ℕ) → CheckWay seen old new status → Told seen Check old new status
+  check_told old new status (unshown none) = none_told seen Check old new status tt (λ missed. missed) (λ text is. is) none
   check_told old new status (shown (text, settings, gives, is, (book, shows, tells))) = by tells
     where
-      by : Tells book.history old.streams.out new.streams.out status → Told Check old new status
-      by (inl prints) = done Check old new status (check_text book.history) (text, settings, gives, is, (book, shows, refl)) prints
-      by (inr untold) = silent Check old new status Memory untold.1 untold.0 untold.0
+      by : Tells book.history old.streams.out new.streams.out status → Told seen Check old new status
+      by (inl prints) = done seen Check old new status (check_text book.history) (text, settings, gives, is, (book, shows, refl)) prints
+      by (inr untold) = silent seen Check old new status Memory untold.1 untold.0 untold.0
 
-  drill_told : (numbers : DrillNumbers) (old new : Outside D) (status : ℕ) → DrillWay numbers old.streams new.streams status → Told (Drill numbers) old new status
-  drill_told numbers old new status (played H plays prints) = done (Drill numbers) old new status (summary_of numbers H) (H, plays, refl) prints
-  drill_told numbers old new status (unplayed same e) = silent (Drill numbers) old new status Memory e same same
+  drill_told : (numbers : DrillNumbers) (old new : Outside D) (status : ℕ) → DrillWay numbers old.streams new.streams status → Told seen (Drill numbers) old new status
+  drill_told numbers old new status (played H plays prints) = done seen (Drill numbers) old new status (summary_of numbers H) (H, plays, refl) prints
+  drill_told numbers old new status (unplayed same e) = silent seen (Drill numbers) old new status Memory e same same
 
-  usage_told : (old new : Outside D) (status : ℕ) → UsageWay old.streams new.streams status → Told Nothing old new status
+  usage_told : (old new : Outside D) (status : ℕ) → UsageWay old.streams new.streams status → Told seen Nothing old new status
   usage_told old new status (told prints) =
-      printed Nothing old new status usage_line Usage prints (inr (inr (inr (refl, refl)))) (λ all. (usage_line, (refl, refl), all))
-  usage_told old new status (unasked same e) = silent Nothing old new status Memory e same same
-
-  -- where its files and its disk are told and within their grammars, a command is done or memory is short; a session may be cut
-  abbrev IsComplete : Request → Outside D → Outside D → ℕ → Type 0
-  IsComplete request old new status = (status ≡ 0) ⊎ ((status ≡ 7) ⊎ ((status ≡ 11) × IsCut seen request old new))
+      printed seen Nothing old new status usage_line Usage prints (inr (inr (inr (inl (refl, refl))))) (λ all. (usage_line, (refl, refl), all))
+  usage_told old new status (unasked same e) = silent seen Nothing old new status Memory e same same
 
   module _ (exclusive : AreExclusive) (run qrels : List ℕ) (old new : Outside D) (status : ℕ) (calm : IsCalm seen old new) where
-    eval_complete : (kind_of seen (Eval run qrels)).can_do old → EvalWay run qrels old.streams new.streams status → IsComplete (Eval run qrels) old new status
+    eval_complete : (kind_of seen (Eval run qrels)).can_do old → EvalWay run qrels old.streams new.streams status → IsComplete seen (Eval run qrels) old new status
     eval_complete can (scored r q text gr gq report prints) = inl (prints_whole old.streams.out new.streams.out text 0 status prints calm.out)
     eval_complete can (refused r q line gr gq fault prints) =
         let report = told_both old.streams.shelf run qrels r q (λ r q. (text : List ℕ) × IsReport run r q text) can gr gq in
@@ -179,64 +124,40 @@ module _ {D : Type 0} (seen : D → DiskState) where
     eval_refused has (short same e) = inr e
 
   module _ (old new : Outside D) (status : ℕ) (calm : IsCalm seen old new) where
-    session_complete : CanOpen seen old → SessionWay seen old new status → IsComplete Session old new status
+    session_complete : CanOpen seen old → SessionWay seen old new status → IsComplete seen Session old new status
     session_complete can (unheld none own) = inr (inl (none_opened seen old new status calm can none))
     session_complete can (held how gives same e) = by how gives e
       where
-        by : (h : End) → GivesSettings old.streams.shelf (λ settings. Holds seen settings old new h) → status ≡ status_of h → IsComplete Session old new status
+        by : (h : End) → GivesSettings old.streams.shelf (λ settings. Holds seen settings old new h) → status ≡ status_of h → IsComplete seen Session old new status
         by end.Ended w is = inl is
-        by end.Cut w is = inr (inr (is, inl (refl, same, w)))
-        by (end.Refused cause) w is = inr (inr (is, inr (inl (cause, (refl, same, w)))))
+        by end.Cut w is = inr (inr (inl (is, inl (refl, same, w))))
+        by (end.Refused cause) w is = inr (inr (inl (is, inr (inl (cause, (refl, same, w))))))
         by end.ReadFault w is = absurd (calm.reading w.4.talk.ends.1)
         by end.WriteFault w is = absurd (calm.writing (elim w.4.talk.ends [ inl part ↦ part.fault | inr cut ↦ cut.fault ]))
         by end.Memory w is = inr (inl is)
-        by end.Worn w is = inr (inr (is, inr (inr (refl, same, w))))
+        by end.Worn w is = inr (inr (inl (is, inr (inr (refl, same, w)))))
 
-    serve_complete : (numbers : ServerNumbers) → CanOpen seen old → ServeWay seen numbers old new status → IsComplete (Serve numbers) old new status
+    serve_complete : (numbers : ServerNumbers) → CanOpen seen old → ServeWay seen numbers old new status → IsComplete seen (Serve numbers) old new status
     serve_complete numbers can (unserved none door) = inr (inl (none_opened seen old new status calm can none))
     serve_complete numbers can (served how gives same e) = by how gives e
       where
-        by : (h : ServeEnd) → GivesSettings old.streams.shelf (λ settings. Served seen settings numbers old new h) → status ≡ serve_status h → IsComplete (Serve numbers) old new status
+        by : (h : ServeEnd) → GivesSettings old.streams.shelf (λ settings. Served seen settings numbers old new h) → status ≡ serve_status h → IsComplete seen (Serve numbers) old new status
         by serve_end.Ended w is = inl is
         by serve_end.DoorFault w is = absurd (calm.door (w.4.serves.fault refl))
         by serve_end.Memory w is = inr (inl is)
 
-    check_complete : CanOpen seen old → CheckWay seen old new status → IsComplete Check old new status
+    check_complete : CanOpen seen old → CheckWay seen old new status → IsComplete seen Check old new status
     check_complete can (unshown none) = inr (inl (none_opened seen old new status calm can none))
     check_complete can (shown (text, settings, gives, is, (book, shows, inl prints))) =
         inl (prints_whole old.streams.out new.streams.out (check_text book.history) 0 status prints calm.out)
     check_complete can (shown (text, settings, gives, is, (book, shows, inr untold))) = inr (inl untold.1)
 
-    drill_complete : (numbers : DrillNumbers) → DrillWay numbers old.streams new.streams status → IsComplete (Drill numbers) old new status
+    drill_complete : (numbers : DrillNumbers) → DrillWay numbers old.streams new.streams status → IsComplete seen (Drill numbers) old new status
     drill_complete numbers (played H plays prints) = inl (prints_whole old.streams.out new.streams.out (summary_of numbers H) 0 status prints calm.out)
     drill_complete numbers (unplayed same e) = inr (inl e)
 
-  -- what a command leaves as it was
-  record Keeps (request : Request) (old new : Outside D) : Type 0 where
-    shelf : Follows old.streams.shelf new.streams.shelf
-    own : request ≢ Session → new.streams.own ≡ old.streams.own
-    no_file : ¬ ((kind_of seen request).reads_files) → new.streams.shelf ≡ old.streams.shelf
-    no_door : ¬ ((kind_of seen request).takes_links) → new.streams.door ≡ old.streams.door
-    no_disk : ¬ ((kind_of seen request).keeps_book) → new.disk ≡ old.disk
-
-  -- it leaves all but the output
-  keeps_all : (request : Request) (old new : Outside D) → new.streams ≡ record old.streams { out = new.streams.out } → new.disk ≡ old.disk → Keeps request old new
-  keeps_all request old new rest kept =
-      let same : new.streams.shelf ≡ old.streams.shelf = ap (λ (w : Streams). w.shelf) rest in
-      record {
-        shelf = record {
-          files = ap (λ (s : ShelfState). s.files) same;
-          faults = omega (arith, ap (λ (s : ShelfState). s.faults) same);
-          misses = omega (arith, ap (λ (s : ShelfState). s.misses) same);
-        };
-        own = λ other. ap (λ (w : Streams). w.own) rest;
-        no_file = λ other. same;
-        no_door = λ other. ap (λ (w : Streams). w.door) rest;
-        no_disk = λ other. kept;
-      }
-
-  module _ (request : Request) (old new : Outside D) (status : ℕ) (w : Told request old new status) (keeps : Keeps request old new)
-      (complete : IsCalm seen old new → (kind_of seen request).can_do old → IsComplete request old new status) where
+  module _ (request : Request) (old new : Outside D) (status : ℕ) (w : Told seen request old new status) (keeps : Keeps seen request old new)
+      (complete : IsCalm seen old new → (kind_of seen request).can_do old → IsComplete seen request old new status) where
     statuses : (IsCalm seen old new → (kind_of seen request).has_to_refuse old → (status ≡ 3) ⊎ (status ≡ 7))
         → (IsCalm seen old new → HasDamage seen request old → (status ≡ 9) ⊎ (status ≡ 7))
         → (IsCalm seen old new → HasOtherRules seen request old → ((status ≡ 3) × Appends old.streams.out.written new.streams.out.written rules_line) ⊎ (status ≡ 7))
@@ -254,6 +175,9 @@ module _ {D : Type 0} (seen : D → DiskState) where
       no_file = keeps.no_file;
       no_door = keeps.no_door;
       no_disk = keeps.no_disk;
+      keeper_faults = keeps.archive.later;
+      no_archive = keeps.archive.no_archive;
+      no_release = keeps.archive.no_release;
     }
 
     without_book : ¬ ((kind_of seen request).keeps_book) → (IsCalm seen old new → (kind_of seen request).has_to_refuse old → (status ≡ 3) ⊎ (status ≡ 7)) → Statuses seen request old new status
@@ -274,6 +198,7 @@ module _ {D : Type 0} (seen : D → DiskState) where
         no_file = λ other. absurd (other tt);
         no_door = λ other. ap (λ (w : Streams). w.door) ends.rest;
         no_disk = λ other. kept;
+        archive = same_archive seen (Eval run qrels) old new (ap (λ (w : Streams). w.keeper) ends.rest);
       })
       (λ calm can. eval_complete exclusive run qrels old new status calm can ends.way)
       (λ none. none) (λ calm has. eval_refused exclusive run qrels old new status calm has ends.way)
@@ -285,6 +210,7 @@ module _ {D : Type 0} (seen : D → DiskState) where
         no_file = λ other. absurd (other tt);
         no_door = λ other. ap (λ (w : Streams). w.door) ends.rest;
         no_disk = λ other. absurd (other tt);
+        archive = same_archive seen Session old new (ap (λ (w : Streams). w.keeper) ends.rest);
       })
       (λ calm can. session_complete old new status calm can ends.way) (session_opening seen old new status ends.way) (λ has. has)
   by_status exclusive (Serve numbers) old new status ends =
@@ -295,10 +221,11 @@ module _ {D : Type 0} (seen : D → DiskState) where
         no_file = λ other. absurd (other tt);
         no_door = λ other. absurd (other tt);
         no_disk = λ other. absurd (other tt);
+        archive = same_archive seen (Serve numbers) old new (ap (λ (w : Streams). w.keeper) ends.rest);
       })
       (λ calm can. serve_complete old new status calm numbers can ends.way) (serve_opening seen numbers old new status ends.way) (λ has. has)
   by_status exclusive (Drill numbers) old new status (ends, kept) =
-      without_book (Drill numbers) old new status (drill_told numbers old new status ends.way) (keeps_all (Drill numbers) old new ends.rest kept)
+      without_book (Drill numbers) old new status (drill_told numbers old new status ends.way) (keeps_all seen (Drill numbers) old new ends.rest kept)
       (λ calm can. drill_complete old new status calm numbers ends.way) (λ none. none) (λ calm has. absurd has)
   by_status exclusive Check old new status ends =
       with_book Check old new status (check_told old new status ends.way)
@@ -308,8 +235,37 @@ module _ {D : Type 0} (seen : D → DiskState) where
         no_file = λ other. absurd (other tt);
         no_door = λ other. ap (λ (w : Streams). w.door) ends.rest;
         no_disk = λ other. absurd (other tt);
+        archive = same_archive seen Check old new (ap (λ (w : Streams). w.keeper) ends.rest);
       })
       (λ calm can. check_complete old new status calm can ends.way) (check_opening seen old new status ends.way) (λ has. has)
+  by_status exclusive (Archive name) old new status ends =
+      with_book (Archive name) old new status (archive_told seen name old new status ends.way)
+      (record {
+        shelf = ends.shelf;
+        own = λ other. ap (λ (w : Streams). w.own) ends.rest;
+        no_file = λ other. absurd (other tt);
+        no_door = λ other. ap (λ (w : Streams). w.door) ends.rest;
+        no_disk = λ other. absurd (other tt);
+        archive = record {
+          later = archive_later seen name old new status ends.way;
+          no_archive = λ other. absurd (other tt);
+          no_release = λ other. absurd (other tt);
+        };
+      })
+      (λ calm can. archive_complete seen name old new status calm can ends.way) (archive_opening seen name old new status ends.way) (λ has. has)
+  by_status exclusive (RunHistory run) old new status (ends, kept) =
+      without_book (RunHistory run) old new status
+      (listing_told seen (RunHistory run) (history_text run) old new status (λ all lists. (all, lists, refl)) tt ends.way)
+      (report_keeps seen (RunHistory run) (ListingWay (history_text run)) old new status tt ends kept)
+      (λ calm can. listing_complete seen (RunHistory run) (history_text run) old new status calm ends.way) (λ none. none) (λ calm has. absurd has)
+  by_status exclusive (Compare first second) old new status (ends, kept) =
+      without_book (Compare first second) old new status (compare_told seen first second old new status ends.way)
+      (report_keeps seen (Compare first second) (CompareWay first second) old new status tt ends kept)
+      (λ calm can. compare_complete seen first second old new status calm ends.way) (λ none. none) (λ calm has. absurd has)
+  by_status exclusive Export old new status (ends, kept) =
+      without_book Export old new status (listing_told seen Export export_text old new status (λ all lists. (all, lists, refl)) tt ends.way)
+      (report_keeps seen Export (ListingWay export_text) old new status tt ends kept)
+      (λ calm can. listing_complete seen Export export_text old new status calm ends.way) (λ none. none) (λ calm has. absurd has)
   by_status exclusive Nothing old new status (ends, kept) =
-      without_book Nothing old new status (usage_told old new status ends.way) (keeps_all Nothing old new ends.rest kept)
+      without_book Nothing old new status (usage_told old new status ends.way) (keeps_all seen Nothing old new ends.rest kept)
       (λ calm can. absurd can) (λ none. none) (λ calm has. absurd has)

@@ -1,7 +1,11 @@
+pub mod ArchiveWays
 pub mod ByStatus
 pub mod CalmTalks
 pub mod CodeForms
 pub mod MemoryForms
+pub mod ReportWays
+pub mod SoundReleases
+pub mod Told
 pub mod ToldDisks
 pub mod ToldFiles
 pub mod Ways

@@ -21,18 +21,22 @@ use Rattle.drill.specs.Summaries.{summary_of}
 use Rattle.drill.specs.declared.numbers.DrillNumbers.{DrillNumbers}
 use Rattle.campaign_settings.specs.declared.settings.Settings.{Settings}
 use Rattle.campaign_cli.specs.declared.statuses.Status.{Status}
-use Rattle.campaign_cli.specs.BookEnds.{GivesSettings, IsOpened, IsRefused, Unopened, not_begun, not_opened, settings_file, settings_unread}
-use Rattle.campaign_cli.specs.CheckEnds.{CheckEnds, Shows, Tells, shown, unshown}
+use Rattle.campaign_cli.specs.ArchiveEnds.{unarchived}
+use Rattle.campaign_cli.specs.BookEnds.{GivesSettings, IsOpened, IsRefused, Shows, Unopened, not_begun, not_opened, settings_file, settings_unread}
+use Rattle.campaign_cli.specs.CheckEnds.{CheckEnds, Tells, shown, unshown}
 use Rattle.campaign_cli.specs.DrillEnds.{DrillEnds, played, unplayed}
 use Rattle.campaign_cli.specs.EvalEnds.{EvalEnds, scored, refused, short}
 use Rattle.campaign_cli.specs.Outside.{Outside, Streams, Prints, IsUnread, outside_of}
 use Rattle.campaign_cli.specs.Endings.{Ends as Finishes}
-use Rattle.campaign_cli.specs.Requests.{Request, Eval, Session, Serve, Drill, Check, Nothing}
+use Rattle.campaign_cli.specs.ReportEnds.{CompareWay, ListingWay, export_text, history_text, short_of}
+use Rattle.campaign_cli.specs.ReportEnds.{short as short_report}
+use Rattle.campaign_cli.specs.Requests.{Request, Eval, Session, Serve, Drill, Check, Archive, RunHistory, Compare, Export, Nothing}
 use Rattle.campaign_cli.specs.UsageEnds.{untold as unasked}
 use Rattle.campaign_cli.specs.ServeEnds.{Closes, ServeEnds, Served, ServersStand, served, unserved}
 use Rattle.campaign_cli.specs.SessionEnds.{Answers, Holds, SessionEnds, SessionsStand, held, unheld}
 use Rattle.campaign_settings.specs.Settings.{settings_of}
 use Rattle.campaign_cli.specs.Shelves.{Follows, Gives, ShelfState, file_at}
+use Rattle.campaign_cli.proofs.ReportWays.{reported}
 
 follows_on : (a b c : ShelfState) → Follows a b → Follows b c → Follows a c
 follows_on a b c w v = record {
@@ -137,14 +141,13 @@ module _ {D : Type 0} (seen : D → DiskState) where
     -- it is shown
     pub shown_campaign : (between : Writing) → between ≡ old.out → Tells book.history between out status → after ≡ book.disk
         → CheckEnds seen (outside_of old disk) (outside_of (record old { shelf = later; out = out }) after) status
-    shown_campaign between same tells closes =
-        let new = outside_of (record old { shelf = later; out = out }) after in
-        let Does : Settings → Type 0 = λ settings. (book : Seen D) × Shows seen settings (outside_of old disk) new book × Tells book.history old.out out status in
-        record {
-          way = shown (given Does (book, record { opens = opened.opened; closes = closes }, subst (λ (o : Writing). Tells book.history o out status) same tells));
-          shelf = follows;
-          rest = refl;
-        }
+    shown_campaign between same tells closes = record {
+      way = shown (given (λ settings. (book : Seen D) × Shows seen settings (outside_of old disk) (outside_of (record old { shelf = later; out = out }) after) book
+          × Tells book.history old.out out status)
+          (book, record { opens = opened.opened; closes = closes }, subst (λ (o : Writing). Tells book.history o out status) same tells));
+      shelf = follows;
+      rest = refl;
+    }
 
   -- what a disk stands for at the end, where no call on it failed since the opening
   stands : (disk after : D) (closed : Seen D) → IsSound seen closed → closed.opening ≡ (seen disk).faults → after ≡ closed.disk
@@ -169,4 +172,9 @@ module _ {D : Type 0} (seen : D → DiskState) where
   without_memory (Serve numbers) old = record { way = unserved (not_begun refl refl refl) refl; shelf = still old.streams.shelf; rest = refl }
   without_memory (Drill numbers) old = (record { way = unplayed refl refl; rest = refl }, refl)
   without_memory Check old = record { way = unshown (not_begun refl refl refl); shelf = still old.streams.shelf; rest = refl }
+  without_memory (Archive name) old = record { way = unarchived (not_begun refl refl refl) refl; shelf = still old.streams.shelf; rest = refl }
+  without_memory (RunHistory run) old = (reported old.streams old.streams.out old.streams.keeper 7 refl (omega arith) (ListingWay (history_text run)) (short_report refl refl), refl)
+  without_memory (Compare first second) old =
+      (reported old.streams old.streams.out old.streams.keeper 7 refl (omega arith) (CompareWay first second) (short_of refl refl), refl)
+  without_memory Export old = (reported old.streams old.streams.out old.streams.keeper 7 refl (omega arith) (ListingWay export_text) (short_report refl refl), refl)
   without_memory Nothing old = (record { way = unasked refl refl; rest = refl }, refl)

@@ -1,4 +1,4 @@
--- How a command ends that didn't get the campaign of the settings from the disk.
+-- The campaign of the settings, as it was opened from the disk, and how a command ends that didn't get it.
 use Rattle.std.specs.Prelude.{◌≡◌, ◌⊎◌, ℕ, List, ◌++◌, Some, None, codes, decimal}
 use Rattle.decimal_rank.specs.Writings.{Writing}
 use Rattle.disk_model.specs.Disks.{DiskState}
@@ -8,6 +8,7 @@ use Rattle.book.specs.Books.{Seen}
 use Rattle.book.specs.Openings.{Opened, Refused}
 use Rattle.routes.specs.declared.keys.KeyRow.{KeyRow}
 use Rattle.rulebook.specs.declared.rules.Rules.{Rules}
+use Rattle.rulebook.specs.Campaign.{History}
 use Rattle.campaign_settings.specs.declared.settings.Settings.{Settings}
 use Rattle.campaign_cli.specs.Outside.{Outside, Prints, Misses}
 use Rattle.campaign_settings.specs.Settings.{settings_of}
@@ -78,3 +79,12 @@ module _ {D : Type 0} (seen : D → DiskState) where
     not_opened : GivesSettings old.streams.shelf
         (λ settings. IsRefused settings.rules old.disk new.disk old.streams.out new.streams.out status)
         → Unopened old new status
+
+  -- The campaign of these settings was opened from the disk, and no further call was made on it.
+  pub record Shows (settings : Settings) (old new : Outside D) (book : Seen D) : Type 0 where
+    pub opens : Opened seen settings.rules old.disk book
+    pub closes : new.disk ≡ book.disk
+
+  -- so it was with the campaign of the settings that the shelf may give, and its entries have this property
+  abbrev pub ShowsCampaign : Outside D → Outside D → (History → Type 0) → Type 0
+  ShowsCampaign old new P = GivesSettings old.streams.shelf (λ settings. (book : Seen D) × Shows settings old new book × P book.history)

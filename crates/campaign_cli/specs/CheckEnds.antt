@@ -2,14 +2,11 @@
 use Rattle.std.specs.Prelude.{◌≡◌, ◌⊎◌, ℕ, List, ◌++◌, codes, decimal, length}
 use Rattle.decimal_rank.specs.Writings.{Writing}
 use Rattle.disk_model.specs.Disks.{DiskState}
-use Rattle.book.specs.Books.{Seen}
-use Rattle.book.specs.Openings.{Opened}
 use Rattle.rulebook.specs.declared.rules.Phase.{Phase}
 use Rattle.rulebook.specs.declared.rules.Phase.TheVariants.{Collecting, Judging, Published}
 use Rattle.rulebook.specs.Campaign.{History, phase}
 use Rattle.rulebook.specs.Scores.{table_page}
-use Rattle.campaign_settings.specs.declared.settings.Settings.{Settings}
-use Rattle.campaign_cli.specs.BookEnds.{GivesSettings, Unopened}
+use Rattle.campaign_cli.specs.BookEnds.{ShowsCampaign, Unopened}
 use Rattle.campaign_cli.specs.BookKinds.{book_kind}
 use Rattle.campaign_cli.specs.Kinds.{Kind}
 use Rattle.campaign_cli.specs.Outside.{Outside, Prints}
@@ -29,16 +26,10 @@ abbrev pub Tells : History → Writing → Writing → ℕ → Type 0
 Tells H old new status = Prints old new (check_text H) 0 status ⊎ ((new ≡ old) × (status ≡ 7))
 
 module _ {D : Type 0} (seen : D → DiskState) where
-  -- The campaign of these settings was opened from the disk, and no further call was made on it.
-  pub record Shows (settings : Settings) (old new : Outside D) (book : Seen D) : Type 0 where
-    pub opens : Opened seen settings.rules old.disk book
-    pub closes : new.disk ≡ book.disk
-
   -- the ways in which `check` ends
   pub data CheckWay (old new : Outside D) (status : ℕ) : Type 0 where
     -- the settings are read and the disk is opened: what its campaign is is printed, or there was no memory for it
-    shown : GivesSettings old.streams.shelf (λ settings. (book : Seen D) × Shows settings old new book
-        × Tells book.history old.streams.out new.streams.out status) → CheckWay old new status
+    shown : ShowsCampaign seen old new (λ H. Tells H old.streams.out new.streams.out status) → CheckWay old new status
     -- there is no campaign
     unshown : Unopened seen old new status → CheckWay old new status
 
@@ -50,6 +41,5 @@ module _ {D : Type 0} (seen : D → DiskState) where
 
   abbrev pub check_kind : Kind D
   check_kind = record (book_kind seen CheckEnds) {
-    output = λ old new text.
-        GivesSettings old.streams.shelf (λ settings. (book : Seen D) × Shows settings old new book × (text ≡ check_text book.history));
+    output = λ old new text. ShowsCampaign seen old new (λ H. text ≡ check_text H);
   }

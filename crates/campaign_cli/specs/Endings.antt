@@ -1,12 +1,14 @@
 -- How the program ends, by what its words ask for.
 use Rattle.std.specs.Prelude.{ℕ}
 use Rattle.disk_model.specs.Disks.{DiskState}
+use Rattle.campaign_cli.specs.ArchiveEnds.{archive_kind}
 use Rattle.campaign_cli.specs.CheckEnds.{check_kind}
 use Rattle.campaign_cli.specs.DrillEnds.{drill_kind}
 use Rattle.campaign_cli.specs.EvalEnds.{eval_kind}
 use Rattle.campaign_cli.specs.Kinds.{Kind}
 use Rattle.campaign_cli.specs.Outside.{Outside}
-use Rattle.campaign_cli.specs.Requests.{Request, Eval, Session, Serve, Drill, Check, Nothing}
+use Rattle.campaign_cli.specs.ReportEnds.{compare_kind, export_kind, history_kind}
+use Rattle.campaign_cli.specs.Requests.{Request, Eval, Session, Serve, Drill, Check, Archive, RunHistory, Compare, Export, Nothing}
 use Rattle.campaign_cli.specs.ServeEnds.{serve_kind}
 use Rattle.campaign_cli.specs.SessionEnds.{session_kind}
 use Rattle.campaign_cli.specs.UsageEnds.{usage_kind}
@@ -19,6 +21,10 @@ module _ {D : Type 0} (seen : D → DiskState) where
   kind_of (Serve numbers) = serve_kind seen numbers
   kind_of (Drill numbers) = drill_kind numbers
   kind_of Check = check_kind seen
+  kind_of (Archive name) = archive_kind seen name
+  kind_of (RunHistory run) = history_kind run
+  kind_of (Compare first second) = compare_kind first second
+  kind_of Export = export_kind
   kind_of Nothing = usage_kind
 
   -- The program was asked this and ended with the status; the outside was as the first, and is as the second.

@@ -11,12 +11,22 @@ pub record Kind (D : Type 0) : Type 1 where
   pub keeps_book : Type 0
   -- it takes the links of a door
   pub takes_links : Type 0
+  -- it asks the archive of releases
+  pub asks_archive : Type 0
+  -- it puts a release into the archive
+  pub adds_release : Type 0
   -- a file that it reads wasn't read
   pub misses : Outside D → Outside D → Type 0
   -- the text is what it prints when its work is done
   pub output : Outside D → Outside D → List ℕ → Type 0
   -- a file is refused, or the disk is another campaign's, and the text says so
   pub refusal : Outside D → Outside D → List ℕ → Type 0
+  -- the campaign isn't published, and the text says so
+  pub unpublished : Outside D → Outside D → List ℕ → Type 0
+  -- the archive has another release of the name, and the text says so
+  pub differing : Outside D → Outside D → List ℕ → Type 0
+  -- the archive has no release of a name, and the text says so
+  pub unknown : Outside D → Outside D → List ℕ → Type 0
   -- its files are told, and within their grammars, and so is the disk: it can do its work
   pub can_do : Outside D → Type 0
   -- its files are told, and one is outside its grammar: it has to refuse that
@@ -29,9 +39,14 @@ plain_kind ends = record {
   reads_files = ⊥;
   keeps_book = ⊥;
   takes_links = ⊥;
+  asks_archive = ⊥;
+  adds_release = ⊥;
   misses = λ old new. ⊥;
   output = λ old new text. ⊥;
   refusal = λ old new text. ⊥;
+  unpublished = λ old new text. ⊥;
+  differing = λ old new text. ⊥;
+  unknown = λ old new text. ⊥;
   can_do = λ old. ⊥;
   has_to_refuse = λ old. ⊥;
 }

@@ -1,3 +1,4 @@
+pub mod ArchiveEnds
 pub mod BookEnds
 pub mod BookKinds
 pub mod CalmSessions
@@ -7,6 +8,8 @@ pub mod Endings
 pub mod EvalEnds
 pub mod Kinds
 pub mod Outside
+pub mod Pages
+pub mod ReportEnds
 pub mod Requests
 pub mod ServeEnds
 pub mod SessionEnds

@@ -1,11 +1,12 @@
 -- What the words of a call ask for.
-use Rattle.std.specs.Prelude.{ℕ, ◌≤◌, List, [], ◌∷◌, Option, Some, None, String, string_bytes, map, codes, bytes_eq, IsTrue, if◌then◌else◌}
+use Rattle.std.specs.Prelude.{ℕ, ◌≤◌, List, [], ◌∷◌, Option, Some, None, String, string_bytes, map, codes, bytes_eq, IsTrue, ◌&&◌, if◌then◌else◌}
 use Rattle.std.specs.Option.{option_map_or}
 use Rattle.std.specs.declared.alloc.Global.{Global}
 use Rattle.command_words.specs.Numbers.{number_in}
 use Rattle.command_words.specs.Words.{Form, given_by}
 use Rattle.campaign_server.specs.declared.numbers.ServerNumbers.{ServerNumbers}
 use Rattle.drill.specs.Figures.{are_numbers}
+use Rattle.trec_formats.specs.Names.{is_name}
 use Rattle.drill.specs.declared.numbers.DrillNumbers.{DrillNumbers}
 use Rattle.campaign_cli.specs.declared.words.Command.{Command}
 use Rattle.campaign_cli.specs.declared.words.Command.TheVariants as command
@@ -17,6 +18,10 @@ pub data Request : Type 0 where
   Serve : ServerNumbers → Request
   Drill : DrillNumbers → Request
   Check : Request
+  Archive : List ℕ → Request
+  RunHistory : List ℕ → Request
+  Compare : List ℕ → List ℕ → Request
+  Export : Request
   Nothing : Request
 
 abbrev pub form : List ℕ → List (List ℕ) → List (List ℕ) → Form
@@ -29,7 +34,11 @@ forms =
     ∷ form (codes "session") [] []
     ∷ form (codes "serve") [] (codes "port" ∷ codes "workers" ∷ codes "connections" ∷ [])
     ∷ form (codes "drill") (codes "seed" ∷ codes "runs" ∷ codes "topics" ∷ codes "docs" ∷ []) []
-    ∷ form (codes "check") [] [] ∷ []
+    ∷ form (codes "check") [] []
+    ∷ form (codes "archive") (codes "name" ∷ []) []
+    ∷ form (codes "history") (codes "run" ∷ []) []
+    ∷ form (codes "compare") (codes "first" ∷ codes "second" ∷ []) []
+    ∷ form (codes "export") [] [] ∷ []
 
 abbrev pub eval_of : List (List ℕ) → Request
 eval_of (run ∷ qrels ∷ []) = Eval run qrels
@@ -76,13 +85,40 @@ abbrev pub drill_of : List (List ℕ) → Request
 drill_of (seed ∷ sizes) = drill_at (any_number seed) (three_numbers sizes)
 drill_of [] = Nothing
 
+-- releases and runs are asked for by names
+
+abbrev pub archive_by : List ℕ → Request
+archive_by name = if is_name name then Archive name else Nothing
+
+abbrev pub archive_of : List (List ℕ) → Request
+archive_of (name ∷ []) = archive_by name
+archive_of values = Nothing
+
+abbrev pub history_by : List ℕ → Request
+history_by run = if is_name run then RunHistory run else Nothing
+
+abbrev pub history_of : List (List ℕ) → Request
+history_of (run ∷ []) = history_by run
+history_of values = Nothing
+
+abbrev pub compare_by : List ℕ → List ℕ → Request
+compare_by first second = if is_name first && is_name second then Compare first second else Nothing
+
+abbrev pub compare_of : List (List ℕ) → Request
+compare_of (first ∷ second ∷ []) = compare_by first second
+compare_of values = Nothing
+
 -- the request of a command, by its name and its values in the order of its form
 abbrev pub request_at : List ℕ × List (List ℕ) → Request
 request_at found = if bytes_eq found.0 (codes "eval") then eval_of found.1
     else (if bytes_eq found.0 (codes "session") then Session
     else (if bytes_eq found.0 (codes "serve") then serve_of found.1
     else (if bytes_eq found.0 (codes "drill") then drill_of found.1
-    else (if bytes_eq found.0 (codes "check") then Check else Nothing))))
+    else (if bytes_eq found.0 (codes "check") then Check
+    else (if bytes_eq found.0 (codes "archive") then archive_of found.1
+    else (if bytes_eq found.0 (codes "history") then history_of found.1
+    else (if bytes_eq found.0 (codes "compare") then compare_of found.1
+    else (if bytes_eq found.0 (codes "export") then Export else Nothing))))))))
 
 -- the request that words give by the forms
 abbrev pub request_of : List (List ℕ) → Request
@@ -99,18 +135,26 @@ meant command.Session = Session
 meant (command.Serve numbers) = Serve numbers
 meant (command.Drill numbers) = Drill numbers
 meant command.Check = Check
+meant (command.Archive name) = Archive name.now
+meant (command.RunHistory run) = RunHistory run.now
+meant (command.Compare first second) = Compare first.now second.now
+meant command.Export = Export
 meant command.Usage = Nothing
 
--- a server has 1 to 16 workers, and takes one connection at least; the numbers of a drill are within their ranges
+-- a server has 1 to 16 workers, and takes one connection at least; the numbers of a drill are within their ranges; releases and runs have names
 abbrev pub IsInRange : Command → Type 0
 IsInRange (command.Eval run qrels) = Unit {0}
 IsInRange command.Session = Unit {0}
 IsInRange (command.Serve numbers) = (1 ≤ numbers.workers) × (numbers.workers ≤ 16) × (1 ≤ numbers.connections)
 IsInRange (command.Drill numbers) = IsTrue (are_numbers numbers)
 IsInRange command.Check = Unit {0}
+IsInRange (command.Archive name) = IsTrue (is_name name.now)
+IsInRange (command.RunHistory run) = IsTrue (is_name run.now)
+IsInRange (command.Compare first second) = IsTrue (is_name first.now && is_name second.now)
+IsInRange command.Export = Unit {0}
 IsInRange command.Usage = Unit {0}
 
 -- what is printed where the words are no command
 abbrev pub usage_line : List ℕ
 usage_line =
-    codes "usage: campaign eval RUN QRELS | session | serve --port P --workers W --connections N | drill SEED RUNS TOPICS DOCS | check\n"
+    codes "usage: campaign eval RUN QRELS | session | serve --port P --workers W --connections N | drill SEED RUNS TOPICS DOCS | check | archive NAME | history RUN | compare A B | export\n"

@@ -42,6 +42,10 @@ pub data Cause : Type 0 where
   Damaged : Cause
   Link : Cause
   Cut : Cause
+  Keeper : Cause
+  Unpublished : Cause
+  Differs : Cause
+  Unknown : Cause
 
 abbrev pub number_of : Cause → ℕ
 number_of Done = 0
@@ -55,6 +59,10 @@ number_of Output = 8
 number_of Damaged = 9
 number_of Link = 10
 number_of Cut = 11
+number_of Keeper = 12
+number_of Unpublished = 13
+number_of Differs = 14
+number_of Unknown = 15
 
 -- all of a text with this property was written
 abbrev pub PrintsAll : Writing → Writing → (List ℕ → Type 0) → Type 0
@@ -86,10 +94,16 @@ module _ {D : Type 0} (seen : D → DiskState) where
   IsDamage request old new text = ((text ≡ header_line) × IsUnopened request old new fault.Header)
       ⊎ ((entry : ℕ) × (text ≡ entry_line entry) × IsUnopened request old new (fault.Damaged entry))
 
+  -- the text says why a command that could do its work found something else
+  abbrev pub IsFinding : Request → Outside D → Outside D → List ℕ → Type 0
+  IsFinding request old new text = (kind_of seen request).unpublished old new text
+      ⊎ ((kind_of seen request).differing old new text ⊎ (kind_of seen request).unknown old new text)
+
   -- a text that the program prints
   abbrev pub IsSaid : Request → Outside D → Outside D → List ℕ → Type 0
   IsSaid request old new text = (kind_of seen request).output old new text
-      ⊎ ((kind_of seen request).refusal old new text ⊎ (IsDamage request old new text ⊎ IsUsage request text))
+      ⊎ ((kind_of seen request).refusal old new text
+      ⊎ (IsDamage request old new text ⊎ (IsUsage request text ⊎ IsFinding request old new text)))
 
   -- the session of the settings that the shelf may give came to this end, and nothing was printed
   abbrev pub SessionComesTo : Request → Outside D → Outside D → End → Type 0
@@ -120,6 +134,17 @@ module _ {D : Type 0} (seen : D → DiskState) where
   Says Damaged request old new = PrintsAll old.streams.out new.streams.out (IsDamage request old new)
   Says Link request old new = SessionComesTo request old new end.ReadFault
   Says Cut request old new = IsCut request old new
+  Says Keeper request old new = (kind_of seen request).asks_archive × Rose old.streams.keeper.faults new.streams.keeper.faults
+      × (new.streams.out ≡ old.streams.out)
+  Says Unpublished request old new = PrintsAll old.streams.out new.streams.out ((kind_of seen request).unpublished old new)
+  Says Differs request old new = PrintsAll old.streams.out new.streams.out ((kind_of seen request).differing old new)
+  Says Unknown request old new = PrintsAll old.streams.out new.streams.out ((kind_of seen request).unknown old new)
+
+  -- what a command comes to that could do its work where no call failed: that is done, or memory was short; a session may be cut, and a command on the archive may find something else
+  abbrev pub IsComplete : Request → Outside D → Outside D → ℕ → Type 0
+  IsComplete request old new status = (status ≡ 0) ⊎ ((status ≡ 7) ⊎ (((status ≡ 11) × IsCut request old new)
+      ⊎ (((status ≡ 13) × Says Unpublished request old new)
+      ⊎ (((status ≡ 14) × Says Differs request old new) ⊎ ((status ≡ 15) × Says Unknown request old new)))))
 
   -- the settings are told and accepted, and the disk tells bytes that have this property under their rules
   abbrev pub TellsDisk : Outside D → (Rules → List ℕ → Type 0) → Type 0
@@ -141,6 +166,7 @@ module _ {D : Type 0} (seen : D → DiskState) where
     pub writing : ¬ (Rose old.streams.own.writing.faults new.streams.own.writing.faults)
     pub door : ¬ (Rose old.streams.door.faults new.streams.door.faults)
     pub disk : ¬ (Rose (seen old.disk).faults (seen new.disk).faults)
+    pub keeper : ¬ (Rose old.streams.keeper.faults new.streams.keeper.faults)
 
   -- what a status says of what was asked
   pub record Statuses (request : Request) (old new : Outside D) (status : ℕ) : Type 0 where
@@ -149,18 +175,20 @@ module _ {D : Type 0} (seen : D → DiskState) where
     -- the cause by its number is so
     pub says : (cause : Cause) → status ≡ number_of cause → Says cause request old new
     -- with its files there and within their grammars, so with its disk, and no count risen, the work is done or memory is short; a session may be cut
-    pub complete : (kind_of seen request).can_do old → IsCalm old new
-        → (status ≡ 0) ⊎ ((status ≡ 7) ⊎ ((status ≡ 11) × IsCut request old new))
+    pub complete : (kind_of seen request).can_do old → IsCalm old new → IsComplete request old new status
     -- with its files there, one outside its grammar, and no count risen, that is told or memory is short
     pub refused : (kind_of seen request).has_to_refuse old → IsCalm old new → (status ≡ 3) ⊎ (status ≡ 7)
     -- with its settings told and accepted, a damaged disk, and no count risen, that is told or memory is short; and so with another campaign's
     pub damaged : HasDamage request old → IsCalm old new → (status ≡ 9) ⊎ (status ≡ 7)
     pub differs : HasOtherRules request old → IsCalm old new → ((status ≡ 3) × Appends old.streams.out.written new.streams.out.written rules_line) ⊎ (status ≡ 7)
-    -- the files stay, and no count of the shelf or the output falls
+    -- the files stay, and no count of the shelf, the output or the archive's keeper falls
     pub shelf : Follows old.streams.shelf new.streams.shelf
     pub write_faults : old.streams.out.faults ≤ new.streams.out.faults
+    pub keeper_faults : old.streams.keeper.faults ≤ new.streams.keeper.faults
     -- what the words don't need is as it was
     pub own : request ≢ Session → new.streams.own ≡ old.streams.own
     pub no_file : ¬ ((kind_of seen request).reads_files) → new.streams.shelf ≡ old.streams.shelf
     pub no_door : ¬ ((kind_of seen request).takes_links) → new.streams.door ≡ old.streams.door
     pub no_disk : ¬ ((kind_of seen request).keeps_book) → new.disk ≡ old.disk
+    pub no_archive : ¬ ((kind_of seen request).asks_archive) → new.streams.keeper ≡ old.streams.keeper
+    pub no_release : ¬ ((kind_of seen request).adds_release) → new.streams.keeper.held ≡ old.streams.keeper.held

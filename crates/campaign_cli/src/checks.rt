@@ -1,14 +1,13 @@
 //! `check`: opens the campaign on the disk, and tells what it is. The opening mends the journal, and founds a campaign
 //! where there is none; then no further call is made on the disk.
 ghost use Rattle.std.specs.Prelude.{◌≡◌, IfOk};
-ghost use Rattle.rulebook.specs.declared.reply.Reply.TheVariants.{Page as PageReply};
 ghost use Rattle.rulebook.specs.Scores.{table_page};
-ghost use Rattle.rulebook.specs.Words.{Text as PageText};
 ghost use Rattle.campaign_cli.specs.CheckEnds.{CheckEnds, Tells, check_text, phase_word};
 ghost use Rattle.campaign_cli.specs.Outside.{AreSame, outside_of, streams_behind};
 
 use crate::devices::Devices;
 use crate::openings::open_book;
+use crate::pages::page_of;
 use crate::printing::print;
 use crate::shelves::Shelf;
 use crate::statuses::Status;
@@ -16,22 +15,20 @@ use book::{Book, Disk};
 use campaign_server::{Door, Link};
 use decimal_rank::{Memory, Output as Sink, Text};
 use itoa::Buffer as Digits;
-use rulebook::{Addressed, Answer, Ask, Caller, Phase, Query, Reply, Role};
+use release_archive::Keeper;
+use rulebook::{Phase, Query};
 use std::alloc::Global;
 
-/// Who asks for the table.
-const ASKER: &[u8] = b"campaign";
-
 /// Reads the settings, opens their campaign from the disk and prints what it is.
-pub(crate) fn show_campaign<F: Shelf, O: Sink, I: Link, D: Disk, R: Door>(
+pub(crate) fn show_campaign<F: Shelf, O: Sink, I: Link, D: Disk, R: Door, K: Keeper>(
     alloc: Global,
-    devices: &mut Devices<F, O, I, R>,
+    devices: &mut Devices<F, O, I, R, K>,
     disk: D,
 ) -> (Status, D)
     ensures same { AreSame devices.old devices.new }
     ensures ends { CheckEnds D.seen
-        (outside_of (streams_behind F.seen O.writing I.seen R.seen devices.old) disk)
-        (outside_of (streams_behind F.seen O.writing I.seen R.seen devices.new) result.1)
+        (outside_of (streams_behind F.seen O.writing I.seen R.seen K.seen devices.old) disk)
+        (outside_of (streams_behind F.seen O.writing I.seen R.seen K.seen devices.new) result.1)
         result.0.0 }
 {
     match open_book(alloc, devices.shelf, devices.out, disk) {
@@ -64,7 +61,7 @@ fn text_of<D: Disk>(alloc: Global, book: &mut Book<D>) -> Result<Vec<u8>, Memory
     text.extend_from_slice(b"\nphase ")?;
     text.extend_from_slice(word_of(book.phase()))?;
     text.extend_from_slice(b"\n")?;
-    text.extend_from_slice(page_of(&table))?;
+    text.extend_from_slice(table.bytes())?;
     Ok(text)
 }
 
@@ -78,36 +75,11 @@ fn word_of(phase: Phase) -> &'static [u8]
     }
 }
 
-// The table of the runs, as an organiser is told it.
-fn table_of<D: Disk>(alloc: Global, book: &mut Book<D>) -> Result<Reply, Memory>
+// The table of the runs.
+fn table_of<D: Disk>(alloc: Global, book: &mut Book<D>) -> Result<Text, Memory>
     ensures same { book.new ≡ book.old }
-    ensures table { IfOk result (λ reply. reply ≡ PageReply (table_page book.old.history)) }
+    ensures table { IfOk result (λ text. text ≡ table_page book.old.history) }
 {
-    let name = Text::from_slice(alloc, ASKER)?;
-    let who = Caller {
-        name,
-        role: Role::Organiser,
-    };
-    match book.act(Addressed {
-        who,
-        number: None,
-        ask: Ask::See(Query::Table),
-        moment: 0,
-    }) {
-        Answer::Reply(reply) => Ok(reply),
-        // a query adds nothing
-        Answer::DiskFault => unreachable!(),
-        Answer::Memory => Err(Memory),
-    }
-}
-
-// The text of a page.
-fn page_of(reply: &Reply) -> &[u8]
-    requires { (page : PageText) × (reply.now ≡ PageReply page) }
-    ensures { (page : PageText) → reply.now ≡ PageReply page → result.now ≡ page }
-{
-    let Reply::Page { text } = reply else {
-        unreachable!()
-    };
-    text.bytes()
+    let table = page_of(alloc, book, Query::Table)?;
+    Ok(table)
 }

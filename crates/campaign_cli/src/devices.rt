@@ -1,11 +1,12 @@
 //! What the program is lent beside its disk.
 
-/// The files, the output, the program's own link and its door, each lent for a time of its own. `campaign` makes one
-/// of them, and lends it to the command that runs.
+/// The files, the output, the program's own link, its door and the archive of releases, each lent for a time of its
+/// own. `campaign` makes one of them, and lends it to the command that runs.
 #[derive(Drop)]
-pub(crate) struct Devices<'f, 'o, 'i, 'r, F, O, I, R> {
+pub(crate) struct Devices<'f, 'o, 'i, 'r, 'k, F, O, I, R, K> {
     pub(crate) shelf: &'f mut F,
     pub(crate) out: &'o mut O,
     pub(crate) own: &'i mut I,
     pub(crate) door: &'r mut R,
+    pub(crate) keeper: &'k mut K,
 }

@@ -1,5 +1,6 @@
 //! What each status says, and what stays behind a session and a server, as laws.
 ghost use Rattle.std.specs.Prelude.{ℕ};
+ghost use Rattle.campaign_cli.specs.ArchiveEnds.{ArchivesAddOne};
 ghost use Rattle.campaign_cli.specs.CalmSessions.{CalmSessionsAreAnswered};
 ghost use Rattle.campaign_cli.specs.Endings.{Ends};
 ghost use Rattle.campaign_cli.specs.Outside.{Outside};
@@ -37,4 +38,10 @@ pub fn sessions_stand<D: Disk>()
 /// entries alone.
 pub fn servers_stand<D: Disk>()
     ensures { ServersStand D.seen }
+{}
+
+/// However `archive` ends, the archive holds what it held, and behind it at most the release of the campaign, which is
+/// published and whose name wasn't held.
+pub fn archives_add_one<D: Disk>()
+    ensures { ArchivesAddOne D.seen }
 {}

@@ -11,6 +11,7 @@ use crate::statuses::Status;
 use book::{Book, Disk};
 use campaign_server::{Door, Link, ServeEnd, ServerNumbers, serve};
 use decimal_rank::Output as Sink;
+use release_archive::Keeper;
 use routes::Keys;
 use std::alloc::Global;
 use std::sync::Wait;
@@ -25,11 +26,12 @@ pub(crate) fn run_server<
     I: Link,
     D: Disk + Send,
     R: Door,
+    K: Keeper,
 >(
     rt: &W,
     alloc: Global,
     numbers: ServerNumbers,
-    devices: &mut Devices<F, O, I, R>,
+    devices: &mut Devices<F, O, I, R, K>,
     disk: D,
 ) -> (Status, D)
     requires workers { (1 ≤ numbers.workers) × (numbers.workers ≤ 16) }
@@ -37,8 +39,8 @@ pub(crate) fn run_server<
     requires shut { IsShut (R.seen devices.old.door.now) }
     ensures same { AreSame devices.old devices.new }
     ensures ends { ServeEnds D.seen numbers
-        (outside_of (streams_behind F.seen O.writing I.seen R.seen devices.old) disk)
-        (outside_of (streams_behind F.seen O.writing I.seen R.seen devices.new) result.1)
+        (outside_of (streams_behind F.seen O.writing I.seen R.seen K.seen devices.old) disk)
+        (outside_of (streams_behind F.seen O.writing I.seen R.seen K.seen devices.new) result.1)
         result.0.0 }
 {
     match open_book(alloc, devices.shelf, devices.out, disk) {

@@ -10,20 +10,21 @@ use crate::statuses::Status;
 use book::{Book, Disk};
 use campaign_server::{Door, End, Link, session};
 use decimal_rank::Output as Sink;
+use release_archive::Keeper;
 use routes::Keys;
 use std::alloc::Global;
 
 /// Reads the settings, opens their campaign from the disk and answers the requests of a link.
-pub(crate) fn hold_session<W, F: Shelf, O: Sink, I: Link, D: Disk, R: Door>(
+pub(crate) fn hold_session<W, F: Shelf, O: Sink, I: Link, D: Disk, R: Door, K: Keeper>(
     rt: &W,
     alloc: Global,
-    devices: &mut Devices<F, O, I, R>,
+    devices: &mut Devices<F, O, I, R, K>,
     disk: D,
 ) -> (Status, D)
     ensures same { AreSame devices.old devices.new }
     ensures ends { SessionEnds D.seen
-        (outside_of (streams_behind F.seen O.writing I.seen R.seen devices.old) disk)
-        (outside_of (streams_behind F.seen O.writing I.seen R.seen devices.new) result.1)
+        (outside_of (streams_behind F.seen O.writing I.seen R.seen K.seen devices.old) disk)
+        (outside_of (streams_behind F.seen O.writing I.seen R.seen K.seen devices.new) result.1)
         result.0.0 }
 {
     match open_book(alloc, devices.shelf, devices.out, disk) {

@@ -1,27 +1,34 @@
 //! The commands of the program, and the words of a call as one of them.
 ghost use Rattle.std.specs.Prelude.{◌≡◌, ◌≤◌, IfOk, IfSome, map};
 ghost use Rattle.command_words.specs.Words.{view_of};
-ghost use Rattle.campaign_cli.specs.Requests.{IsInRange, all_three, asked, drill_at, drill_by, drill_of, eval_of, meant, request_at, serve_at, serve_of, three_numbers};
+ghost use Rattle.campaign_cli.specs.Requests.{IsInRange, all_three, archive_by, archive_of, asked, compare_by, compare_of, drill_at, drill_by, drill_of, eval_of, history_by, history_of, meant, request_at, serve_at, serve_of, three_numbers};
 
 use campaign_server::ServerNumbers;
 use command_words::{CommandForm, CommandWords, number_in, read_command};
 use decimal_rank::Memory;
 use drill::{DrillNumbers, are_numbers};
 use std::alloc::Global;
+use trec_formats::is_name;
 
 /// The forms of the commands.
-static FORMS: [CommandForm<'static>; 5] = [
+static FORMS: [CommandForm<'static>; 9] = [
     ("eval", &["run", "qrels"], &[]),
     ("session", &[], &[]),
     ("serve", &[], &["port", "workers", "connections"]),
     ("drill", &["seed", "runs", "topics", "docs"], &[]),
     ("check", &[], &[]),
+    ("archive", &["name"], &[]),
+    ("history", &["run"], &[]),
+    ("compare", &["first", "second"], &[]),
+    ("export", &[], &[]),
 ];
 
 /// A command of the program. `Eval` scores the run in one file against the qrels in another, by the
 /// files' names. `Session` answers the messages of one connection. `Serve` answers those of so many
 /// connections to a port, by so many workers. `Drill` plays a campaign that is generated from numbers.
-/// `Check` opens the campaign of the folder, and tells what it is.
+/// `Check` opens the campaign of the folder, and tells what it is. `Archive` puts its release into the archive under a
+/// name. `RunHistory` tells a run in each release of the archive, `Compare` how two of them agree, and `Export` all
+/// their systems.
 #[derive(Clone, Copy, Debug, PartialEq, Eq)]
 pub enum Command<'a> {
     Eval { run: &'a [u8], qrels: &'a [u8] },
@@ -29,6 +36,10 @@ pub enum Command<'a> {
     Serve(ServerNumbers),
     Drill(DrillNumbers),
     Check,
+    Archive { name: &'a [u8] },
+    RunHistory { run: &'a [u8] },
+    Compare { first: &'a [u8], second: &'a [u8] },
+    Export,
     Usage,
 }
 
@@ -58,6 +69,14 @@ fn command_of<'a>(found: &CommandWords<'a>) -> Command<'a>
         drill_of(found.values.as_slice())
     } else if found.name == "check" {
         Command::Check
+    } else if found.name == "archive" {
+        archive_of(found.values.as_slice())
+    } else if found.name == "history" {
+        history_of(found.values.as_slice())
+    } else if found.name == "compare" {
+        compare_of(found.values.as_slice())
+    } else if found.name == "export" {
+        Command::Export
     } else {
         Command::Usage
     }
@@ -167,6 +186,69 @@ fn drill_by<'a>(numbers: DrillNumbers) -> Command<'a>
 {
     if are_numbers(&numbers) {
         Command::Drill(numbers)
+    } else {
+        Command::Usage
+    }
+}
+
+fn archive_of<'a>(values: &[&'a str]) -> Command<'a>
+    ensures meant { meant result ≡ archive_of (map (λ value. value.now) values.now) }
+    ensures in_range { IsInRange result }
+{
+    match values {
+        [name] => archive_by(name.as_bytes()),
+        _ => Command::Usage,
+    }
+}
+
+fn archive_by<'a>(name: &'a [u8]) -> Command<'a>
+    ensures meant { meant result ≡ archive_by name.now }
+    ensures in_range { IsInRange result }
+{
+    if is_name(name) {
+        Command::Archive { name }
+    } else {
+        Command::Usage
+    }
+}
+
+fn history_of<'a>(values: &[&'a str]) -> Command<'a>
+    ensures meant { meant result ≡ history_of (map (λ value. value.now) values.now) }
+    ensures in_range { IsInRange result }
+{
+    match values {
+        [run] => history_by(run.as_bytes()),
+        _ => Command::Usage,
+    }
+}
+
+fn history_by<'a>(run: &'a [u8]) -> Command<'a>
+    ensures meant { meant result ≡ history_by run.now }
+    ensures in_range { IsInRange result }
+{
+    if is_name(run) {
+        Command::RunHistory { run }
+    } else {
+        Command::Usage
+    }
+}
+
+fn compare_of<'a>(values: &[&'a str]) -> Command<'a>
+    ensures meant { meant result ≡ compare_of (map (λ value. value.now) values.now) }
+    ensures in_range { IsInRange result }
+{
+    match values {
+        [first, second] => compare_by(first.as_bytes(), second.as_bytes()),
+        _ => Command::Usage,
+    }
+}
+
+fn compare_by<'a>(first: &'a [u8], second: &'a [u8]) -> Command<'a>
+    ensures meant { meant result ≡ compare_by first.now second.now }
+    ensures in_range { IsInRange result }
+{
+    if is_name(first) && is_name(second) {
+        Command::Compare { first, second }
     } else {
         Command::Usage
     }

@@ -1,10 +1,10 @@
--- The table is asked for by the campaign's own name, and asking for it adds nothing.
-use Rattle.trec_formats.specs.Names.{is_name}
+-- The table is what a campaign tells whoever asks for it.
+use Rattle.std.proofs.Common.{refl}
+use Rattle.rulebook.specs.Scores.{table_page}
 use Rattle.campaign_cli.proofs.checks.table_of.Goals as goal
 
-pub act-requires : goal.act-requires
-unfolding is_name
-act-requires g c = rw c.in_ok-name.ensures.text
+pub page_of-requires-clause-paged : goal.page_of-requires-clause-paged
+page_of-requires-clause-paged g c = (table_page c.args.book.now.history, λ who now. refl)
 
-pub unreachable-requires : goal.unreachable-requires
-unreachable-requires g c = let leaves = rw c.in-DiskFault.is at c.act.ensures.leaves in cc leaves.1
+pub returns-clause-table : goal.returns-clause-table
+returns-clause-table g c = c.in_ok-table.ensures.page (table_page c.args.book.now.history) (λ who now. refl)

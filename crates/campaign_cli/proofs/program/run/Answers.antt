@@ -14,11 +14,31 @@ returns-in-Serve-clause-ends g c = rw c.in-Serve.is c.run_server.ensures.ends
 
 pub returns-in-Drill-clause-ends : goal.returns-in-Drill-clause-ends
 returns-in-Drill-clause-ends g c =
-    let old = streams_behind g.F.Shelf.seen g.O.Output.writing g.I.Link.seen g.R.Door.seen c.args.devices.now in
+    let old = streams_behind g.F.Shelf.seen g.O.Output.writing g.I.Link.seen g.R.Door.seen g.K.Keeper.seen c.args.devices.now in
     rw c.in-Drill.is (c.run_drill.ensures old, refl)
 
 pub returns-in-Check-clause-ends : goal.returns-in-Check-clause-ends
 returns-in-Check-clause-ends g c = rw c.in-Check.is c.show_campaign.ensures.ends
+
+pub returns-in-Archive-clause-ends : goal.returns-in-Archive-clause-ends
+returns-in-Archive-clause-ends g c =
+    let old = streams_behind g.F.Shelf.seen g.O.Output.writing g.I.Link.seen g.R.Door.seen g.K.Keeper.seen c.args.devices.now in
+    rw c.in-Archive.is (c.archive_campaign.ensures old)
+
+pub returns-in-RunHistory-clause-ends : goal.returns-in-RunHistory-clause-ends
+returns-in-RunHistory-clause-ends g c =
+    let old = streams_behind g.F.Shelf.seen g.O.Output.writing g.I.Link.seen g.R.Door.seen g.K.Keeper.seen c.args.devices.now in
+    rw c.in-RunHistory.is (c.tell_history.ensures old, refl)
+
+pub returns-in-Compare-clause-ends : goal.returns-in-Compare-clause-ends
+returns-in-Compare-clause-ends g c =
+    let old = streams_behind g.F.Shelf.seen g.O.Output.writing g.I.Link.seen g.R.Door.seen g.K.Keeper.seen c.args.devices.now in
+    rw c.in-Compare.is (c.compare_releases.ensures old, refl)
+
+pub returns-in-Export-clause-ends : goal.returns-in-Export-clause-ends
+returns-in-Export-clause-ends g c =
+    let old = streams_behind g.F.Shelf.seen g.O.Output.writing g.I.Link.seen g.R.Door.seen g.K.Keeper.seen c.args.devices.now in
+    rw c.in-Export.is (c.export_releases.ensures old, refl)
 
 pub returns-in-Usage-clause-ends : goal.returns-in-Usage-clause-ends
 returns-in-Usage-clause-ends g c = rw c.in-Usage.is (c.tell_usage.ensures.ends, refl)
@@ -31,3 +51,6 @@ run_server-requires-clause-connections g c κs within = let range = rw c.in-Serv
 
 pub run_drill-requires : goal.run_drill-requires
 run_drill-requires g c = rw c.in-Drill.is at c.requires.in_range
+
+pub archive_campaign-requires : goal.archive_campaign-requires
+archive_campaign-requires g c = rw c.in-Archive.is at c.requires.in_range

@@ -1,0 +1,11 @@
+-- The pages of a campaign that the program asks for itself.
+use Rattle.std.specs.Prelude.{◌≡◌, ℕ}
+use Rattle.rulebook.specs.declared.ask.Query.{Query}
+use Rattle.rulebook.specs.declared.rules.Caller.{Caller}
+use Rattle.rulebook.specs.Answers.{paged, told}
+use Rattle.rulebook.specs.Campaign.{History}
+use Rattle.rulebook.specs.Words.{Text}
+
+-- a query is answered by this page, whoever asks and whenever
+abbrev pub IsPage : History → Query → Text → Type 0
+IsPage H query page = (who : Caller) (now : ℕ) → told H who now query ≡ paged page
