@@ -6,6 +6,7 @@ use crate::settings::{SETTINGS, settings_shelf};
 use campaign_cli::{MemoryShelf, MemorySink, campaign};
 use campaign_server::{Door, Link, MemoryDoor, MemoryLink};
 use disk_model::MemoryDisk;
+use release_archive::MemoryKeeper;
 use std::alloc::Global;
 use std::sync::Wait;
 use std::test::Fail;
@@ -33,7 +34,18 @@ pub(crate) fn ended_at<W: Threads + Wait + Sync + AllocGlobal, I: Link, R: Door>
 {
     let alloc = rt.alloc();
     let words = words_of(alloc, words)?;
-    let (status, disk) = campaign(rt, alloc, &words, shelf, out, own, disk, door);
+    let mut keeper = MemoryKeeper::new(Vec::new(alloc), Vec::new(alloc));
+    let (status, disk) = campaign(
+        rt,
+        alloc,
+        &words,
+        shelf,
+        out,
+        own,
+        disk,
+        door,
+        &mut keeper,
+    );
     Ok((status.0, disk))
 }
 

@@ -1,15 +1,17 @@
-//! A call of the program over files, an output, a link and a disk in memory.
+//! A call of the program over files, an output, a link, a disk and an archive in memory.
 ghost use Rattle.std.specs.Prelude.{◌≡◌, IfOk, IsTrue};
 ghost use Rattle.campaign_server.specs.Doors.{IsShut};
 ghost use Rattle.campaign_server.specs.MemoryDoors.{told_by};
 ghost use Rattle.campaign_server.specs.Pieces.{are_filled};
 
+use crate::archives::keeper_of;
 use crate::messages::Exchange;
 use crate::stages::{Fails, File, NONE, Stage};
 use campaign_cli::{MemoryShelf, MemorySink, campaign};
 use campaign_server::{MemoryDoor, MemoryLink};
 use decimal_rank::{Memory, Text};
 use disk_model::{Disk, DiskCall, MemoryDisk};
+use release_archive::{Kept, MemoryKeeper};
 use rulebook::MAX_MOMENT;
 use std::alloc::Global;
 use std::sync::Wait;
@@ -21,6 +23,7 @@ pub(crate) struct Ended {
     out: MemorySink,
     own: MemoryLink,
     disk: MemoryDisk,
+    keeper: MemoryKeeper,
 }
 
 impl Drop for Ended {
@@ -30,6 +33,7 @@ impl Drop for Ended {
             out: _,
             own: _,
             disk: _,
+            keeper: _,
         } = self;
     }
 }
@@ -48,6 +52,11 @@ impl Ended {
     /// What its disk holds.
     pub(crate) fn held(&self) -> &[u8] {
         self.disk.content()
+    }
+
+    /// The releases that its archive holds.
+    pub(crate) fn kept(&self) -> &[Kept] {
+        self.keeper.kept()
     }
 
     /// The calls on its disk that did their work.
@@ -134,7 +143,8 @@ fn called_over<W: Threads + Wait + Sync + AllocGlobal>(
     let shelf = shelf_of(alloc, &stage.files, fails.file)?;
     let out = MemorySink::new(places(alloc, fails.output)?);
     let disk = disk_of(alloc, held, fails.disk)?;
-    Ok(ended_by(rt, &words, shelf, out, own, disk))
+    let keeper = keeper_of(alloc, &stage.releases, fails.keeper)?;
+    Ok(ended_by(rt, &words, shelf, out, own, disk, keeper))
 }
 
 fn ended_by<W: Threads + Wait + Sync + AllocGlobal>(
@@ -144,18 +154,28 @@ fn ended_by<W: Threads + Wait + Sync + AllocGlobal>(
     out: MemorySink,
     own: MemoryLink,
     disk: MemoryDisk,
+    keeper: MemoryKeeper,
 ) -> Ended {
     let alloc = rt.alloc();
-    let (mut shelf, mut out, mut own) = (shelf, out, own);
+    let (mut shelf, mut out, mut own, mut keeper) = (shelf, out, own, keeper);
     let mut door = shut_door(alloc);
     let (status, disk) = campaign(
-        rt, alloc, words, &mut shelf, &mut out, &mut own, disk, &mut door,
+        rt,
+        alloc,
+        words,
+        &mut shelf,
+        &mut out,
+        &mut own,
+        disk,
+        &mut door,
+        &mut keeper,
     );
     Ended {
         status: status.0,
         out,
         own,
         disk,
+        keeper,
     }
 }
 

@@ -1,5 +1,5 @@
-//! Plays cases of the whole program: calls of its top call over files, an output, a link and a disk in memory, each with
-//! what it has to come to. It reads them from standard input and prints each line that comes to something else, the counts
+//! Plays cases of the whole program: calls of its top call over files, an output, a link, a disk and an archive in memory,
+//! each with what it has to come to. It reads them from standard input and prints each line that comes to something else, the counts
 //! of each loop, and how many lines there were.
 //!
 //!     lines judging
@@ -27,6 +27,7 @@
 //! In all texts bytes have marks (`marks`). What can't be played is told `?`.
 #![tactic(auto)]
 
+mod archives;
 mod calls;
 mod crashes;
 mod marks;

@@ -1,6 +1,7 @@
 //! What a call has to come to: its status, what it prints, its answers, and what its disk holds.
 ghost use Rattle.std.specs.Prelude.{◌≤◌, length};
 
+use crate::archives::copies_of;
 use crate::calls::{ALL, Ended, Part, called, checked, held_session};
 use crate::marks::{bytes_of, cut, shown};
 use crate::messages::Exchange;
@@ -49,7 +50,8 @@ pub(crate) fn play_call<W: Threads + Wait + Sync + AllocGlobal>(
 ) -> Result<Outcome, Unplayed> {
     let ended = called(rt, words, stage, ALL, stage.fails)?;
     let outcome = compare(rt.alloc(), &ended, &stage.exchanges, wanted)?;
-    stage.go_on(ended.held())?;
+    let releases = copies_of(rt.alloc(), ended.kept())?;
+    stage.go_on(ended.held(), releases)?;
     Ok(outcome)
 }
 

@@ -6,11 +6,15 @@
 //!     disk 17 times x              what the disk holds
 //!     end \x01\x05                 what it holds in place of its last byte
 //!     clock 1000                   what the link's clock tells
+//!     system autumn X grp 1 5      what the archive holds (`archives`)
 //!     fails read 2                 of the next call of the program the second read of its link: a `read` or a `write` of
-//!                                  the link, a call on the `disk`, a read of a `file`, a write to the `output`
+//!                                  the link, a call on the `disk`, a read of a `file`, a write to the `output`, a call on
+//!                                  the archive's `keeper`
+use crate::archives::add_system;
 use crate::marks::{add_times, bytes_of, cut};
 use crate::messages::{Exchange, answer_of, request_of};
 use decimal_rank::Memory;
+use release_archive::Kept;
 use std::alloc::{AllocError, AllocFailed, Global};
 
 /// A line that isn't one, or for which memory is short.
@@ -43,6 +47,7 @@ pub(crate) struct Fails {
     pub(crate) read: u64,
     pub(crate) write: u64,
     pub(crate) disk: u64,
+    pub(crate) keeper: u64,
 }
 
 pub(crate) const NONE: Fails = Fails {
@@ -51,6 +56,7 @@ pub(crate) const NONE: Fails = Fails {
     read: 0,
     write: 0,
     disk: 0,
+    keeper: 0,
 };
 
 /// A file by its name and its bytes.
@@ -69,6 +75,7 @@ impl Drop for File {
 pub(crate) struct Stage {
     pub(crate) files: Vec<File>,
     pub(crate) disk: Vec<u8>,
+    pub(crate) releases: Vec<Kept>,
     pub(crate) exchanges: Vec<Exchange>,
     /// The first bytes of a raw message.
     begun: Vec<u8>,
@@ -82,6 +89,7 @@ impl Drop for Stage {
         let Stage {
             files: _,
             disk: _,
+            releases: _,
             exchanges: _,
             begun: _,
             clock: _,
@@ -91,11 +99,12 @@ impl Drop for Stage {
 }
 
 impl Stage {
-    /// No files, an empty disk, and no messages.
+    /// No files, an empty disk and archive, and no messages.
     pub(crate) fn new(alloc: Global) -> Stage {
         Stage {
             files: Vec::new(alloc),
             disk: Vec::new(alloc),
+            releases: Vec::new(alloc),
             exchanges: Vec::new(alloc),
             begun: Vec::new(alloc),
             clock: 0,
@@ -119,6 +128,9 @@ impl Stage {
         if verb == "end" {
             self.disk.pop();
             return Ok(add_times(alloc, rest, &mut self.disk)?);
+        }
+        if verb == "system" {
+            return add_system(alloc, &mut self.releases, rest);
         }
         self.set_plain(verb, rest)
     }
@@ -152,6 +164,8 @@ impl Stage {
             self.fails.write = place;
         } else if kind == "disk" {
             self.fails.disk = place;
+        } else if kind == "keeper" {
+            self.fails.keeper = place;
         } else {
             return Err(Unplayed);
         }
@@ -201,10 +215,11 @@ impl Stage {
         Ok(self.exchanges.push(Exchange { message, answer })?)
     }
 
-    /// Goes on with what the disk holds now, without messages and failing calls.
-    pub(crate) fn go_on(&mut self, held: &[u8]) -> Result<(), Memory> {
+    /// Goes on with what the disk and the archive hold now, without messages and failing calls.
+    pub(crate) fn go_on(&mut self, held: &[u8], releases: Vec<Kept>) -> Result<(), Memory> {
         self.exchanges.clear();
         self.fails = NONE;
+        self.releases = releases;
         self.disk.clear();
         Ok(self.disk.extend_from_slice(held)?)
     }

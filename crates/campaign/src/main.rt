@@ -1,5 +1,5 @@
 //! The program: the files of the system, standard input and output, the machine's clock, the file of the
-//! campaign's journal and a TCP door on 127.0.0.1, and the top call over them. Standard error is told what failed and
+//! campaign's journal, a TCP door on 127.0.0.1 and the file of an archive, and the top call over them. Standard error is told what failed and
 //! what to do; what standard output has and the status are the top call's alone.
 #![tactic(auto)]
 
@@ -12,6 +12,7 @@ mod setting_faults;
 mod setting_lines;
 mod shelf_reports;
 
+use archive_file::SqliteKeeper;
 use campaign_cli::{FileShelf, OutputSink, Status, campaign};
 use campaign_server::StreamLink;
 use decimal_rank::Secret;
@@ -29,6 +30,9 @@ use std::{env, fs};
 
 /// The file that keeps the campaign, in the folder that the program runs in.
 const JOURNAL: &str = "campaign.journal";
+
+/// The file that keeps the releases of campaigns, in the same folder.
+const ARCHIVE: &str = "campaign.archive";
 
 /// What is said where tables hash with a secret of the clocks, which is weaker.
 const WEAKER: &str =
@@ -98,9 +102,20 @@ fn main(rt: HostRuntime) -> ExitCode {
             let mut own = StreamLink::new(&rt);
             let disk = ReportingDisk::new(FileDisk::new(&rt, journal), &rt);
             let mut door = ReportingDoor::new(&rt);
+            let mut keeper = SqliteKeeper::new(&rt, ARCHIVE);
             let (status, disk) = campaign(
-                &rt, alloc, &words, &mut shelf, &mut out, &mut own, disk, &mut door,
+                &rt,
+                alloc,
+                &words,
+                &mut shelf,
+                &mut out,
+                &mut own,
+                disk,
+                &mut door,
+                &mut keeper,
             );
+            // (then the one file holds all releases)
+            keeper.close();
             // (a look at the journal wants its lock)
             drop(disk);
             tell(&rt, alloc, &words, status);

@@ -1,7 +1,7 @@
 //! What is told on standard error where the words are no command, and at the statuses that need no second look.
 
 /// Each command: its name, what is called, and what that does.
-static COMMANDS: [(&str, &str, &str); 5] = [
+static COMMANDS: [(&str, &str, &str); 9] = [
     (
         "eval",
         "eval RUN QRELS",
@@ -27,10 +27,30 @@ static COMMANDS: [(&str, &str, &str); 5] = [
         "check",
         "opens the campaign of this folder, and tells what it is",
     ),
+    (
+        "archive",
+        "archive NAME",
+        "puts the release of this folder's campaign into campaign.archive, once it is published",
+    ),
+    (
+        "history",
+        "history RUN",
+        "tells the run in each release of campaign.archive: the release, how many topics counted, and the map",
+    ),
+    (
+        "compare",
+        "compare A B",
+        "tells how two releases of campaign.archive order the runs that both have, with Kendall's tau",
+    ),
+    (
+        "export",
+        "export",
+        "tells all systems of campaign.archive as CSV",
+    ),
 ];
 
 /// What is told at a status, beside what its place in the program told.
-static SENTENCES: [(u8, &str); 6] = [
+static SENTENCES: [(u8, &str); 10] = [
     (
         3,
         "a line is refused, as standard output says: mend it; docs/FORMATS.md has what each kind means",
@@ -54,6 +74,22 @@ static SENTENCES: [(u8, &str); 6] = [
     (
         11,
         "the input ended inside a message, or one was refused: send what is missing in a new session",
+    ),
+    (
+        12,
+        "campaign.archive can't be used: end the program that has it open, look whether it is an archive, at its permissions and at the disk, and start again: it holds whole releases alone",
+    ),
+    (
+        13,
+        "the campaign of this folder isn't published, and nothing was archived: publish it first",
+    ),
+    (
+        14,
+        "campaign.archive has another release of this name, and nothing was archived: take another name",
+    ),
+    (
+        15,
+        "campaign.archive has no release of the name on standard output: `campaign export` names those with a system",
     ),
 ];
 
