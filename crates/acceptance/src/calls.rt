@@ -35,17 +35,7 @@ pub(crate) fn ended_at<W: Threads + Wait + Sync + AllocGlobal, I: Link, R: Door>
     let alloc = rt.alloc();
     let words = words_of(alloc, words)?;
     let mut keeper = MemoryKeeper::new(Vec::new(alloc), Vec::new(alloc));
-    let (status, disk) = campaign(
-        rt,
-        alloc,
-        &words,
-        shelf,
-        out,
-        own,
-        disk,
-        door,
-        &mut keeper,
-    );
+    let (status, disk) = campaign(rt, alloc, &words, shelf, out, own, disk, door, &mut keeper);
     Ok((status.0, disk))
 }
 
