@@ -53,7 +53,7 @@ def limited(most):
 def try_limits(path, release):
     """Files that may not grow: the release is there whole or not at all, and the same words again have it."""
     ended = []
-    for most in range(0, 120001, 8000):
+    for most in (*range(0, 240001, 12000), 4_000_000):
         folder = copied(path, "limited", *CAMPAIGN)
         ended.append(began(folder, "archive", "spring", preexec_fn=limited(most)).wait())
         word = {0: "kept", 12: "archived"}.get(ended[-1], "none")

@@ -17,10 +17,14 @@ def four_decimals(value):
     return f"{tenths // 10000}.{tenths % 10000:04}"
 
 
+def asked(path, *statements):
+    words = ["sqlite3", "-batch", "-bail", "-noheader", "-ascii", ARCHIVE]
+    return subprocess.run(words, input=";\n".join([*statements, ""]).encode(), cwd=path, env=ENV, capture_output=True)
+
+
 def stock(path, *statements):
     """What the stock sqlite3 prints for these statements over a folder's archive, row by row."""
-    words = ["sqlite3", "-batch", "-bail", "-noheader", "-ascii", ARCHIVE]
-    done = subprocess.run(words, input=";\n".join([*statements, ""]).encode(), cwd=path, env=ENV, capture_output=True)
+    done = asked(path, *statements)
     if done.returncode != 0:
         fail(f"sqlite3 ends with {done.returncode} for {statements}: {done.stderr.decode()}")
     rows = done.stdout.decode().split("\x1e")[:-1]
@@ -82,8 +86,11 @@ def only_whole(what, path, releases):
 
 
 def has_tables(path):
+    """Whether the file has its tables. Where the first call was killed while it made them, it may be no database yet."""
     table = "SELECT 1 FROM sqlite_schema WHERE name = 'release'"
-    return os.path.exists(os.path.join(path, ARCHIVE)) and stock(path, table) != []
+    if not os.path.exists(os.path.join(path, ARCHIVE)) or b"file is not a database" in asked(path, table).stderr:
+        return False
+    return stock(path, table) != []
 
 
 def fill(path, rows, qrels):
