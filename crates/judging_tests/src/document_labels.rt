@@ -2,6 +2,7 @@
 use decimal_rank::{DocId, Text};
 use labels::{Labels, Marks};
 use std::alloc::Global;
+use std::process::Abort;
 use std::test::Fail;
 
 // What happens to a document.
@@ -122,6 +123,29 @@ fn the_label_of_each_assessor(rt: HostRuntime) -> Result<(), Fail> {
     Ok(())
 }
 
+#[test]
+fn the_grades_of_the_first_two_assessors(rt: HostRuntime) -> Result<(), Fail> {
+    let alloc = rt.alloc();
+    let rows: [(&[Call], [Option<u8>; 2]); 4] = [
+        (&[Call::Rule(3)], [None, None]),
+        (&[Call::Set(P, 1)], [Some(1), None]),
+        // a later grade stays at its assessor's place
+        (
+            &[Call::Set(P, 1), Call::Set(Q, 2), Call::Set(P, 0)],
+            [Some(0), Some(2)],
+        ),
+        (
+            &[Call::Set(P, 1), Call::Set(Q, 2), Call::Set(R, 3)],
+            [Some(1), Some(2)],
+        ),
+    ];
+    for (calls, grades) in rows {
+        let labels = played(alloc, calls)?;
+        assert_eq!(rt; labels.grades(), grades);
+    }
+    Ok(())
+}
+
 // What happens to a document of a topic.
 #[derive(Drop)]
 enum Mark {
@@ -234,6 +258,25 @@ fn the_label_of_each_assessor_of_each_document(rt: HostRuntime) -> Result<(), Fa
     let effective = [(A, Some(3)), (B, Some(2)), (C, None)];
     for (doc, grade) in effective {
         assert_eq!(rt; marks.effective(1, DocId(doc)), grade);
+    }
+    Ok(())
+}
+
+#[test]
+fn the_documents_with_a_label(rt: HostRuntime) -> Result<(), Fail> {
+    let mut marks = Marks::new(rt.alloc());
+    expect_labelled(&rt, rt.alloc(), &mut marks)
+}
+
+fn expect_labelled(rt: &impl Abort, alloc: Global, marks: &mut Marks) -> Result<(), Fail> {
+    for call in [Mark::Set(A, P, 1), Mark::Set(B, Q, 2), Mark::Set(A, P, 0)] {
+        assert!(rt; play_at(alloc, marks, &call)?);
+    }
+    let labelled: &[DocId] = &[DocId(A), DocId(B)];
+    assert_eq!(rt; marks.docs(), labelled);
+    for (doc, count) in [(A, Some(1)), (B, Some(1)), (C, None)] {
+        let labels = marks.labels(DocId(doc));
+        assert_eq!(rt; labels.map(|labels| labels.count()), count);
     }
     Ok(())
 }

@@ -177,6 +177,35 @@ docs_then doc grade (one ∷ later) = step (eqb doc.0 one.doc.0) (docs_then doc 
     step true rest = refl
     step false rest = ap (λ docs. one.doc ∷ docs) rest
 
+-- ---- the documents, in their order
+
+pub docs_again : (doc : DocId) (assessor : List ℕ) (grade : ℕ) (marked : List Marked) → is_marked marked doc ≡ true → docs_in (with_label_at doc assessor grade marked) ≡ docs_in marked
+docs_again doc assessor grade [] there = absurd (cc)
+docs_again doc assessor grade (one ∷ marked) there = step (docs_again doc assessor grade marked) (eqb doc.0 one.doc.0) there
+  where
+    step : (is_marked marked doc ≡ true → docs_in (with_label_at doc assessor grade marked) ≡ docs_in marked) → (t : Bool) → (t || is_marked marked doc) ≡ true
+        → docs_in (cond t (record one { given = with_label assessor grade one.given } ∷ marked) (one ∷ with_label_at doc assessor grade marked)) ≡ one.doc ∷ docs_in marked
+    step rest true h = refl
+    step rest false h = ap (λ docs. one.doc ∷ docs) (rest h)
+
+pub docs_first : (doc : DocId) (assessor : List ℕ) (grade : ℕ) (marked : List Marked) → is_marked marked doc ≡ false
+    → docs_in (with_label_at doc assessor grade marked) ≡ docs_in marked ++ doc ∷ []
+docs_first doc assessor grade [] none = refl
+docs_first doc assessor grade (one ∷ marked) none = step (docs_first doc assessor grade marked) (eqb doc.0 one.doc.0) none
+  where
+    step : (is_marked marked doc ≡ false → docs_in (with_label_at doc assessor grade marked) ≡ docs_in marked ++ doc ∷ []) → (t : Bool) → (t || is_marked marked doc) ≡ false
+        → docs_in (cond t (record one { given = with_label assessor grade one.given } ∷ marked) (one ∷ with_label_at doc assessor grade marked)) ≡ one.doc ∷ (docs_in marked ++ doc ∷ [])
+    step rest true h = absurd (cc)
+    step rest false h = ap (λ docs. one.doc ∷ docs) (rest h)
+
+pub docs_ruled : (doc : DocId) (grade : ℕ) (marked : List Marked) → docs_in (with_ruling_at doc grade marked) ≡ docs_in marked
+docs_ruled doc grade [] = refl
+docs_ruled doc grade (one ∷ marked) = step (docs_ruled doc grade marked) (eqb doc.0 one.doc.0)
+  where
+    step : docs_in (with_ruling_at doc grade marked) ≡ docs_in marked → (t : Bool) → docs_in (cond t (record one { ruling = Some grade } ∷ marked) (one ∷ with_ruling_at doc grade marked)) ≡ one.doc ∷ docs_in marked
+    step rest true = refl
+    step rest false = ap (λ docs. one.doc ∷ docs) rest
+
 -- ---- each document that is there has a label
 
 abbrev pub EachLabelled : List Marked → Type 0

@@ -1,8 +1,8 @@
 -- What a map from documents to labels tells of the documents.
-use Rattle.std.proofs.Common.{◌≡◌, ℕ, zero, suc, ◌<◌, ◌≤◌, Bool, true, false, cond, ◌||◌, eqb, List, [], ◌∷◌, length, get_or, map, Option, Some, None, is_some, refl, sym, ap, ◌∙◌, arith, subst}
+use Rattle.std.proofs.Common.{◌≡◌, ℕ, zero, suc, ◌<◌, ◌≤◌, Bool, true, false, cond, ◌||◌, eqb, nat_lt, List, [], ◌∷◌, length, get_or, map, Option, Some, None, Bor, IfSome, MatchOption, is_some, refl, sym, ap, ◌∙◌, arith, subst}
 use Rattle.std.specs.List.{IsDistinct, find}
 use Rattle.std.specs.Map.{keys_of, lookup, set_value}
-use Rattle.std.specs.Option.{option_map}
+use Rattle.std.specs.Option.{option_copied, option_map}
 use Rattle.std.specs.Str.{bytes_eq}
 use Rattle.std.proofs.lemmas.Bool.{false≢true}
 use Rattle.std.proofs.lemmas.Bool.Decides.{nat_tests}
@@ -64,6 +64,30 @@ marked_looked_up doc (entry ∷ entries) = step (eqb doc.0 entry.0) (marked_look
         → (t || is_marked (marked_of entries) doc) ≡ is_some (cond t (Some entry.1) (lookup (eqb doc.0) entries))
     step true rest = refl
     step false rest = rest
+
+not_empty : {X : Type 0} (xs : List X) → true ≡ nat_lt 0 (length xs) → 0 < length xs
+not_empty [] e = absurd (cc)
+not_empty (x ∷ xs) e = omega arith
+
+-- the labels that are lent of a document
+module _ (doc : DocId) (entries : List Entry) where
+  pub given_lent : (found : Option (Bor Labelled)) → option_copied found ≡ lookup (eqb doc.0) entries
+      → MatchOption found (given_at (marked_of entries) doc ≡ []) (λ labels. labels.now.given ≡ given_at (marked_of entries) doc)
+  given_lent None e = sym (ap given_found e ∙ given_looked_up doc entries)
+  given_lent (Some labels) e = ap given_found e ∙ given_looked_up doc entries
+
+  pub ruling_lent : (found : Option (Bor Labelled)) → option_copied found ≡ lookup (eqb doc.0) entries
+      → IfSome found (λ labels. labels.now.ruling ≡ ruling_at (marked_of entries) doc)
+  ruling_lent None e = tt
+  ruling_lent (Some labels) e = ap ruling_found e ∙ ruling_looked_up doc entries
+
+  pub some_lent : (found : Option (Bor Labelled)) → option_copied found ≡ lookup (eqb doc.0) entries
+      → is_marked (marked_of entries) doc ≡ nat_lt 0 (length (given_at (marked_of entries) doc)) → IfSome found (λ labels. 0 < length labels.now.given)
+  some_lent None e each = tt
+  some_lent (Some labels) e each =
+      let there : is_marked (marked_of entries) doc ≡ true = marked_looked_up doc entries ∙ ap is_some (sym e) in
+      let some : 0 < length (given_at (marked_of entries) doc) = not_empty _ (sym there ∙ each) in
+      subst (λ given. 0 < length given) (sym (given_lent (Some labels) e)) some
 
 -- the room of a document that is there
 pub old_room : (doc : DocId) (labels : Labelled) (entries : List Entry) (slots fresh : ℕ) → Some labels ≡ lookup (eqb doc.0) entries → HasRoom (room_at entries doc) slots fresh → 1 ≤ labels.spare

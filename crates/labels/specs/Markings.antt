@@ -1,10 +1,10 @@
 -- What contracts see of `Marks`, and what it keeps.
-use Rattle.std.specs.Prelude.{◌≡◌, ℕ, ◌≤◌, ◌==◌, nat_lt, List, [], Option, Some, None, length, map}
+use Rattle.std.specs.Prelude.{◌≡◌, ℕ, ◌≤◌, ◌==◌, nat_lt, List, [], Option, Some, None, IsTrue, is_some, length, map}
 use Rattle.std.specs.Map.{lookup}
 use Rattle.std.specs.Option.{ForSome}
 use Rattle.decimal_rank.specs.declared.naming.DocId.{DocId}
 use Rattle.labels.specs.Labelled.{Labelled}
-use Rattle.labels.specs.Marked.{Marked, given_at, is_marked}
+use Rattle.labels.specs.Marked.{Marked, docs_in, given_at, is_marked}
 
 -- the documents that have a label, in the order of their first labels, and the one for which there is room for one more label
 pub record Markings : Type 0 where
@@ -28,8 +28,11 @@ abbrev pub HasRoom : Option ℕ → ℕ → ℕ → Type 0
 HasRoom (Some spare) slots fresh = 1 ≤ spare
 HasRoom None slots fresh = (1 ≤ slots) × (1 ≤ fresh)
 
--- each document that is there has a label, the labels for a new one are empty, and there is the room that contracts see
-pub record IsKept (entries : List (ℕ × Labelled)) (slots : ℕ) (fresh : Labelled) (room : Option DocId) : Type 0 where
+-- each document that is there has a label, the documents stand in a list too, which has room for one more wherever a label has,
+-- the labels for a new document are empty, and there is the room that contracts see
+pub record IsKept (docs : List DocId) (places : ℕ) (entries : List (ℕ × Labelled)) (slots : ℕ) (fresh : Labelled) (room : Option DocId) : Type 0 where
+  pub docs_are : docs ≡ docs_in (marked_of entries)
+  pub place : IsTrue (is_some room) → 1 ≤ places
   pub labelled : (doc : DocId) → is_marked (marked_of entries) doc ≡ nat_lt 0 (length (given_at (marked_of entries) doc))
   pub given : fresh.given ≡ []
   pub ruling : fresh.ruling ≡ None

@@ -1,9 +1,9 @@
 //! The labels of one document: a grade of each assessor, the last ruling, and the effective grade.
-ghost use Rattle.std.specs.Prelude.{◌≡◌, ◌+◌, ◌<◌, ◌≤◌, ◌^◌, ◌-◌, [], None, Some, OnOk, length};
+ghost use Rattle.std.specs.Prelude.{◌≡◌, ◌+◌, ◌<◌, ◌≤◌, ◌^◌, ◌-◌, ◌∷◌, [], None, Some, OnOk, length, slice_get};
 ghost use Rattle.labels.specs.Grades.{effective_grade, shows_disagreement};
 ghost use Rattle.labels.specs.Labelled.{IsOncePerAssessor, grades_of, label_of, with_label};
 
-use crate::given::{Given, are_two_that_differ, common, place_of};
+use crate::given::{Given, are_two_that_differ, common, grade_at, place_of};
 use decimal_rank::{Memory, Text};
 use std::alloc::Global;
 use std::marker::Model;
@@ -93,6 +93,15 @@ impl Labels {
             .iter()
             .find(|label| label.assessor.bytes() == assessor)?;
         Some(label.grade)
+    }
+
+    /// The grades of the first two assessors, in the order of their first labels: None where there is no such label.
+    pub fn grades(&self) -> [Option<u8>; 2]
+        ensures { let grades = grades_of self.now.given in
+            result ≡ slice_get grades 0 ∷ slice_get grades 1 ∷ [] }
+    {
+        let given = self.given.as_slice();
+        [grade_at(given, 0), grade_at(given, 1)]
     }
 
     /// The last ruling, or else the grade of exactly `need` labels that agree.

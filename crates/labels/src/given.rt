@@ -1,5 +1,5 @@
 //! The grades that assessors gave one document, and whether they agree.
-ghost use Rattle.std.specs.Prelude.{◌≡◌, ◌==◌, map, position};
+ghost use Rattle.std.specs.Prelude.{◌≡◌, ◌==◌, map, position, slice_get};
 ghost use Rattle.std.specs.List.{list_all};
 ghost use Rattle.std.specs.Str.{bytes_eq};
 ghost use Rattle.labels.specs.Grades.{common_grade, differ};
@@ -20,6 +20,13 @@ pub(crate) fn place_of(given: &[Given], assessor: &[u8]) -> Option<usize>
     given
         .iter()
         .position(|label| label.assessor.bytes() == assessor)
+}
+
+// The grade of the label at a place.
+pub(crate) fn grade_at(given: &[Given], place: usize) -> Option<u8>
+    ensures { result ≡ slice_get (map (λ label. label.grade) given.now) place }
+{
+    Some(given.get(place)?.grade)
 }
 
 // The grade of so many labels that agree.

@@ -1,10 +1,10 @@
 //! The labels and rulings of a topic's documents, in the order of the first labels.
-ghost use Rattle.std.specs.Prelude.{◌≡◌, ℕ, ◌+◌, ◌-◌, ◌<◌, ◌≤◌, ◌^◌, ◌↔◌, [], None, Some, IfOk, IsTrue, OnOk, length};
+ghost use Rattle.std.specs.Prelude.{◌≡◌, ℕ, ◌+◌, ◌-◌, ◌<◌, ◌≤◌, ◌^◌, ◌↔◌, [], None, Some, IfOk, IfSome, IsTrue, MatchOption, OnOk, length, not};
 ghost use Rattle.indexmap.specs.IndexMap.{spare};
 ghost use Rattle.decimal_rank.specs.Places.{AreDistinct};
 ghost use Rattle.decimal_rank.specs.declared.naming.DocId.{DocId};
 ghost use Rattle.labels.specs.Labelled.{IsOncePerAssessor, has_label, label_of};
-ghost use Rattle.labels.specs.Marked.{disagreeing, disagrees_at, docs_in, effective_at, given_at, is_listed, is_marked, with_label_at, with_ruling_at};
+ghost use Rattle.labels.specs.Marked.{disagreeing, disagrees_at, docs_in, effective_at, given_at, is_listed, is_marked, ruling_at, with_label_at, with_ruling_at};
 ghost use Rattle.labels.specs.Markings.{HasRoom, marked_of, room_at};
 
 use crate::document::Labels;
@@ -23,12 +23,15 @@ type ByNumber = IndexMap<u32, Labels>;
 #[derive(Drop)]
 pub struct Marks {
     marked: ByNumber,
+    // the documents once more, so that they can be lent
+    docs: Vec<DocId>,
     // the labels that the next new document gets, still empty
     fresh: Labels,
     room: Option<DocId>,
 }
 
 impl Model for Marks {
+    ghost use Rattle.std.specs.Prelude.{◌-◌, vec_capacity, vec_len};
     ghost use Rattle.indexmap.specs.IndexMap.{spare};
     ghost use Rattle.labels.specs.Markings.{IsKept, Markings, marked_of};
 
@@ -36,7 +39,8 @@ impl Model for Marks {
 
     ghost view = { λ marks. record { marked = marked_of marks.marked.entries; room = marks.room } };
 
-    ghost invariant = { λ marks. IsKept marks.marked.entries (spare marks.marked) marks.fresh marks.room };
+    ghost invariant = { λ marks.
+        IsKept marks.docs.items (vec_capacity marks.docs - vec_len marks.docs) marks.marked.entries (spare marks.marked) marks.fresh marks.room };
 }
 
 impl Marks {
@@ -47,6 +51,7 @@ impl Marks {
     {
         Marks {
             marked: IndexMap::new(alloc),
+            docs: Vec::new(alloc),
             fresh: Labels::new(alloc),
             room: None,
         }
@@ -58,6 +63,7 @@ impl Marks {
         ensures marked { self.new.marked ≡ self.old.marked }
     {
         self.room = None;
+        self.docs.reserve(1)?;
         let made = make_room(&mut self.marked, &mut self.fresh, doc);
         if made.is_ok() {
             self.room = Some(doc);
@@ -73,7 +79,9 @@ impl Marks {
         ensures room { self.new.room ≡ None }
     {
         self.room = None;
-        put_label(&mut self.marked, &mut self.fresh, doc, assessor, grade);
+        if put_label(&mut self.marked, &mut self.fresh, doc, assessor, grade) {
+            self.docs.push_reserved(doc);
+        }
     }
 
     /// The grade of a ruling on a document, in place of the earlier one.
@@ -95,6 +103,23 @@ impl Marks {
         // the map tells with its length that no document stands twice
         let _ = self.marked.len();
         count_of(&self.marked, doc)
+    }
+
+    /// The labels of a document and its last ruling: None exactly where nobody has a label.
+    pub fn labels(&self, doc: DocId) -> Option<&Labels>
+        ensures given { let given = given_at self.now.marked doc in
+            MatchOption result (given ≡ []) (λ labels. labels.now.given ≡ given) }
+        ensures some { IfSome result (λ labels. 0 < length labels.now.given) }
+        ensures ruling { IfSome result (λ labels. labels.now.ruling ≡ ruling_at self.now.marked doc) }
+    {
+        self.marked.get(&doc.0)
+    }
+
+    /// The documents that have a label, in the order of their first labels.
+    pub fn docs(&self) -> &[DocId]
+        ensures { result.now ≡ docs_in self.now.marked }
+    {
+        self.docs.as_slice()
     }
 
     /// Whether an assessor has given a document a grade.
@@ -145,8 +170,14 @@ fn make_room(marked: &mut ByNumber, fresh: &mut Labels, doc: DocId) -> Result<()
     }
 }
 
-// Puts an assessor's grade at a document, for which there is room.
-fn put_label(marked: &mut ByNumber, fresh: &mut Labels, doc: DocId, assessor: Text, grade: u8)
+// Puts an assessor's grade at a document, for which there is room: whether it is the document's first label.
+fn put_label(
+    marked: &mut ByNumber,
+    fresh: &mut Labels,
+    doc: DocId,
+    assessor: Text,
+    grade: u8,
+) -> bool
     requires room { HasRoom (room_at marked.old.entries doc) (spare marked.old) fresh.old.spare }
     requires few { length (given_at (marked_of marked.old.entries) doc) < 2 ^ 32 - 1 }
     requires given { fresh.old.given ≡ [] }
@@ -154,14 +185,19 @@ fn put_label(marked: &mut ByNumber, fresh: &mut Labels, doc: DocId, assessor: Te
     ensures marked { marked_of marked.new.entries ≡ with_label_at doc assessor grade (marked_of marked.old.entries) }
     ensures given { fresh.new.given ≡ [] }
     ensures ruling { fresh.new.ruling ≡ None }
+    ensures first { result ≡ not (is_marked (marked_of marked.old.entries) doc) }
 {
     match marked.get_mut(&doc.0) {
-        Some(labels) => labels.set(assessor, grade),
+        Some(labels) => {
+            labels.set(assessor, grade);
+            false
+        }
         None => {
             let empty = Labels::new(*marked.allocator());
             let mut labels = replace(fresh, empty);
             labels.set(assessor, grade);
             marked.insert(doc.0, labels).unwrap();
+            true
         }
     }
 }

@@ -7,4 +7,6 @@ pub mod LeaseEntries
 pub mod LegalWalk
 pub mod LiveRuns
 pub mod PlainReplies
+pub mod RisingMoments
+pub mod SpelledEntries
 pub mod UsedNumbers

@@ -1,5 +1,6 @@
 -- What a journal of the accepted entries rests on: what an answer adds may be read back, and all of it has room.
 use Rattle.std.specs.Prelude.{◌≡◌, ℕ, ◌+◌, ◌≤◌, ◌^◌, [], ◌∷◌, ◌++◌, Option, IsTrue, length, sum_by}
+use Rattle.std.specs.List.{All}
 use Rattle.rulebook.specs.Limits.{max_entries, max_entry_bytes, max_moment, max_runs}
 use Rattle.rulebook.specs.declared.rules.Caller.{Caller}
 use Rattle.rulebook.specs.declared.rules.Rules.{Rules}
@@ -10,7 +11,7 @@ use Rattle.rulebook.specs.declared.entry.Entry.{Entry}
 use Rattle.rulebook.specs.Answers.{answer, moment_after}
 use Rattle.rulebook.specs.Campaign.{History, runs}
 use Rattle.rulebook.specs.Legal.{IsAccepted, IsLegal, core_of, founding, is_well_addressed}
-use Rattle.rulebook.specs.Spelling.{are_rules, entry_bytes}
+use Rattle.rulebook.specs.Spelling.{are_rules, entry_bytes, has_spelling}
 
 -- The entry that a request adds is accepted by its own core alone, keeps the list legal, and has the answer's reply.
 pub record IsAdded (H : History) (who : Caller) (number : Option ℕ) (ask : Ask) (moment : ℕ) (e : Entry) : Type 0 where
@@ -37,6 +38,22 @@ MomentsAreInTime = (H : History) → IsLegal H → moment_after H 0 ≤ max_mome
 abbrev pub FoundingFits : Type 0
 FoundingFits = (rules : Rules) → IsTrue (are_rules rules) → length (entry_bytes (founding rules).core) ≤ max_entry_bytes
 
--- A journal's head and the records of a legal list, each of five bytes and its entry's, have room in 2^40 bytes.
+-- A journal's head and the records of a legal list, each of five bytes and its entry's, have room in 2^39 bytes.
 abbrev pub LegalFit : Type 0
-LegalFit = (H : History) → IsLegal H → 17 + sum_by (λ e. length (entry_bytes e.core) + 5) H ≤ 2 ^ 40
+LegalFit = (H : History) → IsLegal H → 17 + sum_by (λ e. length (entry_bytes e.core) + 5) H ≤ 2 ^ 39
+
+-- no moment of these entries is less than the one before it
+abbrev pub Rise : ℕ → History → Type 0
+Rise earlier [] = Unit {0}
+Rise earlier (e ∷ later) = (earlier ≤ e.core.moment) × Rise e.core.moment later
+
+abbrev pub MomentsRise : Type 0
+MomentsRise = (H : History) → IsLegal H → Rise 0 H
+
+-- an entry that has a spelling, with room in a record
+pub record IsSpelled (e : Entry) : Type 0 where
+  pub spelled : IsTrue (has_spelling e.core)
+  pub fits : length (entry_bytes e.core) ≤ max_entry_bytes
+
+abbrev pub EntriesAreSpelled : Type 0
+EntriesAreSpelled = (H : History) → IsLegal H → All IsSpelled H

@@ -15,11 +15,12 @@ pub record IsQuiet (e : Entry) : Type 0 where
   pub no_label : label_of e ≡ None
   pub no_ruling : (topic doc : Text) → ruling_in topic doc e.core.command ≡ None
 
--- labels, rulings, effective grades and the trail stay
+-- labels, rulings, effective grades, the documents with a label and the trail stay
 pub record AreKept (H J : History) : Type 0 where
   pub labels_are : (topic doc : Text) → labels_on J topic doc ≡ labels_on H topic doc
   pub rulings_are : (topic doc : Text) → ruling J topic doc ≡ ruling H topic doc
   pub effective_is : (topic doc : Text) → effective J topic doc ≡ effective H topic doc
+  pub labelled_are : (topic : Text) → labelled J topic ≡ labelled H topic
   pub trail_is : (topic : Text) → trail J topic ≡ trail H topic
 
 -- an entry that gives a label and no ruling
@@ -27,11 +28,13 @@ pub record GivesLabel (e : Entry) (label : Label) : Type 0 where
   pub label_is : label_of e ≡ Some label
   pub no_ruling : (topic doc : Text) → ruling_in topic doc e.core.command ≡ None
 
--- the label joins those of its document, and the document the trail where it has an effective grade then
+-- the label joins those of its document, and the document those with a label, and the trail where it has an effective grade then
 pub record AreWithLabel (H J : History) (label : Label) : Type 0 where
   pub labels_are : (topic doc : Text) → labels_on J topic doc ≡ (if is_on topic doc label then with_label label.assessor label.grade (labels_on H topic doc) else labels_on H topic doc)
   pub rulings_are : (topic doc : Text) → ruling J topic doc ≡ ruling H topic doc
   pub effective_is : (topic doc : Text) → is_on topic doc label ≡ false → effective J topic doc ≡ effective H topic doc
+  pub labelled_are : labelled J label.topic ≡ with_name (labelled H label.topic) label.doc
+  pub other_labelled : (topic : Text) → bytes_eq label.topic topic ≡ false → labelled J topic ≡ labelled H topic
   pub trail_is : trail J label.topic ≡ (if is_some (effective J label.topic label.doc) then with_name (trail H label.topic) label.doc else trail H label.topic)
   pub other_trails : (topic : Text) → bytes_eq label.topic topic ≡ false → trail J topic ≡ trail H topic
 
@@ -48,11 +51,12 @@ pub record GivesRuling (e : Entry) (topic doc : Text) (grade : ℕ) : Type 0 whe
   pub no_label : label_of e ≡ None
   pub command_is : e.core.command ≡ command.Rule topic doc grade
 
--- the document has the ruling, and joins the trail where it has an effective grade then
+-- the document has the ruling, and joins the trail where it has an effective grade then; the documents with a label stay
 pub record AreWithRuling (H J : History) (topic doc : Text) (grade : ℕ) : Type 0 where
   pub labels_are : (t d : Text) → labels_on J t d ≡ labels_on H t d
   pub rulings_are : (t d : Text) → ruling J t d ≡ (if bytes_eq topic t && bytes_eq doc d then Some grade else ruling H t d)
   pub effective_is : (t d : Text) → (bytes_eq topic t && bytes_eq doc d) ≡ false → effective J t d ≡ effective H t d
+  pub labelled_are : (t : Text) → labelled J t ≡ labelled H t
   pub trail_is : trail J topic ≡ (if is_some (effective J topic doc) then with_name (trail H topic) doc else trail H topic)
   pub other_trails : (t : Text) → bytes_eq topic t ≡ false → trail J t ≡ trail H t
 

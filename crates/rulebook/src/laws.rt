@@ -1,6 +1,7 @@
 //! What holds of every campaign by its rules: how labels, rulings and effective grades follow from entries, that a
-//! lease ends once, that a number is used once, and that entries have room in the journal.
-ghost use Rattle.rulebook.specs.Additions.{AddedAreAccepted, EntriesAreFew, FoundingFits, LegalFit, MomentsAreInTime, RunsAreFew};
+//! lease ends once, that a number is used once, that moments don't fall, and that entries have a spelling and room in
+//! the journal.
+ghost use Rattle.rulebook.specs.Additions.{AddedAreAccepted, EntriesAreFew, EntriesAreSpelled, FoundingFits, LegalFit, MomentsAreInTime, MomentsRise, RunsAreFew};
 ghost use Rattle.rulebook.specs.Entries.{GradedAreOnTrail, GradedAreThere, LabelledAreListed, LabelsJoin, QuietEntriesKeepGrades, RulingsJoin};
 ghost use Rattle.rulebook.specs.Facts.{GradesTellTheirLeases, KeptRepliesAreFirst, LabelsAreFew, LabelsAreTheLastGrades, LabelsGoByLeases, LeasesEndOnce, LiveRunsAreNotWithdrawn, NumbersAreUsedOnce, TopicsAreGivenOnce};
 ghost use Rattle.rulebook.specs.Holders.{HoldersHold};
@@ -76,12 +77,22 @@ pub fn moments_are_in_time()
     ensures { MomentsAreInTime }
 {}
 
+/// The moments of a legal list don't fall.
+pub fn moments_rise()
+    ensures { MomentsRise }
+{}
+
+/// Each entry of a legal list has a spelling, which has room in a record.
+pub fn entries_are_spelled()
+    ensures { EntriesAreSpelled }
+{}
+
 /// The first entry has room in a record.
 pub fn founding_fits()
     ensures { FoundingFits }
 {}
 
-/// A journal of a legal list has room in 2^40 bytes.
+/// A journal of a legal list has room in 2^39 bytes.
 pub fn legal_fit()
     ensures { LegalFit }
 {}

@@ -19,12 +19,12 @@ pub use entry::{Entry, EntryCore};
 pub use founding::{founding_core, rules_founded};
 pub use laws::{
     added_are_accepted, commands_are_answered_short, entries_are_few, entries_are_plain,
-    founding_fits, graded_are_on_trail, graded_are_there, grades_tell_their_leases, holders_hold,
-    kept_replies_are_first, labelled_are_listed, labels_are_few, labels_are_the_last_grades,
-    labels_go_by_leases, labels_join, leases_end_once, legal_fit, limits_are_the_rules,
-    live_runs_are_not_withdrawn, moments_are_in_time, numbers_are_used_once,
-    quiet_entries_keep_grades, replies_are_plain, rulings_join, runs_are_few,
-    topics_are_given_once,
+    entries_are_spelled, founding_fits, graded_are_on_trail, graded_are_there,
+    grades_tell_their_leases, holders_hold, kept_replies_are_first, labelled_are_listed,
+    labels_are_few, labels_are_the_last_grades, labels_go_by_leases, labels_join, leases_end_once,
+    legal_fit, limits_are_the_rules, live_runs_are_not_withdrawn, moments_are_in_time,
+    moments_rise, numbers_are_used_once, quiet_entries_keep_grades, replies_are_plain,
+    rulings_join, runs_are_few, topics_are_given_once,
 };
 pub use lease_laws::{ends_are_there, leases_are_entries};
 pub use limits::{

@@ -236,6 +236,11 @@ graded-on-trail H topic doc there =
     ∙ ap (λ ns. contains_text ns doc) (fold-append with_name [] (flat_map docs last.0) (graded H topic))
     ∙ all-among (fold with_name [] (flat_map docs last.0)) (graded H topic) doc there
 
+-- the documents with a label after an entry that gives none
+labelled-kept : (H : History) (e : Entry) (topic : Text) → label_of e ≡ None → labelled (H ++ e ∷ []) topic ≡ labelled H topic
+labelled-kept H e topic none =
+    ap (λ (ls : List Label). each_once (map (λ (label : Label). label.doc) (filter (λ (label : Label). bytes_eq label.topic topic) ls))) (none-given H e none)
+
 -- the documents with a label after one more grade
 label-labels : (H : History) (e : Entry) (l : Label) (topic : Text) → label_of e ≡ Some l
     → labelled (H ++ e ∷ []) topic ≡ (if bytes_eq l.topic topic then with_name (labelled H topic) l.doc else labelled H topic)
@@ -314,9 +319,8 @@ quiet-kept H e rules_are quiet =
       labels_are = labels;
       rulings_are = rulings;
       effective_is = grades;
-      trail_is = λ topic. trail-stays H e topic
-          (ap (λ (ls : List Label). each_once (map (λ (label : Label). label.doc) (filter (λ (label : Label). bytes_eq label.topic topic) ls))) (none-given H e quiet.no_label))
-          (grades topic);
+      labelled_are = λ topic. labelled-kept H e topic quiet.no_label;
+      trail_is = λ topic. trail-stays H e topic (labelled-kept H e topic quiet.no_label) (grades topic);
     }
 
 not-on : (topic doc : Text) (label : Label) → bytes_eq label.topic topic ≡ false → is_on topic doc label ≡ false
@@ -334,16 +338,19 @@ label-joined H e label rules_are gives =
     let others : (topic doc : Text) → is_on topic doc label ≡ false → effective J topic doc ≡ effective H topic doc =
     λ topic doc differ. effective-stays H J topic doc (need-stays H J topic rules_are)
     (labels topic doc ∙ ap (λ t. if t then with_label label.assessor label.grade (labels_on H topic doc) else labels_on H topic doc) differ) (rulings topic doc) in
+    let joins : labelled J label.topic ≡ with_name (labelled H label.topic) label.doc =
+    label-labels H e label label.topic gives.label_is ∙ ap (λ t. if t then with_name (labelled H label.topic) label.doc else labelled H label.topic) (nat_list_eq_equiv.refl label.topic) in
+    let stays : (topic : Text) → bytes_eq label.topic topic ≡ false → labelled J topic ≡ labelled H topic =
+    λ topic differ. label-labels H e label topic gives.label_is ∙ ap (λ t. if t then with_name (labelled H topic) label.doc else labelled H topic) differ in
     record {
       labels_are = labels;
       rulings_are = rulings;
       effective_is = others;
-      trail_is = trail-follows H e label.topic label.doc
-          (label-labels H e label label.topic gives.label_is ∙ ap (λ t. if t then with_name (labelled H label.topic) label.doc else labelled H label.topic) (nat_list_eq_equiv.refl label.topic))
+      labelled_are = joins;
+      other_labelled = stays;
+      trail_is = trail-follows H e label.topic label.doc joins
           (λ other differ. others label.topic other (and-false (bytes_eq label.topic label.topic) (bytes_eq label.doc other) (differ-sym other label.doc differ)));
-      other_trails = λ topic differ. trail-stays H e topic
-          (label-labels H e label topic gives.label_is ∙ ap (λ t. if t then with_name (labelled H topic) label.doc else labelled H topic) differ)
-          (λ doc. others topic doc (not-on topic doc label differ));
+      other_trails = λ topic differ. trail-stays H e topic (stays topic differ) (λ doc. others topic doc (not-on topic doc label differ));
     }
 
 -- A ruling
@@ -398,13 +405,13 @@ ruling-joined H e topic doc grade rules_are gives some =
     rulings-follow H e t d ∙ ap (λ c. option_or (ruling_in t d c) (ruling H t d)) gives.command_is ∙ ruled-step (bytes_eq topic t && bytes_eq doc d) grade (ruling H t d) in
     let others : (t d : Text) → (bytes_eq topic t && bytes_eq doc d) ≡ false → effective J t d ≡ effective H t d = λ t d off.
     effective-stays H J t d (need-stays H J t rules_are) (labels t d) (rulings t d ∙ ap (λ b. if b then Some grade else ruling H t d) off) in
-    let same_labelled : (t : Text) → labelled J t ≡ labelled H t = λ t.
-    ap (λ (ls : List Label). each_once (map (λ (label : Label). label.doc) (filter (λ (label : Label). bytes_eq label.topic t) ls))) (none-given H e gives.no_label) in
+    let same_labelled : (t : Text) → labelled J t ≡ labelled H t = λ t. labelled-kept H e t gives.no_label in
     let there : with_name (labelled H topic) doc ≡ labelled H topic = ap (λ t. if t then labelled H topic else labelled H topic ++ doc ∷ []) (has-label-listed H topic doc some) in
     record {
       labels_are = labels;
       rulings_are = rulings;
       effective_is = others;
+      labelled_are = same_labelled;
       trail_is = trail-follows H e topic doc (same_labelled topic ∙ sym there)
           (λ other differ. others topic other (and-false (bytes_eq topic topic) (bytes_eq doc other) (differ-sym other doc differ)));
       other_trails = λ t differ. trail-stays H e t (same_labelled t) (λ d. others t d (ap (λ b. b && bytes_eq doc d) differ));

@@ -302,5 +302,5 @@ weight_bound =
     ))
     (λ first is. let fits = founding_fits is.0 is.1 in rw (is.2) (omega (arith, fits)))
 
-pub legal_fit : (H : History) → IsLegal H → 17 + weight H ≤ 2 ^ 40
+pub legal_fit : (H : History) → IsLegal H → 17 + weight H ≤ 2 ^ 39
 legal_fit H legal = omega (arith, weight_bound H legal, entries_few H legal, runs_few H legal, topics_once H legal)

@@ -1,8 +1,8 @@
-use Rattle.std.proofs.Common.{◌≡◌, ◌∙◌, ◌<◌, ◌≤◌, ◌-◌, ◌^◌, [], None, ap, eqb, length, sym, subst, rules}
+use Rattle.std.proofs.Common.{◌≡◌, ◌∙◌, ◌<◌, ◌≤◌, ◌-◌, ◌^◌, [], None, ap, eqb, is_some, length, not, sym, subst, rules}
 use Rattle.indexmap.specs.IndexMap.{insert_entry, spare}
 use Rattle.labels.specs.Labelled.{Labelled, with_label}
 use Rattle.labels.specs.Markings.{marked_of}
-use Rattle.labels.proofs.Entries.{given_found, given_looked_up, label_inserted, label_set, new_room, old_room}
+use Rattle.labels.proofs.Entries.{given_found, given_looked_up, label_inserted, label_set, marked_looked_up, new_room, old_room}
 use Rattle.labels.proofs.marks.put_label.Goals as goal
 
 pub set-requires-clause-room : goal.set-requires-clause-room
@@ -40,3 +40,9 @@ returns-in-None-clause-marked c =
     c.set-in-None.ensures.given ∙ ap (λ (labels : Labelled). with_label c.args.assessor c.args.grade labels.given) c.replace-labels.ensures.value ∙ ap (with_label c.args.assessor c.args.grade) c.requires.given in
     let ruling : new.ruling ≡ None = c.set-in-None.ensures.ruling ∙ ap (λ (labels : Labelled). labels.ruling) c.replace-labels.ensures.value ∙ c.requires.ruling in
     ap marked_of entries ∙ label_inserted doc c.args.assessor c.args.grade new before (sym c.in-None.ensures.value) given ruling
+
+pub returns-in-Some-clause-first : goal.returns-in-Some-clause-first
+returns-in-Some-clause-first c = sym (ap not (marked_looked_up c.args.doc c.args.marked.now.entries ∙ ap is_some (sym c.in-Some.ensures.value)))
+
+pub returns-in-None-clause-first : goal.returns-in-None-clause-first
+returns-in-None-clause-first c = sym (ap not (marked_looked_up c.args.doc c.args.marked.now.entries ∙ ap is_some (sym c.in-None.ensures.value)))

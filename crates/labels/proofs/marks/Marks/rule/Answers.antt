@@ -1,11 +1,14 @@
-use Rattle.std.proofs.Common.{sym, subst}
+use Rattle.std.proofs.Common.{◌∙◌, ap, sym, subst}
 use Rattle.indexmap.specs.IndexMap.{spare}
+use Rattle.labels.specs.Marked.{docs_in}
 use Rattle.labels.specs.Markings.{HasRoom, marked_of, room_at}
-use Rattle.labels.proofs.Documents.{EachLabelled, labelled_then}
+use Rattle.labels.proofs.Documents.{EachLabelled, docs_ruled, labelled_then}
 use Rattle.labels.proofs.marks.Marks.rule.Goals as goal
 
 pub invariant_of-self : goal.invariant_of-self
 invariant_of-self c = record {
+  docs_are = c.self.invariant.docs_are ∙ sym (ap docs_in c.put_ruling.ensures.marked ∙ docs_ruled c.args.doc c.args.grade (marked_of c.self.inside.marked.entries));
+  place = c.self.invariant.place;
   labelled = subst EachLabelled (sym c.put_ruling.ensures.marked) (labelled_then c.args.doc c.args.grade (marked_of c.self.inside.marked.entries) c.self.invariant.labelled);
   given = c.self.invariant.given;
   ruling = c.self.invariant.ruling;
