@@ -11,7 +11,7 @@ use Rattle.journal.specs.Frames.{IsFrame}
 use Rattle.journal.specs.Kept.{ClosesAt, CutDue, EndsClosed, GateDue, IsFront, Settled, Shut, Staged, StandsFor}
 use Rattle.journal.specs.DiskSteps.{ReachesTo, WithStep}
 use Rattle.journal.specs.Moments.{weaker}
-use Rattle.journal.proofs.RecordBytes.{body, frame_gives, front_grows, shut_ends}
+use Rattle.journal.proofs.RecordBytes.{body, frame_gives, front_grows, front_reads, shut_ends}
 
 -- Bytes with a gate at this place.
 module _ (front : List ℕ) (place : ℕ) (size : length front ≡ place) where
@@ -61,7 +61,7 @@ module _ (front : List ℕ) (place : ℕ) (size : length front ≡ place) where
 module _ (images : List ℕ → Type 0) (place : ℕ) (all : List (List ℕ)) where
   shut_gives : (front : List ℕ) → IsFront front place all → (gate : ℕ) → gate ≢ 1 → (rest image : List ℕ) → image ≡ front ++ gate ∷ rest → decode image ≡ Some all
   shut_gives front is_front gate shut rest image is =
-      ap (λ (bytes : List ℕ). decode bytes) is ∙ is_front.reads (gate ∷ rest)
+      ap (λ (bytes : List ℕ). decode bytes) is ∙ front_reads front place all is_front (gate ∷ rest)
       ∙ ap (λ (more : List (List ℕ)). Some (all ++ more)) (shut_ends gate rest shut) ∙ ap (λ (found : List (List ℕ)). Some found) (append-nil all)
 
   pub shut_reads : (P : List ℕ → Type 0) → Shut images place all P → (image : List ℕ) → images image → decode image ≡ Some all
@@ -74,12 +74,12 @@ module _ (images : List ℕ → Type 0) (place : ℕ) (all : List (List ℕ)) wh
       (cases_eq gate 1)
     where
       reads : decode image ≡ Some (all ++ records 0 (gate ∷ tail))
-      reads = ap (λ (bytes : List ℕ). decode bytes) is ∙ is_front.reads (gate ∷ tail)
+      reads = ap (λ (bytes : List ℕ). decode bytes) is ∙ front_reads front place all is_front (gate ∷ tail)
 
   pub gate_reads : (pending : List (List ℕ)) → GateDue images place all pending → (image : List ℕ) → images image → StandsFor all pending image
   gate_reads pending kept image here = ⊎_elim
       (λ (end : (image ≡ kept.front) × (kept.tail ≡ [])). inl (
-      ap (λ (bytes : List ℕ). decode bytes) (end.0 ∙ sym (append-nil kept.front)) ∙ kept.is_front.reads [] ∙ ap (λ (found : List (List ℕ)). Some found) (append-nil all)))
+      ap (λ (bytes : List ℕ). decode bytes) (end.0 ∙ sym (append-nil kept.front)) ∙ front_reads kept.front place all kept.is_front [] ∙ ap (λ (found : List (List ℕ)). Some found) (append-nil all)))
       (λ (found : (gate : ℕ) × (image ≡ kept.front ++ gate ∷ kept.tail)). gate_gives kept.front kept.is_front kept.tail pending kept.behind found.0 image found.1)
       (kept.each image here)
 

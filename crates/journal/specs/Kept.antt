@@ -1,15 +1,22 @@
 -- What a disk keeps for a journal: its records, and the one whose append failed last.
-use Rattle.std.specs.Prelude.{◌≡◌, ◌≢◌, ◌⊎◌, ℕ, ◌+◌, ◌≤◌, List, [], ◌∷◌, ◌++◌, Some, Vec, length, drop, get_or, map}
+use Rattle.std.specs.Prelude.{◌≡◌, ◌≢◌, ◌⊎◌, ℕ, ◌+◌, ◌≤◌, List, [], ◌∷◌, ◌++◌, Some, Vec, length, take, drop, get_or, map}
 use Rattle.std.specs.declared.alloc.Global.{Global}
 use Rattle.journal.specs.declared.dues.Due.{Due}
 use Rattle.journal.specs.declared.dues.Due.TheVariants.{Nothing, Cut, Gate}
-use Rattle.journal.specs.Format.{decode, place_behind, records, told_length}
+use Rattle.journal.specs.Format.{bytes_of, decode, mark, place_behind, records, state_byte, told_length}
 
--- These bytes hold the records up to the gate at this place: whatever follows adds what it gives there.
+-- These bytes are records: whatever follows adds what it gives.
+pub record AreRecords (bytes : List ℕ) (all : List (List ℕ)) : Type 0 where
+  pub size : length bytes ≡ bytes_of all
+  pub gives : (rest : List ℕ) → records 0 (bytes ++ rest) ≡ all ++ records 0 rest
+
+-- These bytes hold the records up to the gate at this place, behind a header that tells of no move.
 pub record IsFront (front : List ℕ) (place : ℕ) (all : List (List ℕ)) : Type 0 where
   pub size : length front ≡ place
   pub total : place ≡ place_behind all
-  pub reads : (rest : List ℕ) → decode (front ++ rest) ≡ Some (all ++ records 0 rest)
+  pub marked : take 8 front ≡ mark
+  pub at_rest : state_byte front ≢ 2
+  pub holds : AreRecords (drop 16 front) all
 
 -- a whole record with an open gate begins at this place, and its payload has so many bytes
 pub record IsRecord (bytes : List ℕ) (place count : ℕ) : Type 0 where

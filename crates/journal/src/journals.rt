@@ -1,5 +1,5 @@
 //! A journal: records on a disk, to which one is added at a time.
-ghost use Rattle.std.specs.Prelude.{◌≡◌, ◌≢◌, ℕ, ◌+◌, ◌≤◌, ◌^◌, [], ◌∷◌, ◌++◌, List, None, Some, length, true, IfErr, IfOk, IfSome, OnErr, OnOk};
+ghost use Rattle.std.specs.Prelude.{◌≡◌, ◌≢◌, ℕ, ◌+◌, ◌*◌, ◌<◌, ◌≤◌, ◌^◌, [], ◌∷◌, ◌++◌, List, None, Some, length, true, IfErr, IfOk, IfSome, OnErr, OnOk};
 ghost use Rattle.decimal_rank.specs.Causes.{HasCause, Rose};
 ghost use Rattle.disk_model.specs.Disks.{EachMoment, NoFurther};
 ghost use Rattle.journal.specs.declared.dues.Due.TheVariants.{Gate, Nothing};
@@ -9,13 +9,16 @@ ghost use Rattle.journal.specs.Format.{decode, empty_journal, place_behind};
 ghost use Rattle.journal.specs.Journals.{KeepsRecords};
 ghost use Rattle.journal.specs.Kept.{EndsClosed, KeepsSome, Settled, StandsFor, StandsForOneOf, StillKeeps, payloads};
 ghost use Rattle.journal.specs.Moments.{DecodesAs, Turned, Turns};
+ghost use Rattle.journal.specs.Replacements.{HasAlone, Replaces};
 
 use crate::appends::append_frame;
+use crate::areas::Area;
 use crate::dues::Due;
 use crate::frames::Frame;
 use crate::mends::mend_due;
 use crate::opening::{OpenFault, take_up};
 use crate::reading::Records;
+use crate::replacing::{ReplaceEnd, replace_records};
 use disk_model::{Disk, Failed, MOST_BYTES};
 use std::alloc::Global;
 use std::marker::Model;
@@ -46,7 +49,7 @@ impl<D: Disk> Model for Journal<D> {
 
 impl<D: Disk> Journal<D> {
     /// Reads the records of a disk and mends its end. A disk with no more bytes than a header and a gate
-    /// becomes an empty journal. One with another header is left as it is. A disk of 2^39 bytes and more
+    /// becomes an empty journal. One that is no journal is left as it is. A disk of 2^39 bytes and more
     /// finds no memory.
     pub fn open(alloc: Global, disk: D) -> Result<(Journal<D>, Vec<Vec<u8>>), (D, OpenFault)>
         ensures read { IfOk result (λ opened.
@@ -57,6 +60,7 @@ impl<D: Disk> Journal<D> {
             (λ bytes. length bytes ≤ 17 → (image : List ℕ)
             → (D.seen opened.0.disk).images image → image ≡ empty_journal)) }
         ensures nothing_due { IfOk result (λ opened. opened.0.due ≡ Nothing) }
+        ensures within { IfOk result (λ opened. opened.0.place < 2 ^ 39) }
         ensures any_moment { IfOk result
             (λ opened. Turned D.seen disk opened.0.disk (DecodesAs (D.seen disk).content)) }
         ensures any_moment_err { IfErr result
@@ -136,6 +140,19 @@ impl<D: Disk> Journal<D> {
         mend_due(&mut self.disk, self.place, &mut self.due)
     }
 
+    /// Puts the records of an area in the place of all others, where they take no more room. Where the last
+    /// append or mend failed it mends first. It takes no memory.
+    pub fn replace(self, area: Area) -> (D, ReplaceEnd)
+        requires { 2 * (self.place + 1) ≤ 2 ^ 40 }
+        ensures { Replaces D.seen self.disk result.0 self.place self.due area result.1 }
+    {
+        let Journal { disk, place, due } = self;
+        let mut disk = disk;
+        let mut due = due;
+        let end = replace_records(&mut disk, place, &mut due, area.written());
+        (disk, end)
+    }
+
     /// What a journal keeps is what each image of its disk gives; the place follows from the payloads.
     pub fn stands(&self)
         ensures stands { (all pending : List (List ℕ)) → KeepsRecords D.seen self.now all pending
@@ -145,7 +162,17 @@ impl<D: Disk> Journal<D> {
             → (image : List ℕ) → (D.seen self.now.disk).images image → decode image ≡ Some all }
         ensures total { (all pending : List (List ℕ)) → KeepsRecords D.seen self.now all pending
             → self.now.place ≡ place_behind all }
+        ensures length { (all : List (List ℕ))
+            → Settled (D.seen self.now.disk).images self.now.place all
+            → HasAlone (D.seen self.now.disk).images all }
     {}
+
+    /// How many bytes the journal has, where nothing is due.
+    pub fn length(&self) -> u64
+        ensures { result ≡ self.now.place + 1 }
+    {
+        self.place + 1
+    }
 
     /// Whether the next append mends first.
     pub fn is_due(&self) -> bool

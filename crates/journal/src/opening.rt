@@ -1,18 +1,20 @@
 //! Opening a journal. The bytes are read whole, at once; what a crash left behind the last whole record
-//! is mended. Bytes with another header are left as they are.
-ghost use Rattle.std.specs.Prelude.{◌≡◌, ◌≢◌, ℕ, ◌≤◌, ◌<◌, ◌^◌, List, None, Some, length, true, IfErr, IfOk, IfSome, OnOk, nat_eq};
+//! is mended. Bytes that are no journal are left as they are.
+ghost use Rattle.std.specs.Prelude.{◌≡◌, ◌≢◌, ℕ, ◌+◌, ◌≤◌, ◌<◌, ◌^◌, [], List, None, Some, length, take, true, IfErr, IfOk, IfSome, OnOk, nat_eq};
 ghost use Rattle.std.specs.List.{starts_with};
 ghost use Rattle.decimal_rank.specs.Causes.{HasCause, Rose};
 ghost use Rattle.disk_model.specs.Disks.{EachMoment, NoFurther};
 ghost use Rattle.journal.specs.declared.opening.OpenFault.{OpenFault};
 ghost use Rattle.journal.specs.declared.opening.OpenFault.TheVariants.{Disk as DiskFault, Memory as MemoryFault};
-ghost use Rattle.journal.specs.Format.{decode, empty_journal, header};
+ghost use Rattle.journal.specs.Format.{decode, empty_journal, mark, state_byte};
 ghost use Rattle.journal.specs.Kept.{Settled, payloads};
 ghost use Rattle.journal.specs.Moments.{DecodesAs, Turned, Turns};
 
-use crate::layout::{EMPTY_JOURNAL, HEADER_LENGTH, MOST_OPENED};
+use crate::areas::area_of;
+use crate::layout::{EMPTY_JOURNAL, HEADER_LENGTH, MOST_OPENED, MOVING, STATE_PLACE};
 use crate::mends::mend_due;
-use crate::reading::{Records, due_at, has_header, read_records};
+use crate::moves::settle;
+use crate::reading::{Records, behind, due_at, has_mark, read_records, told_place_of};
 use decimal_rank::Memory;
 use disk_model::{Disk, Failed};
 use std::alloc::Global;
@@ -53,7 +55,7 @@ pub(crate) fn take_up<D: Disk>(alloc: Global, disk: &mut D) -> Result<Records, O
     ensures founded { IfOk result (λ _. IfSome (D.seen disk.old).content
         (λ bytes. length bytes ≤ 17 → (image : List ℕ)
         → (D.seen disk.new).images image → image ≡ empty_journal)) }
-    ensures within { IfOk result (λ found. found.place < 2 ^ 40) }
+    ensures within { IfOk result (λ found. found.place < 2 ^ 39) }
     ensures any_moment { IfOk result
         (λ _. Turned D.seen disk.old disk.new (DecodesAs (D.seen disk.old).content)) }
     ensures any_moment_err { IfErr result
@@ -128,7 +130,8 @@ fn found<D: Disk>(disk: &mut D) -> Result<(), Failed>
     Ok(())
 }
 
-// Reads the records of these bytes, which are the only ones that a crash leaves, and mends their end.
+// Reads the records of these bytes, which are the only ones that a crash leaves, and mends their end; or
+// moves them on where they were being moved.
 fn reopen<D: Disk>(alloc: Global, disk: &mut D, bytes: &[u8]) -> Result<Records, OpenFault>
     requires alone { (image : List ℕ) → (D.seen disk.old).images image → image ≡ bytes.now }
     requires long { 17 < length bytes.now }
@@ -136,7 +139,7 @@ fn reopen<D: Disk>(alloc: Global, disk: &mut D, bytes: &[u8]) -> Result<Records,
     ensures read { IfOk result (λ found. decode bytes.now ≡ Some (payloads found.payloads.items)) }
     ensures settled { IfOk result
         (λ found. Settled (D.seen disk.new).images found.place (payloads found.payloads.items)) }
-    ensures within { IfOk result (λ found. found.place < 2 ^ 40) }
+    ensures within { IfOk result (λ found. found.place < 2 ^ 39) }
     ensures any_moment { EachMoment D.seen disk.old disk.new
         (λ image. decode image ≡ decode bytes.now) }
     ensures header { IfErr result (λ fault. fault ≡ OpenFault.Header → decode bytes.now ≡ None) }
@@ -145,11 +148,76 @@ fn reopen<D: Disk>(alloc: Global, disk: &mut D, bytes: &[u8]) -> Result<Records,
         → Rose (D.seen disk.old).faults (D.seen disk.new).faults) }
     ensures later { (D.seen disk.old).faults ≤ (D.seen disk.new).faults }
 {
-    if !has_header(bytes) {
+    if !has_mark(bytes) {
         return Err(OpenFault::Header);
     }
-    let records = read_records(alloc, bytes)?;
-    let mut due = due_at(bytes, records.place);
-    mend_due(disk, records.place as u64, &mut due)?;
-    Ok(records)
+    if bytes[STATE_PLACE] == MOVING {
+        move_on(alloc, disk, bytes)
+    } else {
+        mend_end(alloc, disk, bytes)
+    }
+}
+
+// The records stand behind the header.
+fn mend_end<D: Disk>(alloc: Global, disk: &mut D, bytes: &[u8]) -> Result<Records, OpenFault>
+    requires alone { (image : List ℕ) → (D.seen disk.old).images image → image ≡ bytes.now }
+    requires marked { take 8 bytes.now ≡ mark }
+    requires at_rest { state_byte bytes.now ≢ 2 }
+    requires long { 17 < length bytes.now }
+    requires few { length bytes.now < 2 ^ 39 }
+    ensures read { IfOk result (λ found. decode bytes.now ≡ Some (payloads found.payloads.items)) }
+    ensures settled { IfOk result
+        (λ found. Settled (D.seen disk.new).images found.place (payloads found.payloads.items)) }
+    ensures within { IfOk result (λ found. found.place < 2 ^ 39) }
+    ensures any_moment { EachMoment D.seen disk.old disk.new
+        (λ image. decode image ≡ decode bytes.now) }
+    ensures header { IfErr result (λ fault. fault ≢ OpenFault.Header) }
+    ensures untouched { IfErr result (λ fault. fault ≢ DiskFault → disk.new ≡ disk.old) }
+    ensures disk { IfErr result (λ fault. fault ≡ DiskFault
+        → Rose (D.seen disk.old).faults (D.seen disk.new).faults) }
+    ensures later { (D.seen disk.old).faults ≤ (D.seen disk.new).faults }
+{
+    let found = read_records(alloc, behind(bytes, HEADER_LENGTH))?;
+    let Records { payloads, place } = found;
+    let place = HEADER_LENGTH + place;
+    let mut due = due_at(bytes, place);
+    mend_due(disk, place as u64, &mut due)?;
+    Ok(Records { payloads, place })
+}
+
+// The records stand at the place that is told, and are moved behind the header.
+fn move_on<D: Disk>(alloc: Global, disk: &mut D, bytes: &[u8]) -> Result<Records, OpenFault>
+    requires alone { (image : List ℕ) → (D.seen disk.old).images image → image ≡ bytes.now }
+    requires marked { take 8 bytes.now ≡ mark }
+    requires moving { state_byte bytes.now ≡ 2 }
+    requires long { 17 < length bytes.now }
+    requires few { length bytes.now < 2 ^ 39 }
+    ensures read { IfOk result (λ found. decode bytes.now ≡ Some (payloads found.payloads.items)) }
+    ensures settled { IfOk result
+        (λ found. Settled (D.seen disk.new).images found.place (payloads found.payloads.items)) }
+    ensures within { IfOk result (λ found. found.place < 2 ^ 39) }
+    ensures any_moment { EachMoment D.seen disk.old disk.new
+        (λ image. decode image ≡ decode bytes.now) }
+    ensures header { IfErr result (λ fault. fault ≡ OpenFault.Header → decode bytes.now ≡ None) }
+    ensures untouched { IfErr result (λ fault. fault ≢ DiskFault → disk.new ≡ disk.old) }
+    ensures disk { IfErr result (λ fault. fault ≡ DiskFault
+        → Rose (D.seen disk.old).faults (D.seen disk.new).faults) }
+    ensures later { (D.seen disk.old).faults ≤ (D.seen disk.new).faults }
+{
+    let told = told_place_of(bytes);
+    if told >= bytes.len() as u64 {
+        return Err(OpenFault::Header);
+    }
+    let found = read_records(alloc, behind(bytes, told as usize))?;
+    let Records { payloads, place } = found;
+    let end = HEADER_LENGTH + place;
+    if end as u64 >= told {
+        return Err(OpenFault::Header);
+    }
+    let area = area_of(alloc, &behind(bytes, told as usize)[..place])?;
+    settle(disk, &area)?;
+    Ok(Records {
+        payloads,
+        place: end,
+    })
 }

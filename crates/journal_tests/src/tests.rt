@@ -1,12 +1,9 @@
 //! Tries journals on a disk in memory: begun on an empty disk, cut at any byte, with other bytes behind or within, and
 //! mended after an append that failed.
-use disk_model::MemoryDisk;
-use journal::{Failed, Frame, Journal, OpenFault};
+use crate::openings::{WHOLE, append, open_copy};
+use journal::{Failed, OpenFault};
 use std::alloc::Global;
 use std::test::Fail;
-
-// Two records, `ab` and `c`.
-const WHOLE: [u8; 30] = *b"POOLJRNL\x01\0\0\0\0\0\0\0\x01\x02\0\0\0ab\x01\x01\0\0\0c\0";
 
 // A third behind them, `d`.
 const MENDED: [u8; 36] =
@@ -16,32 +13,6 @@ const MENDED: [u8; 36] =
 const FIRST_END: usize = 23;
 
 const SECOND_END: usize = 29;
-
-type Opened = Result<(Journal<MemoryDisk>, Vec<Vec<u8>>), (MemoryDisk, OpenFault)>;
-
-fn open_copy(alloc: Global, bytes: &[u8], fails: Vec<u64>) -> Result<Opened, Fail> {
-    Ok(Journal::open(alloc, MemoryDisk::new(bytes.to_vec(alloc)?, fails)))
-}
-
-// What an append of this payload answers; None where there is no memory or no room.
-fn append(
-    alloc: Global,
-    journal: &mut Journal<MemoryDisk>,
-    payload: &[u8],
-) -> Option<Result<(), Failed>> {
-    if payload.len() > 100 {
-        return None;
-    }
-    match Frame::of(alloc, payload) {
-        Ok(frame) => {
-            if !journal.has_room(&frame) {
-                return None;
-            }
-            Some(journal.append(&frame))
-        }
-        Err(_) => None,
-    }
-}
 
 // What two appends leave on an empty disk, where each is answered Ok.
 fn after_two(alloc: Global) -> Result<Option<Vec<u8>>, Fail> {
@@ -104,7 +75,7 @@ fn a_file_that_is_cut_anywhere_gives_its_whole_records(rt: HostRuntime) -> Resul
 #[test]
 fn other_bytes_are_refused_or_mended(rt: HostRuntime) -> Result<(), Fail> {
     let alloc = rt.alloc();
-    let cases: [(&[u8], Result<usize, OpenFault>, &[u8]); 5] = [
+    let cases: [(&[u8], Result<usize, OpenFault>, &[u8]); 11] = [
         (
             b"another file of 17",
             Err(OpenFault::Header),
@@ -125,6 +96,42 @@ fn other_bytes_are_refused_or_mended(rt: HostRuntime) -> Result<(), Fail> {
             b"POOLJRNL\x01\0\0\0\0\0\0\0\x01\x03\0\0\0a\0",
             Ok(0),
             b"POOLJRNL\x01\0\0\0\0\0\0\0\0",
+        ),
+        // bytes 8 to 15 tell nothing where byte 8 isn't 2
+        (
+            b"POOLJRNL\x07another\x01\x01\0\0\0a\0",
+            Ok(1),
+            b"POOLJRNL\x07another\x01\x01\0\0\0a\0",
+        ),
+        // the place 25: a record and a gate fit in front of it
+        (
+            b"POOLJRNL\x02\x19\0\0\0\0\0\0old text.\x01\x03\0\0\0abc\0",
+            Ok(1),
+            b"POOLJRNL\x03\x19\0\0\0\0\0\0\x01\x03\0\0\0abc\0",
+        ),
+        // the place 24: they don't
+        (
+            b"POOLJRNL\x02\x18\0\0\0\0\0\0old text\x01\x03\0\0\0abc\0",
+            Err(OpenFault::Header),
+            b"POOLJRNL\x02\x18\0\0\0\0\0\0old text\x01\x03\0\0\0abc\0",
+        ),
+        // the place 17: no record fits, and there is none
+        (
+            b"POOLJRNL\x02\x11\0\0\0\0\0\0o\0",
+            Ok(0),
+            b"POOLJRNL\x03\x11\0\0\0\0\0\0\0",
+        ),
+        // the place 18, at the end
+        (
+            b"POOLJRNL\x02\x12\0\0\0\0\0\0ol",
+            Err(OpenFault::Header),
+            b"POOLJRNL\x02\x12\0\0\0\0\0\0ol",
+        ),
+        // the place 2^48 + 17
+        (
+            b"POOLJRNL\x02\x11\0\0\0\0\0\x01o\0",
+            Err(OpenFault::Header),
+            b"POOLJRNL\x02\x11\0\0\0\0\0\x01o\0",
         ),
     ];
     for (bytes, wanted, wanted_left) in &cases {

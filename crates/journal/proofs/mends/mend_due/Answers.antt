@@ -4,7 +4,22 @@ use Rattle.std.proofs.lemmas.Result.{on_ok_weaker}
 use Rattle.journal.specs.Kept.{Keeps, StandsFor}
 use Rattle.journal.specs.Moments.{joined}
 use Rattle.journal.proofs.Keeping.{cut_where_shut, gate_where_gate, not_gate}
+use Rattle.journal.proofs.Steps.{gate_reaches}
 use Rattle.journal.proofs.mends.mend_due.Goals as goal
+
+pub mend_cut-requires : goal.mend_cut-requires
+mend_cut-requires g c =
+    let kept = c.requires.kept in
+    record {
+      cut = (kept.0, cut_where_shut (g.D.Disk.seen c.args.disk.now).images c.args.place c.args.due.now c.in-Nothing.is kept.0 kept.1 kept.2);
+      room = c.requires.room;
+    }
+
+pub close_gate-requires-clause-within : goal.close_gate-requires-clause-within
+close_gate-requires-clause-within g c =
+    let images = (g.D.Disk.seen c.args.disk.now).images in
+    let kept = c.requires.kept in
+    gate_reaches images c.args.place kept.0 kept.1 (gate_where_gate images c.args.place c.args.due.now c.in-Gate.is kept.0 kept.1 kept.2)
 
 pub returns-in-Nothing : goal.returns-in-Nothing
 returns-in-Nothing g c =

@@ -1,5 +1,6 @@
 -- What a journal keeps, its images give.
 use Rattle.journal.proofs.Keeping.{keeps_stands, keeps_total}
+use Rattle.journal.proofs.Replaced.{settled_alone}
 use Rattle.journal.proofs.Steps.{shut_reads}
 use Rattle.journal.proofs.journals.Journal.stands.Goals as goal
 
@@ -12,3 +13,6 @@ returns-clause-alone g c all settled image here = shut_reads (g.D.Disk.seen c.ar
 
 pub returns-clause-total : goal.returns-clause-total
 returns-clause-total g c all pending keeps = keeps_total (g.D.Disk.seen c.args.self.now.disk).images c.args.self.now.place c.args.self.now.due all pending keeps
+
+pub returns-clause-length : goal.returns-clause-length
+returns-clause-length g c all settled = settled_alone (g.D.Disk.seen c.args.self.now.disk).images c.args.self.now.place all settled
