@@ -291,7 +291,7 @@ module _ {X : Type 0} {spell : X → Text} {Fits : X → Type 0} {at : Text → 
       × (AllByRecursion Fits q.0 × (bytes ≡ flat_map spell q.0 ++ q.1))) (same_Some read p v.2)
       (ap suc others.0, ((first.0, others.1.0), parts))
 
-  items_again : (xs : List X) (rest : Text) → AllByRecursion Fits xs
+  pub items_again : (xs : List X) (rest : Text) → AllByRecursion Fits xs
       → items_at at (length xs) (flat_map spell xs ++ rest) ≡ Some (xs, rest)
   unfolding items_at
   items_again [] rest fits = refl

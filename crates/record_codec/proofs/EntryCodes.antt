@@ -229,7 +229,7 @@ entry_codes =
     (c.0, (c.1, (b.1, a.1))))
 
 -- what is read of bytes is what they spell
-spells : (bytes : Text) (core : EntryCore) → IsBytes bytes → entry_of bytes ≡ Some core → IsSpelling bytes core
+pub spells : (bytes : Text) (core : EntryCore) → IsBytes bytes → entry_of bytes ≡ Some core → IsSpelling bytes core
 unfolding entry_of
 spells bytes core fits is =
     let u = bind_some (entry_at bytes) (λ x. cond (eqb (length x.1) 0) (Some x.0) None) core is in

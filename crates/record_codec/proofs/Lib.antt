@@ -1,9 +1,17 @@
 pub mod AscendingTexts
+pub mod BundleLaws
+pub mod BundleSizes
+pub mod BundleSteps
 pub mod Codes
 pub mod DistinctTexts
 pub mod EntryCodes
 pub mod EntryParts
+pub mod ItemSteps
 pub mod ListCodes
 pub mod Loops
+pub mod ReadAgain
 pub mod ShortTexts
+pub mod TableSteps
 pub mod TextCodes
+pub mod UsedTables
+pub mod VarintGroups

@@ -12,7 +12,7 @@ use Rattle.record_codec.specs.Readings.{Read, items_at}
 abbrev pub with_front : {X : Type 0} → List X → Read (List X) → Read (List X)
 with_front front read = option_map (λ xs. (front ++ xs.0, xs.1)) read
 
-regroup : {X : Type 0} (front : List X) (x : X) (read : Read (List X))
+pub regroup : {X : Type 0} (front : List X) (x : X) (read : Read (List X))
     → with_front front (option_and_then (λ xs. Some (x ∷ xs.0, xs.1)) read) ≡ with_front (front ++ x ∷ []) read
 regroup {X} front x (Some xs) = ap (λ (ys : List X). Some (ys, xs.1)) (sym (append_assoc front (x ∷ []) xs.0))
 regroup front x None = refl

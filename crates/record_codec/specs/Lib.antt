@@ -1,4 +1,9 @@
+pub mod BundleReading
+pub mod Bundles
+pub mod Items
 pub mod Laws
 pub mod Outcomes
+pub mod Payloads
 pub mod Readings
-pub mod Items
+pub mod Tables
+pub mod Varints

@@ -17,6 +17,9 @@ GivesBy view r left read = MatchResult r (λ x. read ≡ Some (view x, left)) (�
 abbrev pub Gives : {X : Type 0} → Result X CodecFault → Text → Read X → Type 0
 Gives r left read = GivesBy (λ x. x) r left read
 
--- what a call returned is what was to be found
+-- what a call returned, seen by view, is what was to be found
+abbrev pub FindsBy : {X Y : Type 0} → (X → Y) → Result X CodecFault → Option Y → Type 0
+FindsBy view r found = MatchResult r (λ x. found ≡ Some (view x)) (λ fault. OnNoEntry fault (found ≡ None))
+
 abbrev pub Finds : {X : Type 0} → Result X CodecFault → Option X → Type 0
-Finds r found = MatchResult r (λ x. found ≡ Some x) (λ fault. OnNoEntry fault (found ≡ None))
+Finds r found = FindsBy (λ x. x) r found

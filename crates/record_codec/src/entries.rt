@@ -31,7 +31,7 @@ fn entry(alloc: Global, left: &mut Cursor) -> Result<EntryCore, CodecFault>
 
 /// The entry that is all of the bytes.
 #[tactic(auto, unfolding(crate::specs::Readings::entry_of))]
-fn whole_entry(alloc: Global, bytes: &[u8]) -> Result<EntryCore, CodecFault>
+pub(crate) fn whole_entry(alloc: Global, bytes: &[u8]) -> Result<EntryCore, CodecFault>
     ensures { Finds result (entry_of bytes.now) }
 {
     let mut left = Cursor::new(bytes);

@@ -18,7 +18,7 @@ use trec_formats::{is_docno, is_name};
 
 /// A byte for the length of a text, and the text.
 #[tactic(auto, unfolding(crate::specs::Readings::short_at))]
-fn short<'a>(left: &mut Cursor<'a>) -> Result<&'a [u8], CodecFault>
+pub(crate) fn short<'a>(left: &mut Cursor<'a>) -> Result<&'a [u8], CodecFault>
     ensures { GivesBy (λ text. text.now) result left.new.bytes.now (short_at left.old.bytes.now) }
 {
     let len = left.byte()?;

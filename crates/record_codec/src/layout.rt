@@ -1,6 +1,9 @@
 //! The numbers of the format. An entry is its caller's name, the role, the number, the moment, the kind
 //! of its command and the fields of that kind, little-endian and one behind the other.
 
+/// What a bundle begins with, and no spelling of an entry.
+pub(crate) const BUNDLE: u8 = 0;
+
 /// The kinds of commands.
 pub(crate) const FOUND: u8 = 1;
 
@@ -41,6 +44,9 @@ pub(crate) const NUMBERED: u8 = 1;
 /// Numbers of requests are below this.
 pub(crate) const NUMBER_BOUND: u64 = 1 << 63;
 
+/// Leases are below this.
+pub(crate) const LEASE_BOUND: u64 = 1 << 32;
+
 /// Printable ASCII, the space included.
 pub(crate) const FIRST_PRINTABLE: u8 = 0x20;
 
@@ -55,3 +61,6 @@ pub(crate) const MOST_NARR: usize = 8192;
 
 /// How many documents a list has at most.
 pub(crate) const MOST_DOCS: u32 = 1000;
+
+/// How many callers, texts or entries a bundle has at most: an entry uses two texts, and there are 4,096.
+pub(crate) const MOST_USES: u64 = 8192;

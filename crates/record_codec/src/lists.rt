@@ -14,7 +14,7 @@ use std::alloc::Global;
 use trec_formats::{Topic, TopicList};
 
 /// What lists are made of.
-trait Item {
+pub(crate) trait Item {
     type Value: Drop;
 
     // what bytes give
@@ -83,7 +83,7 @@ impl Item for TopicList {
 }
 
 /// So many items, one behind the other.
-fn items_of<I: Item>(
+pub(crate) fn items_of<I: Item>(
     alloc: Global,
     left: &mut Cursor,
     count: u32,

@@ -19,8 +19,15 @@ fn put_short(text: &Text, out: &mut Vec<u8>) -> Result<(), Memory>
     requires { length text.now < 256 }
     ensures { OnOk result (out.new.items ≡ out.old.items ++ short text.now) }
 {
-    out.push(text.bytes().len() as u8)?;
-    append(out, text.bytes())
+    put_text(text.bytes(), out)
+}
+
+pub(crate) fn put_text(text: &[u8], out: &mut Vec<u8>) -> Result<(), Memory>
+    requires { length text.now < 256 }
+    ensures { OnOk result (out.new.items ≡ out.old.items ++ short text.now) }
+{
+    out.push(text.len() as u8)?;
+    append(out, text)
 }
 
 /// Two bytes for the length of a text, and the text.
@@ -107,7 +114,7 @@ fn put_items<T: Spelled>(items: &Rows<T>, out: &mut Vec<u8>) -> Result<(), Memor
 }
 
 #[tactic(auto, using(crate::proofs::ShortTexts::name_short))]
-fn put_caller(caller: &Caller, out: &mut Vec<u8>) -> Result<(), Memory>
+pub(crate) fn put_caller(caller: &Caller, out: &mut Vec<u8>) -> Result<(), Memory>
     requires { IsTrue (is_name caller.now.name) }
     ensures { OnOk result (out.new.items ≡ out.old.items ++ short caller.now.name ++ role_byte caller.now.role ∷ []) }
 {

@@ -2,6 +2,12 @@
 #![tactic(auto)]
 
 #[cfg(test)]
+mod bundle_bytes;
+#[cfg(test)]
+mod bundle_tests;
+#[cfg(test)]
+mod payload_tests;
+#[cfg(test)]
 mod spellings;
 #[cfg(test)]
 mod tests;

@@ -1,0 +1,5 @@
+use Rattle.record_codec.proofs.BundleLaws.{one_payload_holds}
+use Rattle.record_codec.proofs.laws.one_payload.Goals as goal
+
+pub returns : goal.returns
+returns c = one_payload_holds
