@@ -112,7 +112,7 @@ fn phase(alloc: Global, state: &State) -> Option<String> {
 
 fn order(alloc: Global, state: &State) -> Option<String> {
     let mut words = String::new(alloc);
-    if state.topic_count() > 0 {
+    if state.topics() > 0 {
         for run in state.queue(0).order() {
             let mean = state.board().summary(*run).map;
             let run = run.0;

@@ -9,9 +9,11 @@ pub mod GrowingNames
 pub mod HistoryGrowth
 pub mod KeptStates
 pub mod LabelSteps
+pub mod LabelledDocs
 pub mod LeaseSteps
 pub mod Legality
 pub mod ListSteps
+pub mod LiveNumbers
 pub mod LiveRuns
 pub mod LiveSystems
 pub mod PhaseSteps

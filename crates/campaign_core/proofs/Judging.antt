@@ -3,4 +3,5 @@ pub mod LentQueues
 pub mod LiveLeases
 pub mod NamedDocs
 pub mod OpenDocs
+pub mod NumberedHolders
 pub mod RunOrder

@@ -3,6 +3,7 @@ pub mod AddedDocs
 pub mod DocNumbers
 pub mod NumberTables
 pub mod NumberedDocs
+pub mod RunGroups
 pub mod RunPlaces
 pub mod TopicIds
 pub mod TopicNumbers

@@ -3,6 +3,7 @@ pub mod BestRuns
 pub mod Disagreements
 pub mod KnownRuns
 pub mod LentBoards
+pub mod LentTopics
 pub mod PageTopics
 pub mod PoolTexts
 pub mod Progress

@@ -24,7 +24,7 @@ use Rattle.campaign_core.specs.Numbers.{names_of}
 use Rattle.campaign_core.specs.NumberedRequests.{Numbered, numbers_of}
 use Rattle.campaign_core.specs.Changes.{CarriesOut}
 use Rattle.campaign_core.specs.Scoring.{IsScored, graded_of, list_in, run_at}
-use Rattle.campaign_core.specs.Submissions.{AreSubmissions, RunsAreKnown}
+use Rattle.campaign_core.specs.Submissions.{AreSubmissions, RunsAreKnown, live_numbers}
 use Rattle.campaign_core.specs.Topics.{LabelledTopic, kept, kept_of, labelled_of, topic_ids}
 use Rattle.campaign_core.specs.declared.campaign.Campaign.{Campaign}
 use Rattle.campaign_core.specs.declared.state.State.TheInside.{Inside}
@@ -85,6 +85,7 @@ pub record IsKnown (campaign : Campaign) : Type 0 where
   -- no run comes before the topics
   pub topics_first : has_topics campaign.history.items ≡ false → runs campaign.history.items ≡ []
   pub submissions_are : AreSubmissions campaign.history.items campaign.submissions.items
+  pub live_are : campaign.live.items ≡ live_numbers campaign.history.items
   pub runs_known : RunsAreKnown campaign.history.items
   pub lines_are : campaign.lines ≡ submitted_lines campaign.history.items
   pub assessed : IsAssessmentOf campaign.history.items (facts campaign.assessment)
@@ -102,6 +103,7 @@ pub record IsUnchanged (old new : Campaign) : Type 0 where
   pub phase_is : new.phase ≡ old.phase
   pub facts_are : facts new.assessment ≡ facts old.assessment
   pub submissions_are : new.submissions.items ≡ old.submissions.items
+  pub live_are : new.live.items ≡ old.live.items
   pub lines_are : new.lines ≡ old.lines
 
 -- a change waits, and there is room for an entry and for a run
@@ -109,6 +111,7 @@ pub record AwaitsChange (campaign : Campaign) (change : Change) : Type 0 where
   pub waits : campaign.assessment.pending ≡ Some change
   pub room : vec_len campaign.history < vec_capacity campaign.history
   pub run_room : vec_len campaign.submissions < vec_capacity campaign.submissions
+  pub live_room : vec_len campaign.live < vec_capacity campaign.live
 
 -- An entry may join the history: the rules accept it, the limits hold with it, and a change waits that carries it out.
 pub record IsReady (campaign : Campaign) (e : Entry) : Type 0 where

@@ -2,7 +2,7 @@
 use Rattle.std.specs.Prelude.{◌≡◌, ◌≤◌, ◌∷◌, ℕ, Bool, false, not, List, [], None, Option, Result, Ok, Err, length, map, IsTrue}
 use Rattle.std.specs.Option.{option_map_or}
 use Rattle.decimal_rank.specs.declared.naming.DocId.{DocId}
-use Rattle.labels.specs.Marked.{given_at, ruling_at}
+use Rattle.labels.specs.Marked.{docs_in as marked_docs, given_at, ruling_at}
 use Rattle.qrels_view.specs.declared.grades.Graded.{Graded}
 use Rattle.rulebook.specs.Words.{Text, contains_text}
 use Rattle.rulebook.specs.declared.reply.Refusal.{Refusal}
@@ -11,16 +11,16 @@ use Rattle.rulebook.specs.declared.reply.Reply.TheVariants as reply
 use Rattle.rulebook.specs.declared.rules.Phase.TheVariants.{Judging}
 use Rattle.rulebook.specs.Answers.{grade_range}
 use Rattle.rulebook.specs.Campaign.{History, is_topic}
-use Rattle.rulebook.specs.Grades.{effective, is_labelled, is_labelled_by, labels_on, ruling, trail}
+use Rattle.rulebook.specs.Grades.{effective, is_labelled, is_labelled_by, labelled, labels_on, ruling, trail}
 use Rattle.rulebook.specs.Refusals.{Ruling, ◌when◌, unless, wrong_phase_unless}
-use Rattle.campaign_core.specs.Numbers.{are_named, doc_in}
+use Rattle.campaign_core.specs.Numbers.{are_named, doc_in, docs_in}
 use Rattle.campaign_core.specs.Topics.{LabelledTopic}
 
 -- a document of the trail by its number, with its grade
 abbrev pub graded_in : History → List Text → Text → Text → Graded
 graded_in H names topic doc = record { doc = doc_in names doc; grade = effective H topic doc }
 
--- Each document has its labels, its ruling and its grade. The documents with a label or a ruling and those of the trail are among the names.
+-- Each document has its labels, its ruling and its grade, and those with a label stand in their order. The documents with a label or a ruling and those of the trail are among the names.
 pub record IsLabelled (H : History) (names : List Text) (topic : LabelledTopic) : Type 0 where
   pub given_are : (doc : Text) → IsTrue (contains_text names doc) → given_at topic.marked (doc_in names doc) ≡ labels_on H topic.id doc
   pub rulings_are : (doc : Text) → IsTrue (contains_text names doc) → ruling_at topic.marked (doc_in names doc) ≡ ruling H topic.id doc
@@ -28,6 +28,8 @@ pub record IsLabelled (H : History) (names : List Text) (topic : LabelledTopic) 
   pub labels_named : (doc : Text) → contains_text names doc ≡ false → labels_on H topic.id doc ≡ []
   pub ruled_named : (doc : DocId) → length names ≤ doc.0 → ruling_at topic.marked doc ≡ None
   pub rulings_named : (doc : Text) → contains_text names doc ≡ false → ruling H topic.id doc ≡ None
+  pub marked_are : marked_docs topic.marked ≡ docs_in names (labelled H topic.id)
+  pub labelled_named : IsTrue (are_named names (labelled H topic.id))
   pub graded_are : topic.graded ≡ map (graded_in H names topic.id) (trail H topic.id)
   pub trail_named : IsTrue (are_named names (trail H topic.id))
 

@@ -18,11 +18,8 @@ use Rattle.campaign_core.specs.Leasing.{topic_in}
 use Rattle.campaign_core.specs.Lendings.{IsBoardOf, IsQueueOf}
 use Rattle.campaign_core.specs.Numbers.{doc_in, names_of}
 use Rattle.campaign_core.specs.Scoring.{run_at}
+pub use Rattle.campaign_core.specs.Submissions.{number_of}
 use Rattle.campaign_core.specs.Topics.{topic_ids}
-
--- a run by its number of submission
-abbrev pub number_of : ℕ × Run → RunId
-number_of run = record { 0 = run.0 }
 
 -- a document by its number, and whether it is relevant
 abbrev pub judged_in : History → Text → Text → Judged

@@ -1,9 +1,14 @@
+pub mod Gradings
+pub mod Groups
 pub mod Growth
 pub mod Decisions
 pub mod Kept
 pub mod Lendings
 pub mod LendingLaws
+pub mod LentTopics
 pub mod Numbers
+pub mod NumberedGrades
+pub mod NumberedHolders
 pub mod NumberedRequests
 pub mod Changes
 pub mod Costs

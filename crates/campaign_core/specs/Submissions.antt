@@ -1,18 +1,19 @@
 -- The entries that submit runs, and their places in the history.
-use Rattle.std.specs.Prelude.{◌≡◌, ◌&&◌, ◌<◌, ℕ, Bool, IsTrue, false, true, List, Ok, Err, Result, Some, filter, is_some, length, map, slice_get, vec_capacity, vec_len}
+use Rattle.std.specs.Prelude.{◌≡◌, ◌&&◌, ◌<◌, ◌≤◌, ℕ, Bool, IsTrue, false, true, List, Ok, Err, Result, Some, filter, is_some, length, map, slice_get, vec_capacity, vec_len}
 use Rattle.std.specs.List.{list_any, position}
 use Rattle.std.specs.Option.{option_map_or}
 use Rattle.std.specs.Str.{bytes_eq}
 use Rattle.std.specs.declared.alloc.Global.{Global}
 use Rattle.std.specs.declared.vec.Vec.{Vec}
+use Rattle.depth_pool.specs.declared.runs.RunId.{RunId}
 use Rattle.rulebook.specs.declared.entry.Entry.{Entry}
-use Rattle.rulebook.specs.declared.limits.TheConstants.{MAX_ENTRIES}
+use Rattle.rulebook.specs.declared.limits.TheConstants.{MAX_ENTRIES, MAX_RUNS}
 use Rattle.rulebook.specs.declared.reply.Refusal.{Refusal}
 use Rattle.rulebook.specs.declared.reply.Refusal.TheVariants as refusal
 use Rattle.rulebook.specs.declared.rules.Caller.{Caller}
 use Rattle.rulebook.specs.Words.{Text}
 use Rattle.rulebook.specs.Answers.{run_refusals}
-use Rattle.rulebook.specs.Campaign.{History, Run, is_taken, is_withdrawn, run_in, runs}
+use Rattle.rulebook.specs.Campaign.{History, Run, is_taken, is_withdrawn, numbered, run_in, runs}
 use Rattle.rulebook.specs.Legal.{IsAccepted}
 use Rattle.rulebook.specs.Refusals.{Ruling, given, unless}
 use Rattle.rulebook.specs.Scores.{run_named, submits}
@@ -46,6 +47,14 @@ pub record AreSubmissions (H : History) (all : List Submission) : Type 0 where
 abbrev pub withdrawn : Submission → Submission
 withdrawn one = record one { is_withdrawn = true }
 
+-- a run by its number of submission
+abbrev pub number_of : ℕ × Run → RunId
+number_of run = record { 0 = run.0 }
+
+-- the numbers of the live runs, by submission
+abbrev pub live_numbers : History → List RunId
+live_numbers H = map number_of (numbered H)
+
 -- no two runs have one name, and each withdrawn run was submitted
 pub record RunsAreKnown (H : History) : Type 0 where
   pub names_differ : IsTrue (differ (map (λ run. run.name) (runs H)))
@@ -58,6 +67,15 @@ pub record MayNote (H : History) (all : Vec Submission Global) (e : Entry) : Typ
   pub known : RunsAreKnown H
   pub accepted : IsAccepted H e
   pub few : length H < MAX_ENTRIES
+
+-- A run may join the live ones, or leave them: these are the submissions and the live runs of the history, with room for one more, and the rules accept the entry.
+pub record MayLive (H : History) (all : List Submission) (live : Vec RunId Global) (e : Entry) : Type 0 where
+  pub submissions : AreSubmissions H all
+  pub live_are : live.items ≡ live_numbers H
+  pub room : vec_len live < vec_capacity live
+  pub known : RunsAreKnown H
+  pub accepted : IsAccepted H e
+  pub few : length (runs H) ≤ MAX_RUNS
 
 -- whether an entry at one of the places passes a test
 abbrev pub any_at : (Entry → Bool) → History → List ℕ → Bool

@@ -14,11 +14,11 @@ ghost use Rattle.campaign_core.specs.Changes.{phase_after};
 ghost use Rattle.campaign_core.specs.Costs.{commit_steps};
 ghost use Rattle.campaign_core.specs.Kept.{AwaitsChange, IsKnown, IsReady, IsUnchanged};
 
-use crate::submissions::{Submission, line_count, lists_of, note_run};
+use crate::submissions::{Submission, line_count, lists_of, note_live, note_run};
 use crate::topics::topic_number;
 use assessment::{Assessment, Change, Topic};
 use decimal_rank::{Memory, Steps};
-use depth_pool::greatest_run_goes_last;
+use depth_pool::{RunId, greatest_run_goes_last};
 use labels::{marks_follow_labels, marks_follow_rulings};
 use rulebook::{
     Command, Entry, EntryCore, Phase, Reply, Rules, founding_core, labels_join,
@@ -37,6 +37,8 @@ pub(crate) struct Campaign {
     pub(crate) assessment: Assessment,
     /// The entries that submit runs, by submission.
     pub(crate) submissions: Vec<Submission>,
+    /// The live runs, by submission.
+    pub(crate) live: Vec<RunId>,
     /// How many lines the runs have that were ever submitted.
     pub(crate) lines: u64,
 }
@@ -66,6 +68,7 @@ impl Campaign {
             phase: Phase::Collecting,
             assessment,
             submissions: Vec::new(alloc),
+            live: Vec::new(alloc),
             lines: 0,
         })
     }
@@ -84,6 +87,7 @@ impl Campaign {
             phase,
             assessment,
             submissions,
+            live,
             lines,
         } = self;
         Ok(Campaign {
@@ -91,6 +95,7 @@ impl Campaign {
             phase,
             assessment: assessment.with_lists(alloc)?,
             submissions,
+            live,
             lines,
         })
     }
@@ -180,6 +185,7 @@ impl Campaign {
     {
         self.history.reserve(1)?;
         self.submissions.reserve(1)?;
+        self.live.reserve(1)?;
         self.assessment.reserve(change)
     }
 
@@ -196,6 +202,7 @@ impl Campaign {
     {
         self.phase = phase_after(&entry.core.command, self.phase);
         self.lines += line_count(lists_of(&entry.core.command));
+        note_live(&self.history, &self.submissions, &mut self.live, &entry);
         note_run(&self.history, &mut self.submissions, &entry);
         self.history.push_reserved(entry);
         // a run of the greatest number stands last in a pool, and an entry changes the grades of

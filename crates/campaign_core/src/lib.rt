@@ -5,6 +5,7 @@ mod campaign;
 mod decisions;
 mod docnos;
 mod laws;
+mod lendings;
 mod pages;
 mod pools;
 mod preparations;
@@ -21,7 +22,9 @@ mod texts;
 mod topics;
 mod verdict;
 
-pub use laws::{boards_score_by_the_rules, queues_are_in_the_rules_order};
+pub use laws::{
+    boards_score_by_the_rules, cells_by_numbers, holders_by_numbers, queues_are_in_the_rules_order,
+};
 pub use replays::Replay;
 pub use state::State;
 pub use tallies::Tally;

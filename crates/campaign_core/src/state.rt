@@ -165,13 +165,6 @@ impl State {
         name_of(&self.campaign.history[place as usize])
     }
 
-    /// How many topics the campaign has: none before they are given.
-    pub fn topic_count(&self) -> usize
-        ensures { result ≡ length (topic_ids self.now.history) }
-    {
-        self.campaign.assessment.topics().items().len()
-    }
-
     /// The board of the live runs' lists, which stands for the effective grades.
     pub fn board(&self) -> &Board
         ensures board { IsBoardOf self.now.history result.now }

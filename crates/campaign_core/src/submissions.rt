@@ -1,5 +1,5 @@
 //! The entries that submit runs, by their places in the history.
-ghost use Rattle.std.specs.Prelude.{◌≡◌, ◌++◌, ◌∷◌, ◌&&◌, ◌<◌, ◌^◌, ℕ, [], IsTrue, Some, is_some, not};
+ghost use Rattle.std.specs.Prelude.{◌≡◌, ◌++◌, ◌∷◌, ◌&&◌, ◌<◌, ◌==◌, ◌^◌, ℕ, [], IsTrue, Some, filter, is_some, not};
 ghost use Rattle.std.specs.List.{position};
 ghost use Rattle.std.specs.Option.{option_map_or};
 ghost use Rattle.std.specs.Str.{bytes_eq};
@@ -8,9 +8,10 @@ ghost use Rattle.rulebook.specs.Campaign.{is_taken, line_count as lines_of, run_
 ghost use Rattle.rulebook.specs.Roles.{is_group};
 ghost use Rattle.rulebook.specs.Scores.{is_submitter, submits};
 ghost use Rattle.campaign_core.specs.Growth.{lists_in};
-ghost use Rattle.campaign_core.specs.Submissions.{AreSubmissions, IsRunAsked, MayNote, is_submitted_by, withdrawn};
+ghost use Rattle.campaign_core.specs.Submissions.{AreSubmissions, IsRunAsked, MayLive, MayNote, is_submitted_by, live_numbers, withdrawn};
 
 use decimal_rank::Text;
+use depth_pool::RunId;
 use rulebook::{Caller, Command, Entry, Refusal, Role};
 use trec_formats::TopicList;
 
@@ -143,6 +144,36 @@ pub(crate) fn note_run(history: &[Entry], submissions: &mut Vec<Submission>, ent
             is_withdrawn: false,
         });
     }
+}
+
+/// Puts the run that an entry submits behind the live ones, or takes out the one that it withdraws. The entry is the next
+/// of the history.
+pub(crate) fn note_live(
+    history: &[Entry],
+    submissions: &[Submission],
+    live: &mut Vec<RunId>,
+    entry: &Entry,
+)
+    requires { MayLive history.now submissions.now live.old entry.now }
+    ensures { live.new.items ≡ live_numbers (history.now ++ entry.now ∷ []) }
+{
+    let command = &entry.core.command;
+    if let Command::Withdraw { run } = command {
+        take_out(history, submissions, live, run.bytes());
+    } else if submits_run(command) {
+        live.push_reserved(RunId(submissions.len() as u16));
+    }
+}
+
+/// Takes the run of this name out of the live ones.
+fn take_out(history: &[Entry], submissions: &[Submission], live: &mut Vec<RunId>, name: &[u8])
+    requires submissions { AreSubmissions history.now submissions.now }
+    requires there { IsTrue (is_taken history.now name.now) }
+    ensures { (number : ℕ) → Some number ≡ position (λ run. bytes_eq run.name name.now) (runs history.now)
+        → live.new.items ≡ filter (λ run. not (run.0 == number)) live.old.items }
+{
+    let number = run_number(history, submissions, name).unwrap();
+    live.retain(|run| usize::from(run.0) != number);
 }
 
 /// Marks the run of this name as withdrawn.

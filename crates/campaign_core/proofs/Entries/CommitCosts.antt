@@ -25,17 +25,11 @@ use Rattle.campaign_core.specs.Kept.{IsAssessmentOf}
 use Rattle.campaign_core.specs.Leasing.{is_known, topic_in}
 use Rattle.campaign_core.specs.Numbers.{doc_in, docs_in, names_of}
 use Rattle.campaign_core.specs.Scoring.{list_in, ranked_on, run_at}
+use Rattle.campaign_core.specs.Submissions.{live_numbers, number_of}
 use Rattle.campaign_core.specs.Topics.{KeptTopic, kept, kept_of, pool_of, held_of, topic_ids}
 use Rattle.campaign_core.proofs.Rulings.AcceptedCommands.{numbered-all}
 use Rattle.campaign_core.proofs.Lists.Elements.{Each}
 use Rattle.campaign_core.proofs.Entries.LiveRuns.{at-live, live-at, live-there}
-
--- the number of a run
-abbrev pub number_of : ℕ × Run → RunId
-number_of p = record { 0 = p.0 }
-
-abbrev pub live_numbers : History → List RunId
-live_numbers H = map number_of (numbered H)
 
 -- ---- the runs of the lists
 

@@ -38,7 +38,7 @@ use Rattle.campaign_core.specs.Leasing.{IsLeased, is_known, topic_in}
 use Rattle.campaign_core.specs.Numbers.{doc_in, docs_in, names_of}
 use Rattle.campaign_core.specs.Changes.{CarriesOut, phase_after}
 use Rattle.campaign_core.specs.Scoring.{list_in, run_at, unless_withdrawn}
-use Rattle.campaign_core.specs.Submissions.{AreSubmissions, RunsAreKnown}
+use Rattle.campaign_core.specs.Submissions.{AreSubmissions, RunsAreKnown, live_numbers}
 use Rattle.campaign_core.specs.Topics.{KeptTopic, LabelledTopic, kept, kept_of, labelled_of, topic_ids, unlabelled}
 use Rattle.campaign_core.specs.declared.campaign.Campaign.{Campaign}
 use Rattle.assessment.specs.Changes.{Facts, after, facts}
@@ -646,8 +646,9 @@ pub known-after : (s later : Campaign) (e : Entry) (c : Change) → IsKnown s �
     → later.lines ≡ s.lines + line_count (lists_in e.core.command)
     → facts later.assessment ≡ after c (facts s.assessment)
     → AreSubmissions (s.history.items ++ e ∷ []) later.submissions.items
+    → later.live.items ≡ live_numbers (s.history.items ++ e ∷ [])
     → IsKnown later
-known-after s later e c kept_s ready done grown phase_is lines_is facts_are submissions_are =
+known-after s later e c kept_s ready done grown phase_is lines_is facts_are submissions_are live_are =
     let J : History = s.history.items ++ e ∷ [] in
     record {
       legal = rw grown (IsLegal-push s.history.items e kept_s.legal ready.accepted);
@@ -659,6 +660,7 @@ known-after s later e c kept_s ready done grown phase_is lines_is facts_are subm
       runs_fit = rw grown done.runs_fit;
       topics_first = rw grown done.topics_first;
       submissions_are = subst (λ (J : History). AreSubmissions J later.submissions.items) (sym grown) submissions_are;
+      live_are = live_are ∙ ap live_numbers (sym grown);
       runs_known = rw grown done.runs_known;
       lines_are = lines_is ∙ ap (λ n. n + line_count (lists_in e.core.command)) kept_s.lines_are ∙ sym (submitted_lines-push s.history.items e) ∙ ap submitted_lines (sym grown);
       assessed = subst (λ (J : History). IsAssessmentOf J (facts later.assessment)) (sym grown) (subst (IsAssessmentOf J) (sym facts_are) done.assessed);

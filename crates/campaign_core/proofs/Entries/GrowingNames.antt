@@ -11,12 +11,12 @@ use Rattle.qrels_view.specs.declared.grades.Graded.{Graded}
 use Rattle.rulebook.specs.Words.{Text, contains_text}
 use Rattle.rulebook.specs.Campaign.{History}
 use Rattle.rulebook.specs.Entries.{AreKept}
-use Rattle.rulebook.specs.Grades.{effective, labels_on, ruling, trail}
+use Rattle.rulebook.specs.Grades.{effective, labelled, labels_on, ruling, trail}
 use Rattle.rulebook.specs.Leases.{Lease, is_ended, leases}
 use Rattle.campaign_core.specs.Growth.{BeginsWith}
 use Rattle.campaign_core.specs.Labelling.{IsLabelled, graded_in}
 use Rattle.campaign_core.specs.Leasing.{IsLeased, KnownLease, is_known, known, topic_in}
-use Rattle.campaign_core.specs.Numbers.{are_named, doc_in, names_of}
+use Rattle.campaign_core.specs.Numbers.{are_named, doc_in, docs_in, names_of}
 use Rattle.campaign_core.specs.Topics.{LabelledTopic, topic_ids}
 use Rattle.campaign_core.proofs.Lists.Elements.{all_head, all_tail, and_true, both_true}
 use Rattle.campaign_core.proofs.Numbers.DocNumbers.{number-stays}
@@ -92,6 +92,12 @@ module _ (H J : History) (t : LabelledTopic) (keeps : AreKept H J) (grown : Begi
       ∙ ap (λ grade. let g : Graded = record { doc = doc_in now doc; grade = grade } in g) (sym (keeps.effective_is t.id doc)) in
       ap (λ g. g ∷ map (graded_in H before t.id) docs) same ∙ ap (λ gs. graded_in J now t.id doc ∷ gs) (graded-then docs (all_tail (contains_text before) doc docs named))
 
+  docs-then : (docs : List Text) → are_named before docs ≡ true → docs_in before docs ≡ docs_in now docs
+  docs-then [] named = refl
+  docs-then (doc ∷ docs) named =
+      ap (λ d. d ∷ docs_in before docs) (sym (number-kept before now doc grown (all_head (contains_text before) doc docs named)))
+      ∙ ap (λ ds. doc_in now doc ∷ ds) (docs-then docs (all_tail (contains_text before) doc docs named))
+
   pub labelled-grows : IsLabelled J (names_of J) t
   labelled-grows = record {
     given_are = λ doc named. given-then doc;
@@ -100,6 +106,8 @@ module _ (H J : History) (t : LabelledTopic) (keeps : AreKept H J) (grown : Begi
     labels_named = λ doc absent. keeps.labels_are t.id doc ∙ was.labels_named doc (still-absent before now doc grown absent);
     ruled_named = λ doc past. was.ruled_named doc (omega (arith, past, longer));
     rulings_named = λ doc absent. keeps.rulings_are t.id doc ∙ was.rulings_named doc (still-absent before now doc grown absent);
+    marked_are = was.marked_are ∙ docs-then (labelled H t.id) was.labelled_named ∙ ap (docs_in now) (sym (keeps.labelled_are t.id));
+    labelled_named = ap (are_named now) (keeps.labelled_are t.id) ∙ all-named before now (labelled H t.id) grown was.labelled_named;
     graded_are = was.graded_are ∙ graded-then (trail H t.id) was.trail_named ∙ ap (map (graded_in J now t.id)) (sym (keeps.trail_is t.id));
     trail_named = ap (are_named now) (keeps.trail_is t.id) ∙ all-named before now (trail H t.id) grown was.trail_named;
   }

@@ -13,13 +13,13 @@ use Rattle.campaign_core.specs.Growth.{BeginsWith}
 use Rattle.campaign_core.specs.Kept.{IsAssessmentOf, IsKept, IsKnown, IsReadyWith, IsUnchanged, IsUnjudged}
 use Rattle.campaign_core.specs.NumberedRequests.{Numbered, numbers_of}
 use Rattle.campaign_core.specs.Numbers.{names_of}
-use Rattle.campaign_core.specs.Submissions.{AreSubmissions, RunsAreKnown}
+use Rattle.campaign_core.specs.Submissions.{AreSubmissions, RunsAreKnown, live_numbers}
 use Rattle.campaign_core.specs.Topics.{labelled_of}
 use Rattle.campaign_core.specs.declared.campaign.Campaign.{Campaign}
 use Rattle.campaign_core.specs.declared.state.State.TheInside.{Inside}
 
 pub unchanged : (campaign : Campaign) → IsUnchanged campaign campaign
-unchanged campaign = record { history_is = refl; phase_is = refl; facts_are = refl; submissions_are = refl; lines_are = refl }
+unchanged campaign = record { history_is = refl; phase_is = refl; facts_are = refl; submissions_are = refl; live_are = refl; lines_are = refl }
 
 -- what is known of a campaign that stays
 pub known-still : (old new : Campaign) → IsUnchanged old new → IsKnown old → IsKnown new
@@ -37,6 +37,7 @@ known-still old new same known =
       topics_first = subst (λ (H : History). has_topics H ≡ false → runs H ≡ []) back known.topics_first;
       submissions_are = subst (λ (H : History). AreSubmissions H new.submissions.items) back
           (subst (AreSubmissions old.history.items) (sym same.submissions_are) known.submissions_are);
+      live_are = same.live_are ∙ known.live_are ∙ ap live_numbers back;
       runs_known = subst RunsAreKnown back known.runs_known;
       lines_are = same.lines_are ∙ known.lines_are ∙ ap submitted_lines back;
       assessed = subst (λ (H : History). IsAssessmentOf H (facts new.assessment)) back (subst (IsAssessmentOf old.history.items) facts_back known.assessed);

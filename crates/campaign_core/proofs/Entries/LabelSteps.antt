@@ -11,18 +11,19 @@ use Rattle.decimal_rank.specs.declared.naming.DocId.{DocId}
 use Rattle.labels.specs.declared.given.Given.{Given}
 use Rattle.labels.specs.Grades.{effective_grade}
 use Rattle.labels.specs.Labelled.{grades_of, with_label}
-use Rattle.labels.specs.Marked.{Marked, effective_at, given_at, is_marked, ruling_at, with_label_at, with_ruling_at}
+use Rattle.labels.specs.Marked.{Marked, docs_in as marked_docs, effective_at, given_at, is_marked, ruling_at, with_label_at, with_ruling_at}
 use Rattle.qrels_view.specs.Grades.{first_grade, with_grade}
 use Rattle.qrels_view.specs.declared.grades.Graded.{Graded}
 use Rattle.rulebook.specs.Words.{Text, contains_text, prefixes}
 use Rattle.rulebook.specs.Campaign.{History, need}
 use Rattle.rulebook.specs.Entries.{AreWithLabel, AreWithRuling}
-use Rattle.rulebook.specs.Grades.{Label, effective, graded, is_labelled, is_on, labels_on, ruling, trail}
+use Rattle.rulebook.specs.Grades.{Label, effective, graded, is_labelled, is_on, labelled, labels_on, ruling, trail}
 use Rattle.rulebook.specs.Spelling.{differ}
 use Rattle.campaign_core.specs.Kept.{IsFew}
 use Rattle.campaign_core.specs.Labelling.{IsLabelled, graded_in}
-use Rattle.campaign_core.specs.Numbers.{are_named, doc_in, names_of}
+use Rattle.campaign_core.specs.Numbers.{are_named, doc_in, docs_in, names_of}
 use Rattle.campaign_core.specs.Topics.{LabelledTopic}
+use Rattle.campaign_core.proofs.Entries.LabelledDocs.{labelled-ruled, labelled-with}
 use Rattle.campaign_core.proofs.Judging.LiveLeases.{decided, same-number}
 use Rattle.campaign_core.proofs.Lists.Elements.{all_head, all_tail, and_true, both_true}
 use Rattle.campaign_core.proofs.Numbers.DocNumbers.{number-within}
@@ -150,8 +151,8 @@ named-after names docs doc true false is there named = list_all-append (contains
 
 -- a topic whose labels, rulings and grades stay
 unchanged : (H J : History) (t : LabelledTopic) → names_of J ≡ names_of H → ((doc : Text) → labels_on J t.id doc ≡ labels_on H t.id doc) → ((doc : Text) → ruling J t.id doc ≡ ruling H t.id doc)
-    → ((doc : Text) → effective J t.id doc ≡ effective H t.id doc) → trail J t.id ≡ trail H t.id → IsLabelled H (names_of H) t → IsLabelled J (names_of J) t
-unchanged H J t names_are labels rulings grades trail_stays was =
+    → ((doc : Text) → effective J t.id doc ≡ effective H t.id doc) → labelled J t.id ≡ labelled H t.id → trail J t.id ≡ trail H t.id → IsLabelled H (names_of H) t → IsLabelled J (names_of J) t
+unchanged H J t names_are labels rulings grades labelled_stays trail_stays was =
     subst (λ ns. IsLabelled J ns t) (sym names_are) (record {
       given_are = λ doc named. was.given_are doc named ∙ sym (labels doc);
       rulings_are = λ doc named. was.rulings_are doc named ∙ sym (rulings doc);
@@ -159,6 +160,8 @@ unchanged H J t names_are labels rulings grades trail_stays was =
       labels_named = λ doc absent. labels doc ∙ was.labels_named doc absent;
       ruled_named = was.ruled_named;
       rulings_named = λ doc absent. rulings doc ∙ was.rulings_named doc absent;
+      marked_are = was.marked_are ∙ ap (docs_in (names_of H)) (sym labelled_stays);
+      labelled_named = ap (are_named (names_of H)) labelled_stays ∙ was.labelled_named;
       graded_are = was.graded_are ∙ same-grades t.id grades (trail H t.id) ∙ ap (map (graded_in J (names_of H) t.id)) (sym trail_stays);
       trail_named = ap (are_named (names_of H)) trail_stays ∙ was.trail_named;
     })
@@ -178,10 +181,11 @@ regraded-here : (H J : History) (t : LabelledTopic) (marked : List Marked) (doc 
     → ((other : Text) → contains_text (names_of H) other ≡ false → labels_on J t.id other ≡ [])
     → ((other : DocId) → length (names_of H) ≤ other.0 → ruling_at marked other ≡ None)
     → ((other : Text) → contains_text (names_of H) other ≡ false → ruling J t.id other ≡ None)
+    → marked_docs marked ≡ docs_in (names_of H) (labelled J t.id) → are_named (names_of H) (labelled J t.id) ≡ true
     → trail J t.id ≡ (if is_some (effective J t.id doc) then with_name (trail H t.id) doc else trail H t.id)
     → ((other : Text) → bytes_eq doc other ≡ false → effective J t.id other ≡ effective H t.id other)
     → IsLabelled J (names_of J) (record { id = t.id; marked = marked; graded = with_grade (doc_in (names_of H) doc) (effective_at (need H t.id) marked (doc_in (names_of H) doc)) t.graded })
-regraded-here H J t marked doc needs names_are doc_named was given rulings past none past_ruled none_ruled trail_is others =
+regraded-here H J t marked doc needs names_are doc_named was given rulings past none past_ruled none_ruled docs_are docs_named trail_is others =
     let names = names_of H in
     let d : DocId = doc_in names doc in
     let grade : effective_at (need H t.id) marked d ≡ effective J t.id doc =
@@ -195,6 +199,8 @@ regraded-here H J t marked doc needs names_are doc_named was given rulings past 
       labels_named = none;
       ruled_named = past_ruled;
       rulings_named = none_ruled;
+      marked_are = docs_are;
+      labelled_named = docs_named;
       graded_are = ap (λ (o : Option ℕ). with_grade d o t.graded) grade
           ∙ ap (with_grade d (effective J t.id doc)) was.graded_are
           ∙ along H J t.id doc names doc_named others (trail H t.id) was.trail_named (trail-differs H t.id)
@@ -233,6 +239,8 @@ module _ (given_follow : GivenFollow) (rulings_stay : RulingsStay) (H J : Histor
       let d : DocId = doc_in names label.doc in
       let marked : List Marked = with_label_at d label.assessor label.grade t.marked in
       let here : bytes_eq label.topic t.id ≡ true = (bytes_eq-Decides label.topic t.id).1 (sym ids) in
+      let listed : labelled J t.id ≡ with_name (labelled H t.id) label.doc =
+      subst (λ topic. labelled J topic ≡ with_name (labelled H topic) label.doc) (sym ids) joined.labelled_are in
       let given : (doc : Text) → contains_text names doc ≡ true → given_at marked (doc_in names doc) ≡ labels_on J t.id doc = λ doc named.
       given_follow d (doc_in names doc) label.assessor label.grade t.marked
       ∙ ap (λ b. if b then with_label label.assessor label.grade (given_at t.marked d) else given_at t.marked (doc_in names doc)) (same-number names doc label.doc named doc_named ∙ bytes-swap doc label.doc)
@@ -250,6 +258,8 @@ module _ (given_follow : GivenFollow) (rulings_stay : RulingsStay) (H J : Histor
       ∙ was.labels_named doc absent)
       (λ other past. rulings_stay d other label.assessor label.grade t.marked ∙ was.ruled_named other past)
       (λ doc absent. joined.rulings_are t.id doc ∙ was.rulings_named doc absent)
+      (labelled-with names label.doc label.assessor label.grade doc_named (labelled H t.id) t.marked was.labelled_named was.marked_are ∙ ap (docs_in names) (sym listed))
+      (ap (are_named names) listed ∙ named-after names (labelled H t.id) label.doc true (contains_text (labelled H t.id) label.doc) refl doc_named was.labelled_named)
       (subst (λ topic. trail J topic ≡ (if is_some (effective J topic label.doc) then with_name (trail H topic) label.doc else trail H topic)) (sym ids) joined.trail_is)
       (λ other differs. joined.effective_is t.id other (and-false (bytes_eq label.topic t.id) (bytes_eq label.doc other) differs))
     where
@@ -267,7 +277,7 @@ module _ (given_follow : GivenFollow) (rulings_stay : RulingsStay) (H J : Histor
       let off : (doc : Text) → is_on t.id doc label ≡ false = λ doc. ap (λ b. b && bytes_eq label.doc doc) differs in
       unchanged H J t names_are
       (λ doc. joined.labels_are t.id doc ∙ ap (λ b. if b then with_label label.assessor label.grade (labels_on H t.id doc) else labels_on H t.id doc) (off doc))
-      (joined.rulings_are t.id) (λ doc. joined.effective_is t.id doc (off doc)) (joined.other_trails t.id differs) was
+      (joined.rulings_are t.id) (λ doc. joined.effective_is t.id doc (off doc)) (joined.other_labelled t.id differs) (joined.other_trails t.id differs) was
 
 -- Rulings
 
@@ -307,6 +317,8 @@ module _ (rulings_follow : RulingsFollow) (given_stay : GivenStay) (H J : Histor
       (λ other absent. ruled.rulings_are t.id other
       ∙ ap (λ b. if b then Some grade else ruling H t.id other) (and-false (bytes_eq topic t.id) (bytes_eq doc other) (other-name names doc other doc_named absent))
       ∙ was.rulings_named other absent)
+      (labelled-ruled d grade t.marked ∙ was.marked_are ∙ ap (docs_in names) (sym (ruled.labelled_are t.id)))
+      (ap (are_named names) (ruled.labelled_are t.id) ∙ was.labelled_named)
       (subst (λ topic. trail J topic ≡ (if is_some (effective J topic doc) then with_name (trail H topic) doc else trail H topic)) (sym ids) ruled.trail_is)
       (λ other differs. ruled.effective_is t.id other (and-false (bytes_eq topic t.id) (bytes_eq doc other) differs))
     where
@@ -319,7 +331,7 @@ module _ (rulings_follow : RulingsFollow) (given_stay : GivenStay) (H J : Histor
       let off : (other : Text) → (bytes_eq topic t.id && bytes_eq doc other) ≡ false = λ other. ap (λ b. b && bytes_eq doc other) differs in
       unchanged H J t names_are (ruled.labels_are t.id)
       (λ other. ruled.rulings_are t.id other ∙ ap (λ b. if b then Some grade else ruling H t.id other) (off other))
-      (λ other. ruled.effective_is t.id other (off other)) (ruled.other_trails t.id differs) was
+      (λ other. ruled.effective_is t.id other (off other)) (ruled.labelled_are t.id) (ruled.other_trails t.id differs) was
 
 -- few labels and few grades
 

@@ -1,23 +1,25 @@
 -- What an entry leaves of labels and leases that gives none.
-use Rattle.std.proofs.Common.{◌≡◌, ◌||◌, ◌&&◌, ◌<◌, ℕ, Bool, true, false, List, ◌++◌, ◌∷◌, [], Option, None, Some, Ok, length, map, subst, refl, sym, ap, ◌∙◌}
+use Rattle.std.proofs.Common.{◌≡◌, ◌||◌, ◌&&◌, ◌<◌, ℕ, Bool, true, false, List, ◌++◌, ◌∷◌, [], Option, None, Some, Ok, filter, length, map, subst, refl, sym, ap, ◌∙◌}
 use Rattle.std.specs.List.{filter_map, list_all}
+use Rattle.std.specs.Str.{bytes_eq}
 use Rattle.std.proofs.lemmas.List.{append-nil}
 use Rattle.std.proofs.lemmas.List.Elements.{filter_map-append}
 use Rattle.std.proofs.lemmas.List.Folds.{list_any-append}
+use Rattle.labels.specs.Marked.{docs_in as marked_docs}
 use Rattle.lease_desk.specs.declared.leases.Lease.{Lease as DeskLease}
 use Rattle.rulebook.specs.declared.entry.Entry.{Entry}
 use Rattle.rulebook.specs.declared.reply.Refusal.{Refusal}
 use Rattle.rulebook.specs.declared.reply.Reply.{Reply}
-use Rattle.rulebook.specs.Words.{Text, contains_text}
+use Rattle.rulebook.specs.Words.{Text, contains_text, each_once}
 use Rattle.rulebook.specs.Campaign.{History}
 use Rattle.rulebook.specs.Entries.{AreKept}
-use Rattle.rulebook.specs.Grades.{given_labels, ruling, trail}
+use Rattle.rulebook.specs.Grades.{Label, given_labels, labelled, ruling, trail}
 use Rattle.rulebook.specs.Leases.{Lease, ends, is_ended, lease_in, leases}
 use Rattle.rulebook.specs.Refusals.{Ruling, given, unless}
 use Rattle.campaign_core.specs.Kept.{IsUnjudged}
 use Rattle.campaign_core.specs.Labelling.{IsLabelled, graded_in}
 use Rattle.campaign_core.specs.Leasing.{IsLeased, KnownLease, is_known, known, topic_in}
-use Rattle.campaign_core.specs.Numbers.{are_named, doc_in, names_of}
+use Rattle.campaign_core.specs.Numbers.{are_named, doc_in, docs_in, names_of}
 use Rattle.campaign_core.specs.Topics.{LabelledTopic, topic_ids}
 
 -- an accepted ruling is what follows the tests
@@ -99,11 +101,16 @@ labelled-stays H J t keeps names_are labelled = subst (λ names. IsLabelled J na
   labels_named = λ doc absent. keeps.labels_are t.id doc ∙ labelled.labels_named doc absent;
   ruled_named = labelled.ruled_named;
   rulings_named = λ doc absent. keeps.rulings_are t.id doc ∙ labelled.rulings_named doc absent;
+  marked_are = labelled.marked_are ∙ ap (docs_in (names_of H)) (sym (keeps.labelled_are t.id));
+  labelled_named = ap (are_named (names_of H)) (keeps.labelled_are t.id) ∙ labelled.labelled_named;
   graded_are = labelled.graded_are
       ∙ sym (map-same (graded_in J (names_of H) t.id) (graded_in H (names_of H) t.id) (trail H t.id) (λ doc. ap (λ (o : Option ℕ). let g = graded_in H (names_of H) t.id doc in record g { grade = o }) (keeps.effective_is t.id doc)))
       ∙ ap (map (graded_in J (names_of H) t.id)) (sym (keeps.trail_is t.id));
   trail_named = ap (are_named (names_of H)) (keeps.trail_is t.id) ∙ labelled.trail_named;
 })
+
+none-labelled : (J : History) (topic : Text) → given_labels J ≡ [] → labelled J topic ≡ []
+none-labelled J topic none = ap (λ (ls : List Label). each_once (map (λ l. l.doc) (filter (λ l. bytes_eq l.topic topic) ls))) none
 
 pub labelled-none : (J : History) (t : LabelledTopic) → given_labels J ≡ [] → ((topic doc : Text) → ruling J topic doc ≡ None) → ((topic : Text) → trail J topic ≡ []) → t.marked ≡ [] → t.graded ≡ [] → IsLabelled J (names_of J) t
 labelled-none J t no_label no_ruling no_trail no_mark no_grade = record {
@@ -113,6 +120,8 @@ labelled-none J t no_label no_ruling no_trail no_mark no_grade = record {
   labels_named = λ doc absent. rw no_label refl;
   ruled_named = λ doc past. rw no_mark refl;
   rulings_named = λ doc absent. no_ruling t.id doc;
+  marked_are = ap marked_docs no_mark ∙ sym (ap (docs_in (names_of J)) (none-labelled J t.id no_label));
+  labelled_named = ap (are_named (names_of J)) (none-labelled J t.id no_label);
   graded_are = no_grade ∙ sym (ap (map (graded_in J (names_of J) t.id)) (no_trail t.id));
   trail_named = ap (are_named (names_of J)) (no_trail t.id);
 }

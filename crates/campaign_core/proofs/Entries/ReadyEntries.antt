@@ -5,6 +5,7 @@ use Rattle.assessment.specs.TopicsFacts.{new_topics}
 use Rattle.assessment.specs.declared.change.Change.{Change}
 use Rattle.rulebook.specs.declared.entry.Entry.{Entry}
 use Rattle.rulebook.specs.declared.entry.EntryCore.{EntryCore}
+use Rattle.depth_pool.specs.declared.runs.RunId.{RunId}
 use Rattle.rulebook.specs.declared.limits.TheConstants.{MAX_DOCNOS, MAX_ENTRIES, MAX_LINES}
 use Rattle.rulebook.specs.declared.reply.Reply.{Reply}
 use Rattle.rulebook.specs.declared.rules.Rules.{Rules}
@@ -20,7 +21,7 @@ use Rattle.campaign_core.specs.Growth.{BeginsWith}
 use Rattle.campaign_core.specs.Kept.{AwaitsChange, IsAssessmentOf, IsPrepared, IsUnchanged, IsUnjudged}
 use Rattle.campaign_core.specs.NumberedRequests.{Numbered, number_in, numbers_of}
 use Rattle.campaign_core.specs.Numbers.{names_of}
-use Rattle.campaign_core.specs.Submissions.{AreSubmissions, RunsAreKnown}
+use Rattle.campaign_core.specs.Submissions.{AreSubmissions, RunsAreKnown, live_numbers}
 use Rattle.campaign_core.specs.Topics.{labelled_of}
 use Rattle.campaign_core.specs.declared.campaign.Campaign.{Campaign}
 use Rattle.campaign_core.specs.declared.decisions.Decision.TheVariants.{Accepted}
@@ -77,6 +78,9 @@ prepared-entry old new before names counted numbers core told answer change aske
 
 pub founded-submissions : (H : History) (rules : Rules) (all : List Submission) → H ≡ founding rules ∷ [] → all ≡ [] → AreSubmissions H all
 founded-submissions H rules all is none = rw (is, none) (record { places_are = refl; withdrawn_are = refl })
+
+pub founded-live : (H : History) (rules : Rules) (live : List RunId) → H ≡ founding rules ∷ [] → live ≡ [] → live ≡ live_numbers H
+founded-live H rules live is none = rw (is, none) refl
 
 pub founded-runs : (H : History) (rules : Rules) → H ≡ founding rules ∷ [] → RunsAreKnown H
 founded-runs H rules is = rw is (record { names_differ = refl; withdrawn_taken = λ name away. cc away })

@@ -14,10 +14,11 @@ use Rattle.rulebook.specs.JudgingOrder.{comes_before}
 use Rattle.rulebook.specs.Words.{Text}
 use Rattle.assessment.specs.TopicFacts.{TopicFacts, judged_of}
 use Rattle.campaign_core.specs.Labelling.{IsLabelled, graded_in}
-use Rattle.campaign_core.specs.LendingLaws.{IsInRulesOrder, number_of}
+use Rattle.campaign_core.specs.LendingLaws.{IsInRulesOrder}
 use Rattle.campaign_core.specs.Lendings.{IsQueueOf}
 use Rattle.campaign_core.specs.Numbers.{are_named, names_of}
 use Rattle.campaign_core.specs.Topics.{KeptTopic, kept, kept_of, labelled_of, pool_of, topic_ids}
+use Rattle.campaign_core.specs.Submissions.{number_of}
 use Rattle.campaign_core.proofs.Judging.RunOrder.{IsRunOf, before-same, run-numbers, runs-of-pool}
 use Rattle.campaign_core.proofs.Lists.Elements.{Each}
 

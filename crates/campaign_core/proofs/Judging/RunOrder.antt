@@ -29,7 +29,7 @@ abbrev pub number_of_run : ℕ × Run → RunId
 number_of_run p = record { 0 = p.0 }
 
 -- a document among documents, by numbers
-has-same : (names docs : List Text) (doc : Text) → contains_text names doc ≡ true → are_named names docs ≡ true → has_doc (doc_in names doc) (docs_in names docs) ≡ contains_text docs doc
+pub has-same : (names docs : List Text) (doc : Text) → contains_text names doc ≡ true → are_named names docs ≡ true → has_doc (doc_in names doc) (docs_in names docs) ≡ contains_text docs doc
 has-same names [] doc named all = refl
 has-same names (x ∷ docs) doc named all =
     ap (λ t. t || has_doc (doc_in names doc) (docs_in names docs)) (same-number names x doc (all_head (contains_text names) x docs all) named ∙ bytes-swap x doc)

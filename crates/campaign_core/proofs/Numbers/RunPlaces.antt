@@ -1,5 +1,5 @@
 -- The runs of a history by the places of the entries that submit them.
-use Rattle.std.proofs.Common.{◌≡◌, ◌||◌, ◌&&◌, ◌<◌, ◌+◌, ℕ, zero, suc, Bool, true, false, cond, List, [], ◌∷◌, ◌++◌, Option, None, Some, is_some, length, map, drop, get_or, refl, sym, subst, ap, ◌∙◌, arith}
+use Rattle.std.proofs.Common.{◌≡◌, ◌||◌, ◌&&◌, ◌<◌, ◌+◌, ℕ, zero, suc, Bool, true, false, cond, List, [], ◌∷◌, ◌++◌, Option, None, Some, IsSome, is_some, length, map, drop, get_or, refl, sym, subst, ap, ◌∙◌, arith}
 use Rattle.std.specs.Prelude.{slice_get}
 use Rattle.std.specs.List.{list_any}
 use Rattle.std.specs.Option.{option_map_or}
@@ -30,6 +30,13 @@ as-long f [] [] same = refl
 as-long f [] (x ∷ xs) same = cc same
 as-long f (p ∷ places) [] same = cc same
 as-long f (p ∷ places) (x ∷ xs) same = ap suc (as-long f places xs (let tail : map f places ≡ map Some xs = cc same in tail))
+
+pub some-within : {X : Type 0} (xs : List X) (i : ℕ) → IsSome (slice_get xs i) → i < length xs
+some-within {X} xs i is = step (slice_get xs i) refl is
+  where
+    step : (o : Option X) → slice_get xs i ≡ o → IsSome o → i < length xs
+    step None e is = cc is
+    step (Some x) e is = (slice-there xs i x x e).0
 
 -- The entries that submit runs, and their runs.
 

@@ -12,8 +12,10 @@ use Rattle.rulebook.specs.Spelling.{differ}
 use Rattle.rulebook.specs.Words.{Text, contains_text, in_order}
 use Rattle.rulebook.specs.Campaign.{History, held, level, live, pool}
 use Rattle.rulebook.specs.Entries.{GradedAreOnTrail}
+use Rattle.campaign_core.specs.Gradings.{graded_by}
 use Rattle.rulebook.specs.Grades.{Label, effective, given_labels, graded, labelled, non_relevant_count, relevant_count, trail}
 use Rattle.campaign_core.specs.Labelling.{graded_in}
+use Rattle.campaign_core.specs.NumberedGrades.{Narrows, graded_as}
 use Rattle.campaign_core.specs.Numbers.{doc_in, docs_in, names_of}
 use Rattle.campaign_core.specs.Printed.{IsTopicOf}
 use Rattle.campaign_core.specs.Topics.{KeptTopic, pool_of}
@@ -83,33 +85,38 @@ differ-filter p (x ∷ xs) differs =
 labelled-differ : (H : History) (topic : Text) → differ (labelled H topic) ≡ true
 labelled-differ H topic = differ-all [] (map (λ (label : Label). label.doc) (filter (λ (label : Label). bytes_eq label.topic topic) (given_labels H))) refl
 
--- of the documents of the trail, and of those with an effective grade
-module _ (H : History) (names : List Text) (topic : Text) (on_trail : GradedAreOnTrail) (p : Option ℕ → Bool) (none : p None ≡ false) where
+-- of the documents of the trail, and of those with a grade, where each has an effective one too
+module _ (H : History) (names : List Text) (topic : Text) (on_trail : GradedAreOnTrail) (grade : Text → Option ℕ) (narrows : Narrows H topic grade) (p : Option ℕ → Bool) (none : p None ≡ false) where
   abbrev has : Text → Bool
   has doc = is_some (effective H topic doc)
 
   abbrev q : Text → Bool
-  q doc = p (effective H topic doc)
+  q doc = p (grade doc)
 
-  wider : (doc : Text) → q doc ≡ true → has doc ≡ true
-  wider doc = step (effective H topic doc)
+  given : (doc : Text) → q doc ≡ true → is_some (grade doc) ≡ true
+  given doc = step (grade doc)
     where
       step : (o : Option ℕ) → p o ≡ true → is_some o ≡ true
       step None passes = cc (none, passes)
       step (Some grade) passes = refl
+
+  wider : (doc : Text) → q doc ≡ true → has doc ≡ true
+  wider doc passes = narrows doc (given doc passes)
 
   ordered : sorted (graded H topic) ≡ in_order (graded H topic)
   ordered =
       let sort = sorts (graded H topic) (differ-filter has (labelled H topic) (labelled-differ H topic)) in
       in_order-is (graded H topic) (sorted (graded H topic)) sort.rises (λ doc. sort.members (bytes_eq doc))
 
-  pub count-same : count_by (λ g. p g.grade) (map (graded_in H names topic) (trail H topic)) ≡ count_by q (graded H topic)
+  pub count-same : count_by (λ g. p g.grade) (graded_as names grade (trail H topic)) ≡ count_by q (graded_by H topic grade)
   count-same =
-      count-map (λ (g : Graded). p g.grade) (graded_in H names topic) (trail H topic)
+      count-map (λ (g : Graded). p g.grade) (λ doc. record { doc = doc_in names doc; grade = grade doc }) (trail H topic)
       ∙ sym (count-sorted q (trail H topic))
       ∙ sym (count-filter q has wider (sorted (trail H topic)))
       ∙ ap (count_by q) (graded-same H names topic on_trail ∙ sym ordered)
       ∙ count-sorted q (graded H topic)
+      ∙ count-filter q has wider (labelled H topic)
+      ∙ sym (count-filter q (λ doc. is_some (grade doc)) given (labelled H topic))
 
 same-relevant : (level : ℕ) (o : Option ℕ) → relevant_there level o ≡ is_relevant level o
 same-relevant level None = refl
@@ -122,6 +129,21 @@ same-non_relevant level (Some grade) = refl
 count-alike : {X : Type 0} (p q : X → Bool) (xs : List X) → ((x : X) → p x ≡ q x) → count_by p xs ≡ count_by q xs
 count-alike p q [] same = refl
 count-alike p q (x ∷ xs) same = count_by-cons p x xs ∙ ap (λ t. cond t 1 0 + count_by p xs) (same x) ∙ ap (λ n. cond (q x) 1 0 + n) (count-alike p q xs same) ∙ sym (count_by-cons q x xs)
+
+-- those that are relevant, and those that are judged lower
+module _ (H : History) (names : List Text) (topic : Text) (on_trail : GradedAreOnTrail) (grade : Text → Option ℕ) (narrows : Narrows H topic grade) where
+  pub relevant-same : (level : ℕ) → count_by (λ g. relevant_there level g.grade) (graded_as names grade (trail H topic))
+      ≡ count_by (λ doc. is_relevant level (grade doc)) (graded_by H topic grade)
+  relevant-same level =
+      count-same H names topic on_trail grade narrows (relevant_there level) refl
+      ∙ count-alike (λ doc. relevant_there level (grade doc)) (λ doc. is_relevant level (grade doc)) (graded_by H topic grade) (λ doc. same-relevant level (grade doc))
+
+  pub lower-same : (level : ℕ) → count_by (λ g. non_relevant_there level g.grade) (graded_as names grade (trail H topic))
+      ≡ count_by (λ doc. is_non_relevant level (grade doc)) (graded_by H topic grade)
+  lower-same level =
+      count-same H names topic on_trail grade narrows (non_relevant_there level) refl
+      ∙ count-alike (λ doc. non_relevant_there level (grade doc)) (λ doc. is_non_relevant level (grade doc)) (graded_by H topic grade)
+      (λ doc. same-non_relevant level (grade doc))
 
 -- a pool
 
@@ -149,12 +171,10 @@ module _ (H : History) (names : List Text) (topic : TopicFacts) (is : IsTopicOf 
     relevant-count =
         ap (count_by (λ (g : Graded). relevant_there topic.level g.grade)) is.labelled.graded_are
         ∙ ap (λ l. count_by (λ (g : Graded). relevant_there l g.grade) (map (graded_in H names topic.id) (trail H topic.id))) level-is
-        ∙ count-same H names topic.id on_trail (relevant_there (level H topic.id)) refl
-        ∙ count-alike (λ doc. relevant_there (level H topic.id) (effective H topic.id doc)) (λ doc. is_relevant (level H topic.id) (effective H topic.id doc)) (graded H topic.id) (λ doc. same-relevant (level H topic.id) (effective H topic.id doc))
+        ∙ relevant-same H names topic.id on_trail (effective H topic.id) (λ doc some. some) (level H topic.id)
 
     pub non_relevant-count : count_by (λ g. non_relevant_there topic.level g.grade) topic.graded ≡ non_relevant_count H topic.id
     non_relevant-count =
         ap (count_by (λ (g : Graded). non_relevant_there topic.level g.grade)) is.labelled.graded_are
         ∙ ap (λ l. count_by (λ (g : Graded). non_relevant_there l g.grade) (map (graded_in H names topic.id) (trail H topic.id))) level-is
-        ∙ count-same H names topic.id on_trail (non_relevant_there (level H topic.id)) refl
-        ∙ count-alike (λ doc. non_relevant_there (level H topic.id) (effective H topic.id doc)) (λ doc. is_non_relevant (level H topic.id) (effective H topic.id doc)) (graded H topic.id) (λ doc. same-non_relevant (level H topic.id) (effective H topic.id doc))
+        ∙ lower-same H names topic.id on_trail (effective H topic.id) (λ doc some. some) (level H topic.id)

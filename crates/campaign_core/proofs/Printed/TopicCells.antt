@@ -15,9 +15,10 @@ use Rattle.rulebook.specs.Campaign.{History, Run, docnos, docs_on, level}
 use Rattle.rulebook.specs.Entries.{GradedAreOnTrail, GradedAreThere}
 use Rattle.rulebook.specs.Grades.{effective, graded, labelled, non_relevant_count, relevant_count, trail}
 use Rattle.rulebook.specs.Legal.{IsLegal}
-use Rattle.rulebook.specs.Scores.{cell_on, grades_by_rank}
+use Rattle.campaign_core.specs.Gradings.{cell_by, relevant_by}
+use Rattle.rulebook.specs.Scores.{cell_on}
 use Rattle.score_index.specs.Standing.{cell_from, grades_by_rank as ranked_there}
-use Rattle.campaign_core.specs.Labelling.{graded_in}
+use Rattle.campaign_core.specs.NumberedGrades.{Narrows, graded_as}
 use Rattle.campaign_core.specs.Numbers.{are_named, doc_in, docs_in}
 use Rattle.campaign_core.specs.Printed.{IsTopicOf}
 use Rattle.campaign_core.specs.Scoring.{list_on}
@@ -25,36 +26,36 @@ use Rattle.campaign_core.specs.Topics.{KeptTopic}
 use Rattle.assessment.specs.TopicFacts.{TopicFacts}
 use Rattle.campaign_core.proofs.Judging.LiveLeases.{count_by-cons, same-number}
 use Rattle.campaign_core.proofs.Lists.Elements.{all_back, all_front, all_head, all_tail}
-use Rattle.campaign_core.proofs.Printed.Progress.{non_relevant-count, relevant-count}
+use Rattle.campaign_core.proofs.Printed.Progress.{lower-same, relevant-same}
 
-module _ (H : History) (names : List Text) (topic : Text) where
+module _ (names : List Text) (grade : Text → Option ℕ) where
   abbrev one : Text → Graded
-  one = graded_in H names topic
+  one doc = record { doc = doc_in names doc; grade = grade doc }
 
   -- the grade of a document along a trail
-  grade-along : (docs : List Text) (doc : Text) → contains_text names doc ≡ true → are_named names docs ≡ true → (is_some (effective H topic doc) ≡ true → contains_text docs doc ≡ true)
-      → effective_in (map one docs) (doc_in names doc) ≡ effective H topic doc
-  grade-along [] doc there named on = nothing (effective H topic doc) on
+  grade-along : (docs : List Text) (doc : Text) → contains_text names doc ≡ true → are_named names docs ≡ true → (is_some (grade doc) ≡ true → contains_text docs doc ≡ true)
+      → effective_in (map one docs) (doc_in names doc) ≡ grade doc
+  grade-along [] doc there named on = nothing (grade doc) on
     where
       nothing : (o : Option ℕ) → (is_some o ≡ true → false ≡ true) → None ≡ o
       nothing None e = refl
       nothing (Some g) e = cc (e refl)
   grade-along (x ∷ docs) doc there named on =
-      ap (λ t. if t then effective H topic x else effective_in (map one docs) (doc_in names doc)) (same-number names doc x there (all_head (contains_text names) x docs named))
+      ap (λ t. if t then grade x else effective_in (map one docs) (doc_in names doc)) (same-number names doc x there (all_head (contains_text names) x docs named))
       ∙ step (bytes_eq doc x) refl on (grade-along docs doc there (all_tail (contains_text names) x docs named))
     where
-      step : (t : Bool) → bytes_eq doc x ≡ t → (is_some (effective H topic doc) ≡ true → (bytes_eq doc x || contains_text docs doc) ≡ true)
-          → ((is_some (effective H topic doc) ≡ true → contains_text docs doc ≡ true) → effective_in (map one docs) (doc_in names doc) ≡ effective H topic doc)
-          → (if t then effective H topic x else effective_in (map one docs) (doc_in names doc)) ≡ effective H topic doc
-      step true is on rest = ap (effective H topic) (sym ((bytes_eq-Decides doc x).0 is))
+      step : (t : Bool) → bytes_eq doc x ≡ t → (is_some (grade doc) ≡ true → (bytes_eq doc x || contains_text docs doc) ≡ true)
+          → ((is_some (grade doc) ≡ true → contains_text docs doc ≡ true) → effective_in (map one docs) (doc_in names doc) ≡ grade doc)
+          → (if t then grade x else effective_in (map one docs) (doc_in names doc)) ≡ grade doc
+      step true is on rest = ap grade (sym ((bytes_eq-Decides doc x).0 is))
       step false is on rest = rest (λ some. ap (λ t. t || contains_text docs doc) (sym is) ∙ on some)
 
-  grades-same : (trail_docs docs : List Text) → are_named names trail_docs ≡ true → ((doc : Text) → is_some (effective H topic doc) ≡ true → contains_text trail_docs doc ≡ true) → are_named names docs ≡ true
-      → ranked_there (map one trail_docs) (docs_in names docs) ≡ map (effective H topic) docs
+  pub grades-same : (trail_docs docs : List Text) → are_named names trail_docs ≡ true → ((doc : Text) → is_some (grade doc) ≡ true → contains_text trail_docs doc ≡ true) → are_named names docs ≡ true
+      → ranked_there (map one trail_docs) (docs_in names docs) ≡ map grade docs
   grades-same trail_docs [] trail_named on named = refl
   grades-same trail_docs (x ∷ docs) trail_named on named =
       ap (λ o. o ∷ ranked_there (map one trail_docs) (docs_in names docs)) (grade-along trail_docs x (all_head (contains_text names) x docs named) trail_named (on x))
-      ∙ ap (λ os. effective H topic x ∷ os) (grades-same trail_docs docs trail_named on (all_tail (contains_text names) x docs named))
+      ∙ ap (λ os. grade x ∷ os) (grades-same trail_docs docs trail_named on (all_tail (contains_text names) x docs named))
 
 -- the lists of a run are of docnos of the history
 pub run-named : (names : List Text) (rs : List Run) (i : ℕ) (run : Run) → are_named names (flat_map (λ run. docnos run.lists) rs) ≡ true → slice_get rs i ≡ Some run → are_named names (docnos run.lists) ≡ true
@@ -64,19 +65,29 @@ run-named names (r ∷ rs) zero run named is =
     ap (λ (r : Run). are_named names (docnos r.lists)) (sym same) ∙ all_front (contains_text names) (docnos r.lists) (flat_map (λ run. docnos run.lists) rs) named
 run-named names (r ∷ rs) (suc i) run named is = run-named names rs i run (all_back (contains_text names) (docnos r.lists) (flat_map (λ run. docnos run.lists) rs) named) is
 
+-- the cell of a run by some of the effective grades
+module _ (H : History) (names : List Text) (topic : Text) (grade : Text → Option ℕ) (narrows : Narrows H topic grade) (legal : IsLegal H)
+    (on_trail : GradedAreOnTrail) (there : GradedAreThere) where
+  pub cell-numbered : (run : Run) → are_named names (trail H topic) ≡ true → are_named names (docs_on run.lists topic) ≡ true
+      → cell_from (level H topic) (graded_as names grade (trail H topic)) (list_on names topic run) ≡ cell_by H run topic grade
+  cell-numbered run trail_named named =
+      let docs = docs_on run.lists topic in
+      let graded_are : List Graded = graded_as names grade (trail H topic) in
+      let grades : ranked_there graded_are (list_on names topic run) ≡ map grade docs =
+      grades-same names grade (trail H topic) docs trail_named (λ doc some. there H legal topic doc (narrows doc some)) named in
+      let Counted : List (Option ℕ) → ℕ → ℕ → ℕ → Cell = cell_of in
+      let l = level H topic in
+      ap (λ (gs : List (Option ℕ)). Counted gs (count_by (λ g. relevant_there l g.grade) graded_are) (count_by (λ g. lower_there l g.grade) graded_are) l) grades
+      ∙ ap (λ r. Counted (map grade docs) r (count_by (λ g. lower_there l g.grade) graded_are) l) (relevant-same H names topic on_trail grade narrows l)
+      ∙ ap (λ n. Counted (map grade docs) (relevant_by H topic grade) n l) (lower-same H names topic on_trail grade narrows l)
+
 module _ (H : History) (names : List Text) (topic : TopicFacts) (is : IsTopicOf H names topic) (legal : IsLegal H) (on_trail : GradedAreOnTrail) (there : GradedAreThere) where
   pub cell-same : (run : Run) → are_named names (docs_on run.lists topic.id) ≡ true → cell_from topic.level topic.graded (list_on names topic.id run) ≡ cell_on H run topic.id
   cell-same run named =
       let id = topic.id in
-      let docs = list_on names id run in
-      let level_is : topic.level ≡ level H id = ap (λ (k : KeptTopic). k.level) is.kept_is in
-      let grades : ranked_there topic.graded docs ≡ grades_by_rank H run id =
-      ap (λ graded. ranked_there graded docs) is.labelled.graded_are ∙ grades-same H names id (trail H id) (docs_on run.lists id) is.labelled.trail_named (there H legal id) named in
-      let Counted : List (Option ℕ) → ℕ → ℕ → ℕ → Cell = cell_of in
-      ap (λ (gs : List (Option ℕ)). Counted gs (count_by (λ g. relevant_there topic.level g.grade) topic.graded) (count_by (λ g. lower_there topic.level g.grade) topic.graded) topic.level) grades
-      ∙ ap (λ r. Counted (grades_by_rank H run id) r (count_by (λ g. lower_there topic.level g.grade) topic.graded) topic.level) (relevant-count H names topic is on_trail)
-      ∙ ap (λ n. Counted (grades_by_rank H run id) (relevant_count H id) n topic.level) (non_relevant-count H names topic is on_trail)
-      ∙ ap (Counted (grades_by_rank H run id) (relevant_count H id) (non_relevant_count H id)) level_is
+      ap (λ (graded : List Graded). cell_from topic.level graded (list_on names id run)) is.labelled.graded_are
+      ∙ ap (λ l. cell_from l (graded_as names (effective H id) (trail H id)) (list_on names id run)) (ap (λ (k : KeptTopic). k.level) is.kept_is)
+      ∙ cell-numbered H names id (effective H id) (λ doc some. some) legal on_trail there run is.labelled.trail_named named
 
 -- each document with an effective grade is relevant or judged lower
 module _ (level : ℕ) (f : Text → Option ℕ) where

@@ -8,9 +8,9 @@ use Rattle.rulebook.specs.declared.entry.Entry.{Entry}
 use Rattle.rulebook.specs.Campaign.{History, line_count}
 use Rattle.campaign_core.specs.Growth.{lists_in}
 use Rattle.campaign_core.specs.Numbers.{names_of}
-use Rattle.campaign_core.specs.Submissions.{AreSubmissions}
+use Rattle.campaign_core.specs.Submissions.{AreSubmissions, live_numbers}
 use Rattle.campaign_core.proofs.Entries.BoardSteps.{stays-on}
-use Rattle.campaign_core.proofs.Entries.CommitCosts.{change-within, have-lists, live_numbers}
+use Rattle.campaign_core.proofs.Entries.CommitCosts.{change-within, have-lists}
 use Rattle.campaign_core.proofs.Entries.Commits.{Laws, carried-out, known-after, lines-fit}
 use Rattle.campaign_core.proofs.campaign.Campaign.commit.Goals as goal
 
@@ -33,11 +33,12 @@ returns-clause-known g c =
     let facts_are : facts c.commit.new.self ≡ after ready.change (facts s.assessment) =
     subst (λ (o : Option Change). IfSome o (λ change. facts c.commit.new.self ≡ after change (facts s.assessment))) ready.awaits.waits c.commit.ensures.facts in
     let submissions : AreSubmissions (H ++ e ∷ []) c.note_run.new.submissions.items =
-    subst (λ (H : History). AreSubmissions (H ++ e ∷ []) c.note_run.new.submissions.items) c.deref.ensures.value c.note_run.ensures in
+    subst (λ (H : History). AreSubmissions (H ++ e ∷ []) c.note_run.new.submissions.items) c.deref-3.ensures.value c.note_run.ensures in
+    let live = c.note_live.ensures ∙ ap (λ (H : History). live_numbers (H ++ e ∷ [])) c.deref.ensures.value in
     let lines : c.line_count.result ≡ line_count (lists_in e.core.command) = c.line_count.ensures ∙ ap line_count c.lists_of.ensures in
     known-after s _ e ready.change c.requires.known ready
     (carried-out laws s (names_of (H ++ e ∷ [])) e ready.change c.requires.known ready refl ready.carries_out)
-    c.push_reserved.ensures.items c.phase_after-self.ensures (ap (λ (n : ℕ). s.lines + n) lines) facts_are submissions
+    c.push_reserved.ensures.items c.phase_after-self.ensures (ap (λ (n : ℕ). s.lines + n) lines) facts_are submissions live
 
 pub line_count-requires : goal.line_count-requires
 line_count-requires g c = omega (arith, ap line_count c.lists_of.ensures, lines-fit c.args.self.now c.args.entry c.requires.known c.requires.ready)

@@ -19,6 +19,7 @@ returns-clause-known c =
       runs_fit = known.runs_fit;
       topics_first = known.topics_first;
       submissions_are = known.submissions_are;
+      live_are = known.live_are;
       runs_known = known.runs_known;
       lines_are = known.lines_are;
       assessed = subst (IsAssessmentOf H) (sym c.in_ok-with_lists.ensures.facts) (record { knows = assessed.knows; few = assessed.few; levels_are = assessed.levels_are; lists_are = assessed.lists_are });

@@ -1,4 +1,4 @@
-use Rattle.std.proofs.Common.{◌≡◌, ◌<◌, ◌∙◌, ℕ, List, [], None, Option, Some, IsSome, ap, arith, get_or, length, refl, rules, subst, sym, vec_len}
+use Rattle.std.proofs.Common.{◌≡◌, ◌<◌, ◌∙◌, ℕ, List, [], Option, Some, ap, arith, get_or, length, rules, subst, sym, vec_len}
 use Rattle.std.specs.Prelude.{slice_get}
 use Rattle.std.specs.Option.{option_map, option_map_or}
 use Rattle.rulebook.specs.declared.entry.Entry.{Entry}
@@ -6,16 +6,9 @@ use Rattle.rulebook.specs.Campaign.{Run, run_in, runs}
 use Rattle.campaign_core.specs.Seen.{Seen}
 use Rattle.campaign_core.specs.Tallies.{submitted_at}
 use Rattle.campaign_core.specs.declared.submissions.Submission.{Submission}
-use Rattle.campaign_core.proofs.Lists.Elements.{get-there, slice-there}
-use Rattle.campaign_core.proofs.Numbers.RunPlaces.{IsSubmission, entry-at, entry-within, no_run, runs-many}
+use Rattle.campaign_core.proofs.Lists.Elements.{get-there}
+use Rattle.campaign_core.proofs.Numbers.RunPlaces.{IsSubmission, entry-at, entry-within, no_run, runs-many, some-within}
 use Rattle.campaign_core.proofs.state.State.run_name.Goals as goal
-
-some-within : {X : Type 0} (xs : List X) (i : ℕ) → IsSome (slice_get xs i) → i < length xs
-some-within {X} xs i is = step (slice_get xs i) refl is
-  where
-    step : (o : Option X) → slice_get xs i ≡ o → IsSome o → i < length xs
-    step None e is = cc is
-    step (Some x) e is = (slice-there xs i x x e).0
 
 pub index-requires-2 : goal.index-requires-2
 index-requires-2 c =
