@@ -1,0 +1,68 @@
+-- Facts of lists.
+use Rattle.std.proofs.Common.{◌≡◌, ◌&&◌, ◌<◌, ◌≤◌, ◌++◌, ◌+◌, ◌∙◌, ℕ, zero, suc, Bool, true, false, List, [], ◌∷◌, Option, None, Some, ap, arith, get_or, length, map, refl, sym, take}
+use Rattle.std.specs.Prelude.{slice_get}
+use Rattle.std.specs.List.{cons_option, filter_map, list_all}
+use Rattle.std.specs.Option.{option_map}
+use Rattle.std.proofs.lemmas.List.{take_more}
+use Rattle.std.proofs.lemmas.List.Elements.{filter_map-append}
+
+-- what is told of a value that is there
+pub told : {X Y : Type 0} (o : Option X) (x : X) (f : X → Y) (y : Y) → o ≡ Some x → option_map f o ≡ Some y → f x ≡ y
+told {X} {Y} o x f y there is =
+    let both : ◌≡◌ {A = Option Y} (Some (f x)) (Some y) = sym (ap (option_map f) there) ∙ is in
+    let same : f x ≡ y = cc both in same
+
+pub get-there : {X : Type 0} (xs : List X) (i : ℕ) (d : X) → i < length xs → slice_get xs i ≡ Some (get_or xs i d)
+get-there [] i d within = absurd (omega (arith, within))
+get-there (x ∷ xs) zero d within = refl
+get-there (x ∷ xs) (suc i) d within = get-there xs i d (omega (arith, within))
+
+pub slice-there : {X : Type 0} (xs : List X) (i : ℕ) (d x : X) → slice_get xs i ≡ Some x → (i < length xs) × (get_or xs i d ≡ x)
+slice-there [] i d x is = cc is
+slice-there (y ∷ xs) zero d x is = (omega arith, (let same : y ≡ x = cc is in same))
+slice-there (y ∷ xs) (suc i) d x is = let rest = slice-there xs i d x is in (omega (arith, rest.0), rest.1)
+
+pub both_true : (s t : Bool) → s && t ≡ true → (s ≡ true) × (t ≡ true)
+both_true true true e = (refl, refl)
+both_true true false e = cc e
+both_true false t e = cc e
+
+-- what holds of all holds of each
+pub all-at : {X : Type 0} (p : X → Bool) (xs : List X) (i : ℕ) (d : X) → i < length xs → list_all p xs ≡ true → p (get_or xs i d) ≡ true
+all-at p [] i d within all = absurd (omega (arith, within))
+all-at p (x ∷ xs) zero d within all = (both_true (p x) (list_all p xs) all).0
+all-at p (x ∷ xs) (suc i) d within all = all-at p xs i d (omega (arith, within)) (both_true (p x) (list_all p xs) all).1
+
+-- one more that passes
+pub all-push : {X : Type 0} (p : X → Bool) (xs : List X) (x : X) → list_all p xs ≡ true → p x ≡ true → list_all p (xs ++ x ∷ []) ≡ true
+all-push p [] x all here = ap (λ t. t && true) here
+all-push p (y ∷ ys) x all here =
+    let parts = both_true (p y) (list_all p ys) all in
+    ap (λ t. t && list_all p (ys ++ x ∷ [])) parts.0 ∙ all-push p ys x parts.1 here
+
+-- values that are all there, by a number each
+module _ {X : Type 0} (f : ℕ → Option X) where
+  pub there-long : (ns : List ℕ) (xs : List X) → map f ns ≡ map Some xs → length ns ≡ length xs
+  there-long [] [] same = refl
+  there-long [] (x ∷ xs) same = cc same
+  there-long (n ∷ ns) [] same = cc same
+  there-long (n ∷ ns) (x ∷ xs) same = ap suc (there-long ns xs (let tail : map f ns ≡ map Some xs = cc same in tail))
+
+  pub there-at : (ns : List ℕ) (xs : List X) (i n : ℕ) (d : X) → map f ns ≡ map Some xs → i < length ns → f (get_or ns i n) ≡ Some (get_or xs i d)
+  there-at [] xs i n d same within = absurd (omega (arith, within))
+  there-at (m ∷ ns) [] i n d same within = cc same
+  there-at (m ∷ ns) (x ∷ xs) zero n d same within = let head : f m ≡ Some x = cc same in head
+  there-at (m ∷ ns) (x ∷ xs) (suc i) n d same within = there-at ns xs i n d (let tail : map f ns ≡ map Some xs = cc same in tail) (omega (arith, within))
+
+module _ {X Y : Type 0} (f : X → Option Y) where
+  -- one more element
+  pub filter_map-more : (xs : List X) (i : ℕ) (d : X) → i < length xs → filter_map f (take (i + 1) xs) ≡ filter_map f (take i xs) ++ cons_option (f (get_or xs i d)) []
+  filter_map-more xs i d within = ap (filter_map f) (take_more xs i d within) ∙ filter_map-append f (take i xs) (get_or xs i d ∷ [])
+
+  pub length-filter_map : (xs : List X) → length (filter_map f xs) ≤ length xs
+  length-filter_map [] = omega arith
+  length-filter_map (x ∷ xs) = step (f x) (length-filter_map xs)
+    where
+      step : (o : Option Y) → length (filter_map f xs) ≤ length xs → length (cons_option o (filter_map f xs)) ≤ suc (length xs)
+      step None rest = omega (arith, rest)
+      step (Some y) rest = omega (arith, rest)

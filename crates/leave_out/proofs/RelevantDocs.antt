@@ -1,0 +1,109 @@
+-- The documents of a ranked list that pass by what is left of their grades are no more than those of its topic that pass.
+use Rattle.std.proofs.Common.{◌≡◌, ◌&&◌, ◌||◌, ◌≤◌, ◌+◌, ◌∙◌, ℕ, Bool, true, false, cond, not, List, [], ◌∷◌, None, Option, Some, ap, arith, filter, is_some, length, map, refl, sym, ◌<◌, get_or}
+use Rattle.std.specs.Prelude.{count_by, if◌then◌else◌}
+use Rattle.std.specs.Option.{option_map}
+use Rattle.std.specs.List.{AllByRecursion, IsDistinct}
+use Rattle.std.specs.Str.{bytes_eq}
+use Rattle.std.proofs.lemmas.Cmp.{nat_list_eq_equiv}
+use Rattle.std.proofs.lemmas.List.Sums.{length-filter}
+use Rattle.std.proofs.lemmas.Map.Keys.{IsDistinct-cons}
+use Rattle.std.proofs.lemmas.Map.Made.{length-le_from_is_member}
+use Rattle.decimal_rank.specs.Relevance.{is_non_relevant, is_relevant}
+use Rattle.depth_pool.specs.declared.runs.RunId.{RunId}
+use Rattle.rulebook.specs.Campaign.{History, Run, docs_on, level}
+use Rattle.rulebook.specs.Entries.{GradedAreOnTrail, GradedAreThere}
+use Rattle.rulebook.specs.Grades.{effective, graded, labelled}
+use Rattle.rulebook.specs.Legal.{IsLegal}
+use Rattle.rulebook.specs.Spelling.{differ}
+use Rattle.rulebook.specs.Words.{Text, contains_text}
+use Rattle.campaign_core.specs.LentTopics.{topic_at}
+use Rattle.campaign_core.specs.Topics.{topic_ids}
+use Rattle.leave_out.specs.Lefts.{IsLive, left_in}
+use Rattle.leave_out.specs.Reuse.{own, reduced}
+use Rattle.leave_out.specs.declared.lefts.Left.{Left}
+use Rattle.leave_out.proofs.Elements.{both_true, get-there, told}
+use Rattle.leave_out.proofs.LeftDocs.{count-cons}
+use Rattle.leave_out.proofs.OwnDocs.{any-filter}
+
+-- Texts of which none stands twice.
+
+neither : (s t : Bool) → (s || t) ≡ false → (s ≡ false) × (t ≡ false)
+neither true t none = cc none
+neither false t none = (refl, none)
+
+apart : (text : Text) (texts : List Text) → contains_text texts text ≡ false → AllByRecursion (λ other. bytes_eq text other ≡ false) texts
+apart text [] none = tt
+apart text (other ∷ texts) none = let parts = neither (bytes_eq text other) (contains_text texts text) none in (parts.0, apart text texts parts.1)
+
+untrue : (t : Bool) → not t ≡ true → t ≡ false
+untrue true e = cc e
+untrue false e = refl
+
+module _ (q : Text → Bool) where
+  distinct-passing : (texts : List Text) → differ texts ≡ true → IsDistinct bytes_eq (filter q texts)
+  unfolding IsDistinct
+  distinct-passing [] once = tt
+  distinct-passing (text ∷ texts) once =
+      let parts = both_true (not (contains_text texts text)) (differ texts) once in
+      let none = any-filter q text texts ∙ ap (λ t. t && q text) (untrue (contains_text texts text) parts.0) in
+      step (q text) (apart text (filter q texts) none) (distinct-passing texts parts.1)
+    where
+      step : (t : Bool) → AllByRecursion (λ other. bytes_eq text other ≡ false) (filter q texts) → IsDistinct bytes_eq (filter q texts)
+          → IsDistinct bytes_eq (cond t (text ∷ filter q texts) (filter q texts))
+      step true none rest = IsDistinct-cons bytes_eq text (filter q texts) none rest
+      step false none rest = rest
+
+  -- of texts that differ no more pass than of those that have each of them that passes
+  no-more : (texts others : List Text) → differ texts ≡ true → ((text : Text) → q text ≡ true → contains_text others text ≡ true)
+      → count_by q texts ≤ count_by q others
+  no-more texts others once among =
+      let fewer = length-le_from_is_member nat_list_eq_equiv (filter q texts) (filter q others) (distinct-passing texts once)
+      (λ text there.
+      let passes = (both_true (contains_text texts text) (q text) (sym (any-filter q text texts) ∙ there)).1 in
+      any-filter q text others ∙ ap (λ t. t && q text) (among text passes) ∙ passes) in
+      omega (arith, fewer, length-filter q texts, length-filter q others)
+
+count-map : {X Y : Type 0} (p : Y → Bool) (f : X → Y) (xs : List X) → count_by p (map f xs) ≡ count_by (λ x. p (f x)) xs
+count-map p f [] = refl
+count-map p f (x ∷ xs) = count-cons p (f x) (map f xs) ∙ ap (λ n. cond (p (f x)) 1 0 + n) (count-map p f xs) ∙ sym (count-cons (λ x. p (f x)) x xs)
+
+module _ (H : History) (there : GradedAreThere) (on : GradedAreOnTrail) (legal : IsLegal H) where
+  -- what has a grade has a label
+  graded-labelled : (topic doc : Text) → is_some (effective H topic doc) ≡ true → contains_text (labelled H topic) doc ≡ true
+  graded-labelled topic doc some =
+      let is_graded : contains_text (graded H topic) doc ≡ true =
+      on H topic doc ∙ ap (λ t. t && is_some (effective H topic doc)) (there H legal topic doc some) ∙ some in
+      (both_true (contains_text (labelled H topic) doc) (is_some (effective H topic doc))
+      (sym (any-filter (λ doc. is_some (effective H topic doc)) doc (labelled H topic)) ∙ is_graded)).0
+
+  -- of a list that names no document twice
+  list-few : (group topic : Text) (p : Option ℕ → Bool) → p None ≡ false → (docs : List Text) → differ docs ≡ true
+      → count_by p (map (reduced H group topic) docs) ≤ count_by (λ doc. p (reduced H group topic doc)) (labelled H topic)
+  list-few group topic p none docs once =
+      let few = no-more (λ doc. p (reduced H group topic doc)) docs (labelled H topic) once
+      (λ doc passes. graded-labelled topic doc (has (contains_text (own H group topic) doc) (effective H topic doc) passes)) in
+      omega (arith, few, count-map p (reduced H group topic) docs)
+    where
+      has : (t : Bool) (o : Option ℕ) → p (if t then None else o) ≡ true → is_some o ≡ true
+      has true o passes = cc (sym none ∙ passes)
+      has false None passes = cc (sym none ∙ passes)
+      has false (Some grade) passes = refl
+
+  -- the relevant ones and those with a lower grade of a live run's list are among those that are left
+  pub list-within : (n : ℕ) (group : Text) (number : RunId) (left : Left) (grades : List (Option ℕ)) (bound : ℕ) → n < length (topic_ids H)
+      → (one : ℕ × Run) × IsLive H number one
+      → ((id : Text) → topic_at H n ≡ Some id → left ≡ left_in H group id (labelled H id))
+      → ((id : Text) (one : ℕ × Run) → topic_at H n ≡ Some id → IsLive H number one → grades ≡ map (reduced H group id) (docs_on one.1.lists id))
+      → option_map (level H) (topic_at H n) ≡ Some bound
+      → (count_by (is_relevant bound) grades ≤ left.relevant) × (count_by (is_non_relevant bound) grades ≤ left.lower)
+  list-within n group number left grades bound inside live left_is grades_are level_is =
+      let id : Text = get_or (topic_ids H) n [] in
+      let at : topic_at H n ≡ Some id = get-there (topic_ids H) n [] inside in
+      let docs = docs_on live.0.1.lists id in
+      let is : grades ≡ map (reduced H group id) docs = grades_are id live.0 at live.1 in
+      let bound_is : level H id ≡ bound = told (topic_at H n) id (level H) bound at level_is in
+      let relevant = ap (λ l. count_by (is_relevant l) grades) (sym bound_is) ∙ ap (count_by (is_relevant (level H id))) is in
+      let lower = ap (λ l. count_by (is_non_relevant l) grades) (sym bound_is) ∙ ap (count_by (is_non_relevant (level H id))) is in (
+        omega (arith, relevant, list-few group id (is_relevant (level H id)) refl docs (live.1.once id), ap (λ (l : Left). l.relevant) (left_is id at)),
+        omega (arith, lower, list-few group id (is_non_relevant (level H id)) refl docs (live.1.once id), ap (λ (l : Left). l.lower) (left_is id at)),
+      )

@@ -1,0 +1,13 @@
+-- The rows are those of the runs so far, and their means are at most 1.
+use Rattle.std.proofs.Common.{◌≡◌, map, take}
+use Rattle.std.specs.Prelude.{IsTrue}
+use Rattle.std.specs.List.{list_all}
+use Rattle.rulebook.specs.Campaign.{numbered}
+use Rattle.leave_out.specs.Reuse.{are_means, reused}
+use Rattle.leave_out.proofs.reusability.reuse.Given as goal
+
+abbrev pub invariant-loop-place : goal.invariant-loop-place
+invariant-loop-place l = record {
+  rows : l.rows.items ≡ map (reused l.state.history) (take l.place (numbered l.state.history));
+  means : IsTrue (list_all are_means l.rows.items);
+}

@@ -1,0 +1,5 @@
+pub mod Agreement
+pub mod Lefts
+pub mod Pairs
+pub mod Reuse
+pub mod TopicOrder

@@ -1,0 +1,58 @@
+-- The scores of runs without the judgements that their own groups alone brought in. H is a campaign's list of accepted entries.
+use Rattle.std.specs.Prelude.{◌≡◌, ℕ, ◌&&◌, Bool, true, [], List, None, Option, count_by, filter, if◌then◌else◌, map, sum_by}
+use Rattle.std.specs.List.{list_all}
+use Rattle.std.specs.Str.{bytes_eq}
+use Rattle.rulebook.specs.Words.{Text, contains_text}
+use Rattle.rulebook.specs.Campaign.{History, Run, numbered, pool, topics}
+use Rattle.rulebook.specs.Grades.{effective, graded}
+use Rattle.campaign_core.specs.Gradings.{summary_by}
+use Rattle.campaign_core.specs.Groups.{group_of}
+use Rattle.rulebook.specs.Holders.{holders}
+use Rattle.rulebook.specs.Scores.{summary_on}
+use Rattle.rulebook.specs.Systems.{is_mean}
+use Rattle.leave_out.specs.declared.reusability.Reused.{Reused}
+
+-- the documents of a topic's pool that runs of a group alone hold
+abbrev pub own : History → Text → Text → List Text
+own H group topic = filter (λ doc. list_all (λ run. bytes_eq (group_of H run.0) group) (holders H topic doc)) (pool H topic)
+
+-- the effective grades of a topic but for those of a group's own documents
+abbrev pub reduced : History → Text → Text → Text → Option ℕ
+reduced H group topic doc = if contains_text (own H group topic) doc then None else effective H topic doc
+
+-- the ids of the topics
+abbrev pub ids : History → List Text
+ids H = map (λ t. t.id) (topics H)
+
+-- how many documents with an effective grade are a group's own, over all topics
+abbrev pub unique_count : History → Text → ℕ
+unique_count H group = sum_by (λ topic. count_by (contains_text (own H group topic)) (graded H topic)) (ids H)
+
+-- the mean average precision of a run by the grades that are left without a group's own documents
+abbrev pub reduced_map : History → Text → Run → ℕ
+reduced_map H group run = (summary_by H run (reduced H group)).map
+
+-- a numbered run, without what its own group alone brought in
+abbrev pub reused : History → ℕ × Run → Reused
+reused H run = record {
+  run = run.1.name;
+  unique = unique_count H (group_of H run.0);
+  full = (summary_on H run.1).map;
+  reduced = reduced_map H (group_of H run.0) run.1;
+}
+
+-- the live runs, by submission
+abbrev pub reuse : History → List Reused
+reuse H = map (reused H) (numbered H)
+
+-- both means of a run are at most 1
+abbrev pub are_means : Reused → Bool
+are_means row = is_mean row.full && is_mean row.reduced
+
+-- a group brought no document in alone
+abbrev pub OwnsNothing : History → Text → Type 0
+OwnsNothing H group = (topic : Text) → contains_text (ids H) topic ≡ true → own H group topic ≡ []
+
+-- Where a group owns nothing, a run's reduced mean is its mean by all grades.
+abbrev pub ReducedIsFull : Type 0
+ReducedIsFull = (H : History) (group : Text) (run : Run) → OwnsNothing H group → reduced_map H group run ≡ (summary_on H run).map

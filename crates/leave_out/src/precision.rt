@@ -1,0 +1,143 @@
+//! The average precision of a run on a topic without the grades of a group's own documents.
+ghost use Rattle.std.specs.Prelude.{◌≡◌, ◌<◌, ◌≤◌, ◌^◌, ℕ, IfOk, IsTrue, List, Some, count_by, length, map, slice_get, unwrap_or};
+ghost use Rattle.decimal_rank.specs.Relevance.{is_non_relevant, is_relevant};
+ghost use Rattle.measures.specs.Cells.{cell_of};
+ghost use Rattle.measures.specs.Means.{value_of};
+ghost use Rattle.measures.specs.declared.means.Measure.TheVariants.{Map};
+ghost use Rattle.rulebook.specs.Campaign.{Run, docs_on};
+ghost use Rattle.rulebook.specs.Grades.{labelled};
+ghost use Rattle.rulebook.specs.Words.{Text as Words};
+ghost use Rattle.campaign_core.specs.LentTopics.{topic_at};
+ghost use Rattle.campaign_core.specs.Numbers.{are_named, docs_in, names_of};
+ghost use Rattle.campaign_core.specs.Topics.{topic_ids};
+ghost use Rattle.leave_out.specs.Lefts.{AreFew, IsLive, is_counted, left_in, value_on};
+ghost use Rattle.leave_out.specs.Reuse.{reduced};
+
+use crate::lefts::Left;
+use crate::own_docs::left_grade;
+use campaign_core::State;
+use decimal_rank::{DocId, Memory, Ranking, Steps};
+use depth_pool::RunId;
+use measures::scratch;
+use rulebook::{graded_are_on_trail, graded_are_there};
+use std::alloc::Global;
+use std::marker::Brand;
+use std::sync::ledger::{Blank, Ledger};
+
+/// The average precision of a run on a topic of which so much is left: None where no document with a grade is.
+pub(crate) fn value_on(
+    alloc: Global,
+    state: &State,
+    topic: u16,
+    group: &[u8],
+    run: RunId,
+    left: Left,
+) -> Result<Option<u64>, Memory>
+    requires topic { topic < length (topic_ids state.now.history) }
+    requires live { (one : ℕ × Run) × IsLive state.now.history run one }
+    requires left { let H = state.now.history in (id : Words) → topic_at H topic ≡ Some id
+        → left ≡ left_in H group.now id (labelled H id) }
+    requires few { AreFew left }
+    ensures value { let H = state.now.history in (id : Words) (one : ℕ × Run)
+        → topic_at H topic ≡ Some id → IsLive H run one
+        → IfOk result (λ value. value ≡ value_on H group.now one.1 id) }
+    ensures mean { IfOk result (λ value. unwrap_or value 0 ≤ 10 ^ 15) }
+{
+    if !is_counted(left) {
+        return Ok(None);
+    }
+    // a document that is listed once and has a grade is among those with a label
+    graded_are_there();
+    graded_are_on_trail();
+    let _entries = state.entries();
+    let grades = left_grades(alloc, state, topic, group, run)?;
+    let value = average_precision(&grades, left, state.level(topic));
+    Ok(Some(value))
+}
+
+/// Whether a document with a grade is left.
+fn is_counted(left: Left) -> bool
+    ensures { result ≡ is_counted left }
+{
+    left.relevant > 0 || left.lower > 0
+}
+
+/// The grades of a run's ranked list on a topic without those of a group's own documents, by rank.
+fn left_grades(
+    alloc: Global,
+    state: &State,
+    topic: u16,
+    group: &[u8],
+    run: RunId,
+) -> Result<Vec<Option<u8>>, Memory>
+    requires { topic < length (topic_ids state.now.history) }
+    ensures grades { let H = state.now.history in (id : Words) (one : ℕ × Run)
+        → topic_at H topic ≡ Some id → IsLive H run one
+        → IfOk result (λ grades. grades.items ≡ map (reduced H group.now id) (docs_on one.1.lists id)) }
+    ensures few { IfOk result (λ grades. length grades.items ≤ 1000) }
+{
+    match state.ranking(run, topic) {
+        Some(ranking) => listed_grades(alloc, state, topic, group, ranking),
+        None => Ok(Vec::new(alloc)),
+    }
+}
+
+/// The same of a list.
+fn listed_grades(
+    alloc: Global,
+    state: &State,
+    topic: u16,
+    group: &[u8],
+    ranking: &Ranking,
+) -> Result<Vec<Option<u8>>, Memory>
+    requires { topic < length (topic_ids state.now.history) }
+    ensures grades { let H = state.now.history in (id : Words) (docs : List Words)
+        → topic_at H topic ≡ Some id → IsTrue (are_named (names_of H) docs) → ranking.now ≡ docs_in (names_of H) docs
+        → IfOk result (λ grades. grades.items ≡ map (reduced H group.now id) docs) }
+    ensures few { IfOk result (λ grades. length grades.items ≤ 1000) }
+{
+    let len = ranking.len();
+    let mut grades = Vec::new(alloc);
+    for place in 0..len {
+        let doc = doc_at(ranking, place);
+        grades.push(left_grade(state, topic, group, doc))?;
+    }
+    Ok(grades)
+}
+
+/// The document at a place of a list, from 0.
+fn doc_at(ranking: &Ranking, place: u32) -> DocId
+    requires { place < length ranking.now }
+    ensures { slice_get ranking.now place ≡ Some result }
+{
+    counted_doc_at::<Brand>(ranking, place, Blank::new(1))
+}
+
+fn counted_doc_at<L: Ledger>(ranking: &Ranking, place: u32, blank: Blank) -> DocId
+    requires name { blank.name ≡ L.name }
+    requires parts { blank.parts ≡ L.parts }
+    requires some { 0 < L.parts }
+    requires within { place < length ranking.now }
+    ensures { slice_get ranking.now place ≡ Some result }
+{
+    let _len = ranking.len();
+    let mut steps: Steps<L> = Steps::new(blank);
+    ranking.doc_at(place + 1, &mut steps)
+}
+
+/// The average precision of a ranked list from its grades by rank, in units of 10^-15, on a topic of which so much is left.
+#[tactic(auto, unfolding(measures::specs::Cells::cell_of))]
+fn average_precision(grades: &[Option<u8>], left: Left, level: u8) -> u64
+    requires short { length grades.now ≤ 1000 }
+    requires relevant { count_by (is_relevant level) grades.now ≤ left.relevant }
+    requires lower { count_by (is_non_relevant level) grades.now ≤ left.lower }
+    requires few { AreFew left }
+    ensures value { result ≡ value_of Map (cell_of grades.now left.relevant left.lower level) }
+    ensures mean { result ≤ 10 ^ 15 }
+{
+    if left.relevant == 0 {
+        return 0;
+    }
+    let cell = scratch(grades, left.relevant as u32, left.lower as u32, level);
+    cell.ap_sum / left.relevant as u64
+}
