@@ -1,6 +1,7 @@
 -- What a journal keeps, said of a book's entries.
-use Rattle.std.proofs.Common.{◌≡◌, ◌≢◌, inl, inr, ⊎_elim, ℕ, List, [], ◌∷◌, ◌++◌, Option, None, Some, Bool, true, false, refl, sym, ap, subst, ◌∙◌}
+use Rattle.std.proofs.Common.{◌≡◌, ◌≢◌, inl, inr, ⊎_elim, ℕ, ◌+◌, List, [], ◌∷◌, ◌++◌, Option, None, Some, Bool, true, false, length, refl, sym, ap, subst, ◌∙◌, arith}
 use Rattle.std.proofs.lemmas.List.{append-nil, map-append}
+use Rattle.std.proofs.lemmas.List.Sums.{sum_by_push}
 use Rattle.disk_model.specs.Disks.{DiskState, EachMoment, OnlyNow}
 use Rattle.journal.specs.declared.dues.Due.{Due}
 use Rattle.journal.specs.declared.dues.Due.TheVariants.{Nothing, Cut, Gate}
@@ -10,27 +11,45 @@ use Rattle.journal.specs.Kept.{Keeps, KeepsSome, Settled, StandsFor as JournalSt
 use Rattle.journal.specs.Moments.{joined, started, weaker}
 use Rattle.rulebook.specs.declared.entry.Entry.{Entry}
 use Rattle.rulebook.specs.Campaign.{History}
+use Rattle.rulebook.specs.Legal.{IsAccepted, IsLegal}
 use Rattle.rulebook.specs.Spelling.{entry_bytes}
+use Rattle.rulebook.specs.Words.{Text}
 use Rattle.book.specs.Images.{Holds, HoldsOneOf, HoldsWith, StandsFor}
-use Rattle.book.specs.Journaling.{KeepsBook, spelled}
-use Rattle.book.specs.Stories.{spellings}
+use Rattle.book.specs.Journaling.{IsWithin, KeepsBook, spelled}
+use Rattle.book.specs.Stories.{IsStory, spellings}
+use Rattle.book.proofs.Histories.{legal_push}
+use Rattle.book.proofs.Unfolding.{story_push}
 
-pub spellings_push : (H : History) (e : Entry) → spellings (H ++ e ∷ []) ≡ spellings H ++ entry_bytes e.core ∷ []
+spellings_push : (H : History) (e : Entry) → spellings (H ++ e ∷ []) ≡ spellings H ++ entry_bytes e.core ∷ []
 spellings_push H e = map-append (λ (e : Entry). entry_bytes e.core) H (e ∷ [])
 
--- an image of the records, with some of what is pending
-pub holds_with : (H : History) (pending : Option Entry) (image : List ℕ) → JournalStandsFor (spellings H) (spelled pending) image → HoldsWith H pending image
-holds_with H None image (inl is) = is
-holds_with H None image (inr is) = is ∙ ap Some (append-nil (spellings H))
-holds_with H (Some e) image (inl is) = inl is
-holds_with H (Some e) image (inr is) = inr (is ∙ ap Some (sym (spellings_push H e)))
+place_push : (H : History) (e : Entry) → place_behind (spellings (H ++ e ∷ [])) ≡ place_behind (spellings H) + (length (entry_bytes e.core) + 5)
+place_push H e =
+    let longer : place_behind (spellings (H ++ e ∷ [])) ≡ place_behind (spellings H ++ entry_bytes e.core ∷ []) = ap (λ (all : List Text). place_behind all) (spellings_push H e) in
+    let sums = sum_by_push (λ (payload : Text). length payload + 5) (spellings H) (entry_bytes e.core) in
+    omega (arith, longer, sums)
+
+-- one record more
+pub within_push : (place after : ℕ) (H : History) (e : Entry) → after ≡ place + 5 + length (entry_bytes e.core) → IsWithin place H → IsWithin after (H ++ e ∷ [])
+within_push place after H e is within = omega (arith, within, is, place_push H e)
 
 pub holds_alone : (H : History) (pending : Option Entry) (image : List ℕ) → Holds H image → HoldsWith H pending image
 holds_alone H None image is = is
 holds_alone H (Some e) image is = inl is
 
-pub holds_none : (H : History) (pending : Option Entry) (image : List ℕ) → JournalStandsFor (spellings H) [] image → HoldsWith H pending image
-holds_none H pending image stands = holds_alone H pending image (holds_with H None image stands)
+holds_none : (payloads : List Text) (H : History) (pending : Option Entry) (image : List ℕ) → IsStory payloads H → JournalStandsFor payloads [] image → HoldsWith H pending image
+holds_none payloads H pending image story (inl is) = holds_alone H pending image (payloads, is, story)
+holds_none payloads H pending image story (inr is) = holds_alone H pending image (payloads, is ∙ ap Some (append-nil payloads), story)
+
+-- an image of the records, with some of what is pending
+holds_with : (payloads : List Text) (H : History) (pending : Option Entry) (image : List ℕ) → IsLegal H → ((e : Entry) → pending ≡ Some e → IsAccepted H e) → IsStory payloads H
+    → JournalStandsFor payloads (spelled pending) image → HoldsWith H pending image
+holds_with payloads H None image legal accepted story stands = holds_none payloads H None image story stands
+holds_with payloads H (Some e) image legal accepted story (inl is) = inl (payloads, is, story)
+holds_with payloads H (Some e) image legal accepted story (inr is) = inr (payloads ++ entry_bytes e.core ∷ [], is, story_push payloads H e legal (accepted e refl) story)
+
+none_accepted : (H : History) (e : Entry) → None ≡ Some e → IsAccepted H e
+none_accepted H e is = absurd (cc is)
 
 pub keeps_settled : (images : List ℕ → Type 0) (place : ℕ) (due : Due) (all : List (List ℕ)) → due ≡ Nothing → Settled images place all → Keeps images place due all []
 keeps_settled images place due all is settled = subst (λ (d : Due). Keeps images place d all []) (sym is) (settled, refl)
@@ -46,24 +65,39 @@ nothing_due Nothing is_due tells not_due = refl
 nothing_due Cut is_due tells not_due = let wrong : false ≡ true = sym not_due ∙ tells (λ is. cc) in cc
 nothing_due Gate is_due tells not_due = let wrong : false ≡ true = sym not_due ∙ tells (λ is. cc) in cc
 
-pub settled_keeps : {D : Type 0} (seen : D → DiskState) (journal : JournalState D) (H : History) (pending : Option Entry) → journal.due ≡ Nothing → Settled (seen journal.disk).images journal.place (spellings H) → KeepsBook seen journal H pending
-settled_keeps seen journal H pending is settled = inl (keeps_settled (seen journal.disk).images journal.place journal.due (spellings H) is settled)
+pub settled_keeps : {D : Type 0} (seen : D → DiskState) (journal : JournalState D) (payloads : List Text) (H : History) → IsLegal H → IsStory payloads H → journal.due ≡ Nothing
+    → Settled (seen journal.disk).images journal.place payloads → KeepsBook seen journal H None
+settled_keeps seen journal payloads H legal story is settled = record {
+  legal = legal;
+  accepted = none_accepted H;
+  payloads = payloads;
+  story = story;
+  keeps = inl (keeps_settled (seen journal.disk).images journal.place journal.due payloads is settled);
+}
 
 -- What is known of whatever a journal keeps is known of the book's entries.
 module _ {D : Type 0} (seen : D → DiskState) (old : JournalState D) (H : History) (pending : Option Entry) (keeps : KeepsBook seen old H pending) where
+  abbrev kept : List Text
+  kept = keeps.payloads
+
+  held : (image : List ℕ) → JournalStandsFor kept (spelled pending) image → HoldsWith H pending image
+  held image = holds_with kept H pending image keeps.legal keeps.accepted keeps.story
+
   pub book_holds : ((all more : List (List ℕ)) → KeepsRecords seen old all more → (image : List ℕ) → (seen old.disk).images image → JournalStandsFor all more image) → StandsFor (seen old.disk).images H pending
   book_holds stands image here =
-      ⊎_elim (λ (none : KeepsRecords seen old (spellings H) []). holds_none H pending image (stands (spellings H) [] none image here))
-      (λ (some : KeepsRecords seen old (spellings H) (spelled pending)). holds_with H pending image (stands (spellings H) (spelled pending) some image here)) keeps
-
-  pub book_place : ((all more : List (List ℕ)) → KeepsRecords seen old all more → old.place ≡ place_behind all) → old.place ≡ place_behind (spellings H)
-  book_place total = ⊎_elim (λ (none : KeepsRecords seen old (spellings H) []). total (spellings H) [] none) (λ (some : KeepsRecords seen old (spellings H) (spelled pending)). total (spellings H) (spelled pending) some) keeps
+      ⊎_elim (λ (none : KeepsRecords seen old kept []). holds_none kept H pending image keeps.story (stands kept [] none image here))
+      (λ (some : KeepsRecords seen old kept (spelled pending)). held image (stands kept (spelled pending) some image here)) keeps.keeps
 
   -- nothing is due
   pub still_keeps : old.due ≡ Nothing → KeepsBook seen old H None
-  still_keeps is =
-      ⊎_elim (λ (none : KeepsRecords seen old (spellings H) []). inl none)
-      (λ (some : KeepsRecords seen old (spellings H) (spelled pending)). inl (keeps_nothing (seen old.disk).images old.place old.due (spellings H) (spelled pending) is some)) keeps
+  still_keeps is = record {
+    legal = keeps.legal;
+    accepted = none_accepted H;
+    payloads = kept;
+    story = keeps.story;
+    keeps = ⊎_elim (λ (none : KeepsRecords seen old kept []). inl none)
+        (λ (some : KeepsRecords seen old kept (spelled pending)). inl (keeps_nothing (seen old.disk).images old.place old.due kept (spelled pending) is some)) keeps.keeps;
+  }
 
   pub still_moments : StandsFor (seen old.disk).images H pending → OnlyNow (seen old.disk) → EachMoment seen old.disk old.disk (HoldsWith H pending)
   still_moments stands only_now = started seen old.disk (HoldsWith H pending) (λ image left. stands image (only_now image left))
@@ -71,44 +105,61 @@ module _ {D : Type 0} (seen : D → DiskState) (old : JournalState D) (H : Histo
   module _ (new : JournalState D) where
     -- a mend, done or failed
     pub mend_keeps : ((all more : List (List ℕ)) → KeepsRecords seen old all more → KeepsSome (seen new.disk).images new.place new.due all more) → KeepsBook seen new H pending
-    mend_keeps kept =
-        ⊎_elim (λ (none : KeepsRecords seen old (spellings H) []).
-        ⊎_elim (λ (a : KeepsRecords seen new (spellings H) []). let k : KeepsBook seen new H pending = inl a in k) (λ (a : KeepsRecords seen new (spellings H) []). let k : KeepsBook seen new H pending = inl a in k) (kept (spellings H) [] none))
-        (λ (some : KeepsRecords seen old (spellings H) (spelled pending)). kept (spellings H) (spelled pending) some) keeps
+    mend_keeps still = record {
+      legal = keeps.legal;
+      accepted = keeps.accepted;
+      payloads = kept;
+      story = keeps.story;
+      keeps = ⊎_elim (λ (none : KeepsRecords seen old kept []).
+          ⊎_elim (λ (a : KeepsRecords seen new kept []). inl a) (λ (a : KeepsRecords seen new kept []). inl a) (still kept [] none))
+          (λ (some : KeepsRecords seen old kept (spelled pending)). still kept (spelled pending) some) keeps.keeps;
+    }
 
     pub mend_done : ((all more : List (List ℕ)) → KeepsRecords seen old all more → Settled (seen new.disk).images new.place all) → new.due ≡ Nothing → KeepsBook seen new H None
     mend_done mended is =
-        settled_keeps seen new H None is
-        (⊎_elim (λ (none : KeepsRecords seen old (spellings H) []). mended (spellings H) [] none) (λ (some : KeepsRecords seen old (spellings H) (spelled pending)). mended (spellings H) (spelled pending) some) keeps)
+        settled_keeps seen new kept H keeps.legal keeps.story is
+        (⊎_elim (λ (none : KeepsRecords seen old kept []). mended kept [] none) (λ (some : KeepsRecords seen old kept (spelled pending)). mended kept (spelled pending) some) keeps.keeps)
 
     pub mend_moments : ((all more : List (List ℕ)) → KeepsRecords seen old all more → EachMoment seen old.disk new.disk (JournalStandsFor all more)) → EachMoment seen old.disk new.disk (HoldsWith H pending)
     mend_moments run =
-        ⊎_elim (λ (none : KeepsRecords seen old (spellings H) []). weaker seen old.disk new.disk (JournalStandsFor (spellings H) []) (HoldsWith H pending) (holds_none H pending) (run (spellings H) [] none))
-        (λ (some : KeepsRecords seen old (spellings H) (spelled pending)). weaker seen old.disk new.disk (JournalStandsFor (spellings H) (spelled pending)) (HoldsWith H pending) (holds_with H pending) (run (spellings H) (spelled pending) some)) keeps
+        ⊎_elim (λ (none : KeepsRecords seen old kept []). weaker seen old.disk new.disk (JournalStandsFor kept []) (HoldsWith H pending) (λ image. holds_none kept H pending image keeps.story) (run kept [] none))
+        (λ (some : KeepsRecords seen old kept (spelled pending)). weaker seen old.disk new.disk (JournalStandsFor kept (spelled pending)) (HoldsWith H pending) held (run kept (spelled pending) some)) keeps.keeps
 
--- an append where nothing is pending
-module _ {D : Type 0} (seen : D → DiskState) (old new : JournalState D) (H : History) (e : Entry) (payload : List ℕ) (spells : payload ≡ entry_bytes e.core) (keeps : KeepsBook seen old H None) where
-  keeps_none : KeepsRecords seen old (spellings H) []
-  keeps_none = ⊎_elim (λ (none : KeepsRecords seen old (spellings H) []). none) (λ (none : KeepsRecords seen old (spellings H) []). none) keeps
+-- an append of an accepted entry where nothing is pending
+module _ {D : Type 0} (seen : D → DiskState) (old new : JournalState D) (H : History) (e : Entry) (accepted : IsAccepted H e) (payload : List ℕ) (spells : payload ≡ entry_bytes e.core) (keeps : KeepsBook seen old H None) where
+  alone : KeepsRecords seen old keeps.payloads []
+  alone = ⊎_elim (λ (none : KeepsRecords seen old keeps.payloads []). none) (λ (none : KeepsRecords seen old keeps.payloads []). none) keeps.keeps
+
+  longer : IsStory (keeps.payloads ++ payload ∷ []) (H ++ e ∷ [])
+  longer = subst (λ (bytes : List ℕ). IsStory (keeps.payloads ++ bytes ∷ []) (H ++ e ∷ [])) (sym spells) (story_push keeps.payloads H e keeps.legal accepted keeps.story)
 
   pub append_done : ((all more : List (List ℕ)) → KeepsRecords seen old all more → Settled (seen new.disk).images new.place (all ++ payload ∷ [])) → new.due ≡ Nothing → KeepsBook seen new (H ++ e ∷ []) None
-  append_done added is =
-      settled_keeps seen new (H ++ e ∷ []) None is
-      (subst (Settled (seen new.disk).images new.place) (ap (λ (p : List ℕ). spellings H ++ p ∷ []) spells ∙ sym (spellings_push H e)) (added (spellings H) [] keeps_none))
+  append_done added is = settled_keeps seen new (keeps.payloads ++ payload ∷ []) (H ++ e ∷ []) (legal_push H e keeps.legal accepted) longer is (added keeps.payloads [] alone)
+
+  one_accepted : (x : Entry) → Some e ≡ Some x → IsAccepted H x
+  one_accepted x is =
+      let same : e ≡ x = cc is in
+      subst (IsAccepted H) same accepted
 
   pub append_failed : ((all more : List (List ℕ)) → KeepsRecords seen old all more → StillKeeps (seen new.disk).images new.place new.due all more payload) → KeepsBook seen new H (Some e)
-  append_failed kept =
-      ⊎_elim (λ (some : KeepsSome (seen new.disk).images new.place new.due (spellings H) []).
-      ⊎_elim (λ (a : KeepsRecords seen new (spellings H) []). let k : KeepsBook seen new H (Some e) = inl a in k) (λ (a : KeepsRecords seen new (spellings H) []). let k : KeepsBook seen new H (Some e) = inl a in k) some)
-      (λ (it : KeepsRecords seen new (spellings H) (payload ∷ [])). inr (subst (λ (p : List ℕ). KeepsRecords seen new (spellings H) (p ∷ [])) spells it))
-      (kept (spellings H) [] keeps_none)
+  append_failed kept = record {
+    legal = keeps.legal;
+    accepted = one_accepted;
+    payloads = keeps.payloads;
+    story = keeps.story;
+    keeps = ⊎_elim (λ (some : KeepsSome (seen new.disk).images new.place new.due keeps.payloads []).
+        ⊎_elim (λ (a : KeepsRecords seen new keeps.payloads []). inl a) (λ (a : KeepsRecords seen new keeps.payloads []). inl a) some)
+        (λ (it : KeepsRecords seen new keeps.payloads (payload ∷ [])). inr (subst (λ (bytes : List ℕ). KeepsRecords seen new keeps.payloads (bytes ∷ [])) spells it))
+        (kept keeps.payloads [] alone);
+  }
 
-  holds_one : (image : List ℕ) → StandsForOneOf (spellings H) [] payload image → HoldsWith H (Some e) image
-  holds_one image (inl none) = holds_none H (Some e) image none
-  holds_one image (inr some) = holds_with H (Some e) image (subst (λ (p : List ℕ). JournalStandsFor (spellings H) (p ∷ []) image) spells some)
+  holds_one : (image : List ℕ) → StandsForOneOf keeps.payloads [] payload image → HoldsWith H (Some e) image
+  holds_one image (inl none) = holds_none keeps.payloads H (Some e) image keeps.story none
+  holds_one image (inr (inl is)) = inl (keeps.payloads, is, keeps.story)
+  holds_one image (inr (inr is)) = inr (keeps.payloads ++ payload ∷ [], is, longer)
 
   pub append_moments : ((all more : List (List ℕ)) → KeepsRecords seen old all more → EachMoment seen old.disk new.disk (StandsForOneOf all more payload)) → EachMoment seen old.disk new.disk (HoldsWith H (Some e))
-  append_moments run = weaker seen old.disk new.disk (StandsForOneOf (spellings H) [] payload) (HoldsWith H (Some e)) holds_one (run (spellings H) [] keeps_none)
+  append_moments run = weaker seen old.disk new.disk (StandsForOneOf keeps.payloads [] payload) (HoldsWith H (Some e)) holds_one (run keeps.payloads [] alone)
 
 -- what is pending or added
 pub one_pending : (H : History) (pending : Option Entry) (e : Entry) (image : List ℕ) → HoldsWith H pending image → HoldsOneOf H pending (e ∷ []) image

@@ -10,7 +10,7 @@ use Rattle.journal.specs.declared.opening.OpenFault.{OpenFault}
 use Rattle.journal.specs.declared.opening.OpenFault.TheVariants as open_fault
 use Rattle.journal.specs.Format.{decode}
 use Rattle.journal.specs.Journals.{JournalState}
-use Rattle.journal.specs.Kept.{Settled, StandsForOneOf, payloads as payloads_of}
+use Rattle.journal.specs.Kept.{StandsForOneOf, payloads as payloads_of}
 use Rattle.journal.specs.Moments.{DecodesAs, Turned, Turns, joined, started, weaker}
 use Rattle.rulebook.specs.declared.rules.Rules.{Rules}
 use Rattle.rulebook.specs.Campaign.{History}
@@ -19,11 +19,11 @@ use Rattle.rulebook.specs.Words.{Text}
 use Rattle.book.specs.declared.faults.BookFault.{BookFault}
 use Rattle.book.specs.declared.faults.BookFault.TheVariants as fault
 use Rattle.book.specs.Books.{IsSound, Seen}
-use Rattle.book.specs.Journaling.{IsKept}
+use Rattle.book.specs.Journaling.{IsKept, IsWithin}
 use Rattle.book.specs.Openings.{Causes, Establishes, Opened, OpensTo, OpensWith, Reads, Refused}
 use Rattle.book.specs.Replays.{Stops}
-use Rattle.book.specs.Stories.{spellings}
-use Rattle.book.specs.OpenJournals.{GivenUp, TakenUp, TakesUp, WhyNot, told_as}
+use Rattle.book.specs.Stories.{IsStory}
+use Rattle.book.specs.OpenJournals.{GivenUp, KeepsStory, TakenUp, TakesUp, WhyNot, told_as}
 use Rattle.book.proofs.Keeping.{settled_keeps}
 
 -- the records by their first
@@ -39,20 +39,19 @@ first_and_others (x ∷ records) first some is =
     ∙ ap (λ (rest : List (Vec ℕ Global)). x.items ∷ payloads_of rest) (take_all (length (x ∷ records) - 1) records (omega arith))
 
 -- an image while the founding entry is added
-pub establishes : (rules : Rules) (frame : Text) (H : History) → frame ∷ [] ≡ spellings H → H ≡ founding rules ∷ [] → (image : List ℕ) → StandsForOneOf [] [] frame image → Establishes rules [] image
-establishes rules frame H frame_is is image (inl (inl none)) = inl none
-establishes rules frame H frame_is is image (inl (inr none)) = inl none
-establishes rules frame H frame_is is image (inr (inl none)) = inl none
-establishes rules frame H frame_is is image (inr (inr one)) = inr (refl, one ∙ ap Some (frame_is ∙ ap spellings is))
+pub establishes : (rules : Rules) (frame : Text) (H : History) → IsStory (frame ∷ []) H → H ≡ founding rules ∷ [] → (image : List ℕ) → StandsForOneOf [] [] frame image → Establishes rules [] image
+establishes rules frame H story is image (inl (inl none)) = inl none
+establishes rules frame H story is image (inl (inr none)) = inl none
+establishes rules frame H story is image (inr (inl none)) = inl none
+establishes rules frame H story is image (inr (inr one)) = inr (refl, (frame ∷ [], one, subst (IsStory (frame ∷ [])) is story))
 
 module _ {D : Type 0} (seen : D → DiskState) where
   -- a book of a journal and its entries
-  pub reopened : (journal : JournalState D) (H : History) (opening : ℕ) → IsLegal H → Settled (seen journal.disk).images journal.place (spellings H) → journal.due ≡ Nothing → opening ≤ (seen journal.disk).faults
+  pub reopened : (journal : JournalState D) (H : History) (opening : ℕ) → IsLegal H → KeepsStory (seen journal.disk).images journal.place H → IsWithin journal.place H → journal.due ≡ Nothing → opening ≤ (seen journal.disk).faults
       → IsKept seen (record { journal = journal; history = H; pending = None }) opening
-  reopened journal H opening legal settled nothing later = record {
-    legal = legal;
-    keeps = settled_keeps seen journal H None nothing settled;
-    accepted = λ e is. absurd (cc is);
+  reopened journal H opening legal settled within nothing later = record {
+    keeps = settled_keeps seen journal settled.0 H legal settled.1 nothing settled.2;
+    within = within;
     rose = λ some. absurd (cc some);
     opened = later;
   }
@@ -109,7 +108,7 @@ module _ {D : Type 0} (seen : D → DiskState) (rules : Rules) (disk mid : D) wh
       by None here = tt
       by (Some bytes) here = inl here
 
-  turned_on : (payloads : List Text) (after : D) → Reads (seen disk).content payloads → Turned seen disk mid (DecodesAs (seen disk).content) → EachMoment seen mid after (Establishes rules payloads)
+  pub turned_on : (payloads : List Text) (after : D) → Reads (seen disk).content payloads → Turned seen disk mid (DecodesAs (seen disk).content) → EachMoment seen mid after (Establishes rules payloads)
       → Turned seen disk after (OpensTo (seen disk).content rules)
   turned_on payloads after reads turned moments = record {
     synced = turned.synced;
@@ -140,7 +139,7 @@ module _ {D : Type 0} (seen : D → DiskState) (rules : Rules) (disk mid : D) wh
   causes payloads opening after fault.RulesDiffer later reads why = (payloads, reads, why)
   causes payloads opening after fault.Memory later reads why = tt
 
-  refused : (payloads : List Text) (opening : ℕ) (after : D) (why : BookFault) → (seen disk).faults ≤ (seen mid).faults → Reads (seen disk).content payloads → Turned seen disk mid (DecodesAs (seen disk).content)
+  pub refused : (payloads : List Text) (opening : ℕ) (after : D) (why : BookFault) → (seen disk).faults ≤ (seen mid).faults → Reads (seen disk).content payloads → Turned seen disk mid (DecodesAs (seen disk).content)
       → GivenUp seen rules payloads opening mid after why → Refused seen rules disk after why
   refused payloads opening after why later reads turned given = record {
     causes = causes payloads opening after why later reads given.causes;

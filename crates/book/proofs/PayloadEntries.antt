@@ -1,75 +1,130 @@
--- The entry that a payload spells: read, and answered again.
-use Rattle.std.proofs.Common.{◌≡◌, ℕ, ◌<◌, ◌≤◌, Bool, true, false, [], ◌∷◌, length, refl, sym, ap, subst, ◌∙◌, arith, le-leb}
-use Rattle.std.specs.Prelude.{◌&&◌, IfOk, Result, Ok, Err, nat_le}
-use Rattle.record_codec.specs.Laws.{OneSpelling}
+-- The entries that a payload spells: one, or those of a bundle.
+use Rattle.std.proofs.Common.{◌≡◌, inl, inr, ℕ, ◌+◌, ◌<◌, ◌≤◌, Bool, true, false, List, [], ◌∷◌, ◌++◌, Vec, length, take, drop, get_or, map, refl, sym, ap, subst, ◌∙◌, arith}
+use Rattle.std.specs.Prelude.{◌&&◌, IfOk, Result, Ok, Err}
+use Rattle.std.specs.List.{list_all}
+use Rattle.std.specs.declared.alloc.Global.{Global}
+use Rattle.std.proofs.lemmas.List.{append-nil, append_assoc, map-append, take-append-drop, take-map, take_more}
+use Rattle.journal.specs.Kept.{payloads as payloads_of}
+use Rattle.trec_formats.specs.Names.{is_between}
+use Rattle.record_codec.specs.Bundles.{are_rising, have_bundle, is_brief, is_packable}
+use Rattle.record_codec.specs.Payloads.{IsPayload}
 use Rattle.rulebook.specs.declared.limits.TheConstants.{MAX_ENTRY_BYTES}
-use Rattle.rulebook.specs.declared.ask.Ask.TheVariants.{Act}
-use Rattle.rulebook.specs.declared.entry.Entry.{Entry}
 use Rattle.rulebook.specs.declared.entry.EntryCore.{EntryCore}
-use Rattle.rulebook.specs.Additions.{IsAdded}
 use Rattle.rulebook.specs.Campaign.{History}
-use Rattle.rulebook.specs.Legal.{IsLegal, is_well_addressed}
-use Rattle.rulebook.specs.Roles.{may_give}
-use Rattle.rulebook.specs.Spelling.{IsSpelling, entry_bytes, has_spelling}
+use Rattle.rulebook.specs.Legal.{IsLegal}
+use Rattle.rulebook.specs.Spelling.{entry_bytes, has_spelling}
 use Rattle.rulebook.specs.Words.{Text}
 use Rattle.book.specs.Laws.{Laws}
-use Rattle.campaign_core.specs.Replays.{EntersCore, added_again}
-use Rattle.book.specs.Replays.{Enters, Follows}
-use Rattle.book.proofs.Requests.{accepted_givable, accepted_short, accepted_spells}
+use Rattle.book.specs.Replays.{AreFit, BreaksOff, Enters, EntersCores, EntersPayload, GoesOn, StopsIn}
+use Rattle.book.specs.Stories.{HasHistory, cores_of}
+use Rattle.book.proofs.AcceptedEntries.{first_of_both, second_of_both}
+use Rattle.book.proofs.CoreEntries.{no_long}
+use Rattle.book.proofs.Unfolding.{unfolds_more}
 
-both : (s t : Bool) → s ≡ true → t ≡ true → (s && t) ≡ true
-both true true e f = refl
-both true false e f = f
-both false t e f = e
+-- The cores that were entered so far
 
--- the core of a well addressed request
-pub addressed_core : (core : EntryCore) → (may_give core.caller.role core.command) ≡ true → has_spelling core ≡ true → length (entry_bytes core) ≤ MAX_ENTRY_BYTES
-    → is_well_addressed core.caller core.number (Act core.command) core.moment ≡ true
-addressed_core core givable spells short =
-    both (may_give core.caller.role core.command && has_spelling core) (nat_le (length (entry_bytes core)) MAX_ENTRY_BYTES)
-    (both (may_give core.caller.role core.command) (has_spelling core) givable spells) (le-leb (length (entry_bytes core)) MAX_ENTRY_BYTES short)
+pub cores_none : (H : History) → cores_of H ≡ cores_of H ++ []
+cores_none H = sym (append-nil (cores_of H))
 
--- a payload that is no spelling
-pub enters_unread : (H : History) (bytes : Text) → ((core : EntryCore) → IsSpelling bytes core → ⊥) → Enters H bytes false H
-enters_unread H bytes none = (refl, λ e follows. none e.core (accepted_spells H e follows.0, sym follows.1))
+pub cores_more : (H now next : History) (done : List EntryCore) (core : EntryCore) → cores_of now ≡ cores_of H ++ done → Enters now core true next → cores_of next ≡ cores_of H ++ (done ++ core ∷ [])
+cores_more H now next done core so_far enters = enters ∙ ap (λ (c : List EntryCore). c ++ core ∷ []) so_far ∙ append_assoc (cores_of H) done (core ∷ [])
+
+pub stops_in : (H now next : History) (cores done : List EntryCore) (core : EntryCore) (rest : List EntryCore) → cores ≡ done ++ core ∷ rest → cores_of now ≡ cores_of H ++ done → Enters now core false next
+    → StopsIn H cores next
+stops_in H now next cores done core rest split so_far (same, none) = record {
+  front = done;
+  core = core;
+  rest = rest;
+  split = split;
+  added = ap cores_of same ∙ so_far;
+  none = subst (λ (now : History). HasHistory (cores_of now ++ core ∷ []) → ⊥) (sym same) none;
+}
+
+pub nothing_left : (left : List EntryCore) → length left ≡ 0 → left ≡ []
+nothing_left [] none = refl
+nothing_left (core ∷ left) none = absurd (omega (arith, none))
+
+-- What a payload spells
+
+packable_all : (cores : List EntryCore) → have_bundle cores ≡ true → list_all is_packable cores ≡ true
+packable_all cores is = second_of_both (is_between 1 4096 (length cores)) (list_all is_packable cores) (first_of_both (is_between 1 4096 (length cores) && list_all is_packable cores) (are_rising 0 cores) is)
+
+packable_fit : Laws → (cores : List EntryCore) → list_all is_packable cores ≡ true → AreFit cores
+packable_fit laws [] all = tt
+packable_fit laws (core ∷ cores) all =
+    let here = first_of_both (is_packable core) (list_all is_packable cores) all in
+    (first_of_both (has_spelling core) (is_brief core.command) here, laws.briefs core here, packable_fit laws cores (second_of_both (is_packable core) (list_all is_packable cores) all))
+
+pub payload_fit : Laws → (payload : Text) (cores : List EntryCore) → IsPayload payload cores → length payload ≤ MAX_ENTRY_BYTES → AreFit cores
+payload_fit laws payload cores (inl bundle) short = packable_fit laws cores (packable_all cores bundle.0)
+payload_fit laws payload cores (inr (core, is, one)) short =
+    let few : length (entry_bytes core) ≤ MAX_ENTRY_BYTES = omega (arith, short, ap length is.1) in
+    subst AreFit (sym one) (is.0, few, tt)
+
+-- one that spells none
+pub enters_unread : (H : History) (payload : Text) → ((cores : List EntryCore) → IsPayload payload cores → ⊥) → EntersPayload H payload false H
+enters_unread H payload none = ([], cores_none H, inl (none, refl))
 
 -- one that is too long
-pub enters_long : (H : History) (bytes : Text) → MAX_ENTRY_BYTES < length bytes → Enters H bytes false H
-enters_long H bytes long = (refl, λ e follows. absurd (omega (arith, long, accepted_short H e follows.0, ap length follows.1)))
+pub enters_long : Laws → (H : History) (payload : Text) (cores : List EntryCore) → IsLegal H → IsPayload payload cores → MAX_ENTRY_BYTES < length payload → EntersPayload H payload false H
+enters_long laws H payload cores legal (inl bundle) long = absurd (omega (arith, long, laws.bundles cores bundle.0, ap length bundle.1))
+enters_long laws H payload cores legal (inr (core, is, one)) long =
+    let spells : IsPayload payload (core ∷ []) = inr (core, is, refl) in
+    let longer : MAX_ENTRY_BYTES < length (entry_bytes core) = omega (arith, long, ap length is.1) in
+    ([], cores_none H, inr (core, [], spells, no_long H core legal longer))
 
-module _ (spelling : OneSpelling) (H : History) (bytes : Text) (core : EntryCore) (is : IsSpelling bytes core) where
-  same_core : (e : Entry) → Follows H bytes e → core ≡ e.core
-  same_core e follows = (spelling bytes bytes core e.core is (accepted_spells H e follows.0, sym follows.1)).0 refl
+enters_cores : (H : History) (payload : Text) (cores : List EntryCore) → IsPayload payload cores → (entered : Bool) (after : History) → EntersCores H cores entered after → EntersPayload H payload entered after
+enters_cores H payload cores spells true after added = (cores, spells, added)
+enters_cores H payload cores spells false after w = (w.front, w.added, inr (w.core, w.rest, subst (IsPayload payload) w.split spells, w.none))
 
-  -- one that no role may give
-  pub enters_ungiven : (may_give core.caller.role core.command) ≡ false → Enters H bytes false H
-  enters_ungiven not_given = (
-    refl,
-    λ e follows.
-        let given : (may_give core.caller.role core.command) ≡ true
-        = subst (λ (c : EntryCore). (may_give c.caller.role c.command) ≡ true) (sym (same_core e follows)) (accepted_givable H e follows.0) in
-        let wrong : false ≡ true = sym not_given ∙ given in
-        absurd (cc wrong),
-  )
+pub enters_payload : (H : History) (payload : Text) (cores : List EntryCore) → IsPayload payload cores → {E : Type 0} (result : Result Bool E) (after : History)
+    → IfOk result (λ entered. EntersCores H cores entered after) → IfOk result (λ entered. EntersPayload H payload entered after)
+enters_payload H payload cores spells (Ok entered) after enters = enters_cores H payload cores spells entered after enters
+enters_payload H payload cores spells (Err e) after enters = tt
 
-  added_next : (e : Entry) → Follows H bytes e → added_again H core ≡ e ∷ []
-  added_next e follows = subst (λ (c : EntryCore). added_again H c ≡ e ∷ []) (sym (same_core e follows)) follows.0.added
+-- The payloads that were entered so far
 
-  pub enters_core : Laws → IsLegal H → is_well_addressed core.caller core.number (Act core.command) core.moment ≡ true → (entered : Bool) (after : History)
-      → EntersCore H core entered after → Enters H bytes entered after
-  enters_core laws legal addressed true after (e, added, moment, grown) =
-      let w : IsAdded H core.caller core.number (Act core.command) core.moment e = laws.added H core.caller core.number (Act core.command) core.moment e legal addressed added in
-      let here : e.core ≡ core = w.core core.command refl ∙ ap (λ (m : ℕ). let c : EntryCore = record core { moment = m } in c) moment in (
-        e,
-        (w.accepted, ap entry_bytes here ∙ sym is.1),
-        grown,
-        subst IsLegal (sym grown) w.legal,
-        λ other follows. let next = added_next other follows in cc (added, next),
-      )
-  enters_core laws legal addressed false after (same, none) =
-      (same, λ e follows. none e (added_next e follows) (ap (λ (c : EntryCore). c.moment) (sym (same_core e follows))))
+pub goes_none : (H : History) → GoesOn H [] H
+goes_none H = ([], refl, cores_none H)
 
-  pub enters_result : Laws → IsLegal H → is_well_addressed core.caller core.number (Act core.command) core.moment ≡ true → {E : Type 0} (result : Result Bool E) (after : History)
-      → IfOk result (λ entered. EntersCore H core entered after) → IfOk result (λ entered. Enters H bytes entered after)
-  enters_result laws legal addressed (Ok entered) after enters = enters_core laws legal addressed entered after enters
-  enters_result laws legal addressed (Err e) after enters = tt
+goes_one : (H now next : History) (payloads : List Text) (payload : Text) → GoesOn H payloads now → EntersPayload now payload true next → GoesOn H (payloads ++ payload ∷ []) next
+goes_one H now next payloads payload (cores, unfolds, so_far) (these, spells, added) = (
+  cores ++ these,
+  unfolds_more payloads cores payload these unfolds spells,
+  added ∙ ap (λ (c : List EntryCore). c ++ these) so_far ∙ append_assoc (cores_of H) cores these,
+)
+
+pub breaks_off : (H now next : History) (payloads before : List Text) (payload : Text) (later : List Text) → payloads ≡ before ++ payload ∷ later → GoesOn H before now → EntersPayload now payload false next
+    → BreaksOff H payloads next
+breaks_off H now next payloads before payload later split (cores, unfolds, so_far) (front, added, breaks) = record {
+  before = before;
+  payload = payload;
+  later = later;
+  split = split;
+  given = cores;
+  unfolds = unfolds;
+  front = front;
+  added = added ∙ ap (λ (c : List EntryCore). c ++ front) so_far ∙ append_assoc (cores_of H) cores front;
+  breaks = breaks;
+}
+
+-- The records, by their places.
+module _ (records : List (Vec ℕ Global)) (place : ℕ) (record_ : Vec ℕ Global) (within : place < length records) (is : record_ ≡ get_or records place record_) where
+  one_more : take (place + 1) (payloads_of records) ≡ take place (payloads_of records) ++ record_.items ∷ []
+  one_more =
+      take-map (λ (p : Vec ℕ Global). p.items) (place + 1) records
+      ∙ ap (map (λ (p : Vec ℕ Global). p.items)) (take_more records place record_ within)
+      ∙ map-append (λ (p : Vec ℕ Global). p.items) (take place records) (get_or records place record_ ∷ [])
+      ∙ ap (λ (p : Vec ℕ Global). map (λ (p : Vec ℕ Global). p.items) (take place records) ++ p.items ∷ []) (sym is)
+      ∙ ap (λ (xs : List Text). xs ++ record_.items ∷ []) (sym (take-map (λ (p : Vec ℕ Global). p.items) place records))
+
+  pub goes_more : (H now next : History) → GoesOn H (take place (payloads_of records)) now → EntersPayload now record_.items true next → GoesOn H (take (place + 1) (payloads_of records)) next
+  goes_more H now next so_far enters = subst (λ (p : List Text). GoesOn H p next) (sym one_more) (goes_one H now next (take place (payloads_of records)) record_.items so_far enters)
+
+  split_here : payloads_of records ≡ take place (payloads_of records) ++ record_.items ∷ drop (place + 1) (payloads_of records)
+  split_here =
+      sym (take-append-drop (place + 1) (payloads_of records)) ∙ ap (λ (p : List Text). p ++ drop (place + 1) (payloads_of records)) one_more
+      ∙ append_assoc (take place (payloads_of records)) (record_.items ∷ []) (drop (place + 1) (payloads_of records))
+
+  pub breaks_here : (H now next : History) → GoesOn H (take place (payloads_of records)) now → EntersPayload now record_.items false next → BreaksOff H (payloads_of records) next
+  breaks_here H now next so_far enters = breaks_off H now next (payloads_of records) (take place (payloads_of records)) record_.items (drop (place + 1) (payloads_of records)) split_here so_far enters

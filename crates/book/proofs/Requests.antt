@@ -1,13 +1,12 @@
 -- One request to a book, by what it came to.
-use Rattle.std.proofs.Common.{◌≡◌, ◌⊎◌, inl, inr, ℕ, ◌+◌, ◌≤◌, Bool, true, false, List, [], ◌∷◌, ◌++◌, Option, None, Some, length, refl, sym, ap, subst, ◌∙◌, arith, leb-true}
-use Rattle.std.specs.Prelude.{◌&&◌, IsTrue, is_some, nat_le, sum_by}
+use Rattle.std.proofs.Common.{◌≡◌, ◌⊎◌, inl, ℕ, ◌+◌, ◌≤◌, List, [], ◌∷◌, ◌++◌, Option, None, Some, length, refl, sym, ap, subst, ◌∙◌, arith}
+use Rattle.std.specs.Prelude.{IsTrue, is_some, sum_by}
 use Rattle.std.proofs.lemmas.List.{append-nil}
 use Rattle.std.proofs.lemmas.List.Sums.{sum_by_push, sum_by-cons}
 use Rattle.decimal_rank.specs.Causes.{Rose}
 use Rattle.disk_model.specs.Disks.{DiskState, EachMoment, OnlyNow}
 use Rattle.journal.specs.Journals.{JournalState}
 use Rattle.journal.specs.Moments.{started, weaker}
-use Rattle.rulebook.specs.declared.limits.TheConstants.{MAX_ENTRY_BYTES}
 use Rattle.rulebook.specs.declared.answer.Answer.{Answer}
 use Rattle.rulebook.specs.declared.answer.Answer.TheVariants as answered
 use Rattle.rulebook.specs.declared.ask.Addressed.{Addressed}
@@ -16,42 +15,16 @@ use Rattle.rulebook.specs.declared.reply.Reply.{Reply}
 use Rattle.rulebook.specs.Additions.{IsAdded}
 use Rattle.rulebook.specs.Campaign.{History}
 use Rattle.rulebook.specs.Legal.{IsAccepted, IsLegal}
-use Rattle.rulebook.specs.Roles.{may_give}
-use Rattle.rulebook.specs.Spelling.{entry_bytes, has_spelling}
+use Rattle.rulebook.specs.Spelling.{entry_bytes}
 use Rattle.rulebook.specs.Stories.{Leads, StartsWith, added_by, reply_by}
 use Rattle.book.specs.Books.{Acts, IsSound, Leaves, Seen, Settles, story_of}
 use Rattle.book.specs.Images.{HoldsOneOf, IsBetween, StandsFor}
-use Rattle.book.specs.Journaling.{Accepts, HasRoom, IsKept, KeepsBook, Parts}
+use Rattle.book.specs.Journaling.{Accepts, HasRoom, IsKept, IsWithin, KeepsBook, Parts}
 use Rattle.book.specs.Laws.{Laws}
 use Rattle.book.specs.RunLaws.{between_of, no_run}
 use Rattle.book.specs.Stories.{spellings}
-
-first_of_both : (s t : Bool) → (s && t) ≡ true → s ≡ true
-first_of_both true t is = refl
-first_of_both false t is = is
-
-second_of_both : (s t : Bool) → (s && t) ≡ true → t ≡ true
-second_of_both true t is = is
-second_of_both false true is = refl
-second_of_both false false is = is
-
--- an accepted entry has a spelling
-pub accepted_spells : (H : History) (e : Entry) → IsAccepted H e → has_spelling e.core ≡ true
-accepted_spells H e accepted =
-    second_of_both (may_give e.core.caller.role e.core.command) (has_spelling e.core)
-    (first_of_both (may_give e.core.caller.role e.core.command && has_spelling e.core) (nat_le (length (entry_bytes e.core)) MAX_ENTRY_BYTES) accepted.addressed)
-
--- which isn't too long
-pub accepted_short : (H : History) (e : Entry) → IsAccepted H e → length (entry_bytes e.core) ≤ MAX_ENTRY_BYTES
-accepted_short H e accepted =
-    leb-true (length (entry_bytes e.core)) MAX_ENTRY_BYTES
-    (second_of_both (may_give e.core.caller.role e.core.command && has_spelling e.core) (nat_le (length (entry_bytes e.core)) MAX_ENTRY_BYTES) accepted.addressed)
-
--- and is one that its role may give
-pub accepted_givable : (H : History) (e : Entry) → IsAccepted H e → (may_give e.core.caller.role e.core.command) ≡ true
-accepted_givable H e accepted =
-    first_of_both (may_give e.core.caller.role e.core.command) (has_spelling e.core)
-    (first_of_both (may_give e.core.caller.role e.core.command && has_spelling e.core) (nat_le (length (entry_bytes e.core)) MAX_ENTRY_BYTES) accepted.addressed)
+use Rattle.book.proofs.AcceptedEntries.{accepted_short, accepted_spells}
+use Rattle.book.proofs.Keeping.{within_push}
 
 sum_spellings : (H : History) → sum_by (λ (payload : List ℕ). length payload + 5) (spellings H) ≡ sum_by (λ (e : Entry). length (entry_bytes e.core) + 5) H
 sum_spellings [] = refl
@@ -62,6 +35,7 @@ sum_spellings (e ∷ H) =
 -- there is room for the record of what is added
 pub room_for : Laws → (H : History) (e : Entry) → IsAccepted H e → IsLegal (H ++ e ∷ []) → HasRoom H e
 room_for laws H e accepted legal = record {
+  accepted = accepted;
   spells = accepted_spells H e accepted;
   short = omega (arith, accepted_short H e accepted);
   room = omega (arith, laws.fit (H ++ e ∷ []) legal, sum_by_push (λ (e : Entry). length (entry_bytes e.core) + 5) H e, sum_spellings H);
@@ -74,7 +48,7 @@ module _ {D : Type 0} (seen : D → DiskState) where
 
   pub sound_of : (parts : Parts D) (opening : ℕ) → IsKept seen parts opening → StandsFor (seen parts.journal.disk).images parts.history parts.pending
       → IsSound seen (seen_by parts opening)
-  sound_of parts opening kept stands = record { legal = kept.legal; stands = stands; accepted = kept.accepted; rose = kept.rose; opened = kept.opened }
+  sound_of parts opening kept stands = record { legal = kept.keeps.legal; stands = stands; accepted = kept.keeps.accepted; rose = kept.rose; opened = kept.opened }
 
   -- the journaling of an entry, by its exits
   pub accepts_memory : ((disk : D) → OnlyNow (seen disk)) → (journal : JournalState D) (H after : History) (pending : Option Entry) (e : Entry)
@@ -83,28 +57,31 @@ module _ {D : Type 0} (seen : D → DiskState) where
   accepts_memory only_now journal H after pending e same keeps stands = record {
     comes = (refl, same, refl);
     keeps = subst (λ (H : History). KeepsBook seen journal H pending) (sym same) keeps;
+    within = λ so. subst (λ (H : History). IsWithin journal.place H) (sym same) so;
     moments = started seen journal.disk (HoldsOneOf H pending (e ∷ [])) (λ image left. inl (stands image (only_now journal.disk image left)));
     later = omega arith;
   }
 
   pub accepts_reply : (old new : JournalState D) (H after : History) (pending left : Option Entry) (e : Entry) (r : Reply)
-      → after ≡ H ++ e ∷ [] → left ≡ None → r ≡ e.reply → KeepsBook seen new (H ++ e ∷ []) None
+      → after ≡ H ++ e ∷ [] → left ≡ None → r ≡ e.reply → KeepsBook seen new (H ++ e ∷ []) None → new.place ≡ old.place + 5 + length (entry_bytes e.core)
       → EachMoment seen old.disk new.disk (HoldsOneOf H pending (e ∷ [])) → (seen old.disk).faults ≤ (seen new.disk).faults
       → Accepts seen (record { journal = old; history = H; pending = pending }) e (answered.Reply r) (record { journal = new; history = after; pending = left })
-  accepts_reply old new H after pending left e r grown none reply keeps moments later = record {
+  accepts_reply old new H after pending left e r grown none reply keeps place moments later = record {
     comes = (reply, grown, none);
     keeps = subst (λ (H : History). KeepsBook seen new H left) (sym grown) (subst (λ (p : Option Entry). KeepsBook seen new (H ++ e ∷ []) p) (sym none) keeps);
+    within = λ so. subst (λ (H : History). IsWithin new.place H) (sym grown) (within_push old.place new.place H e place so);
     moments = moments;
     later = later;
   }
 
   pub accepts_fault : (old new : JournalState D) (H after : History) (pending left : Option Entry) (e : Entry)
-      → after ≡ H → (left ≡ pending) ⊎ (left ≡ Some e) → KeepsBook seen new H left → Rose (seen old.disk).faults (seen new.disk).faults
+      → after ≡ H → (left ≡ pending) ⊎ (left ≡ Some e) → KeepsBook seen new H left → new.place ≡ old.place → Rose (seen old.disk).faults (seen new.disk).faults
       → EachMoment seen old.disk new.disk (HoldsOneOf H pending (e ∷ [])) → (seen old.disk).faults ≤ (seen new.disk).faults
       → Accepts seen (record { journal = old; history = H; pending = pending }) e answered.DiskFault (record { journal = new; history = after; pending = left })
-  accepts_fault old new H after pending left e same either keeps rose moments later = record {
+  accepts_fault old new H after pending left e same either keeps place rose moments later = record {
     comes = (same, either, rose);
     keeps = subst (λ (H : History). KeepsBook seen new H left) (sym same) keeps;
+    within = λ so. subst (λ (H : History). IsWithin new.place H) (sym same) (subst (λ (p : ℕ). IsWithin p H) (sym place) so);
     moments = moments;
     later = later;
   }
@@ -144,40 +121,27 @@ module _ {D : Type 0} (seen : D → DiskState) where
         let same : e ≡ x = cc (added, is_x) in
         subst (IsAccepted old.history) same is.accepted
 
-    -- what is pending after a fault may be accepted next
-    pending_accepted : (pending : Option Entry) → (pending ≡ old.pending) ⊎ (pending ≡ Some e) → (x : Entry) → pending ≡ Some x → IsAccepted old.history x
-    pending_accepted pending (inl same) x some = kept.accepted x (sym same ∙ some)
-    pending_accepted pending (inr here) x some =
-        let same : e ≡ x = cc (here, some) in
-        subst (IsAccepted old.history) same is.accepted
-
     none_pending : {P : Type 0} (pending : Option Entry) → pending ≡ None → IsTrue (is_some pending) → P
     none_pending None is_none some = absurd (cc some)
     none_pending (Some x) is_none some = absurd (cc is_none)
 
-    none_accepted : (H : History) (pending : Option Entry) → pending ≡ None → (x : Entry) → pending ≡ Some x → IsAccepted H x
-    none_accepted H pending is_none x some = let wrong : None ≡ Some x = sym is_none ∙ some in absurd (cc wrong)
-
     -- what a book keeps true
     pub kept_after : (answer : Answer) → Accepts seen old e answer new → IsKept seen new opening
     kept_after (answered.Reply r) w = record {
-      legal = subst IsLegal (sym w.comes.1) is.legal;
       keeps = w.keeps;
-      accepted = none_accepted new.history new.pending w.comes.2;
+      within = w.within kept.within;
       rose = none_pending new.pending w.comes.2;
       opened = omega (arith, kept.opened, w.later);
     }
     kept_after answered.DiskFault w = record {
-      legal = subst IsLegal (sym w.comes.0) kept.legal;
       keeps = w.keeps;
-      accepted = λ x some. subst (λ (H : History). IsAccepted H x) (sym w.comes.0) (pending_accepted new.pending w.comes.1 x some);
+      within = w.within kept.within;
       rose = λ some. omega (arith, kept.opened, w.comes.2);
       opened = omega (arith, kept.opened, w.later);
     }
     kept_after answered.Memory w = record {
-      legal = subst IsLegal (sym w.comes.1) kept.legal;
       keeps = w.keeps;
-      accepted = λ x some. subst (λ (H : History). IsAccepted H x) (sym w.comes.1) (kept.accepted x (sym w.comes.2 ∙ some));
+      within = w.within kept.within;
       rose = λ some. omega (arith, kept.rose (subst (λ (p : Option Entry). IsTrue (is_some p)) w.comes.2 some), w.later);
       opened = omega (arith, kept.opened, w.later);
     }
@@ -209,13 +173,13 @@ module _ {D : Type 0} (seen : D → DiskState) where
         record {
           before = sound_of old opening kept stands;
           after = sound_of new opening (kept_after answer w) stands_after;
-          told = record { legal = kept.legal; leads = leads answer w; later = w.later; opening = refl };
+          told = record { legal = kept.keeps.legal; leads = leads answer w; later = w.later; opening = refl };
           leaves = leaves answer w;
           moments = moments;
           runs = record {
             grown = grown answer w;
             moments = weaker seen old.journal.disk new.journal.disk (HoldsOneOf old.history old.pending (added_by old.history asked)) (IsBetween old.history new.history)
-                (λ image. between_of old.history new.history old.pending (added_by old.history asked) image (grown answer w) kept.accepted next_accepted) moments;
+                (λ image. between_of old.history new.history old.pending (added_by old.history asked) image (grown answer w) kept.keeps.accepted next_accepted) moments;
             later = w.later;
             opening = refl;
           };

@@ -1,5 +1,5 @@
 -- What contracts see of a book, and what one request makes of it.
-use Rattle.std.specs.Prelude.{◌≡◌, ◌⊎◌, ℕ, ◌≤◌, List, [], ◌∷◌, Option, None, Some, IsTrue, is_some}
+use Rattle.std.specs.Prelude.{◌≡◌, ◌⊎◌, ℕ, ◌≤◌, [], ◌∷◌, Option, None, Some, IsTrue, is_some}
 use Rattle.decimal_rank.specs.Causes.{Rose}
 use Rattle.disk_model.specs.Disks.{DiskState, EachMoment}
 use Rattle.rulebook.specs.declared.answer.Answer.{Answer}

@@ -5,11 +5,12 @@ use Rattle.rulebook.specs.Campaign.{History}
 use Rattle.rulebook.specs.declared.entry.Entry.{Entry}
 use Rattle.rulebook.specs.Legal.{IsAccepted}
 use Rattle.rulebook.specs.Stories.{StartsWith}
-use Rattle.book.specs.Stories.{spellings}
+use Rattle.rulebook.specs.Words.{Text}
+use Rattle.book.specs.Stories.{IsStory}
 
--- the image's records are the spellings of these entries
+-- these entries are the story of the image's records
 abbrev pub Holds : History → List ℕ → Type 0
-Holds H image = decode image ≡ Some (spellings H)
+Holds H image = (payloads : List Text) × (decode image ≡ Some payloads) × IsStory payloads H
 
 -- of these entries, or of these and the one that is pending
 abbrev pub HoldsWith : History → Option Entry → List ℕ → Type 0

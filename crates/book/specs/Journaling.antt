@@ -13,23 +13,31 @@ use Rattle.rulebook.specs.Legal.{IsAccepted, IsLegal}
 use Rattle.rulebook.specs.Spelling.{entry_bytes, has_spelling}
 use Rattle.rulebook.specs.Words.{Text}
 use Rattle.book.specs.Images.{HoldsOneOf}
-use Rattle.book.specs.Stories.{spellings}
+use Rattle.book.specs.Stories.{IsStory, spellings}
 
 -- the spelling of the pending entry, if one is
 abbrev pub spelled : Option Entry → List Text
 spelled None = []
 spelled (Some e) = entry_bytes e.core ∷ []
 
--- the journal keeps these entries, and perhaps the pending one
-abbrev pub KeepsBook : {D : Type 0} → (D → DiskState) → JournalState D → History → Option Entry → Type 0
-KeepsBook seen journal H pending =
-    KeepsSome (seen journal.disk).images journal.place journal.due (spellings H) (spelled pending)
+-- The journal keeps records whose story are these entries, and perhaps the record of the pending one, which the rules accept next.
+pub record KeepsBook {D : Type 0} (seen : D → DiskState) (journal : JournalState D) (H : History) (pending : Option Entry) : Type 0 where
+  pub legal : IsLegal H
+  pub accepted : (e : Entry) → pending ≡ Some e → IsAccepted H e
+  pub payloads : List Text
+  pub story : IsStory payloads H
+  pub keeps : KeepsSome (seen journal.disk).images journal.place journal.due payloads (spelled pending)
 
--- an entry that has a spelling, for whose record there is room behind these entries
+-- The records end at most 2^39 bytes further than those of the entries' spellings would.
+abbrev pub IsWithin : ℕ → History → Type 0
+IsWithin place H = place + 1 ≤ 2 ^ 39 + place_behind (spellings H)
+
+-- an entry that the rules accept after these; a journal of the spellings alone would have room for it in 2^39 bytes
 pub record HasRoom (H : History) (e : Entry) : Type 0 where
+  pub accepted : IsAccepted H e
   pub spells : IsTrue (has_spelling e.core)
   pub short : length (entry_bytes e.core) ≤ 2 ^ 25
-  pub room : place_behind (spellings H) + 6 + length (entry_bytes e.core) ≤ 2 ^ 40
+  pub room : place_behind (spellings H) + 6 + length (entry_bytes e.core) ≤ 2 ^ 39
 
 -- the parts of a book that an entry changes
 pub record Parts (D : Type 0) : Type 0 where
@@ -40,9 +48,8 @@ pub record Parts (D : Type 0) : Type 0 where
 module _ {D : Type 0} (seen : D → DiskState) where
   -- what a book keeps true of its parts
   pub record IsKept (parts : Parts D) (opening : ℕ) : Type 0 where
-    pub legal : IsLegal parts.history
     pub keeps : KeepsBook seen parts.journal parts.history parts.pending
-    pub accepted : (e : Entry) → parts.pending ≡ Some e → IsAccepted parts.history e
+    pub within : IsWithin parts.journal.place parts.history
     pub rose : IsTrue (is_some parts.pending) → Rose opening (seen parts.journal.disk).faults
     pub opened : opening ≤ (seen parts.journal.disk).faults
 
@@ -58,5 +65,6 @@ module _ {D : Type 0} (seen : D → DiskState) where
   pub record Accepts (old : Parts D) (e : Entry) (answer : Answer) (new : Parts D) : Type 0 where
     pub comes : Comes old e answer new
     pub keeps : KeepsBook seen new.journal new.history new.pending
+    pub within : IsWithin old.journal.place old.history → IsWithin new.journal.place new.history
     pub moments : EachMoment seen old.journal.disk new.journal.disk (HoldsOneOf old.history old.pending (e ∷ []))
     pub later : (seen old.journal.disk).faults ≤ (seen new.journal.disk).faults

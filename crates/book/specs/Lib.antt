@@ -1,4 +1,6 @@
 pub mod Books
+pub mod CompactedJournals
+pub mod Compactings
 pub mod Halls
 pub mod Images
 pub mod Journaling
@@ -6,6 +8,7 @@ pub mod Laws
 pub mod OpenJournals
 pub mod OpeningLaws
 pub mod Openings
+pub mod Packings
 pub mod Replays
 pub mod RunLaws
 pub mod Stories

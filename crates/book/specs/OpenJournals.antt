@@ -4,6 +4,8 @@ use Rattle.decimal_rank.specs.Causes.{Rose}
 use Rattle.disk_model.specs.Disks.{DiskState, EachMoment}
 use Rattle.journal.specs.declared.opening.OpenFault.{OpenFault}
 use Rattle.journal.specs.declared.opening.OpenFault.TheVariants as open_fault
+use Rattle.journal.specs.Kept.{Settled}
+use Rattle.rulebook.specs.Campaign.{History}
 use Rattle.rulebook.specs.declared.rules.Rules.{Rules}
 use Rattle.rulebook.specs.Words.{Text}
 use Rattle.book.specs.declared.faults.BookFault.{BookFault}
@@ -11,12 +13,17 @@ use Rattle.book.specs.declared.faults.BookFault.TheVariants as fault
 use Rattle.book.specs.Books.{IsSound, Seen}
 use Rattle.book.specs.Openings.{Establishes, OpensWith}
 use Rattle.book.specs.Replays.{Stops}
+use Rattle.book.specs.Stories.{IsStory}
 
 -- what the journal's fault is told as
 abbrev pub told_as : OpenFault → BookFault
 told_as open_fault.Disk = fault.Disk
 told_as open_fault.Header = fault.Header
 told_as open_fault.Memory = fault.Memory
+
+-- each image is the records of payloads whose story are these entries, and a closed gate
+abbrev pub KeepsStory : (List ℕ → Type 0) → ℕ → History → Type 0
+KeepsStory images place H = (payloads : List Text) × IsStory payloads H × Settled images place payloads
 
 module _ {D : Type 0} (seen : D → DiskState) (rules : Rules) (payloads : List Text) (opening : ℕ) (disk : D) where
   -- its entries are those of the records, or the founding one

@@ -7,7 +7,7 @@ ghost use Rattle.rulebook.specs.Campaign.{phase as phase_of};
 ghost use Rattle.rulebook.specs.Stories.{IsAddressed};
 ghost use Rattle.rulebook.specs.Systems.{are_sound_systems, systems};
 ghost use Rattle.book.specs.Books.{Acts, IsSound};
-ghost use Rattle.book.specs.Journaling.{Accepts, HasRoom, KeepsBook};
+ghost use Rattle.book.specs.Journaling.{Accepts, HasRoom, IsWithin, KeepsBook};
 
 use crate::commits::commit;
 use crate::journaling::{frame_of, keep};
@@ -92,6 +92,13 @@ impl<D: Disk> Book<D> {
         self.state.run_name(run)
     }
 
+    /// The state of the campaign.
+    pub fn state(&self) -> &State
+        ensures { result.now.history ≡ self.now.history }
+    {
+        &self.state
+    }
+
     /// The live runs by submission, each with its submitter's name and its sums and means.
     pub fn systems(&self) -> Result<Rows<System>, Memory>
         ensures systems { IfOk result (λ rows. rows ≡ systems self.now.history) }
@@ -164,6 +171,7 @@ fn accept<D: Disk>(
 ) -> Answer
     requires prepared { state.old.prepared ≡ Some prepared }
     requires keeps { KeepsBook D.seen journal.old state.old.history pending.old }
+    requires within { IsWithin journal.old.place state.old.history }
     requires room { HasRoom state.old.history prepared }
     ensures { Accepts D.seen
         (record { journal = journal.old; history = state.old.history; pending = pending.old })

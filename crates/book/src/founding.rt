@@ -1,15 +1,14 @@
 //! The first entry of a campaign: made of its rules, and known among records.
 ghost use Rattle.std.specs.Prelude.{◌≡◌, ◌∷◌, [], IfOk, IfSome, IsTrue, MatchOption, map, take};
-ghost use Rattle.record_codec.specs.Laws.{OneSpelling};
 ghost use Rattle.rulebook.specs.Legal.{founding};
 ghost use Rattle.rulebook.specs.Spelling.{are_rules, entry_bytes};
 ghost use Rattle.book.specs.Laws.{Laws};
-ghost use Rattle.book.specs.Stories.{HasStory, IsOnlyStory};
+ghost use Rattle.book.specs.Replays.{Begins, NeverBegins};
 
 use campaign_core::{Replay, State};
 use decimal_rank::{Memory, Rows, Text};
 use journal::Frame;
-use record_codec::{CodecFault, read_entry, write_entry};
+use record_codec::{CodecFault, read_payload, write_entry};
 use rulebook::{Rules, TopicLevel, founding_core, rules_founded};
 use std::alloc::Global;
 
@@ -63,6 +62,16 @@ pub(crate) fn founding_bytes(alloc: Global, rules: Rules) -> Result<Vec<u8>, Mem
     Ok(bytes)
 }
 
+/// The record of the first entry of a campaign of these rules.
+pub(crate) fn founding_frame(alloc: Global, rules: Rules) -> Result<Frame, Memory>
+    requires laws { Laws }
+    requires rules { IsTrue (are_rules rules) }
+    ensures { IfOk result (λ frame. frame ≡ entry_bytes (founding rules).core) }
+{
+    let bytes = founding_bytes(alloc, rules)?;
+    Frame::of(alloc, &bytes)
+}
+
 /// A new campaign of these rules, and the record of its first entry.
 pub(crate) fn founded(alloc: Global, rules: Rules) -> Result<(State, Frame), Memory>
     requires laws { Laws }
@@ -71,21 +80,26 @@ pub(crate) fn founded(alloc: Global, rules: Rules) -> Result<(State, Frame), Mem
     ensures frame { IfOk result (λ made. made.1 ≡ entry_bytes (founding rules).core) }
 {
     let copy = copy_of_rules(alloc, &rules)?;
-    let bytes = founding_bytes(alloc, copy)?;
-    let frame = Frame::of(alloc, &bytes)?;
+    let frame = founding_frame(alloc, copy)?;
     let state = State::found(alloc, rules)?;
     Ok((state, frame))
 }
 
-/// The campaign that a first record founds. None is that it founds none.
+/// The campaign that a first record founds. None is that it founds none. A bundle never does.
 pub(crate) fn begin(alloc: Global, first: &[u8]) -> Result<Option<Replay>, Memory>
-    requires spelling { OneSpelling }
-    ensures { IfOk result (λ begun. MatchOption begun (HasStory (first.now ∷ []) → ⊥) (IsOnlyStory (first.now ∷ []))) }
+    requires laws { Laws }
+    ensures { IfOk result (λ begun. MatchOption begun (NeverBegins first.now) (Begins first.now)) }
 {
-    let core = match read_entry(alloc, first) {
-        Ok(core) => core,
+    let mut cores = match read_payload(alloc, first) {
+        Ok(cores) => cores,
         Err(CodecFault::NoEntry) => return Ok(None),
         Err(CodecFault::Memory) => return Err(Memory),
+    };
+    if cores.len() > 1 {
+        return Ok(None);
+    }
+    let Some(core) = cores.pop() else {
+        return Ok(None);
     };
     let Some(rules) = rules_founded(core) else {
         return Ok(None);

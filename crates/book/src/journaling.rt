@@ -3,6 +3,7 @@ ghost use Rattle.std.specs.Prelude.{◌≡◌, ◌⊎◌, ◌+◌, ◌≤◌, �
 ghost use Rattle.decimal_rank.specs.Causes.{HasCause};
 ghost use Rattle.disk_model.specs.Disks.{EachMoment};
 ghost use Rattle.rulebook.specs.Campaign.{History};
+ghost use Rattle.rulebook.specs.Legal.{IsAccepted};
 ghost use Rattle.rulebook.specs.Spelling.{entry_bytes, has_spelling};
 ghost use Rattle.book.specs.Images.{HoldsOneOf, HoldsWith};
 ghost use Rattle.book.specs.Journaling.{KeepsBook};
@@ -61,14 +62,20 @@ pub(crate) fn keep<D: Disk>(
 ) -> Result<(), Failed>
     requires frame { frame.now ≡ entry_bytes prepared.now.core }
     requires room { journal.old.place + 6 + length (entry_bytes prepared.now.core) ≤ 2 ^ 40 }
-    ensures added { OnOk result ((H : History) → KeepsBook D.seen journal.old H pending.old
+    ensures added { OnOk result ((H : History) → IsAccepted H prepared.now
+        → KeepsBook D.seen journal.old H pending.old
         → KeepsBook D.seen journal.new (H ++ prepared.now ∷ []) None) }
     ensures none { OnOk result (pending.new ≡ None) }
-    ensures kept { OnErr result ((H : History) → KeepsBook D.seen journal.old H pending.old
+    ensures place { OnOk result
+        (journal.new.place ≡ journal.old.place + 5 + length (entry_bytes prepared.now.core)) }
+    ensures place_err { OnErr result (journal.new.place ≡ journal.old.place) }
+    ensures kept { OnErr result ((H : History) → IsAccepted H prepared.now
+        → KeepsBook D.seen journal.old H pending.old
         → KeepsBook D.seen journal.new H pending.new) }
     ensures pending { OnErr result
         ((pending.new ≡ pending.old) ⊎ (pending.new ≡ Some prepared.now)) }
-    ensures any_moment { (H : History) → KeepsBook D.seen journal.old H pending.old
+    ensures any_moment { (H : History) → IsAccepted H prepared.now
+        → KeepsBook D.seen journal.old H pending.old
         → EachMoment D.seen journal.old.disk journal.new.disk
         (HoldsOneOf H pending.old (prepared.now ∷ [])) }
     ensures cause { HasCause (D.seen journal.old.disk).faults

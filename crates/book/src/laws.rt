@@ -1,7 +1,11 @@
-//! The laws of the rules on which a book rests.
+//! The laws of the rules and of the records on which a book rests.
 ghost use Rattle.book.specs.Laws.{Laws};
 
-use rulebook::{added_are_accepted, entries_are_few, founding_fits, legal_fit};
+use record_codec::{briefs_fit, bundles_fit, one_payload};
+use rulebook::{
+    added_are_accepted, entries_are_few, entries_are_spelled, founding_fits, legal_fit,
+    moments_rise,
+};
 
 pub(crate) fn rule_laws()
     ensures { Laws }
@@ -10,4 +14,9 @@ pub(crate) fn rule_laws()
     entries_are_few();
     founding_fits();
     legal_fit();
+    moments_rise();
+    entries_are_spelled();
+    one_payload();
+    bundles_fit();
+    briefs_fit();
 }

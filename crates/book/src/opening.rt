@@ -1,17 +1,17 @@
 //! Opening a book. The journal is opened, and each of its records is entered; a journal without records
 //! gets the founding entry.
-ghost use Rattle.std.specs.Prelude.{◌≡◌, ◌≤◌, ◌^◌, [], ◌∷◌, None, IfErr, IfOk, IsTrue, length};
+ghost use Rattle.std.specs.Prelude.{◌≡◌, ◌<◌, ◌≤◌, ◌^◌, [], ◌∷◌, List, None, IfErr, IfOk, IsTrue, length};
 ghost use Rattle.journal.specs.declared.dues.Due.TheVariants.{Nothing};
 ghost use Rattle.journal.specs.Kept.{Settled, payloads as payloads_of};
-ghost use Rattle.record_codec.specs.Laws.{OneSpelling};
 ghost use Rattle.rulebook.specs.declared.rules.Rules.{Rules as CampaignRules};
 ghost use Rattle.rulebook.specs.Legal.{founding};
 ghost use Rattle.rulebook.specs.Spelling.{are_rules};
 ghost use Rattle.book.specs.Laws.{Laws};
 ghost use Rattle.book.specs.Books.{IsSound};
 ghost use Rattle.book.specs.Openings.{Opened, Refused};
-ghost use Rattle.book.specs.Stories.{spellings};
-ghost use Rattle.book.specs.OpenJournals.{TakesUp, told_as};
+ghost use Rattle.book.specs.Journaling.{IsWithin};
+ghost use Rattle.book.specs.Stories.{IsStory};
+ghost use Rattle.book.specs.OpenJournals.{KeepsStory, TakesUp, told_as};
 
 use crate::books::Book;
 use crate::faults::BookFault;
@@ -22,7 +22,6 @@ use crate::replays::replay;
 use campaign_core::State;
 use decimal_rank::Memory;
 use journal::{Disk, Failed, Frame, Journal, OpenFault};
-use record_codec::one_spelling;
 use rulebook::Rules;
 use std::alloc::Global;
 
@@ -36,7 +35,6 @@ impl<D: Disk> Book<D> {
         ensures refused { IfErr result (λ fault. Refused D.seen rules disk fault.0 fault.1) }
     {
         rule_laws();
-        one_spelling();
         let opening = disk.faults();
         match Journal::open(alloc, disk) {
             Ok((journal, records)) => take_up(alloc, opening, journal, &records, rules),
@@ -45,7 +43,8 @@ impl<D: Disk> Book<D> {
     }
 }
 
-fn fault_of(fault: OpenFault) -> BookFault
+/// What the journal's fault is told as.
+pub(crate) fn fault_of(fault: OpenFault) -> BookFault
     ensures { result ≡ told_as fault }
 {
     match fault {
@@ -64,8 +63,8 @@ fn take_up<D: Disk>(
     rules: Rules,
 ) -> Result<Book<D>, (D, BookFault)>
     requires laws { Laws }
-    requires spelling { OneSpelling }
     requires rules { IsTrue (are_rules rules) }
+    requires small { journal.place < 2 ^ 39 }
     requires settled { Settled (D.seen journal.disk).images journal.place
         (payloads_of records.now) }
     requires nothing_due { journal.due ≡ Nothing }
@@ -97,7 +96,7 @@ fn establish<D: Disk>(
     requires settled { Settled (D.seen journal.disk).images journal.place [] }
     requires nothing_due { journal.due ≡ Nothing }
     requires later { opening ≤ (D.seen journal.disk).faults }
-    requires founded { frame.now ∷ [] ≡ spellings state.history }
+    requires founded { IsStory (frame.now ∷ []) state.history }
     ensures { (rules : CampaignRules) → state.history ≡ founding rules ∷ []
         → TakesUp D.seen rules [] opening journal.disk result }
 {
@@ -111,8 +110,8 @@ fn establish<D: Disk>(
 
 // The book of a journal and of the entries that it keeps.
 fn reopen<D: Disk>(alloc: Global, opening: u64, journal: Journal<D>, state: State) -> Book<D>
-    requires settled { Settled (D.seen journal.disk).images journal.place
-        (spellings state.history) }
+    requires settled { KeepsStory (D.seen journal.disk).images journal.place state.history }
+    requires within { IsWithin journal.place state.history }
     requires nothing_due { journal.due ≡ Nothing }
     requires later { opening ≤ (D.seen journal.disk).faults }
     ensures view { result ≡ record { disk = journal.disk; history = state.history; pending = None; opening = opening } }

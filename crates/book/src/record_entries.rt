@@ -1,16 +1,17 @@
 //! Entries from records: each is read, answered by the rules at its own moment, and added where they
 //! add that very entry.
-ghost use Rattle.std.specs.Prelude.{◌≡◌, IfOk};
-ghost use Rattle.record_codec.specs.Laws.{OneSpelling};
+ghost use Rattle.std.specs.Prelude.{◌≡◌, ◌≤◌, IfOk, IsTrue, length};
+ghost use Rattle.rulebook.specs.Limits.{max_entry_bytes};
 ghost use Rattle.rulebook.specs.Roles.{may_give};
+ghost use Rattle.rulebook.specs.Spelling.{entry_bytes, has_spelling};
 ghost use Rattle.journal.specs.Kept.{payloads as payloads_of};
 ghost use Rattle.book.specs.Laws.{Laws};
-ghost use Rattle.book.specs.Replays.{Enters, EntersAll};
+ghost use Rattle.book.specs.Replays.{AreFit, Enters, EntersAll, EntersCores, EntersPayload};
 
 use campaign_core::Replay;
 use decimal_rank::Memory;
-use record_codec::{CodecFault, read_entry};
-use rulebook::{Command, MAX_ENTRY_BYTES, Role};
+use record_codec::{CodecFault, read_payload};
+use rulebook::{Command, EntryCore, MAX_ENTRY_BYTES, Role};
 use std::alloc::Global;
 
 // Whether a role may give a command.
@@ -31,46 +32,75 @@ fn is_givable(role: Role, command: &Command) -> bool
     }
 }
 
-/// Adds the entry that a payload spells, where the rules accept it after those that are there. False is
-/// that they accept none.
-pub(crate) fn enter(alloc: Global, replay: &mut Replay, payload: &[u8]) -> Result<bool, Memory>
+// Adds the entry of a core, where the rules accept one after those that are there. False is that they
+// accept none.
+fn enter(replay: &mut Replay, core: EntryCore) -> Result<bool, Memory>
     requires laws { Laws }
-    requires spelling { OneSpelling }
-    ensures { IfOk result (λ entered. Enters replay.old payload.now entered replay.new) }
+    requires spelled { IsTrue (has_spelling core) }
+    requires short { length (entry_bytes core) ≤ max_entry_bytes }
+    ensures { IfOk result (λ entered. Enters replay.old core entered replay.new) }
 {
     let _legal = replay.entries();
+    if !is_givable(core.caller.role, &core.command) {
+        return Ok(false);
+    }
+    replay.enter(core)
+}
+
+// Adds the entries of cores, one after another, up to one that the rules don't accept.
+fn enter_cores(replay: &mut Replay, cores: Vec<EntryCore>) -> Result<bool, Memory>
+    requires laws { Laws }
+    requires fit { AreFit cores.items }
+    ensures { IfOk result (λ entered. EntersCores replay.old cores.items entered replay.new) }
+{
+    for core in cores {
+        match enter(replay, core) {
+            Ok(true) => {}
+            Ok(false) => return Ok(false),
+            Err(Memory) => return Err(Memory),
+        }
+    }
+    Ok(true)
+}
+
+/// Adds the entries that a payload spells, one or a bundle's. False is that it spells none, or that the
+/// rules don't accept one of them: those before it were added.
+pub(crate) fn enter_payload(
+    alloc: Global,
+    replay: &mut Replay,
+    payload: &[u8],
+) -> Result<bool, Memory>
+    requires laws { Laws }
+    ensures { IfOk result (λ entered. EntersPayload replay.old payload.now entered replay.new) }
+{
+    let _legal = replay.entries();
+    let cores = match read_payload(alloc, payload) {
+        Ok(cores) => cores,
+        Err(CodecFault::NoEntry) => return Ok(false),
+        Err(CodecFault::Memory) => return Err(Memory),
+    };
     if payload.len() > MAX_ENTRY_BYTES as usize {
         return Ok(false);
     }
-    match read_entry(alloc, payload) {
-        Ok(core) => {
-            if !is_givable(core.caller.role, &core.command) {
-                return Ok(false);
-            }
-            replay.enter(core)
-        }
-        Err(CodecFault::NoEntry) => Ok(false),
-        Err(CodecFault::Memory) => Err(Memory),
-    }
+    enter_cores(replay, cores)
 }
 
-/// Adds the entries that payloads spell. Some is how many were added before one that the rules don't
-/// accept.
+/// Adds the entries that payloads spell. False is that not all of them can come about: those before the
+/// first that can't were added.
 pub(crate) fn enter_all(
     alloc: Global,
     replay: &mut Replay,
     payloads: &[Vec<u8>],
-) -> Result<Option<usize>, Memory>
+) -> Result<bool, Memory>
     requires laws { Laws }
-    requires spelling { OneSpelling }
-    ensures { IfOk result (λ broken. EntersAll replay.old (payloads_of payloads.now) broken replay.new) }
+    ensures { IfOk result (λ entered. EntersAll replay.old (payloads_of payloads.now) entered replay.new) }
 {
     for place in 0..payloads.len() {
-        match enter(alloc, replay, &payloads[place]) {
+        match enter_payload(alloc, replay, &payloads[place]) {
             Ok(true) => {}
-            Ok(false) => return Ok(Some(place)),
+            Ok(false) => return Ok(false),
             Err(Memory) => return Err(Memory),
         }
     }
-    Ok(None)
+    Ok(true)
 }

@@ -3,13 +3,11 @@ ghost use Rattle.std.specs.Prelude.{◌≡◌, ◌∷◌, [], IfErr, IfOk, IsTru
 ghost use Rattle.book.specs.declared.faults.BookFault.TheVariants as fault;
 ghost use Rattle.std.specs.Str.{bytes_eq};
 ghost use Rattle.journal.specs.Kept.{payloads as payloads_of};
-ghost use Rattle.record_codec.specs.Laws.{OneSpelling};
 ghost use Rattle.rulebook.specs.declared.rules.Rules.{Rules as CampaignRules};
 ghost use Rattle.rulebook.specs.Legal.{founding};
 ghost use Rattle.rulebook.specs.Spelling.{are_rules, entry_bytes};
 ghost use Rattle.book.specs.Laws.{Laws};
-ghost use Rattle.book.specs.Replays.{Replays};
-ghost use Rattle.book.specs.Stories.{IsOnlyStory};
+ghost use Rattle.book.specs.Replays.{Begins, Replays, Restores};
 
 use crate::faults::BookFault;
 use crate::founding::{begin, founding_bytes};
@@ -33,24 +31,24 @@ fn replay_others(
     first: &[u8],
     others: &[Vec<u8>],
     wanted: &[u8],
-) -> Result<State, BookFault>
+) -> Result<Replay, BookFault>
     requires laws { Laws }
-    requires spelling { OneSpelling }
-    requires begun { IsOnlyStory (first.now ∷ []) replay }
+    requires begun { Begins first.now replay }
     ensures { (rules : CampaignRules) → IsTrue (are_rules rules) → wanted.now ≡ entry_bytes (founding rules).core
         → Replays rules (first.now ∷ payloads_of others.now) result }
 {
     let mut replay = replay;
-    match enter_all(alloc, &mut replay, others) {
-        Ok(None) => {
+    let entered = enter_all(alloc, &mut replay, others);
+    let entries = replay.entries();
+    match entered {
+        Ok(true) => {
             if are_equal(first, wanted) {
-                return finished(alloc, replay);
+                return Ok(replay);
             }
             Err(BookFault::RulesDiffer)
         }
-        Ok(Some(count)) => {
-            let _legal = replay.entries();
-            let entry = count as u32 + 2;
+        Ok(false) => {
+            let entry = entries + 1;
             Err(BookFault::Damaged { entry })
         }
         Err(Memory) => Err(BookFault::Memory),
@@ -75,7 +73,23 @@ pub(crate) fn replay(
     rules: Rules,
 ) -> Result<State, BookFault>
     requires laws { Laws }
-    requires spelling { OneSpelling }
+    requires rules { IsTrue (are_rules rules) }
+    ensures { Restores rules (first.now ∷ payloads_of others.now) result }
+{
+    match replayed(alloc, first, others, rules) {
+        Ok(replay) => finished(alloc, replay),
+        Err(fault) => Err(fault),
+    }
+}
+
+/// Its entries, entered again.
+pub(crate) fn replayed(
+    alloc: Global,
+    first: &[u8],
+    others: &[Vec<u8>],
+    rules: Rules,
+) -> Result<Replay, BookFault>
+    requires laws { Laws }
     requires rules { IsTrue (are_rules rules) }
     ensures { Replays rules (first.now ∷ payloads_of others.now) result }
 {

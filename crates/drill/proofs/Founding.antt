@@ -1,8 +1,10 @@
 -- A book on an empty disk has the founding entry alone, and only a call on the disk that failed and want of memory keep it from being opened.
-use Rattle.std.proofs.Common.{◌≡◌, ℕ, List, [], ◌∷◌, None, Option, Some, ap, arith, length, subst, sym}
+use Rattle.std.proofs.Common.{◌≡◌, ℕ, List, [], ◌∷◌, None, Option, Some, subst, sym}
 use Rattle.std.specs.Prelude.{IfSome}
 use Rattle.disk_model.specs.Disks.{DiskState}
+use Rattle.book.specs.OpeningLaws.{none_unbroken}
 use Rattle.book.specs.Openings.{Causes, OpensWith, Reads, Refused}
+use Rattle.book.specs.Stories.{BreaksAt}
 use Rattle.book.specs.declared.faults.BookFault.{BookFault}
 use Rattle.book.specs.declared.faults.BookFault.TheVariants as fault
 use Rattle.drill.specs.Foundings.{RefusesEmpty}
@@ -28,7 +30,7 @@ module _ {D : Type 0} (seen : D → DiskState) (rules : Rules) (disk after : D) 
   causes_empty fault.Header causes =
       let wrong : decode [] ≡ None = subst (λ (o : Option (List ℕ)). IfSome o (λ bytes. decode bytes ≡ None)) empty causes.0 in cc wrong
   causes_empty (fault.Damaged entry) (payloads, reads, breaks) =
-      absurd (omega (arith, breaks.some, breaks.within, ap length (no_payloads (seen disk).content payloads empty reads)))
+      absurd (none_unbroken entry (subst (λ (p : List Text). BreaksAt p entry) (no_payloads (seen disk).content payloads empty reads) breaks))
   causes_empty fault.RulesDiffer (payloads, reads, differs) = absurd (differs.0 (no_payloads (seen disk).content payloads empty reads))
 
   pub refused_empty : (why : BookFault) → Refused seen rules disk after why → RefusesEmpty why

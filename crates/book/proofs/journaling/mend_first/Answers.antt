@@ -5,7 +5,7 @@ use Rattle.rulebook.specs.declared.entry.Entry.{Entry}
 use Rattle.rulebook.specs.Campaign.{History}
 use Rattle.book.specs.Images.{HoldsWith}
 use Rattle.book.specs.Journaling.{KeepsBook}
-use Rattle.book.proofs.Keeping.{book_holds, mend_moments, nothing_due, still_keeps, still_moments}
+use Rattle.book.proofs.Keeping.{book_holds, mend_done, mend_keeps, mend_moments, nothing_due, still_keeps, still_moments}
 use Rattle.book.proofs.journaling.mend_first.Given.{Over}
 use Rattle.book.proofs.journaling.mend_first.Goals.{After-mend}
 use Rattle.book.proofs.journaling.mend_first.Goals as goal
@@ -26,8 +26,16 @@ moments : (g : Over) (c : After-mend g) (H : History) → KeepsBook g.D.Disk.see
 moments g c H keeps =
     mend_moments g.D.Disk.seen c.args.journal.now H c.args.pending.now keeps c.mend.new.self c.mend.ensures.any_moment
 
+pub returns-in-Ok-clause-keeps : goal.returns-in-Ok-clause-keeps
+returns-in-Ok-clause-keeps g c H keeps =
+    subst (λ (pending : Option Entry). KeepsBook g.D.Disk.seen c.mend.new.self H pending) (sym c.settle-in-Ok.ensures)
+    (mend_done g.D.Disk.seen c.args.journal.now H c.args.pending.now keeps c.mend.new.self c.in-Ok.ensures.mended c.in-Ok.ensures.nothing_due)
+
 pub returns-in-Ok-clause-any_moment : goal.returns-in-Ok-clause-any_moment
 returns-in-Ok-clause-any_moment g c = moments g (goal.at.returns-in-Ok-clause-any_moment g c).After-mend
+
+pub returns-in-Err-clause-keeps : goal.returns-in-Err-clause-keeps
+returns-in-Err-clause-keeps g c H keeps = mend_keeps g.D.Disk.seen c.args.journal.now H c.args.pending.now keeps c.mend.new.self c.mend.ensures.kept
 
 pub returns-in-Err-clause-any_moment : goal.returns-in-Err-clause-any_moment
 returns-in-Err-clause-any_moment g c = moments g (goal.at.returns-in-Err-clause-any_moment g c).After-mend

@@ -1,7 +1,7 @@
 -- The founding entry is added to a journal without records.
-use Rattle.std.proofs.Common.{◌≡◌, List, ℕ, [], ◌∷◌, refl, subst}
+use Rattle.std.proofs.Common.{◌≡◌, [], ◌∷◌, refl, arith}
 use Rattle.disk_model.specs.Disks.{EachMoment}
-use Rattle.journal.specs.Kept.{Keeps, Settled, StandsForOneOf}
+use Rattle.journal.specs.Kept.{Keeps, StandsForOneOf}
 use Rattle.journal.specs.Moments.{weaker}
 use Rattle.rulebook.specs.declared.rules.Rules.{Rules}
 use Rattle.rulebook.specs.Legal.{founding}
@@ -25,8 +25,12 @@ moments g c rules founded =
 
 pub reopen-requires-clause-settled : goal.reopen-requires-clause-settled
 reopen-requires-clause-settled g c =
-    subst (λ (all : List (List ℕ)). Settled (g.D.Disk.seen c.append.new.self.disk).images c.append.new.self.place all) c.requires.founded
-    (c.in-Ok.ensures.added [] [] (keeps g (goal.at.reopen-requires-clause-settled g c).After-append))
+    (c.args.frame.now ∷ [], c.requires.founded, c.in-Ok.ensures.added [] [] (keeps g (goal.at.reopen-requires-clause-settled g c).After-append))
+
+pub reopen-requires-clause-within : goal.reopen-requires-clause-within
+reopen-requires-clause-within g c =
+    let first : c.args.journal.place ≡ 16 = c.stands.ensures.total [] [] (keeps g (goal.at.reopen-requires-clause-within g c).After-append) in
+    omega (arith, first, c.in-Ok.ensures.place, c.requires.short)
 
 pub returns-in-Ok : goal.returns-in-Ok
 returns-in-Ok g c rules founded =

@@ -4,7 +4,7 @@ use Rattle.rulebook.specs.Additions.{IsAdded}
 use Rattle.rulebook.specs.Campaign.{History}
 use Rattle.rulebook.specs.Stories.{added_by, reply_by}
 use Rattle.book.specs.Books.{IsSound}
-use Rattle.book.specs.Journaling.{Accepts, HasRoom, Parts}
+use Rattle.book.specs.Journaling.{Accepts, HasRoom, IsWithin, KeepsBook, Parts}
 use Rattle.book.proofs.Requests.{acts_before, acts_still, kept_after, memory_acts, quiet_acts, ready_acts, room_for, seen_by, sound_of}
 use Rattle.book.proofs.Keeping.{book_holds}
 use Rattle.book.proofs.books.Book.act.Given.{Over}
@@ -54,6 +54,15 @@ returns-in-Ok-Told g c =
     let reply : c.in-Ok-Told.reply ≡ reply_by s.state.history c.args.asked = search rules in
     acts_still D.seen c.args.self.now (before g now) s.opening c.args.asked _ c.prepare.new.self.history c.self.view_is c.prepare.ensures.history
     (quiet_acts D.seen g.met.D.Disk.only_now (seen_by D.seen (before g now) s.opening) (sound g now) c.args.asked c.in-Ok-Told.reply reply none)
+
+pub accept-answer-requires-clause-keeps : goal.accept-answer-requires-clause-keeps
+accept-answer-requires-clause-keeps g c =
+    let s = c.self.inside in
+    subst (λ (H : History). KeepsBook g.D.Disk.seen s.journal H s.pending) (sym c.prepare.ensures.history) c.self.invariant.keeps
+
+pub accept-answer-requires-clause-within : goal.accept-answer-requires-clause-within
+accept-answer-requires-clause-within g c =
+    subst (λ (H : History). IsWithin c.self.inside.journal.place H) (sym c.prepare.ensures.history) c.self.invariant.within
 
 pub accept-answer-requires-clause-room : goal.accept-answer-requires-clause-room
 accept-answer-requires-clause-room g c =

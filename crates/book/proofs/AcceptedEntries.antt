@@ -1,0 +1,39 @@
+-- An accepted entry has a spelling, which is a payload that unfolds to it alone.
+use Rattle.std.proofs.Common.{◌≡◌, inr, ◌≤◌, Bool, true, false, [], ◌∷◌, length, refl, leb-true}
+use Rattle.std.specs.Prelude.{◌&&◌, nat_le}
+use Rattle.record_codec.specs.Payloads.{IsPayload}
+use Rattle.rulebook.specs.declared.entry.Entry.{Entry}
+use Rattle.rulebook.specs.declared.limits.TheConstants.{MAX_ENTRY_BYTES}
+use Rattle.rulebook.specs.Campaign.{History}
+use Rattle.rulebook.specs.Legal.{IsAccepted}
+use Rattle.rulebook.specs.Roles.{may_give}
+use Rattle.rulebook.specs.Spelling.{entry_bytes, has_spelling}
+
+pub first_of_both : (s t : Bool) → (s && t) ≡ true → s ≡ true
+first_of_both true t is = refl
+first_of_both false t is = is
+
+pub second_of_both : (s t : Bool) → (s && t) ≡ true → t ≡ true
+second_of_both true t is = is
+second_of_both false true is = refl
+second_of_both false false is = is
+
+pub accepted_spells : (H : History) (e : Entry) → IsAccepted H e → has_spelling e.core ≡ true
+accepted_spells H e accepted =
+    second_of_both (may_give e.core.caller.role e.core.command) (has_spelling e.core)
+    (first_of_both (may_give e.core.caller.role e.core.command && has_spelling e.core) (nat_le (length (entry_bytes e.core)) MAX_ENTRY_BYTES) accepted.addressed)
+
+-- which isn't too long
+pub accepted_short : (H : History) (e : Entry) → IsAccepted H e → length (entry_bytes e.core) ≤ MAX_ENTRY_BYTES
+accepted_short H e accepted =
+    leb-true (length (entry_bytes e.core)) MAX_ENTRY_BYTES
+    (second_of_both (may_give e.core.caller.role e.core.command && has_spelling e.core) (nat_le (length (entry_bytes e.core)) MAX_ENTRY_BYTES) accepted.addressed)
+
+-- and is one that its role may give
+pub accepted_givable : (H : History) (e : Entry) → IsAccepted H e → (may_give e.core.caller.role e.core.command) ≡ true
+accepted_givable H e accepted =
+    first_of_both (may_give e.core.caller.role e.core.command) (has_spelling e.core)
+    (first_of_both (may_give e.core.caller.role e.core.command && has_spelling e.core) (nat_le (length (entry_bytes e.core)) MAX_ENTRY_BYTES) accepted.addressed)
+
+pub accepted_payload : (H : History) (e : Entry) → IsAccepted H e → IsPayload (entry_bytes e.core) (e.core ∷ [])
+accepted_payload H e accepted = inr (e.core, (accepted_spells H e accepted, refl), refl)

@@ -1,0 +1,11 @@
+-- The entries of the records so far were packed.
+use Rattle.journal.specs.Kept.{payloads as payloads_of}
+use Rattle.book.specs.Packings.{AreShort}
+use Rattle.book.proofs.PackedEntries.{LeavesToPack}
+use Rattle.book.proofs.packing.pack.Given as goal
+
+abbrev pub invariant-loop-place : goal.invariant-loop-place
+invariant-loop-place l = record {
+  short : AreShort l.payloads.items;
+  leaves : LeavesToPack (payloads_of l.records) l.place (payloads_of l.payloads.items) l.part.items;
+}
