@@ -1,6 +1,6 @@
 //! A session in which each call fails in turn, until none does: a read or a write of its link, or a call on its disk; or
-//! whose text is cut at each byte. What has to hold is said at the function of each kind.
-use crate::calls::{ALL, Ended, Part, cut_session, held_session};
+//! whose text is cut at each byte. And a compaction in which each call on its disk fails in turn. What has to hold is said at the function of each kind.
+use crate::calls::{ALL, Ended, Part, called, checked, cut_session, held_session};
 use crate::outcomes::Outcome;
 use crate::sessions::{answered_count, behind, holds, is_answered, is_held_alike};
 use crate::stages::{Fails, NONE, Stage, Unplayed};
@@ -24,6 +24,7 @@ pub(crate) enum Kind {
     Read,
     Write,
     DiskCall,
+    CompactionCall,
     Cut,
 }
 
@@ -69,6 +70,9 @@ pub(crate) fn kind_of(words: &str) -> Option<Kind> {
     }
     if words == "disk call fails" {
         return Some(Kind::DiskCall);
+    }
+    if words == "disk call of a compaction fails" {
+        return Some(Kind::CompactionCall);
     }
     if words == "cut" {
         return Some(Kind::Cut);
@@ -122,6 +126,7 @@ fn take_turn<W: Threads + Wait + Sync + AllocGlobal>(
         Kind::Read => fail_read(rt, stage, place),
         Kind::Write => fail_write(rt, stage, place),
         Kind::DiskCall => fail_disk_call(rt, stage, place),
+        Kind::CompactionCall => fail_compaction(rt, stage, place),
         Kind::Cut => cut_at(rt, stage, place),
     }
 }
@@ -211,6 +216,26 @@ fn fail_disk_call<W: Threads + Wait + Sync + AllocGlobal>(
         )),
         _ => Ok(Turn::Breaks),
     }
+}
+
+// The status is 5, and the campaign is as it was.
+fn fail_compaction<W: Threads + Wait + Sync + AllocGlobal>(
+    rt: &W,
+    stage: &Stage,
+    place: usize,
+) -> Result<Turn, Memory> {
+    let fails = Fails {
+        disk: place as u64,
+        ..NONE
+    };
+    let ended = called(rt, "compact", stage, first(0), fails)?;
+    if ended.disk_faults() == 0 {
+        return Ok(turn_if(ended.status == 0, Turn::Over));
+    }
+    let before = checked(rt, stage, &stage.disk)?;
+    let after = checked(rt, stage, ended.held())?;
+    let same = after.status == 0 && after.printed() == before.printed();
+    Ok(turn_if(ended.status == 5 && same, Turn::Holds))
 }
 
 // One message, which is accepted otherwise, is answered by a fault; all other answers are those of the session without it.

@@ -1,7 +1,7 @@
 //! What is told on standard error where the words are no command, and at the statuses that need no second look.
 
 /// Each command: its name, what is called, and what that does.
-static COMMANDS: [(&str, &str, &str); 9] = [
+static COMMANDS: [(&str, &str, &str); 12] = [
     (
         "eval",
         "eval RUN QRELS",
@@ -28,6 +28,11 @@ static COMMANDS: [(&str, &str, &str); 9] = [
         "opens the campaign of this folder, and tells what it is",
     ),
     (
+        "compact",
+        "compact",
+        "packs the journal of this folder's campaign into fewer bytes, and tells how many it had and has",
+    ),
+    (
         "archive",
         "archive NAME",
         "puts the release of this folder's campaign into campaign.archive, once it is published",
@@ -46,6 +51,16 @@ static COMMANDS: [(&str, &str, &str); 9] = [
         "export",
         "export",
         "tells all systems of campaign.archive as CSV",
+    ),
+    (
+        "reuse",
+        "reuse",
+        "tells each run of this folder's campaign, how many graded documents its group alone brought in, and its map with and without them",
+    ),
+    (
+        "agreement",
+        "agreement",
+        "tells how the two assessors of each document agree, for the topics of this folder's campaign that need two labels",
     ),
 ];
 

@@ -29,7 +29,7 @@ use Rattle.campaign_cli.specs.Requests.{Archive}
 use Rattle.campaign_cli.specs.Shelves.{Follows, ShelfState}
 use Rattle.campaign_cli.specs.Statuses.{Differs, IsCalm, IsComplete, Keeper, Memory, Unpublished}
 use Rattle.campaign_cli.proofs.Told.{Told, done, finds, none_told, silent}
-use Rattle.campaign_cli.proofs.ToldDisks.{Opening, none_opened}
+use Rattle.campaign_cli.proofs.ToldDisks.{Opening, book_opens, none_opened}
 use Rattle.campaign_cli.proofs.ToldFiles.{prints_all}
 
 -- a release that was added is found
@@ -177,7 +177,7 @@ module _ {D : Type 0} (seen : D → DiskState) where
 
     pub archive_opening : ArchiveWay seen name old new status → Opening seen old new status
     archive_opening (unarchived none same) = inr none
-    archive_opening (archived (text, settings, gives, is, (book, shows, way))) = inl (text, settings, gives, is, (book, shows.opens))
+    archive_opening (archived (text, settings, gives, is, (book, shows, way))) = inl (text, settings, gives, is, book_opens seen settings.rules old.disk book shows.opens)
 
     same_count : new.streams.keeper ≡ old.streams.keeper → old.streams.keeper.faults ≤ new.streams.keeper.faults
     same_count same = omega (arith, ap (λ (k : KeeperState). k.faults) same)

@@ -11,25 +11,30 @@ use Rattle.drill.specs.Summaries.{summary_of}
 use Rattle.drill.specs.declared.numbers.DrillNumbers.{DrillNumbers}
 use Rattle.eval.specs.Evaluations.{IsReport, IsInputFault}
 use Rattle.eval.specs.Findings.{AreExclusive}
+use Rattle.rulebook.specs.Campaign.{History}
 use Rattle.campaign_cli.specs.BookEnds.{GivesSettings, rules_line}
 use Rattle.campaign_cli.specs.BookKinds.{CanOpen, TellsSettings}
-use Rattle.campaign_cli.specs.CheckEnds.{CheckWay, Tells, check_text, shown, unshown}
 use Rattle.campaign_cli.specs.DrillEnds.{DrillWay, played, unplayed}
 use Rattle.campaign_cli.specs.Endings.{Ends, kind_of}
 use Rattle.campaign_cli.specs.EvalEnds.{EvalWay, scored, refused, unread, short}
+use Rattle.campaign_cli.specs.Kinds.{Kind}
 use Rattle.campaign_cli.specs.Outside.{Outside, Streams}
 use Rattle.campaign_cli.specs.ReportEnds.{CompareWay, ListingWay, export_text, history_text}
-use Rattle.campaign_cli.specs.Requests.{Request, Eval, Session, Serve, Drill, Check, Archive, RunHistory, Compare, Export, Nothing, usage_line}
+use Rattle.campaign_cli.specs.Requests.{Request, Eval, Session, Serve, Drill, Check, Compact, Archive, RunHistory, Compare, Export, Reuse, Agreement, Nothing, usage_line}
 use Rattle.campaign_cli.specs.ServeEnds.{Served, ServeWay, served, unserved}
 use Rattle.campaign_cli.specs.ServeEnds.{status_of as serve_status}
 use Rattle.campaign_cli.specs.SessionEnds.{Holds, SessionWay, held, unheld, status_of}
+use Rattle.campaign_cli.specs.ShownEnds.{ShownEnds, shown_kind}
+use Rattle.campaign_cli.specs.ShownTexts.{agreement_text, check_text, reuse_text}
 use Rattle.campaign_settings.specs.Settings.{settings_of}
 use Rattle.campaign_cli.specs.Statuses.{Cause, Done, Usage, Input, File, Disk, Door, Memory, Output, Damaged, Link, Cut, Keeper, Unpublished, Differs, Unknown, number_of, Says, HasDamage, HasOtherRules, IsCalm, IsComplete, Statuses}
 use Rattle.campaign_cli.specs.UsageEnds.{UsageWay, told, untold as unasked}
 use Rattle.campaign_cli.proofs.ArchiveWays.{archive_complete, archive_later, archive_opening, archive_told}
+use Rattle.campaign_cli.proofs.CompactWays.{compact_complete, compact_opening, compact_told}
 use Rattle.campaign_cli.proofs.ReportWays.{compare_complete, compare_told, listing_complete, listing_told, report_keeps}
+use Rattle.campaign_cli.proofs.ShownWays.{shown_complete, shown_opening, shown_told}
 use Rattle.campaign_cli.proofs.Told.{Keeps, Told, done, keeps_all, none_told, printed, refuses, same_archive, silent}
-use Rattle.campaign_cli.proofs.ToldDisks.{Opening, check_opening, damage_told, none_opened, others_told, serve_opening, session_opening, settings_told}
+use Rattle.campaign_cli.proofs.ToldDisks.{Opening, damage_told, none_opened, others_told, serve_opening, session_opening, settings_told}
 use Rattle.campaign_cli.proofs.ToldFiles.{not_both_missed, prints_whole, told_both}
 
 -- a status has one cause
@@ -87,14 +92,6 @@ module _ {D : Type 0} (seen : D → DiskState) where
       by serve_end.DoorFault w is = silent seen (Serve numbers) old new status Door is ((numbers, refl, same, w), w.4.serves.fault refl) same
       by serve_end.Memory w is = silent seen (Serve numbers) old new status Memory is same same
 
-  check_told : (old new : Outside D) (status : ℕ) → CheckWay seen old new status → Told seen Check old new status
-  check_told old new status (unshown none) = none_told seen Check old new status tt (λ missed. missed) (λ text is. is) none
-  check_told old new status (shown (text, settings, gives, is, (book, shows, tells))) = by tells
-    where
-      by : Tells book.history old.streams.out new.streams.out status → Told seen Check old new status
-      by (inl prints) = done seen Check old new status (check_text book.history) (text, settings, gives, is, (book, shows, refl)) prints
-      by (inr untold) = silent seen Check old new status Memory untold.1 untold.0 untold.0
-
   drill_told : (numbers : DrillNumbers) (old new : Outside D) (status : ℕ) → DrillWay numbers old.streams new.streams status → Told seen (Drill numbers) old new status
   drill_told numbers old new status (played H plays prints) = done seen (Drill numbers) old new status (summary_of numbers H) (H, plays, refl) prints
   drill_told numbers old new status (unplayed same e) = silent seen (Drill numbers) old new status Memory e same same
@@ -146,12 +143,6 @@ module _ {D : Type 0} (seen : D → DiskState) where
         by serve_end.DoorFault w is = absurd (calm.door (w.4.serves.fault refl))
         by serve_end.Memory w is = inr (inl is)
 
-    check_complete : CanOpen seen old → CheckWay seen old new status → IsComplete seen Check old new status
-    check_complete can (unshown none) = inr (inl (none_opened seen old new status calm can none))
-    check_complete can (shown (text, settings, gives, is, (book, shows, inl prints))) =
-        inl (prints_whole old.streams.out new.streams.out (check_text book.history) 0 status prints calm.out)
-    check_complete can (shown (text, settings, gives, is, (book, shows, inr untold))) = inr (inl untold.1)
-
     drill_complete : (numbers : DrillNumbers) → DrillWay numbers old.streams new.streams status → IsComplete seen (Drill numbers) old new status
     drill_complete numbers (played H plays prints) = inl (prints_whole old.streams.out new.streams.out (summary_of numbers H) 0 status prints calm.out)
     drill_complete numbers (unplayed same e) = inr (inl e)
@@ -187,6 +178,22 @@ module _ {D : Type 0} (seen : D → DiskState) where
         → Statuses seen request old new status
     with_book opening settings = statuses (λ calm has. settings_told seen old new status calm (settings has) opening)
         (λ calm has. damage_told seen old new status calm has.1 opening) (λ calm has. others_told seen old new status calm has.1 opening)
+
+  -- what each says of a command that prints a text of its campaign
+  shown_statuses : (request : Request) (text_of : History → List ℕ) → kind_of seen request ≡ shown_kind seen text_of
+      → (old new : Outside D) (status : ℕ) → ShownEnds seen text_of old new status → Statuses seen request old new status
+  shown_statuses request text_of is old new status ends =
+      with_book request old new status (shown_told seen request text_of is old new status ends.way)
+      (record {
+        shelf = ends.shelf;
+        own = λ other. ap (λ (w : Streams). w.own) ends.rest;
+        no_file = λ other. absurd (other (subst (λ (k : Kind D). k.reads_files) (sym is) tt));
+        no_door = λ other. ap (λ (w : Streams). w.door) ends.rest;
+        no_disk = λ other. absurd (other (subst (λ (k : Kind D). k.keeps_book) (sym is) tt));
+        archive = same_archive seen request old new (ap (λ (w : Streams). w.keeper) ends.rest);
+      })
+      (λ calm can. shown_complete seen request text_of is old new status calm (subst (λ (k : Kind D). k.can_do old) is can) ends.way)
+      (shown_opening seen request text_of is old new status ends.way) (λ has. subst (λ (k : Kind D). k.has_to_refuse old) is has)
 
   -- what each status says, by what was asked
   pub by_status : AreExclusive → (request : Request) (old new : Outside D) (status : ℕ) → Ends seen request old new status → Statuses seen request old new status
@@ -227,17 +234,18 @@ module _ {D : Type 0} (seen : D → DiskState) where
   by_status exclusive (Drill numbers) old new status (ends, kept) =
       without_book (Drill numbers) old new status (drill_told numbers old new status ends.way) (keeps_all seen (Drill numbers) old new ends.rest kept)
       (λ calm can. drill_complete old new status calm numbers ends.way) (λ none. none) (λ calm has. absurd has)
-  by_status exclusive Check old new status ends =
-      with_book Check old new status (check_told old new status ends.way)
+  by_status exclusive Check old new status ends = shown_statuses Check check_text refl old new status ends
+  by_status exclusive Compact old new status ends =
+      with_book Compact old new status (compact_told seen old new status ends.way)
       (record {
         shelf = ends.shelf;
         own = λ other. ap (λ (w : Streams). w.own) ends.rest;
         no_file = λ other. absurd (other tt);
         no_door = λ other. ap (λ (w : Streams). w.door) ends.rest;
         no_disk = λ other. absurd (other tt);
-        archive = same_archive seen Check old new (ap (λ (w : Streams). w.keeper) ends.rest);
+        archive = same_archive seen Compact old new (ap (λ (w : Streams). w.keeper) ends.rest);
       })
-      (λ calm can. check_complete old new status calm can ends.way) (check_opening seen old new status ends.way) (λ has. has)
+      (λ calm can. compact_complete seen old new status calm can ends.way) (compact_opening seen old new status ends.way) (λ has. has)
   by_status exclusive (Archive name) old new status ends =
       with_book (Archive name) old new status (archive_told seen name old new status ends.way)
       (record {
@@ -266,6 +274,8 @@ module _ {D : Type 0} (seen : D → DiskState) where
       without_book Export old new status (listing_told seen Export export_text old new status (λ all lists. (all, lists, refl)) tt ends.way)
       (report_keeps seen Export (ListingWay export_text) old new status tt ends kept)
       (λ calm can. listing_complete seen Export export_text old new status calm ends.way) (λ none. none) (λ calm has. absurd has)
+  by_status exclusive Reuse old new status ends = shown_statuses Reuse reuse_text refl old new status ends
+  by_status exclusive Agreement old new status ends = shown_statuses Agreement agreement_text refl old new status ends
   by_status exclusive Nothing old new status (ends, kept) =
       without_book Nothing old new status (usage_told old new status ends.way) (keeps_all seen Nothing old new ends.rest kept)
       (λ calm can. absurd can) (λ none. none) (λ calm has. absurd has)

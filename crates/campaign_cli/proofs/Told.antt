@@ -68,7 +68,7 @@ module _ {D : Type 0} (seen : D → DiskState) where
         none why r = (needs, (text, settings, gives, is, r))
 
         by : (why : BookFault) → Refused seen settings.rules old.disk new.disk why → TellsFault why old.streams.out new.streams.out status → Told request old new status
-        by fault.Disk r tells = silent Disk tells.1 (none fault.Disk r, tells.0) tells.0
+        by fault.Disk r tells = silent Disk tells.1 (inl (none fault.Disk r), tells.0) tells.0
         by fault.Header r prints = damages header_line (inl (refl, none fault.Header r)) prints
         by (fault.Damaged entry) r (inl prints) = damages (entry_line entry) (inr (entry, refl, none (fault.Damaged entry) r)) prints
         by (fault.Damaged entry) r (inr untold) = silent Memory untold.1 untold.0 untold.0

@@ -1,6 +1,6 @@
 -- Settings and a disk that are told: what is refused or damaged, or another campaign's, is told, and what may be opened is.
 use Rattle.std.proofs.Common.{◌≡◌, ◌⊎◌, inl, inr, ℕ, List, [], ◌∷◌, Option, Some, None, refl, sym, ap, subst, ◌∙◌}
-use Rattle.std.specs.Prelude.{IfSome, take}
+use Rattle.std.specs.Prelude.{IfSome}
 use Rattle.std.specs.Io.KnownBytes.{Appends}
 use Rattle.disk_model.specs.Disks.{DiskState}
 use Rattle.journal.specs.Format.{decode}
@@ -11,13 +11,12 @@ use Rattle.book.specs.declared.faults.BookFault.{BookFault}
 use Rattle.book.specs.declared.faults.BookFault.TheVariants as fault
 use Rattle.book.specs.Books.{Seen}
 use Rattle.book.specs.Openings.{DiffersFrom, Opened, OpensWith, Reads, Refused}
-use Rattle.book.specs.OpeningLaws.{opens_or_memory, story_start}
-use Rattle.book.specs.Stories.{HasStory}
+use Rattle.book.specs.OpeningLaws.{opens_or_memory, opens_unbroken, story_unbroken}
+use Rattle.book.specs.Stories.{BreaksAt}
 use Rattle.campaign_server.specs.declared.numbers.ServerNumbers.{ServerNumbers}
 use Rattle.campaign_settings.specs.declared.settings.Settings.{Settings}
 use Rattle.campaign_cli.specs.BookEnds.{GivesSettings, TellsFault, Unopened, entry_line, header_line, not_begun, not_opened, rules_line, settings_file, settings_line, settings_refused, settings_unread}
 use Rattle.campaign_cli.specs.BookKinds.{CanOpen, TellsSettings}
-use Rattle.campaign_cli.specs.CheckEnds.{CheckWay, shown, unshown}
 use Rattle.campaign_cli.specs.Outside.{Outside}
 use Rattle.campaign_cli.specs.ServeEnds.{ServeWay, served, unserved}
 use Rattle.campaign_cli.specs.SessionEnds.{SessionWay, held, unheld}
@@ -38,18 +37,13 @@ same_records bytes first second one other =
     let both : Some first ≡ Some second = sym one ∙ other in
     cc both
 
--- a campaign with these records has a story for them
-story_opened : (rules : Rules) (payloads : List Text) (H : History) → OpensWith rules payloads H → HasStory payloads
-story_opened rules [] H opens = ([], refl)
-story_opened rules (first ∷ others) H opens = (H, opens.0.0)
-
--- records with a story aren't damaged
-not_damaged : (rules : Rules) (bytes : List ℕ) (payloads : List Text) → decode bytes ≡ Some payloads → HasStory payloads → IsDamaged rules bytes → ⊥
-not_damaged rules bytes payloads decodes story (inl none) =
+-- bytes that give records whose entries don't break aren't damaged
+not_damaged : (rules : Rules) (bytes : List ℕ) (payloads : List Text) → decode bytes ≡ Some payloads → ((entry : ℕ) → BreaksAt payloads entry → ⊥) → IsDamaged rules bytes → ⊥
+not_damaged rules bytes payloads decodes whole (inl none) =
     let both : Some payloads ≡ None = sym decodes ∙ none in
     cc both
-not_damaged rules bytes payloads decodes story (inr (read, entry, reads, at)) =
-    at.none (subst (λ (p : List Text). HasStory (take entry p)) (same_records bytes payloads read decodes reads) (story_start payloads story.0 entry story.1))
+not_damaged rules bytes payloads decodes whole (inr (read, entry, reads, at)) =
+    whole entry (subst (λ (p : List Text). BreaksAt p entry) (same_records bytes read payloads reads decodes) at)
 
 -- a campaign with these records isn't another one's
 not_of_others : (rules : Rules) (payloads : List Text) (K : History) → DiffersFrom rules payloads → OpensWith rules payloads K → ⊥
@@ -57,23 +51,26 @@ not_of_others rules [] K differs opens = differs.0 refl
 not_of_others rules (first ∷ others) K (some, (H, only, other)) opens = other (ap rules_of (sym (only.1 K opens.0.0)) ∙ opens.1)
 
 module _ {D : Type 0} (seen : D → DiskState) where
+  -- the disk told records, and these entries are those of a campaign of the rules
+  abbrev pub OpensStory : Rules → D → Type 0
+  OpensStory rules disk = (payloads : List Text) × (H : History) × Reads (seen disk).content payloads × OpensWith rules payloads H
+
+  -- so it is with an opened book
+  pub book_opens : (rules : Rules) (disk : D) (book : Seen D) → Opened seen rules disk book → OpensStory rules disk
+  book_opens rules disk book opens = (opens.payloads, book.history, opens.reads, opens.opens)
+
   -- the disk was opened under the settings that the shelf gives, or there is no campaign
   abbrev pub Opening : Outside D → Outside D → ℕ → Type 0
-  Opening old new status =
-      GivesSettings old.streams.shelf (λ settings. (book : Seen D) × Opened seen settings.rules old.disk book) ⊎ Unopened seen old new status
+  Opening old new status = GivesSettings old.streams.shelf (λ settings. OpensStory settings.rules old.disk) ⊎ Unopened seen old new status
 
   -- so it is with each command that keeps a campaign
   pub session_opening : (old new : Outside D) (status : ℕ) → SessionWay seen old new status → Opening old new status
-  session_opening old new status (held how (text, settings, gives, is, holds) same e) = inl (text, settings, gives, is, (holds.opened, holds.opens))
+  session_opening old new status (held how (text, settings, gives, is, holds) same e) = inl (text, settings, gives, is, book_opens settings.rules old.disk holds.opened holds.opens)
   session_opening old new status (unheld none own) = inr none
 
   pub serve_opening : (numbers : ServerNumbers) (old new : Outside D) (status : ℕ) → ServeWay seen numbers old new status → Opening old new status
-  serve_opening numbers old new status (served how (text, settings, gives, is, serves) same e) = inl (text, settings, gives, is, (serves.opened, serves.opens))
+  serve_opening numbers old new status (served how (text, settings, gives, is, serves) same e) = inl (text, settings, gives, is, book_opens settings.rules old.disk serves.opened serves.opens)
   serve_opening numbers old new status (unserved none door) = inr none
-
-  pub check_opening : (old new : Outside D) (status : ℕ) → CheckWay seen old new status → Opening old new status
-  check_opening old new status (shown (text, settings, gives, is, (book, shows, tells))) = inl (text, settings, gives, is, (book, shows.opens))
-  check_opening old new status (unshown none) = inr none
 
   module _ (old new : Outside D) (status : ℕ) (calm : IsCalm seen old new) where
     -- settings that have to be refused are
@@ -135,13 +132,13 @@ module _ {D : Type 0} (seen : D → DiskState) where
         by_fault fault.RulesDiffer refused prints =
             let differs = refused.causes in
             absurd (not_damaged settings.rules bytes differs.0 (read_of (seen old.disk).content bytes differs.0 tells differs.1)
-            (differs.2.1.0, differs.2.1.1.0) damaged)
+            (λ entry at. story_unbroken differs.0 differs.2.1.0 entry differs.2.1.1.0 at) damaged)
         by_fault fault.Memory refused none = inr none.1
 
         by : Opening old new status → (status ≡ 9) ⊎ (status ≡ 7)
-        by (inl (read, found, gives, is, (book, opens))) =
-            absurd (not_damaged found.rules bytes opens.payloads (read_of (seen old.disk).content bytes opens.payloads tells opens.reads)
-            (story_opened found.rules opens.payloads book.history opens.opens) damaged)
+        by (inl (read, found, gives, is, (payloads, H, told, opens))) =
+            absurd (not_damaged found.rules bytes payloads (read_of (seen old.disk).content bytes payloads tells told)
+            (λ entry at. opens_unbroken found.rules payloads H entry opens at) damaged)
         by (inr none) = why_none settings (files, text, there, at, reads) ((status ≡ 9) ⊎ (status ≡ 7)) (λ e. inr e) by_fault none
 
     -- another campaign's disk is told, or memory is short
@@ -153,22 +150,22 @@ module _ {D : Type 0} (seen : D → DiskState) where
             → ((status ≡ 3) × Appends old.streams.out.written new.streams.out.written rules_line) ⊎ (status ≡ 7)
         by_fault fault.Disk refused none = absurd (calm.disk refused.causes)
         by_fault fault.Header refused prints =
-            absurd (not_damaged settings.rules bytes payloads decodes (differs.1.0, differs.1.1.0)
+            absurd (not_damaged settings.rules bytes payloads decodes (λ entry at. story_unbroken payloads differs.1.0 entry differs.1.1.0 at)
             (inl (no_records (seen old.disk).content bytes tells refused.causes.0)))
         by_fault (fault.Damaged entry) refused line =
             let at = refused.causes in
-            let same = same_records bytes payloads at.0 decodes (read_of (seen old.disk).content bytes at.0 tells at.1) in
-            absurd (at.2.none (subst (λ (p : List Text). HasStory (take entry p)) same (story_start payloads differs.1.0 entry differs.1.1.0)))
+            let same = same_records bytes at.0 payloads (read_of (seen old.disk).content bytes at.0 tells at.1) decodes in
+            absurd (story_unbroken payloads differs.1.0 entry differs.1.1.0 (subst (λ (p : List Text). BreaksAt p entry) same at.2))
         by_fault fault.RulesDiffer refused prints = inl (prints_all old.streams.out new.streams.out rules_line 3 status prints calm.out)
         by_fault fault.Memory refused none = inr none.1
 
         by : Opening old new status → ((status ≡ 3) × Appends old.streams.out.written new.streams.out.written rules_line) ⊎ (status ≡ 7)
-        by (inl (read, found, gives, is, (book, opens))) =
-            let same = same_records bytes payloads opens.payloads decodes (read_of (seen old.disk).content bytes opens.payloads tells opens.reads) in
-            let there_too : DiffersFrom settings.rules opens.payloads = subst (DiffersFrom settings.rules) same differs in
-            let rules_too : OpensWith settings.rules opens.payloads book.history =
-            subst (λ (s : Settings). OpensWith s.rules opens.payloads book.history) (one settings (files, text, there, at, reads) read found gives is) opens.opens in
-            absurd (not_of_others settings.rules opens.payloads book.history there_too rules_too)
+        by (inl (read, found, gives, is, (records, H, told, opens))) =
+            let same = same_records bytes payloads records decodes (read_of (seen old.disk).content bytes records tells told) in
+            let there_too : DiffersFrom settings.rules records = subst (DiffersFrom settings.rules) same differs in
+            let rules_too : OpensWith settings.rules records H =
+            subst (λ (s : Settings). OpensWith s.rules records H) (one settings (files, text, there, at, reads) read found gives is) opens in
+            absurd (not_of_others settings.rules records H there_too rules_too)
         by (inr none) =
             why_none settings (files, text, there, at, reads) (((status ≡ 3) × Appends old.streams.out.written new.streams.out.written rules_line) ⊎ (status ≡ 7))
             (λ e. inr e) by_fault none

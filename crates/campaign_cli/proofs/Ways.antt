@@ -1,12 +1,13 @@
 -- The ways in which the commands end.
 use Rattle.std.proofs.Common.{◌≡◌, inl, inr, ℕ, List, Some, None, refl, sym, subst, ◌∙◌, arith}
-use Rattle.std.specs.Prelude.{IfErr, IfSome, Result, Ok, Err}
+use Rattle.std.specs.Prelude.{IfErr, IfOk, IfSome, Result, Ok, Err}
 use Rattle.decimal_rank.specs.Causes.{Rose}
 use Rattle.decimal_rank.specs.Writings.{Writing}
 use Rattle.disk_model.specs.Disks.{DiskState}
 use Rattle.book.specs.Books.{IsSound, Seen}
 use Rattle.book.specs.Images.{StandsFor}
 use Rattle.book.specs.OpeningLaws.{stands_alone}
+use Rattle.book.specs.Openings.{Opened}
 use Rattle.campaign_server.specs.declared.numbers.ServerNumbers.{ServerNumbers}
 use Rattle.campaign_server.specs.Connections.{Ends}
 use Rattle.campaign_server.specs.Doors.{DoorState}
@@ -22,18 +23,19 @@ use Rattle.drill.specs.declared.numbers.DrillNumbers.{DrillNumbers}
 use Rattle.campaign_settings.specs.declared.settings.Settings.{Settings}
 use Rattle.campaign_cli.specs.declared.statuses.Status.{Status}
 use Rattle.campaign_cli.specs.ArchiveEnds.{unarchived}
-use Rattle.campaign_cli.specs.BookEnds.{GivesSettings, IsOpened, IsRefused, Shows, Unopened, not_begun, not_opened, settings_file, settings_unread}
-use Rattle.campaign_cli.specs.CheckEnds.{CheckEnds, Tells, shown, unshown}
+use Rattle.campaign_cli.specs.BookEnds.{GivesSettings, HasNone, IsGiven, IsOpened, IsRefused, Shows, Unopened, not_begun, not_opened, settings_file, settings_refused, settings_unread}
+use Rattle.campaign_cli.specs.CompactEnds.{uncompacted}
 use Rattle.campaign_cli.specs.DrillEnds.{DrillEnds, played, unplayed}
 use Rattle.campaign_cli.specs.EvalEnds.{EvalEnds, scored, refused, short}
-use Rattle.campaign_cli.specs.Outside.{Outside, Streams, Prints, IsUnread, outside_of}
+use Rattle.campaign_cli.specs.Outside.{Outside, Streams, Prints, outside_of}
 use Rattle.campaign_cli.specs.Endings.{Ends as Finishes}
 use Rattle.campaign_cli.specs.ReportEnds.{CompareWay, ListingWay, export_text, history_text, short_of}
 use Rattle.campaign_cli.specs.ReportEnds.{short as short_report}
-use Rattle.campaign_cli.specs.Requests.{Request, Eval, Session, Serve, Drill, Check, Archive, RunHistory, Compare, Export, Nothing}
+use Rattle.campaign_cli.specs.Requests.{Request, Eval, Session, Serve, Drill, Check, Compact, Archive, RunHistory, Compare, Export, Reuse, Agreement, Nothing}
 use Rattle.campaign_cli.specs.UsageEnds.{untold as unasked}
 use Rattle.campaign_cli.specs.ServeEnds.{Closes, ServeEnds, Served, ServersStand, served, unserved}
 use Rattle.campaign_cli.specs.SessionEnds.{Answers, Holds, SessionEnds, SessionsStand, held, unheld}
+use Rattle.campaign_cli.specs.ShownEnds.{ShownEnds, Tells, shown, unshown}
 use Rattle.campaign_settings.specs.Settings.{settings_of}
 use Rattle.campaign_cli.specs.Shelves.{Follows, Gives, ShelfState, file_at}
 use Rattle.campaign_cli.proofs.ReportWays.{reported}
@@ -78,11 +80,20 @@ drill_played numbers old out H text status plays is prints =
     record { way = played H plays (subst (λ (t : List ℕ). Prints old.out out t 0 status) is prints); rest = refl }
 
 module _ {D : Type 0} (seen : D → DiskState) where
-  -- the settings weren't read
-  pub unread_settings : (old : Streams) (later : ShelfState) (disk : D) (status : ℕ) → IsUnread old.shelf later settings_file status
-      → Unopened seen (outside_of old disk) (outside_of (record old { shelf = later }) disk) status
-  unread_settings old later disk status (inl missed) = settings_unread missed.1 refl refl missed.0
-  unread_settings old later disk status (inr is) = not_begun refl refl is
+  -- there are no settings
+  pub no_settings : (old : Streams) (later : ShelfState) (out : Writing) (disk : D) (status : ℕ) → HasNone old.shelf later old.out out status
+      → Unopened seen (outside_of old disk) (outside_of (record old { shelf = later; out = out }) disk) status
+  no_settings old later out disk status (inl told) = settings_refused told.0 told.1 refl
+  no_settings old later out disk status (inr (same, inl missed)) = settings_unread missed.1 same refl missed.0
+  no_settings old later out disk status (inr (same, inr is)) = not_begun same refl is
+
+  -- a disk that was opened under settings that were given
+  pub opened_disk : {T : Type 0} (settings : Settings) (shelf : ShelfState) (disk : D) → IsGiven shelf settings → (result : Result (Seen D × List KeyRow) T)
+      → IfOk result (λ found. Opened seen settings.rules disk found.0) → IfOk result (λ found. found.1 ≡ settings.callers)
+      → IfOk result (λ found. IsOpened seen shelf disk found.0 found.1)
+  opened_disk settings shelf disk given (Ok found) opens callers =
+      record { text = given.0; settings = settings; given = given.1; read = given.2; callers_are = callers; opened = opens }
+  opened_disk settings shelf disk given (Err ended) opens callers = tt
 
   -- a disk that wasn't opened
   pub refused_disk : {T : Type 0} (text : List ℕ) (settings : Settings) (shelf later : ShelfState) (out written : Writing) (disk : D)
@@ -138,13 +149,13 @@ module _ {D : Type 0} (seen : D → DiskState) where
           rest = refl;
         }
 
-    -- it is shown
-    pub shown_campaign : (between : Writing) → between ≡ old.out → Tells book.history between out status → after ≡ book.disk
-        → CheckEnds seen (outside_of old disk) (outside_of (record old { shelf = later; out = out }) after) status
-    shown_campaign between same tells closes = record {
+    -- a text of it is printed
+    pub shown_campaign : (text_of : History → List ℕ) (between : Writing) → between ≡ old.out → Tells text_of book.history between out status → after ≡ book.disk
+        → ShownEnds seen text_of (outside_of old disk) (outside_of (record old { shelf = later; out = out }) after) status
+    shown_campaign text_of between same tells closes = record {
       way = shown (given (λ settings. (book : Seen D) × Shows seen settings (outside_of old disk) (outside_of (record old { shelf = later; out = out }) after) book
-          × Tells book.history old.out out status)
-          (book, record { opens = opened.opened; closes = closes }, subst (λ (o : Writing). Tells book.history o out status) same tells));
+          × Tells text_of book.history old.out out status)
+          (book, record { opens = opened.opened; closes = closes }, subst (λ (o : Writing). Tells text_of book.history o out status) same tells));
       shelf = follows;
       rest = refl;
     }
@@ -172,9 +183,12 @@ module _ {D : Type 0} (seen : D → DiskState) where
   without_memory (Serve numbers) old = record { way = unserved (not_begun refl refl refl) refl; shelf = still old.streams.shelf; rest = refl }
   without_memory (Drill numbers) old = (record { way = unplayed refl refl; rest = refl }, refl)
   without_memory Check old = record { way = unshown (not_begun refl refl refl); shelf = still old.streams.shelf; rest = refl }
+  without_memory Compact old = record { way = uncompacted (not_begun refl refl refl); shelf = still old.streams.shelf; rest = refl }
   without_memory (Archive name) old = record { way = unarchived (not_begun refl refl refl) refl; shelf = still old.streams.shelf; rest = refl }
   without_memory (RunHistory run) old = (reported old.streams old.streams.out old.streams.keeper 7 refl (omega arith) (ListingWay (history_text run)) (short_report refl refl), refl)
   without_memory (Compare first second) old =
       (reported old.streams old.streams.out old.streams.keeper 7 refl (omega arith) (CompareWay first second) (short_of refl refl), refl)
   without_memory Export old = (reported old.streams old.streams.out old.streams.keeper 7 refl (omega arith) (ListingWay export_text) (short_report refl refl), refl)
+  without_memory Reuse old = record { way = unshown (not_begun refl refl refl); shelf = still old.streams.shelf; rest = refl }
+  without_memory Agreement old = record { way = unshown (not_begun refl refl refl); shelf = still old.streams.shelf; rest = refl }
   without_memory Nothing old = (record { way = unasked refl refl; rest = refl }, refl)

@@ -10,7 +10,7 @@ use Rattle.routes.specs.declared.keys.KeyRow.{KeyRow}
 use Rattle.rulebook.specs.declared.rules.Rules.{Rules}
 use Rattle.rulebook.specs.Campaign.{History}
 use Rattle.campaign_settings.specs.declared.settings.Settings.{Settings}
-use Rattle.campaign_cli.specs.Outside.{Outside, Prints, Misses}
+use Rattle.campaign_cli.specs.Outside.{Outside, IsUnread, Misses, Prints}
 use Rattle.campaign_settings.specs.Settings.{settings_of}
 use Rattle.campaign_cli.specs.Shelves.{Gives, ShelfState}
 
@@ -37,9 +37,18 @@ abbrev pub GivesSettings : ShelfState → (Settings → Type 0) → Type 0
 GivesSettings shelf P =
     (text : List ℕ) × (settings : Settings) × Gives shelf settings_file text × (settings_of text ≡ Some settings) × P settings
 
+-- the shelf may give these settings
+abbrev pub IsGiven : ShelfState → Settings → Type 0
+IsGiven shelf settings = (text : List ℕ) × Gives shelf settings_file text × (settings_of text ≡ Some settings)
+
 -- the shelf may give settings that are refused
 abbrev pub RefusesSettings : ShelfState → Type 0
 RefusesSettings shelf = (text : List ℕ) × Gives shelf settings_file text × (settings_of text ≡ None)
+
+-- The settings are refused, and the line that names their file is printed; or they weren't read, or there was no memory for them.
+abbrev pub HasNone : ShelfState → ShelfState → Writing → Writing → ℕ → Type 0
+HasNone shelf later old new status =
+    (RefusesSettings shelf × Prints old new settings_line 3 status) ⊎ ((new ≡ old) × IsUnread shelf later settings_file status)
 
 -- what is told of a disk that isn't opened: a line with its status, or the status alone
 abbrev pub TellsFault : BookFault → Writing → Writing → ℕ → Type 0

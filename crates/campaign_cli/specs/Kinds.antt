@@ -27,6 +27,8 @@ pub record Kind (D : Type 0) : Type 1 where
   pub differing : Outside D → Outside D → List ℕ → Type 0
   -- the archive has no release of a name, and the text says so
   pub unknown : Outside D → Outside D → List ℕ → Type 0
+  -- a call on the disk failed behind the opening, and so its work isn't done
+  pub breaks_off : Outside D → Outside D → Type 0
   -- its files are told, and within their grammars, and so is the disk: it can do its work
   pub can_do : Outside D → Type 0
   -- its files are told, and one is outside its grammar: it has to refuse that
@@ -47,6 +49,7 @@ plain_kind ends = record {
   unpublished = λ old new text. ⊥;
   differing = λ old new text. ⊥;
   unknown = λ old new text. ⊥;
+  breaks_off = λ old new. ⊥;
   can_do = λ old. ⊥;
   has_to_refuse = λ old. ⊥;
 }

@@ -2,7 +2,7 @@ pub mod ArchiveEnds
 pub mod BookEnds
 pub mod BookKinds
 pub mod CalmSessions
-pub mod CheckEnds
+pub mod CompactEnds
 pub mod DrillEnds
 pub mod Endings
 pub mod EvalEnds
@@ -14,6 +14,8 @@ pub mod Requests
 pub mod ServeEnds
 pub mod SessionEnds
 pub mod Shelves
+pub mod ShownEnds
+pub mod ShownTexts
 pub mod Sinks
 pub mod Statuses
 pub mod UsageEnds

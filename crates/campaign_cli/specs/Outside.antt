@@ -1,5 +1,5 @@
 -- What the program sees of the outside, and what it prints and reads there.
-use Rattle.std.specs.Prelude.{◌≡◌, ◌≤◌, ◌⊎◌, ℕ, List, ◌++◌, codes}
+use Rattle.std.specs.Prelude.{◌≡◌, ◌≤◌, ◌⊎◌, ℕ, List, ◌++◌, codes, decimal}
 use Rattle.std.specs.Io.KnownBytes.{Appends}
 use Rattle.decimal_rank.specs.Causes.{Rose}
 use Rattle.decimal_rank.specs.KnownBytes.{AppendsPart}
@@ -56,6 +56,14 @@ Misses old new name = Rose old.faults new.faults ⊎ (Rose old.misses new.misses
 -- the file wasn't read, and the program ends with 4; or there was no memory for its bytes, and it ends with 7
 abbrev pub IsUnread : ShelfState → ShelfState → List ℕ → ℕ → Type 0
 IsUnread old new name ended = ((ended ≡ 4) × Misses old new name) ⊎ (ended ≡ 7)
+
+-- a text was printed with the status 0, or there was no memory for it
+abbrev pub TellsText : List ℕ → Writing → Writing → ℕ → Type 0
+TellsText text old new status = Prints old new text 0 status ⊎ ((new ≡ old) × (status ≡ 7))
+
+-- a line with a number behind a word
+abbrev pub count_line : List ℕ → ℕ → List ℕ
+count_line word count = word ++ decimal count ++ codes "\n"
 
 -- a line with a name behind a word
 abbrev pub name_line : List ℕ → List ℕ → List ℕ

@@ -13,7 +13,7 @@ use Rattle.release_archive.specs.declared.ends.KeepEnd.TheVariants as keep_end
 use Rattle.release_archive.specs.declared.kept.Kept.{Kept}
 use Rattle.release_archive.specs.Keepers.{Finds, Lists}
 use Rattle.campaign_cli.specs.Kinds.{Kind, plain_kind}
-use Rattle.campaign_cli.specs.Outside.{Streams, Prints, name_line}
+use Rattle.campaign_cli.specs.Outside.{Streams, Prints, count_line, name_line}
 
 -- a run in a release: the release's name, how many topics counted, and the map, with tabs between them
 abbrev pub history_line : HistoryRow → List ℕ
@@ -24,9 +24,6 @@ history_text run all = flat_map history_line (history_of run all)
 
 abbrev pub export_text : List Kept → List ℕ
 export_text all = csv_text (rows_of all)
-
-abbrev pub count_line : List ℕ → ℕ → List ℕ
-count_line word count = word ++ decimal count ++ codes "\n"
 
 -- a number less another, with a sign where that is negative
 abbrev pub difference : ℕ → ℕ → List ℕ

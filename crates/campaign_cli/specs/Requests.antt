@@ -18,10 +18,13 @@ pub data Request : Type 0 where
   Serve : ServerNumbers → Request
   Drill : DrillNumbers → Request
   Check : Request
+  Compact : Request
   Archive : List ℕ → Request
   RunHistory : List ℕ → Request
   Compare : List ℕ → List ℕ → Request
   Export : Request
+  Reuse : Request
+  Agreement : Request
   Nothing : Request
 
 abbrev pub form : List ℕ → List (List ℕ) → List (List ℕ) → Form
@@ -35,10 +38,13 @@ forms =
     ∷ form (codes "serve") [] (codes "port" ∷ codes "workers" ∷ codes "connections" ∷ [])
     ∷ form (codes "drill") (codes "seed" ∷ codes "runs" ∷ codes "topics" ∷ codes "docs" ∷ []) []
     ∷ form (codes "check") [] []
+    ∷ form (codes "compact") [] []
     ∷ form (codes "archive") (codes "name" ∷ []) []
     ∷ form (codes "history") (codes "run" ∷ []) []
     ∷ form (codes "compare") (codes "first" ∷ codes "second" ∷ []) []
-    ∷ form (codes "export") [] [] ∷ []
+    ∷ form (codes "export") [] []
+    ∷ form (codes "reuse") [] []
+    ∷ form (codes "agreement") [] [] ∷ []
 
 abbrev pub eval_of : List (List ℕ) → Request
 eval_of (run ∷ qrels ∷ []) = Eval run qrels
@@ -115,10 +121,13 @@ request_at found = if bytes_eq found.0 (codes "eval") then eval_of found.1
     else (if bytes_eq found.0 (codes "serve") then serve_of found.1
     else (if bytes_eq found.0 (codes "drill") then drill_of found.1
     else (if bytes_eq found.0 (codes "check") then Check
+    else (if bytes_eq found.0 (codes "compact") then Compact
     else (if bytes_eq found.0 (codes "archive") then archive_of found.1
     else (if bytes_eq found.0 (codes "history") then history_of found.1
     else (if bytes_eq found.0 (codes "compare") then compare_of found.1
-    else (if bytes_eq found.0 (codes "export") then Export else Nothing))))))))
+    else (if bytes_eq found.0 (codes "export") then Export
+    else (if bytes_eq found.0 (codes "reuse") then Reuse
+    else (if bytes_eq found.0 (codes "agreement") then Agreement else Nothing)))))))))))
 
 -- the request that words give by the forms
 abbrev pub request_of : List (List ℕ) → Request
@@ -135,10 +144,13 @@ meant command.Session = Session
 meant (command.Serve numbers) = Serve numbers
 meant (command.Drill numbers) = Drill numbers
 meant command.Check = Check
+meant command.Compact = Compact
 meant (command.Archive name) = Archive name.now
 meant (command.RunHistory run) = RunHistory run.now
 meant (command.Compare first second) = Compare first.now second.now
 meant command.Export = Export
+meant command.Reuse = Reuse
+meant command.Agreement = Agreement
 meant command.Usage = Nothing
 
 -- a server has 1 to 16 workers, and takes one connection at least; the numbers of a drill are within their ranges; releases and runs have names
@@ -148,13 +160,16 @@ IsInRange command.Session = Unit {0}
 IsInRange (command.Serve numbers) = (1 ≤ numbers.workers) × (numbers.workers ≤ 16) × (1 ≤ numbers.connections)
 IsInRange (command.Drill numbers) = IsTrue (are_numbers numbers)
 IsInRange command.Check = Unit {0}
+IsInRange command.Compact = Unit {0}
 IsInRange (command.Archive name) = IsTrue (is_name name.now)
 IsInRange (command.RunHistory run) = IsTrue (is_name run.now)
 IsInRange (command.Compare first second) = IsTrue (is_name first.now && is_name second.now)
 IsInRange command.Export = Unit {0}
+IsInRange command.Reuse = Unit {0}
+IsInRange command.Agreement = Unit {0}
 IsInRange command.Usage = Unit {0}
 
 -- what is printed where the words are no command
 abbrev pub usage_line : List ℕ
 usage_line =
-    codes "usage: campaign eval RUN QRELS | session | serve --port P --workers W --connections N | drill SEED RUNS TOPICS DOCS | check | archive NAME | history RUN | compare A B | export\n"
+    codes "usage: campaign eval RUN QRELS | session | serve --port P --workers W --connections N | drill SEED RUNS TOPICS DOCS | check | compact | archive NAME | history RUN | compare A B | export | reuse | agreement\n"

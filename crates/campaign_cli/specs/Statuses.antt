@@ -76,7 +76,7 @@ PrintsPart old new P = Rose old.faults new.faults × ((text : List ℕ) × P tex
 abbrev pub IsUsage : Request → List ℕ → Type 0
 IsUsage request text = (request ≡ Nothing) × (text ≡ usage_line)
 
--- the bytes of a disk are no journal, or so many of its first records have no story while those before the last of them have one
+-- the bytes of a disk are no journal, or so many of the first entries that its records unfold to have no story while those before the last of them have one
 abbrev pub IsDamaged : Rules → List ℕ → Type 0
 IsDamaged rules bytes = (decode bytes ≡ None) ⊎ ((payloads : List Text) × (entry : ℕ) × (decode bytes ≡ Some payloads) × BreaksAt payloads entry)
 
@@ -127,7 +127,7 @@ module _ {D : Type 0} (seen : D → DiskState) where
   Says Usage request old new = PrintsAll old.streams.out new.streams.out (IsUsage request)
   Says Input request old new = PrintsAll old.streams.out new.streams.out ((kind_of seen request).refusal old new)
   Says File request old new = (kind_of seen request).misses old new × (new.streams.out ≡ old.streams.out) × (new.disk ≡ old.disk)
-  Says Disk request old new = IsUnopened request old new fault.Disk × (new.streams.out ≡ old.streams.out)
+  Says Disk request old new = (IsUnopened request old new fault.Disk ⊎ (kind_of seen request).breaks_off old new) × (new.streams.out ≡ old.streams.out)
   Says Door request old new = ServerComesTo request old new serve_end.DoorFault × Rose old.streams.door.faults new.streams.door.faults
   Says Memory request old new = new.streams.out ≡ old.streams.out
   Says Output request old new = PrintsPart old.streams.out new.streams.out (IsSaid request old new) ⊎ SessionComesTo request old new end.WriteFault

@@ -6,7 +6,9 @@
 
 mod archives;
 mod checks;
+mod compactions;
 mod devices;
+mod displays;
 mod drills;
 mod evaluations;
 mod faults;
@@ -27,6 +29,7 @@ mod shelves;
 mod statuses;
 mod usage;
 mod words;
+mod worth;
 
 pub use decimal_rank::{Failed, Output as Sink, write_all};
 pub use faults::ShelfFault;

@@ -2,7 +2,7 @@
 ghost use Rattle.std.specs.Prelude.{◌≡◌, IfErr, IfOk, IsTrue, OnOk};
 ghost use Rattle.book.specs.Openings.{Opened};
 ghost use Rattle.rulebook.specs.Spelling.{are_rules};
-ghost use Rattle.campaign_cli.specs.BookEnds.{IsOpened, IsRefused, TellsFault, Unopened, entry_line};
+ghost use Rattle.campaign_cli.specs.BookEnds.{HasNone, IsGiven, IsOpened, IsRefused, TellsFault, Unopened, entry_line};
 ghost use Rattle.campaign_cli.specs.Outside.{Streams, outside_of};
 ghost use Rattle.campaign_cli.specs.Shelves.{Follows};
 
@@ -45,14 +45,33 @@ pub(crate) fn open_book<F: Shelf, O: Sink, D: Disk>(
         (outside_of (record other { shelf = F.seen shelf.new; out = O.writing out.new }) given.1)
         given.0.0) }
 {
+    match own_settings(alloc, shelf, out) {
+        Ok(settings) => open_settings(alloc, settings, out, disk),
+        Err(status) => Err((status, disk)),
+    }
+}
+
+/// The settings. Where there are none, that is told, with the status to end with.
+pub(crate) fn own_settings<F: Shelf, O: Sink>(
+    alloc: Global,
+    shelf: &mut F,
+    out: &mut O,
+) -> Result<Settings, Status>
+    ensures given { IfOk result (λ settings. IsGiven (F.seen shelf.old) settings) }
+    ensures rules { IfOk result (λ settings. IsTrue (are_rules settings.rules)) }
+    ensures out { OnOk result (O.writing out.new ≡ O.writing out.old) }
+    ensures follows { Follows (F.seen shelf.old) (F.seen shelf.new) }
+    ensures none { IfErr result (λ status. HasNone (F.seen shelf.old) (F.seen shelf.new)
+        (O.writing out.old) (O.writing out.new) status.0) }
+{
     let text = match read(alloc, shelf, SETTINGS_FILE) {
         Ok(text) => text,
-        Err(status) => return Err((status, disk)),
+        Err(status) => return Err(status),
     };
     match read_settings(alloc, &text) {
-        Ok(settings) => open_settings(alloc, settings, out, disk),
-        Err(SettingsEnd::Refused) => Err((print(out, SETTINGS_LINE, Status(3)), disk)),
-        Err(SettingsEnd::Memory) => Err((Status(7), disk)),
+        Ok(settings) => Ok(settings),
+        Err(SettingsEnd::Refused) => Err(print(out, SETTINGS_LINE, Status(3))),
+        Err(SettingsEnd::Memory) => Err(Status(7)),
     }
 }
 
@@ -77,8 +96,8 @@ fn open_settings<O: Sink, D: Disk>(
     }
 }
 
-// Tells why the disk wasn't opened, and gives the status to end with.
-fn tell_fault<O: Sink>(alloc: Global, out: &mut O, fault: BookFault) -> Status
+/// Tells why the disk wasn't opened, and gives the status to end with.
+pub(crate) fn tell_fault<O: Sink>(alloc: Global, out: &mut O, fault: BookFault) -> Status
     ensures { TellsFault fault (O.writing out.old) (O.writing out.new) result.0 }
 {
     match fault {

@@ -1,9 +1,10 @@
 //! A text that is printed, and the status behind it.
-ghost use Rattle.std.specs.Prelude.{◌≡◌, IfOk};
-ghost use Rattle.campaign_cli.specs.Outside.{Prints, name_line};
+ghost use Rattle.std.specs.Prelude.{◌≡◌, ◌++◌, IfOk, OnOk};
+ghost use Rattle.campaign_cli.specs.Outside.{Prints, count_line, name_line};
 
 use crate::statuses::Status;
 use decimal_rank::{Failed, Memory, Output as Sink, write_all};
+use itoa::Buffer as Digits;
 use std::alloc::Global;
 
 /// Writes a text and gives the status, or 8 where a write fails.
@@ -25,4 +26,14 @@ pub(crate) fn name_line(alloc: Global, word: &[u8], name: &[u8]) -> Result<Vec<u
     line.extend_from_slice(name)?;
     line.extend_from_slice(b"\n")?;
     Ok(line)
+}
+
+/// Adds a line with a number behind a word.
+pub(crate) fn add_count(word: &[u8], count: u64, text: &mut Vec<u8>) -> Result<(), Memory>
+    ensures { OnOk result (text.new.items ≡ text.old.items ++ count_line word.now count) }
+{
+    text.extend_from_slice(word)?;
+    text.extend_from_slice(Digits::new().format(count).as_bytes())?;
+    text.extend_from_slice(b"\n")?;
+    Ok(())
 }

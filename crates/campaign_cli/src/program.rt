@@ -6,8 +6,9 @@ ghost use Rattle.campaign_cli.specs.Outside.{AreSame, outside_of, streams_behind
 ghost use Rattle.campaign_cli.specs.Requests.{IsInRange, asked, meant};
 
 use crate::archives::archive_campaign;
-use crate::checks::show_campaign;
+use crate::compactions::compact_campaign;
 use crate::devices::Devices;
+use crate::displays::{Display, show_campaign};
 use crate::drills::run_drill;
 use crate::evaluations::score_files;
 use crate::reports::{compare_releases, export_releases, tell_history};
@@ -94,7 +95,8 @@ fn run<W: Threads + Wait + Sync, F: Shelf, O: Sink, I: Link, D: Disk + Send, R: 
         Command::Session => hold_session(rt, alloc, devices, disk),
         Command::Serve(numbers) => run_server(rt, alloc, numbers, devices, disk),
         Command::Drill(numbers) => (run_drill(rt, alloc, numbers, devices.out), disk),
-        Command::Check => show_campaign(alloc, devices, disk),
+        Command::Check => show_campaign(alloc, Display::Check, devices, disk),
+        Command::Compact => compact_campaign(alloc, devices, disk),
         Command::Archive { name } => archive_campaign(
             alloc,
             name,
@@ -111,6 +113,8 @@ fn run<W: Threads + Wait + Sync, F: Shelf, O: Sink, I: Link, D: Disk + Send, R: 
             disk,
         ),
         Command::Export => (export_releases(alloc, devices.out, devices.keeper), disk),
+        Command::Reuse => show_campaign(alloc, Display::Reuse, devices, disk),
+        Command::Agreement => show_campaign(alloc, Display::Agreement, devices, disk),
         Command::Usage => (tell_usage(devices), disk),
     }
 }

@@ -5,9 +5,9 @@ ghost use Rattle.archive_reports.specs.Comparisons.{pairs_of};
 ghost use Rattle.release_archive.specs.Releases.{is_sound};
 ghost use Rattle.rulebook.specs.Systems.{is_mean};
 ghost use Rattle.campaign_cli.specs.Outside.{Prints, Streams};
-ghost use Rattle.campaign_cli.specs.ReportEnds.{CompareWay, ListingWay, ReportEnds, compare_text, count_line, difference, export_text, history_line, history_text, keep_status, unknown_line};
+ghost use Rattle.campaign_cli.specs.ReportEnds.{CompareWay, ListingWay, ReportEnds, compare_text, difference, export_text, history_line, history_text, keep_status, unknown_line};
 
-use crate::printing::{name_line, print};
+use crate::printing::{add_count, name_line, print};
 use crate::statuses::Status;
 use archive_reports::{HistoryRow, Pairs, compare, history, write_csv};
 use decimal_rank::{Memory, Output as Sink};
@@ -161,10 +161,10 @@ fn pairs_text(alloc: Global, pairs: Pairs) -> Result<Vec<u8>, Memory>
     ensures { IfOk result (λ text. text.items ≡ compare_text pairs) }
 {
     let mut text = Vec::new(alloc);
-    add_count(b"common ", pairs.common, &mut text)?;
-    add_count(b"concordant ", pairs.concordant, &mut text)?;
-    add_count(b"discordant ", pairs.discordant, &mut text)?;
-    add_count(b"tied ", pairs.tied, &mut text)?;
+    add_count(b"common ", u64::from(pairs.common), &mut text)?;
+    add_count(b"concordant ", u64::from(pairs.concordant), &mut text)?;
+    add_count(b"discordant ", u64::from(pairs.discordant), &mut text)?;
+    add_count(b"tied ", u64::from(pairs.tied), &mut text)?;
     text.extend_from_slice(b"tau ")?;
     add_difference(pairs.concordant, pairs.discordant, &mut text)?;
     text.extend_from_slice(b"/")?;
@@ -172,15 +172,6 @@ fn pairs_text(alloc: Global, pairs: Pairs) -> Result<Vec<u8>, Memory>
     text.extend_from_slice(Digits::new().format(all.max(1)).as_bytes())?;
     text.extend_from_slice(b"\n")?;
     Ok(text)
-}
-
-fn add_count(word: &[u8], count: u32, text: &mut Vec<u8>) -> Result<(), Memory>
-    ensures { OnOk result (text.new.items ≡ text.old.items ++ count_line word.now count) }
-{
-    text.extend_from_slice(word)?;
-    text.extend_from_slice(Digits::new().format(count).as_bytes())?;
-    text.extend_from_slice(b"\n")?;
-    Ok(())
 }
 
 fn add_difference(a: u32, b: u32, text: &mut Vec<u8>) -> Result<(), Memory>

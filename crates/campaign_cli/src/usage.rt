@@ -12,7 +12,7 @@ use release_archive::Keeper;
 
 /// What is printed where the words are no command.
 pub const USAGE_LINE: &[u8] =
-    b"usage: campaign eval RUN QRELS | session | serve --port P --workers W --connections N | drill SEED RUNS TOPICS DOCS | check | archive NAME | history RUN | compare A B | export\n";
+    b"usage: campaign eval RUN QRELS | session | serve --port P --workers W --connections N | drill SEED RUNS TOPICS DOCS | check | compact | archive NAME | history RUN | compare A B | export | reuse | agreement\n";
 
 /// Prints which commands there are.
 pub(crate) fn tell_usage<F: Shelf, O: Sink, I: Link, R: Door, K: Keeper>(

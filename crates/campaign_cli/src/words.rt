@@ -11,24 +11,28 @@ use std::alloc::Global;
 use trec_formats::is_name;
 
 /// The forms of the commands.
-static FORMS: [CommandForm<'static>; 9] = [
+static FORMS: [CommandForm<'static>; 12] = [
     ("eval", &["run", "qrels"], &[]),
     ("session", &[], &[]),
     ("serve", &[], &["port", "workers", "connections"]),
     ("drill", &["seed", "runs", "topics", "docs"], &[]),
     ("check", &[], &[]),
+    ("compact", &[], &[]),
     ("archive", &["name"], &[]),
     ("history", &["run"], &[]),
     ("compare", &["first", "second"], &[]),
     ("export", &[], &[]),
+    ("reuse", &[], &[]),
+    ("agreement", &[], &[]),
 ];
 
 /// A command of the program. `Eval` scores the run in one file against the qrels in another, by the
 /// files' names. `Session` answers the messages of one connection. `Serve` answers those of so many
 /// connections to a port, by so many workers. `Drill` plays a campaign that is generated from numbers.
-/// `Check` opens the campaign of the folder, and tells what it is. `Archive` puts its release into the archive under a
+/// `Check` opens the campaign of the folder, and tells what it is. `Compact` packs its journal. `Archive` puts its release into the archive under a
 /// name. `RunHistory` tells a run in each release of the archive, `Compare` how two of them agree, and `Export` all
-/// their systems.
+/// their systems. `Reuse` tells how the runs of the folder's campaign would score without what their own groups alone
+/// brought in, and `Agreement` how its assessors agree.
 #[derive(Clone, Copy, Debug, PartialEq, Eq)]
 pub enum Command<'a> {
     Eval { run: &'a [u8], qrels: &'a [u8] },
@@ -36,10 +40,13 @@ pub enum Command<'a> {
     Serve(ServerNumbers),
     Drill(DrillNumbers),
     Check,
+    Compact,
     Archive { name: &'a [u8] },
     RunHistory { run: &'a [u8] },
     Compare { first: &'a [u8], second: &'a [u8] },
     Export,
+    Reuse,
+    Agreement,
     Usage,
 }
 
@@ -69,6 +76,8 @@ fn command_of<'a>(found: &CommandWords<'a>) -> Command<'a>
         drill_of(found.values.as_slice())
     } else if found.name == "check" {
         Command::Check
+    } else if found.name == "compact" {
+        Command::Compact
     } else if found.name == "archive" {
         archive_of(found.values.as_slice())
     } else if found.name == "history" {
@@ -77,6 +86,10 @@ fn command_of<'a>(found: &CommandWords<'a>) -> Command<'a>
         compare_of(found.values.as_slice())
     } else if found.name == "export" {
         Command::Export
+    } else if found.name == "reuse" {
+        Command::Reuse
+    } else if found.name == "agreement" {
+        Command::Agreement
     } else {
         Command::Usage
     }

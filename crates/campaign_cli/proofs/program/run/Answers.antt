@@ -20,6 +20,9 @@ returns-in-Drill-clause-ends g c =
 pub returns-in-Check-clause-ends : goal.returns-in-Check-clause-ends
 returns-in-Check-clause-ends g c = rw c.in-Check.is c.show_campaign.ensures.ends
 
+pub returns-in-Compact-clause-ends : goal.returns-in-Compact-clause-ends
+returns-in-Compact-clause-ends g c = rw c.in-Compact.is c.compact_campaign.ensures.ends
+
 pub returns-in-Archive-clause-ends : goal.returns-in-Archive-clause-ends
 returns-in-Archive-clause-ends g c =
     let old = streams_behind g.F.Shelf.seen g.O.Output.writing g.I.Link.seen g.R.Door.seen g.K.Keeper.seen c.args.devices.now in
@@ -39,6 +42,12 @@ pub returns-in-Export-clause-ends : goal.returns-in-Export-clause-ends
 returns-in-Export-clause-ends g c =
     let old = streams_behind g.F.Shelf.seen g.O.Output.writing g.I.Link.seen g.R.Door.seen g.K.Keeper.seen c.args.devices.now in
     rw c.in-Export.is (c.export_releases.ensures old, refl)
+
+pub returns-in-Reuse-clause-ends : goal.returns-in-Reuse-clause-ends
+returns-in-Reuse-clause-ends g c = rw c.in-Reuse.is c.show_campaign-in-Reuse.ensures.ends
+
+pub returns-in-Agreement-clause-ends : goal.returns-in-Agreement-clause-ends
+returns-in-Agreement-clause-ends g c = rw c.in-Agreement.is c.show_campaign-in-Agreement.ensures.ends
 
 pub returns-in-Usage-clause-ends : goal.returns-in-Usage-clause-ends
 returns-in-Usage-clause-ends g c = rw c.in-Usage.is (c.tell_usage.ensures.ends, refl)
