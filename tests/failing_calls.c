@@ -1,8 +1,9 @@
 // A shared object before the C library's calls on files: it writes a letter for each into the file that CALLS names, and
 // fails those whose numbers, counted from 1, stand in FAIL_AT, with the number FAIL_WITH of an error. These count: pwrite
 // (w), fdatasync (s), ftruncate (t), fsync (f) and the advice to forget what a file has in memory, posix_fadvise (d). A
-// pread is an r and a write to standard output an a, and they don't count. The paths of what an fsync is called for go
-// into the file that SYNCED names, a line each.
+// pread is an r and a write to standard output an a, and they don't count. Where FAIL_PART is there a pwrite that fails
+// writes three quarters of its bytes before. The paths of what an fsync is called for go into the file that SYNCED names,
+// a line each.
 #define _GNU_SOURCE
 #include <dlfcn.h>
 #include <errno.h>
@@ -61,7 +62,14 @@ static int fails(const char *letter, const char *failed) {
 #define REAL(name, type) ((type)dlsym(RTLD_NEXT, name))
 
 ssize_t pwrite(int file, const void *piece, size_t size, off_t place) {
-  return fails("w", "W") ? -1 : REAL("pwrite", ssize_t (*)(int, const void *, size_t, off_t))(file, piece, size, place);
+  int failed = fails("w", "W"), error = errno;
+  if (failed && !getenv("FAIL_PART"))
+    return -1;
+  ssize_t done = REAL("pwrite", ssize_t (*)(int, const void *, size_t, off_t))(file, piece, failed ? size / 4 * 3 : size, place);
+  if (!failed)
+    return done;
+  errno = error;
+  return -1;
 }
 
 ssize_t pwrite64(int file, const void *piece, size_t size, off_t place) { return pwrite(file, piece, size, place); }
