@@ -2,8 +2,8 @@
 //! from the system's random source, and hashes by SipHash over the secret and then the key. So nobody
 //! who doesn't have the secret can craft keys that share a hash. Nothing but the time that a table
 //! takes depends on a secret: contracts see what a hash is of, and never rest on it.
-ghost use Rattle.std.specs.Prelude.{◌≡◌};
-ghost use Rattle.decimal_rank.specs.TextKeys.{text_key};
+ghost use Rattle.std.specs.Prelude.{◌≡◌, pos};
+ghost use Rattle.decimal_rank.specs.TextKeys.{secret_of, text_key};
 
 use libc::types::timespec;
 use std::hash::{BuildHasher, DefaultHasher, Hasher};
@@ -22,11 +22,19 @@ impl Secret {
     /// process, which is weaker: a program says so when it starts, by `is_source_answering`.
     pub fn drawn() -> Secret {
         let mut bytes = [0; SECRET_BYTES];
-        if libc::getentropy(&mut bytes) != 0 {
+        let status = libc::getentropy(&mut bytes);
+        Secret::of_answer(status, &bytes)
+    }
+
+    // Of the bytes that the random source gave, where its status says that it answered.
+    fn of_answer(status: i32, bytes: &[u8]) -> Secret
+        ensures { status ≡ pos 0 → result ≡ secret_of bytes.now }
+    {
+        if status != 0 {
             return Secret::of_clocks();
         }
         let mut seeded = DefaultHasher::new();
-        seeded.write(&bytes);
+        seeded.write(bytes);
         Secret { seeded }
     }
 
