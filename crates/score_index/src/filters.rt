@@ -29,13 +29,13 @@ impl Model for Filter {
 }
 
 impl Filter {
-    // A filter for so many documents, with eight bits for each. It admits none.
+    // A filter for so many documents, with 32 bits for each. It admits none.
     pub(crate) fn new(alloc: Global, docs: u32) -> Result<Filter, Memory>
         requires { docs ≤ 1000 }
     {
-        let bits = PlaceWords::new(alloc, 8 * docs)?;
+        let bits = PlaceWords::new(alloc, 32 * docs)?;
         Ok(Filter {
-            count: 8 * docs + 1,
+            count: 32 * docs + 1,
             bits,
         })
     }

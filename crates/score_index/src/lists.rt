@@ -13,7 +13,7 @@ ghost use Rattle.score_index.specs.Scores.{is_of, list_steps};
 use crate::filters::{Filter, admit_all};
 use crate::marks::{Mark, mark_of};
 use crate::rooms::Room;
-use crate::sums::{Sums, cell_from, followed_cell, no_sums, put_mark, remark, with_cap};
+use crate::sums::{Sums, cell_from, follow_cap, follow_counts, no_sums, put_mark, remark};
 use crate::trees::Trees;
 use decimal_rank::{DocId, Ranking, Steps};
 use depth_pool::RunId;
@@ -25,16 +25,19 @@ use std::sync::ledger::{Blank, Ledger};
 
 // A run's list on a topic, with a filter that admits its documents, and with what its cell is taken
 // from: its places, its sums, and how many of the topic's documents are relevant and judged lower.
+//
+// What each change of a grade reads stands together, since a list that doesn't have the document
+// reads no more.
 #[derive(Drop)]
 pub(crate) struct RunList {
-    pub(crate) run: RunId,
-    pub(crate) ranking: Ranking,
     filter: Filter,
-    trees: Trees,
-    sums: Sums,
     rel: u32,
     low: u32,
     cell: Cell,
+    sums: Sums,
+    trees: Trees,
+    pub(crate) run: RunId,
+    pub(crate) ranking: Ranking,
 }
 
 impl Model for RunList {
@@ -160,13 +163,13 @@ impl RunList {
         ensures cost { steps.new ≤ steps.old + 3 * (levels (length self.old.docs) + 1) }
     {
         let caps = (self.rel.min(self.low), counts.0.min(counts.1));
-        self.sums = with_cap(&self.trees, self.sums, caps.0, caps.1, steps);
+        follow_cap(&self.trees, &mut self.sums, caps.0, caps.1, steps);
         self.rel = counts.0;
         self.low = counts.1;
-        self.cell = followed_cell(
+        follow_counts(
             &self.trees,
-            self.sums,
-            &self.cell,
+            &self.sums,
+            &mut self.cell,
             counts.0,
             counts.1,
             steps,

@@ -89,7 +89,7 @@ fn moved_lower<L: Ledger>(
 {
     // trees tell with their length that they are as long as one another
     let _ = trees.len();
-    let past = trees.reached_past(place, cap, steps);
+    let past = trees.reached_past(place, cap, sums.rel_ret, steps);
     if on {
         return with_preferences(sums, sums.preferences - past);
     }
@@ -97,27 +97,40 @@ fn moved_lower<L: Ledger>(
 }
 
 // The sums after the cap moved, by one at most.
-pub(crate) fn with_cap<L: Ledger>(
-    trees: &Trees,
-    sums: Sums,
-    from: u32,
-    to: u32,
-    steps: &mut Steps<L>,
-) -> Sums
+fn with_cap<L: Ledger>(trees: &Trees, sums: Sums, from: u32, to: u32, steps: &mut Steps<L>) -> Sums
     requires caps { AreNear from to }
     requires sums { AreSums from trees.now sums }
     ensures sums { AreSums to trees.now result }
     ensures cost { steps.new ≤ steps.old + 2 * (levels (length trees.now.relevant) + 1) }
 {
     if from < to {
-        let reached = trees.reached(from, steps);
+        let reached = trees.reached(from, sums.rel_ret, steps);
         return with_preferences(sums, sums.preferences + u64::from(reached));
     }
     if to < from {
-        let reached = trees.reached(to, steps);
+        let reached = trees.reached(to, sums.rel_ret, steps);
         return with_preferences(sums, sums.preferences - u64::from(reached));
     }
     sums
+}
+
+// Has the sums follow the cap, which moves by one at most. Where it stays they aren't touched.
+pub(crate) fn follow_cap<L: Ledger>(
+    trees: &Trees,
+    sums: &mut Sums,
+    from: u32,
+    to: u32,
+    steps: &mut Steps<L>,
+)
+    requires caps { AreNear from to }
+    requires sums { AreSums from trees.now sums.old }
+    ensures sums { AreSums to trees.now sums.new }
+    ensures cost { steps.new ≤ steps.old + 2 * (levels (length trees.now.relevant) + 1) }
+{
+    if from == to {
+        return;
+    }
+    *sums = with_cap(trees, *sums, from, to, steps);
 }
 
 fn with_preferences(sums: Sums, preferences: u64) -> Sums
@@ -256,31 +269,33 @@ pub(crate) fn cell_from<L: Ledger>(
     ensures cell { result ≡ cell_by trees.now.relevant trees.now.lower relevant lower }
     ensures cost { steps.new ≤ steps.old + 2 * (levels (length trees.now.relevant) + 1) }
 {
-    let r_prec = trees.relevant_to(relevant, steps);
+    let r_prec = trees.relevant_to(relevant, sums.rel_ret, steps);
     let first = trees.first_relevant(steps);
     cell_with(trees, sums, r_prec, first, relevant, lower)
 }
 
-// The cell of a list whose places stay, while the topic's count of relevant documents moves by one at
-// most: it goes on from the cell that the list had.
-pub(crate) fn followed_cell<L: Ledger>(
+// Has the cell of a list whose places stay follow the topic's counts, of which that of the relevant
+// documents moves by one at most.
+pub(crate) fn follow_counts<L: Ledger>(
     trees: &Trees,
-    sums: Sums,
-    cell: &Cell,
+    sums: &Sums,
+    cell: &mut Cell,
     relevant: u32,
     lower: u32,
     steps: &mut Steps<L>,
-) -> Cell
-    requires near { AreNear cell.now.rel relevant }
+)
+    requires near { AreNear cell.old.rel relevant }
     requires few_lower { lower ≤ 268435456 }
-    requires sums { AreSums (min relevant lower) trees.now sums }
-    requires r_prec { cell.now.r_prec ≡ count_on (take cell.now.rel trees.now.relevant) }
-    requires first { cell.now.first ≡ first_from 1 trees.now.relevant }
-    ensures cell { result ≡ cell_by trees.now.relevant trees.now.lower relevant lower }
+    requires sums { AreSums (min relevant lower) trees.now sums.now }
+    requires cell { (rel : ℕ) × (low : ℕ) × (cell.old ≡ cell_by trees.now.relevant trees.now.lower rel low) }
+    ensures cell { cell.new ≡ cell_by trees.now.relevant trees.now.lower relevant lower }
     ensures cost { steps.new ≤ steps.old + 1 }
 {
     let r_prec = moved_r_prec(trees, cell.r_prec, cell.rel, relevant, steps);
-    cell_with(trees, sums, r_prec, cell.first, relevant, lower)
+    cell.rel = relevant;
+    cell.r_prec = r_prec;
+    cell.bpref_num = bpref_num(sums, relevant, lower);
+    cell.bpref_den = bpref_den(relevant, lower);
 }
 
 // How many of so many first places are relevant, after that number moved by one at most.

@@ -99,34 +99,47 @@ impl Trees {
         u64::from(cap.saturating_sub(self.lower.below(place, steps)))
     }
 
-    // How many relevant places have at most the cap of places judged lower above them.
-    pub(crate) fn reached<L: Ledger>(&self, cap: u32, steps: &mut Steps<L>) -> u32
+    // How many relevant places, of which there are `all`, have at most the cap of places judged lower
+    // above them.
+    pub(crate) fn reached<L: Ledger>(&self, cap: u32, all: u32, steps: &mut Steps<L>) -> u32
+        requires { all ≡ count_on self.now.relevant }
         ensures reached { result ≡ reached cap 0 self.now.relevant self.now.lower }
         ensures few { result ≤ 1000 }
         ensures cost { steps.new ≤ steps.old + 2 * (levels (length self.now.relevant) + 1) }
     {
         match self.lower.select(cap, steps) {
             Some(place) => self.relevant.below(place + 1, steps),
-            None => self.relevant.below(self.len + 1, steps),
+            None => all,
         }
     }
 
     // The same, of the relevant places behind a place.
-    pub(crate) fn reached_past<L: Ledger>(&self, place: u32, cap: u32, steps: &mut Steps<L>) -> u64
-        requires { place ≤ length self.now.relevant }
+    pub(crate) fn reached_past<L: Ledger>(
+        &self,
+        place: u32,
+        cap: u32,
+        all: u32,
+        steps: &mut Steps<L>,
+    ) -> u64
+        requires within { place ≤ length self.now.relevant }
+        requires all { all ≡ count_on self.now.relevant }
         ensures reached { result ≡ reached cap 0 self.now.relevant self.now.lower - count_on (take place self.now.relevant) }
         ensures cost { steps.new ≤ steps.old + 3 * (levels (length self.now.relevant) + 1) }
     {
-        let reached = self.reached(cap, steps);
+        let reached = self.reached(cap, all, steps);
         u64::from(reached.saturating_sub(self.relevant.below(place + 1, steps)))
     }
 
-    // How many of the first places are relevant.
-    pub(crate) fn relevant_to<L: Ledger>(&self, rank: u32, steps: &mut Steps<L>) -> u32
+    // How many of the first places are relevant, where `all` are: past the last place these are all.
+    pub(crate) fn relevant_to<L: Ledger>(&self, rank: u32, all: u32, steps: &mut Steps<L>) -> u32
+        requires { all ≡ count_on self.now.relevant }
         ensures count { result ≡ count_on (take rank self.now.relevant) }
         ensures cost { steps.new ≤ steps.old + (levels (length self.now.relevant) + 1) }
     {
-        self.relevant.below(rank.min(self.len) + 1, steps)
+        if rank >= self.len {
+            return all;
+        }
+        self.relevant.below(rank + 1, steps)
     }
 
     // How many relevant places have this rank: 1, or none.

@@ -42,16 +42,24 @@ set-again on now i b now_is = ap (λ xs. set xs i b) now_is ∙ set-set on i b b
 pub same_sums : (cap : ℕ) (relevant lower relevant' lower' : List Bool) (sums : Sums) → relevant ≡ relevant' → lower ≡ lower' → AreSums cap (places_of relevant lower) sums → AreSums cap (places_of relevant' lower') sums
 same_sums cap relevant lower relevant' lower' sums a b are = subst (λ (p : Places). AreSums cap p sums) (λ i. places_of (a i) (b i)) are
 
--- what a list's cell says of its first places
-pub record HasFronts (relevant : List Bool) (r : ℕ) (cell : Cell) : Type 0 where
+-- what a list's cell says of its places, whatever the topic's counts are
+pub record TellsPlaces (relevant : List Bool) (r : ℕ) (cell : Cell) : Type 0 where
   pub rel : cell.rel ≡ r
+  pub ret : cell.ret ≡ length relevant
+  pub rel_ret : cell.rel_ret ≡ count_on relevant
+  pub at : cell.at ≡ map (λ k. count_on (take k relevant)) cutoffs
+  pub ap_sum : cell.ap_sum ≡ precisions 1 0 relevant
   pub r_prec : cell.r_prec ≡ count_on (take cell.rel relevant)
   pub first : cell.first ≡ first_from 1 relevant
 
-pub cell-fronts : (relevant lower : List Bool) (r n : ℕ) (cell : Cell) → cell ≡ cell_by relevant lower r n → HasFronts relevant r cell
+pub cell-places : (relevant lower : List Bool) (r n : ℕ) (cell : Cell) → cell ≡ cell_by relevant lower r n → TellsPlaces relevant r cell
 unfolding cell_by
-cell-fronts relevant lower r n cell is = record {
+cell-places relevant lower r n cell is = record {
   rel = ap (λ (c : Cell). c.rel) is;
+  ret = ap (λ (c : Cell). c.ret) is;
+  rel_ret = ap (λ (c : Cell). c.rel_ret) is;
+  at = ap (λ (c : Cell). c.at) is;
+  ap_sum = ap (λ (c : Cell). c.ap_sum) is;
   r_prec = ap (λ (c : Cell). c.r_prec) is ∙ ap (λ k. count_on (take k relevant)) (sym (ap (λ (c : Cell). c.rel) is));
   first = ap (λ (c : Cell). c.first) is;
 }

@@ -1,5 +1,5 @@
 -- The sums of a list, before and after one place.
-use Rattle.std.proofs.Common.{◌≡◌, ℕ, suc, ◌+◌, ◌-◌, ◌*◌, ◌^◌, ◌<◌, ◌≤◌, ◌&&◌, Bool, true, false, nat_le, not, List, [], ◌∷◌, length, drop, take, map, set, get_or, sym, ap, ◌∙◌, arith, zero-add}
+use Rattle.std.proofs.Common.{◌≡◌, ℕ, suc, ◌+◌, ◌-◌, ◌*◌, ◌^◌, ◌<◌, ◌≤◌, ◌&&◌, Bool, true, false, nat_le, not, List, [], ◌∷◌, length, drop, take, map, set, get_or, sym, ap, ◌∙◌, arith, subst, zero-add}
 use Rattle.std.specs.Prelude.{if◌then◌else◌}
 use Rattle.std.proofs.Math.Nat.{mul-le-mul, div-le_self}
 use Rattle.std.proofs.lemmas.List.{drop-set-lt, get_or-map, get_or-set_same, length-drop, length-set, length-take, set-get_or, set-set, take-set, take_all}
@@ -154,7 +154,8 @@ reached-of cap relevant lower place long selected =
     ∙ sym (reached-to cap 0 relevant lower (place - 1) long (slice_get_within lower (place - 1) true selected.is_on) (get_or_from_slice_get lower (place - 1) true false selected.is_on)
     (zero-add (count_on (take (place - 1) lower)) ∙ selected.before))
 
-pub reached-of-all : (cap : ℕ) (relevant lower : List Bool) (len : ℕ) → length lower ≡ length relevant → length relevant ≡ len → count_on lower ≤ cap → count_below relevant (len + 1) ≡ reached cap 0 relevant lower
-reached-of-all cap relevant lower len long is few =
-    let e : len + 1 - 1 ≡ len = omega arith in
-    ap (λ n. count_on (take n relevant)) e ∙ ap count_on (take_all len relevant (omega (arith, is))) ∙ sym (reached-all cap 0 relevant lower long (omega (arith, few)))
+pub reached-of-all : (cap : ℕ) (relevant lower : List Bool) → length lower ≡ length relevant → count_on lower ≤ cap → count_on relevant ≡ reached cap 0 relevant lower
+reached-of-all cap relevant lower long few = sym (reached-all cap 0 relevant lower long (omega (arith, few)))
+
+pub all-few : (on : List Bool) → count_on on ≤ length on
+all-few on = subst (λ (xs : List Bool). count_on xs ≤ length on) (take_all (length on) on (omega arith)) (count-few (length on) on)

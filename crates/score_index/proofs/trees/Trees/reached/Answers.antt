@@ -1,6 +1,7 @@
-use Rattle.std.proofs.Common.{◌∙◌, ap, sym}
+use Rattle.std.proofs.Common.{◌∙◌, ap, arith, sym}
+use Rattle.rank_trees.specs.Marks.{count_on}
 use Rattle.score_index.specs.Places.{Places, reached}
-use Rattle.score_index.proofs.Cells.SumSteps.{reached-of, reached-of-all}
+use Rattle.score_index.proofs.Cells.SumSteps.{all-few, reached-of, reached-of-all}
 use Rattle.score_index.proofs.trees.Trees.reached.Goals as goal
 
 pub returns-in-Some-clause-reached : goal.returns-in-Some-clause-reached
@@ -10,6 +11,11 @@ returns-in-Some-clause-reached g c =
 
 pub returns-in-None-clause-reached : goal.returns-in-None-clause-reached
 returns-in-None-clause-reached g c =
-    c.below-in-None.ensures.count
-    ∙ reached-of-all c.args.cap c.self.inside.relevant c.self.inside.lower c.self.inside.len (c.self.invariant.2 ∙ sym c.self.invariant.1) c.self.invariant.1 c.in-None.ensures.place
+    c.requires ∙ ap (λ (p : Places). count_on p.relevant) (sym c.self.view_is)
+    ∙ reached-of-all c.args.cap c.self.inside.relevant c.self.inside.lower (c.self.invariant.2 ∙ sym c.self.invariant.1) c.in-None.ensures.place
     ∙ ap (λ (p : Places). reached c.args.cap 0 p.relevant p.lower) c.self.view_is
+
+pub returns-in-None-clause-few : goal.returns-in-None-clause-few
+returns-in-None-clause-few g c =
+    let same = ap (λ (p : Places). count_on p.relevant) c.self.view_is in
+    omega (arith, c.requires, same, all-few c.self.inside.relevant, c.self.invariant.0, c.self.invariant.1)
