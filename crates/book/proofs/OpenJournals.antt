@@ -1,6 +1,7 @@
 -- An open journal as a book, by what its records are.
 use Rattle.std.proofs.Common.{◌≡◌, ◌≢◌, inl, inr, ℕ, ◌-◌, ◌<◌, ◌≤◌, List, [], ◌∷◌, Option, None, Some, Vec, length, take, drop, get_or, refl, sym, ap, subst, ◌∙◌, arith}
-use Rattle.std.specs.Prelude.{IfErr, IfOk, IfSome, Result, Ok, Err}
+use Rattle.std.specs.Prelude.{IfErr, IfOk, IfSome, Result, Ok, Err, slice_index_or}
+use Rattle.std.specs.List.{remove}
 use Rattle.std.specs.declared.alloc.Global.{Global}
 use Rattle.std.proofs.lemmas.List.{take_all}
 use Rattle.decimal_rank.specs.Causes.{Rose}
@@ -37,6 +38,12 @@ first_and_others [] first some is = absurd (omega (arith, some))
 first_and_others (x ∷ records) first some is =
     ap (λ (p : Vec ℕ Global). p.items ∷ payloads_of (take (length (x ∷ records) - 1) records)) is
     ∙ ap (λ (rest : List (Vec ℕ Global)). x.items ∷ payloads_of rest) (take_all (length (x ∷ records) - 1) records (omega arith))
+
+-- the same, where the first one is taken out
+pub first_removed : (records : List (Vec ℕ Global)) (first : Vec ℕ Global) → 0 < length records → first ≡ slice_index_or records 0 first
+    → first.items ∷ payloads_of (remove records 0) ≡ payloads_of records
+first_removed [] first some is = absurd (omega (arith, some))
+first_removed (x ∷ records) first some is = ap (λ (p : Vec ℕ Global). p.items ∷ payloads_of records) is
 
 -- an image while the founding entry is added
 pub establishes : (rules : Rules) (frame : Text) (H : History) → IsStory (frame ∷ []) H → H ≡ founding rules ∷ [] → (image : List ℕ) → StandsForOneOf [] [] frame image → Establishes rules [] image

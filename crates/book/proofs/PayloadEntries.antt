@@ -40,9 +40,9 @@ stops_in H now next cores done core rest split so_far (same, none) = record {
   none = subst (λ (now : History). HasHistory (cores_of now ++ core ∷ []) → ⊥) (sym same) none;
 }
 
-pub nothing_left : (left : List EntryCore) → length left ≡ 0 → left ≡ []
+pub nothing_left : {X : Type 0} (left : List X) → length left ≡ 0 → left ≡ []
 nothing_left [] none = refl
-nothing_left (core ∷ left) none = absurd (omega (arith, none))
+nothing_left (x ∷ left) none = absurd (omega (arith, none))
 
 -- What a payload spells
 
@@ -87,7 +87,7 @@ enters_payload H payload cores spells (Err e) after enters = tt
 pub goes_none : (H : History) → GoesOn H [] H
 goes_none H = ([], refl, cores_none H)
 
-goes_one : (H now next : History) (payloads : List Text) (payload : Text) → GoesOn H payloads now → EntersPayload now payload true next → GoesOn H (payloads ++ payload ∷ []) next
+pub goes_one : (H now next : History) (payloads : List Text) (payload : Text) → GoesOn H payloads now → EntersPayload now payload true next → GoesOn H (payloads ++ payload ∷ []) next
 goes_one H now next payloads payload (cores, unfolds, so_far) (these, spells, added) = (
   cores ++ these,
   unfolds_more payloads cores payload these unfolds spells,

@@ -1,5 +1,6 @@
 -- How records become entries, one after another.
 use Rattle.std.specs.Prelude.{◌≡◌, ◌⊎◌, ◌≤◌, Bool, true, false, IsTrue, List, [], ◌∷◌, ◌++◌, Result, Ok, Err, length}
+use Rattle.std.specs.Str.{bytes_eq}
 use Rattle.campaign_core.specs.Seen.{Seen as Campaign}
 use Rattle.record_codec.specs.Payloads.{IsPayload}
 use Rattle.rulebook.specs.declared.entry.EntryCore.{EntryCore}
@@ -77,6 +78,10 @@ Begins first H = (rules : Rules) × IsTrue (are_rules rules) × (first ≡ entry
 -- the record founds no campaign
 abbrev pub NeverBegins : Text → Type 0
 NeverBegins first = (others : List Text) → BreaksAt (first ∷ others) 1
+
+-- the record is that of a founding entry, and these say whether it is that of the rules
+abbrev pub HasBegun : Rules → Text → History × Bool → Type 0
+HasBegun rules first begun = Begins first begun.0 × (begun.1 ≡ bytes_eq first (entry_bytes (founding rules).core))
 
 -- Why records aren't a campaign's: their least part without a story, or the rules of their story.
 abbrev pub Stops : Rules → List Text → BookFault → Type 0

@@ -1,5 +1,15 @@
 //! A book: the accepted entries, and the journal that keeps them. A request is answered by the entries;
 //! the entry that it adds joins them once it is journaled.
+//!
+//! # The way of a command to the disk
+//!
+//! `Book::act` asks `State::prepare`; a reply that adds nothing is given at once, and no call is
+//! made on the disk. The entry of an accepted command is spelled into a frame
+//! (`journaling::frame_of`), which is the last memory that is taken. `journaling::keep` mends what
+//! an earlier failure left due, and appends the record. Then `State::commit` adds the entry, and
+//! its reply is given. Where the append failed the entry is dropped (`State::cancel`), and the
+//! answer is a fault of the disk; the record may be on the disk, until the next command mends it
+//! away.
 ghost use Rattle.std.specs.Prelude.{◌≡◌, length, IfOk, IsSome, IsTrue, Some};
 ghost use Rattle.std.specs.Option.{option_map};
 ghost use Rattle.campaign_core.specs.Tallies.{IsTally, submitted_at};

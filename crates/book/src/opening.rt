@@ -1,5 +1,15 @@
 //! Opening a book. The journal is opened, and each of its records is entered; a journal without records
 //! gets the founding entry.
+//!
+//! # The way of an opening
+//!
+//! `Book::open` reads the records (`Journal::open`). Without any it journals the founding entry
+//! (`opening::establish`). Else the first has to be a founding entry (`founding::begin`), which
+//! begins a `Replay` of `campaign_core`; each other one is read, prepared at its own moment and
+//! committed there (`record_entries::enter_all`, `campaign_core/src/replays.rt`), as a request's
+//! is. Then the first record is compared with the settings' founding entry, and `Replay::finish`
+//! gives the state. While entries are replayed the board doesn't follow, since no command looks at
+//! it: the runs' lists wait.
 ghost use Rattle.std.specs.Prelude.{◌≡◌, ◌<◌, ◌≤◌, ◌^◌, [], ◌∷◌, List, None, IfErr, IfOk, IsTrue, length};
 ghost use Rattle.journal.specs.declared.dues.Due.TheVariants.{Nothing};
 ghost use Rattle.journal.specs.Kept.{Settled, payloads as payloads_of};
@@ -37,7 +47,7 @@ impl<D: Disk> Book<D> {
         rule_laws();
         let opening = disk.faults();
         match Journal::open(alloc, disk) {
-            Ok((journal, records)) => take_up(alloc, opening, journal, &records, rules),
+            Ok((journal, records)) => take_up(alloc, opening, journal, records, rules),
             Err((disk, fault)) => Err((disk, fault_of(fault))),
         }
     }
@@ -54,33 +64,53 @@ pub(crate) fn fault_of(fault: OpenFault) -> BookFault
     }
 }
 
-// Makes a book of an open journal, whose records these are.
+// Makes a book of an open journal, whose records these are. Each is freed once its entries are there.
 fn take_up<D: Disk>(
     alloc: Global,
     opening: u64,
     journal: Journal<D>,
-    records: &[Vec<u8>],
+    records: Vec<Vec<u8>>,
     rules: Rules,
 ) -> Result<Book<D>, (D, BookFault)>
     requires laws { Laws }
     requires rules { IsTrue (are_rules rules) }
     requires small { journal.place < 2 ^ 39 }
     requires settled { Settled (D.seen journal.disk).images journal.place
-        (payloads_of records.now) }
+        (payloads_of records.items) }
     requires nothing_due { journal.due ≡ Nothing }
     requires later { opening ≤ (D.seen journal.disk).faults }
-    ensures { TakesUp D.seen rules (payloads_of records.now) opening journal.disk result }
+    ensures { TakesUp D.seen rules (payloads_of records.items) opening journal.disk result }
+{
+    if records.len() == 0 {
+        return start(alloc, opening, journal, rules);
+    }
+    journal.stands();
+    let mut others = records;
+    let first = others.remove(0);
+    match replay(alloc, &first, others, rules) {
+        Ok(state) => Ok(reopen(alloc, opening, journal, state)),
+        Err(fault) => Err((journal.close(), fault)),
+    }
+}
+
+// Makes a book of a journal without records.
+fn start<D: Disk>(
+    alloc: Global,
+    opening: u64,
+    journal: Journal<D>,
+    rules: Rules,
+) -> Result<Book<D>, (D, BookFault)>
+    requires laws { Laws }
+    requires rules { IsTrue (are_rules rules) }
+    requires settled { Settled (D.seen journal.disk).images journal.place [] }
+    requires nothing_due { journal.due ≡ Nothing }
+    requires later { opening ≤ (D.seen journal.disk).faults }
+    ensures { TakesUp D.seen rules [] opening journal.disk result }
 {
     journal.stands();
-    match records {
-        [] => match founded(alloc, rules) {
-            Ok((state, frame)) => establish(alloc, opening, journal, state, &frame),
-            Err(Memory) => Err((journal.close(), BookFault::Memory)),
-        },
-        [first, others @ ..] => match replay(alloc, first, others, rules) {
-            Ok(state) => Ok(reopen(alloc, opening, journal, state)),
-            Err(fault) => Err((journal.close(), fault)),
-        },
+    match founded(alloc, rules) {
+        Ok((state, frame)) => establish(alloc, opening, journal, state, &frame),
+        Err(Memory) => Err((journal.close(), BookFault::Memory)),
     }
 }
 

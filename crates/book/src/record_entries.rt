@@ -85,8 +85,27 @@ pub(crate) fn enter_payload(
     enter_cores(replay, cores)
 }
 
-/// Adds the entries that payloads spell. False is that not all of them can come about: those before the
-/// first that can't were added.
+/// Adds the entries that payloads spell, each of which is freed then. False is that not all of them can come
+/// about: those before the first that can't were added.
+pub(crate) fn enter_each(
+    alloc: Global,
+    replay: &mut Replay,
+    payloads: Vec<Vec<u8>>,
+) -> Result<bool, Memory>
+    requires laws { Laws }
+    ensures { IfOk result (λ entered. EntersAll replay.old (payloads_of payloads.items) entered replay.new) }
+{
+    for payload in payloads {
+        match enter_payload(alloc, replay, &payload) {
+            Ok(true) => {}
+            Ok(false) => return Ok(false),
+            Err(Memory) => return Err(Memory),
+        }
+    }
+    Ok(true)
+}
+
+/// The same, where the payloads stay.
 pub(crate) fn enter_all(
     alloc: Global,
     replay: &mut Replay,

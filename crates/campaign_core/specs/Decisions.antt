@@ -1,8 +1,12 @@
 -- What a command comes to, and what is asked with it.
-use Rattle.std.specs.Prelude.{◌≡◌, ◌<◌, ◌≤◌, List, Ok, Err, None, IsTrue, length}
+use Rattle.std.specs.Prelude.{◌≡◌, ◌<◌, ◌≤◌, ℕ, List, Option, Ok, Err, None, IsTrue, length, map}
+use Rattle.std.specs.List.{position}
+use Rattle.std.specs.Str.{bytes_eq}
 use Rattle.assessment.specs.Changes.{facts}
+use Rattle.assessment.specs.TopicFacts.{TopicFacts, facts_of}
 use Rattle.rulebook.specs.declared.ask.Ask.TheVariants.{Act}
 use Rattle.rulebook.specs.declared.ask.Command.{Command}
+use Rattle.rulebook.specs.declared.ask.Command.TheVariants.{Lease}
 use Rattle.rulebook.specs.declared.entry.EntryCore.{EntryCore}
 use Rattle.rulebook.specs.declared.limits.TheConstants.{MAX_DOCNOS, MAX_ENTRIES, MAX_LINES}
 use Rattle.rulebook.specs.Answers.{moment_after, ruled}
@@ -33,6 +37,11 @@ pub record IsAskedFor (campaign : Campaign) (core : EntryCore) (command : Comman
 pub record IsAskedWith (campaign : Campaign) (docnos : List Text) (core : EntryCore) (command : Command) : Type 0 where
   pub asked : IsAskedFor campaign core command
   pub names : docnos ≡ names_of campaign.history.items
+
+-- where the command asks for a lease: the number of its topic, from 0, if it is a topic
+abbrev pub IsNumberFor : Campaign → Command → Option ℕ → Type 0
+IsNumberFor campaign command number =
+    (topic : Text) → command ≡ Lease topic → number ≡ position (λ (s : TopicFacts). bytes_eq s.id topic) (map facts_of campaign.assessment.topics.topics)
 
 -- The decision is what the rules say: the refusal; or the reply, with a change that carries the entry out, by the numbers of these docnos.
 abbrev pub IsDecision : Campaign → List Text → EntryCore → Decision → Type 0

@@ -1,5 +1,5 @@
 -- The leases of the history and those of the desk, and the document that is leased next, by numbers.
-use Rattle.std.specs.Prelude.{◌≡◌, ◌<◌, ℕ, ◌+◌, Bool, false, not, ◌&&◌, List, [], ◌∷◌, Option, None, map, length, nat_le, nat_lt, is_some, find, IsTrue}
+use Rattle.std.specs.Prelude.{◌≡◌, ◌<◌, ℕ, ◌+◌, Bool, not, ◌&&◌, List, [], ◌∷◌, Option, None, map, length, nat_le, nat_lt, is_some, find, IsTrue}
 use Rattle.std.specs.List.{list_all, position_or_len}
 use Rattle.std.specs.Option.{option_or}
 use Rattle.std.specs.Str.{bytes_eq}
@@ -10,16 +10,18 @@ use Rattle.labels.specs.Labelled.{has_label}
 use Rattle.labels.specs.Marked.{Marked, effective_at, given_at}
 use Rattle.lease_desk.specs.Leases.{has_live, live_on}
 use Rattle.lease_desk.specs.declared.leases.Lease.{Lease as DeskLease}
+use Rattle.lease_desk.specs.declared.leases.LeaseEnd.{LeaseEnd}
 use Rattle.rulebook.specs.declared.reply.Refusal.{Refusal}
 use Rattle.rulebook.specs.declared.reply.Refusal.TheVariants as refusal
 use Rattle.rulebook.specs.Refusals.{◌when◌}
 use Rattle.rulebook.specs.Words.{Text, contains_text}
 use Rattle.rulebook.specs.Campaign.{History}
+use Rattle.rulebook.specs.LeaseEntries.{end_of}
 use Rattle.rulebook.specs.Leases.{Lease, is_ended, leases}
 use Rattle.campaign_core.specs.Numbers.{doc_in}
 use Rattle.campaign_core.specs.Topics.{topic_ids}
 
--- a lease by the numbers of its topic and its document
+-- a lease by the numbers of its topic and its document, and whether and how it ended
 pub record KnownLease : Type 0 where
   pub number : ℕ
   pub assessor : Text
@@ -27,6 +29,7 @@ pub record KnownLease : Type 0 where
   pub doc : DocId
   pub until : ℕ
   pub ended : Bool
+  pub end : Option LeaseEnd
 
 -- the number of a topic among the ids
 abbrev pub topic_in : List Text → Text → ℕ
@@ -40,6 +43,7 @@ known H names lease = record {
   doc = doc_in names lease.doc;
   until = lease.until;
   ended = is_ended H lease.number;
+  end = end_of H lease.number;
 }
 
 abbrev pub seen : DeskLease → KnownLease
@@ -50,17 +54,18 @@ seen lease = record {
   doc = lease.doc;
   until = lease.until;
   ended = is_some lease.end;
+  end = lease.end;
 }
 
 -- a lease on a document of the names, of a topic of the campaign
 abbrev pub is_known : History → List Text → Lease → Bool
 is_known H names lease = contains_text names lease.doc && contains_text (topic_ids H) lease.topic
 
--- The desk has the leases of the history, and no lease that isn't granted has an end.
+-- The desk has the leases of the history, each with its end, and no lease that isn't granted has one.
 pub record IsLeased (H : History) (names : List Text) (desk : List DeskLease) : Type 0 where
   pub leases_are : map seen desk ≡ map (known H names) (leases H)
   pub are_known : IsTrue (list_all (is_known H names) (leases H))
-  pub ends_granted : (number : ℕ) → length (leases H) < number → is_ended H number ≡ false
+  pub ends_granted : (number : ℕ) → length (leases H) < number → end_of H number ≡ None
 
 -- the first refusal that holds
 abbrev pub first_refusal : List (Option Refusal) → Option Refusal

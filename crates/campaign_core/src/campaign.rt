@@ -1,6 +1,6 @@
 //! A campaign: its history, and what is known of it by numbers. An accepted entry has room made for its
 //! change first, and joins the history with its change then.
-ghost use Rattle.std.specs.Prelude.{◌≡◌, ◌+◌, ◌≤◌, ◌++◌, ◌∷◌, [], IfOk, IsTrue, None, OnErr, OnOk, is_some, map, true};
+ghost use Rattle.std.specs.Prelude.{◌≡◌, ◌+◌, ◌≤◌, ◌++◌, ◌∷◌, [], IfOk, IsTrue, List, None, OnErr, OnOk, is_some, map, true, ℕ};
 ghost use Rattle.std.specs.List.{list_any, position};
 ghost use Rattle.std.specs.Str.{bytes_eq};
 ghost use Rattle.assessment.specs.Changes.{Fits, facts};
@@ -12,7 +12,10 @@ ghost use Rattle.rulebook.specs.Legal.{founding};
 ghost use Rattle.rulebook.specs.Spelling.{are_rules};
 ghost use Rattle.campaign_core.specs.Changes.{phase_after};
 ghost use Rattle.campaign_core.specs.Costs.{commit_steps};
+ghost use Rattle.campaign_core.specs.Decisions.{IsNumberFor};
 ghost use Rattle.campaign_core.specs.Kept.{AwaitsChange, IsKnown, IsReady, IsUnchanged};
+ghost use Rattle.campaign_core.specs.Leasing.{topic_in};
+ghost use Rattle.campaign_core.specs.Topics.{topic_ids};
 
 use crate::submissions::{Submission, line_count, lists_of, note_live, note_run};
 use crate::topics::topic_number;
@@ -21,8 +24,8 @@ use decimal_rank::{Memory, Steps};
 use depth_pool::{RunId, greatest_run_goes_last};
 use labels::{marks_follow_labels, marks_follow_rulings};
 use rulebook::{
-    Command, Entry, EntryCore, Phase, Reply, Rules, founding_core, labels_join,
-    quiet_entries_keep_grades, rulings_join,
+    Command, Entry, EntryCore, Phase, Reply, Rules, ends_are_there, founding_core, labels_join,
+    leases_are_entries, quiet_entries_keep_grades, rulings_join,
 };
 use std::alloc::Global;
 use std::sync::ledger::Ledger;
@@ -118,16 +121,15 @@ impl Campaign {
         self.history.iter().any(|entry| matches!(entry.core.command, Command::Topics { .. }))
     }
 
-    /// The title of a topic of the campaign: empty where it isn't one.
-    pub(crate) fn title(&self, id: &[u8]) -> &[u8]
-        ensures { result.now ≡ title self.now.history.items id.now }
+    /// The title of a topic of the campaign, by its number from 0: empty where there is none.
+    pub(crate) fn title(&self, number: usize) -> &[u8]
+        ensures { (id : List ℕ) → number ≡ topic_in (topic_ids self.now.history.items) id
+            → result.now ≡ title self.now.history.items id }
     {
-        for topic in given_topics(&self.history) {
-            if topic.id.bytes() == id {
-                return topic.title.bytes();
-            }
+        match given_topics(&self.history).get(number) {
+            Some(topic) => topic.title.bytes(),
+            None => &[],
         }
-        &[]
     }
 
     /// The least line of a list whose topic isn't a topic of the campaign.
@@ -160,19 +162,20 @@ impl Campaign {
     }
 
     /// Where a lease is asked for: leads on, past documents that the assessor isn't given any more, where the
-    /// next one is looked for. Nothing that is known changes.
-    pub(crate) fn lead_fronts(&mut self, core: &EntryCore) -> Result<(), Memory>
-        ensures { self.new ≡ self.old }
+    /// next one is looked for, and gives the number of its topic, from 0. Nothing that is known changes.
+    pub(crate) fn lead_fronts(&mut self, core: &EntryCore) -> Result<Option<usize>, Memory>
+        ensures unchanged { self.new ≡ self.old }
+        ensures number { IfOk result (IsNumberFor self.old core.now.command) }
     {
         let Command::Lease { topic } = &core.command else {
-            return Ok(());
+            return Ok(None);
         };
-        match topic_number(self.topics(), topic.bytes()) {
-            Some(number) => self
-                .assessment
-                .lead_fronts(number, core.caller.name.bytes()),
-            None => Ok(()),
-        }
+        let Some(number) = topic_number(self.topics(), topic.bytes()) else {
+            return Ok(None);
+        };
+        self.assessment
+            .lead_fronts(number, core.caller.name.bytes())?;
+        Ok(Some(number))
     }
 
     /// Makes room for a change, for the entry that it carries out, and for a run. The change is then pending.
@@ -205,14 +208,16 @@ impl Campaign {
         note_live(&self.history, &self.submissions, &mut self.live, &entry);
         note_run(&self.history, &mut self.submissions, &entry);
         self.history.push_reserved(entry);
-        // a run of the greatest number stands last in a pool, and an entry changes the grades of
-        // one document at most
+        // a run of the greatest number stands last in a pool, an entry changes the grades of one
+        // document at most, and a lease has its place's number, and an end where an entry ended it
         greatest_run_goes_last();
         quiet_entries_keep_grades();
         labels_join();
         marks_follow_labels();
         rulings_join();
         marks_follow_rulings();
+        leases_are_entries();
+        ends_are_there();
         self.assessment.commit(steps);
     }
 }

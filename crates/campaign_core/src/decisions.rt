@@ -1,8 +1,20 @@
 //! What a command comes to, decided once, by reading alone: the first refusal that holds, or the reply with the
 //! change that carries the entry out. A file a command.
+//!
+//! # A lease, and its grade
+//!
+//! Of a lease `decisions/lease.rt` refuses by the phase, the topic's number, `Desk::live_of`
+//! against the hold, and `selection::named`. The reply is the next number, the docno, the moment
+//! plus the term, and the title; the change is `Change::Lease`, for which the desk has room, and
+//! the commit `Desk::grant`.
+//!
+//! Of a grade `decisions/grade.rt` refuses by the phase, `Desk::find`, whose lease it is, its end,
+//! its moment, and the greatest grade. The reply is the topic, the docno and the grade; the change
+//! is `Change::Grade`, for which the topic's labels, grades and queue have room, and the commit
+//! `Topics::mark` and `Desk::end`.
 ghost use Rattle.std.specs.Prelude.{◌≡◌, IfOk};
 ghost use Rattle.rulebook.specs.Refusals.{is_phase};
-ghost use Rattle.campaign_core.specs.Decisions.{IsAskedWith, IsDecision, KeepsLimits};
+ghost use Rattle.campaign_core.specs.Decisions.{IsAskedWith, IsDecision, IsNumberFor, KeepsLimits};
 ghost use Rattle.campaign_core.specs.Growth.{BeginsWith};
 
 mod amend;
@@ -41,15 +53,17 @@ pub(crate) enum Decision {
     Accepted(Reply, Change),
 }
 
-/// What a command comes to. The docnos of a run that is accepted are added to those of the history; others may be
-/// added where it is refused.
+/// What a command comes to, by the number of the topic on which a lease is asked for. The docnos of a run that is
+/// accepted are added to those of the history; others may be added where it is refused.
 pub(crate) fn decide(
     alloc: Global,
     campaign: &Campaign,
     docnos: &mut Names,
     core: &EntryCore,
+    topic: Option<usize>,
 ) -> Result<Decision, Memory>
-    requires { IsAskedWith campaign.now docnos.old core.now core.now.command }
+    requires asked { IsAskedWith campaign.now docnos.old core.now core.now.command }
+    requires topic { IsNumberFor campaign.now core.now.command topic }
     ensures decision { IfOk result (IsDecision campaign.now docnos.new core.now) }
     ensures limits { IfOk result (KeepsLimits campaign.now.history.items docnos.new core.now.command) }
     ensures grown { BeginsWith docnos.old docnos.new }
@@ -61,7 +75,7 @@ pub(crate) fn decide(
             submit_decision(alloc, campaign, docnos, core, run, lists.items())
         }
         Command::Open => Ok(open_decision(campaign, core)),
-        Command::Lease { topic } => lease_decision(alloc, campaign, docnos, core, topic),
+        Command::Lease { topic: id } => lease_decision(alloc, campaign, docnos, core, id, topic),
         Command::Grade { lease, grade } => {
             grade_decision(alloc, campaign, docnos, core, *lease, *grade)
         }

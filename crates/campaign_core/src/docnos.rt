@@ -6,7 +6,7 @@ ghost use Rattle.campaign_core.specs.Numbers.{AreAdded, docs_in};
 
 use decimal_rank::{DocId, Memory, Names, Text};
 use std::alloc::Global;
-use trec_formats::TopicList;
+use trec_formats::{Docnos, TopicList};
 
 /// Adds the docnos of a run's lines, and gives the numbers of its documents, one list after another. After want of memory
 /// some docnos may be added.
@@ -21,20 +21,27 @@ pub(crate) fn add_docnos(
 {
     let mut numbers = Vec::new(alloc);
     for list in lists {
-        add_all(docnos, list.docs.items(), &mut numbers)?;
+        add_all(alloc, docnos, &list.docs, &mut numbers)?;
     }
     Ok(numbers)
 }
 
 // Adds docnos, and their numbers to those before them.
-fn add_all(docnos: &mut Names, docs: &[Text], numbers: &mut Vec<DocId>) -> Result<(), Memory>
+fn add_all(
+    alloc: Global,
+    docnos: &mut Names,
+    docs: &Docnos,
+    numbers: &mut Vec<DocId>,
+) -> Result<(), Memory>
     requires { length docnos.old + length docs.now + 1 < 2 ^ 32 }
     ensures added { OnOk result (AreAdded docs.now docnos.old docnos.new numbers.old.items numbers.new.items) }
     ensures grown { GrowsWithin (length docs.now) docnos.old docnos.new }
 {
-    numbers.reserve(docs.len())?;
-    for doc in docs {
-        numbers.push(docnos.add(doc.copy()?)?)?;
+    let count = docs.len();
+    numbers.reserve(count)?;
+    for place in 0..count {
+        let docno = Text::from_slice(alloc, docs.at(place))?;
+        numbers.push(docnos.add(docno)?)?;
     }
     Ok(())
 }
@@ -47,7 +54,7 @@ pub(crate) fn numbers_on<'a>(lists: &[TopicList], numbers: &'a [DocId], topic: &
 {
     let mut start = 0;
     for list in lists {
-        let end = start + list.docs.items().len();
+        let end = start + list.docs.len();
         if list.topic.bytes() == topic {
             return &numbers[start..end];
         }

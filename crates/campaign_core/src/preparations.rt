@@ -1,7 +1,7 @@
 //! What a command comes to before its entry is committed: the kept reply where its number was used before, else its
 //! first refusal, or its entry with the change that then waits.
 ghost use Rattle.std.specs.Prelude.{◌≡◌, ℕ, IfOk, None, OnErr, Some};
-ghost use Rattle.campaign_core.specs.Decisions.{IsNew};
+ghost use Rattle.campaign_core.specs.Decisions.{IsNew, IsNumberFor};
 ghost use Rattle.campaign_core.specs.Growth.{BeginsWith};
 ghost use Rattle.campaign_core.specs.Kept.{IsPrepared, IsUnchanged};
 ghost use Rattle.campaign_core.specs.NumberedRequests.{AddsNumber, numbers_of, place_of, repeated_reply};
@@ -57,18 +57,20 @@ pub(crate) fn prepared(
     ensures err { OnErr result (campaign.new.assessment.pending ≡ None) }
 {
     // here, since the steps of a commit are bounded
-    campaign.lead_fronts(&core)?;
-    decided(campaign, docnos, numbers, core)
+    let topic = campaign.lead_fronts(&core)?;
+    decided(campaign, docnos, numbers, core, topic)
 }
 
-/// The same, once the fronts are led on.
+/// The same, once the fronts are led on, by the number of the topic on which a lease is asked for.
 fn decided(
     campaign: &mut Campaign,
     docnos: &mut Names,
     numbers: &mut RequestNumbers,
     core: EntryCore,
+    topic: Option<usize>,
 ) -> Result<Result<Prepared, Refusal>, Memory>
     requires new { IsNew campaign.old docnos.old numbers.old core }
+    requires topic { IsNumberFor campaign.old core.command topic }
     requires idle { campaign.old.assessment.pending ≡ None }
     ensures unchanged { IsUnchanged campaign.old campaign.new }
     ensures docnos_grown { BeginsWith docnos.old docnos.new }
@@ -77,7 +79,7 @@ fn decided(
     ensures err { OnErr result (campaign.new.assessment.pending ≡ None) }
 {
     let alloc = *campaign.history.allocator();
-    match decide(alloc, campaign, docnos, &core)? {
+    match decide(alloc, campaign, docnos, &core, topic)? {
         Decision::Refused(refusal) => Ok(Err(refusal)),
         Decision::Accepted(reply, change) => {
             add_number(numbers, &core, campaign.history.len() as u32 + 1)?;

@@ -124,10 +124,7 @@ pub(crate) fn line_count(lists: &[TopicList]) -> u64
     requires { lines_of lists.now < 2 ^ 64 }
     ensures { result ≡ lines_of lists.now }
 {
-    lists
-        .iter()
-        .map(|list| list.docs.items().len() as u64)
-        .sum()
+    lists.iter().map(|list| list.docs.len() as u64).sum()
 }
 
 /// Notes a run that an entry submits, or that it withdraws. The entry is the next of the history.

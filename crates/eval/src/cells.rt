@@ -1,14 +1,14 @@
 //! The cells of a run, one for each topic of the qrels.
-ghost use Rattle.std.specs.Prelude.{◌≡◌, ◌≢◌, ◌≤◌, length, map, All, AllPairs, IfOk};
+ghost use Rattle.std.specs.Prelude.{◌≡◌, ◌≢◌, ◌≤◌, [], length, map, All, AllPairs, IfOk};
 ghost use Rattle.measures.specs.Cells.{IsSound};
 ghost use Rattle.eval.specs.Evaluations.{docs_on as listed_on, cell_on, topics_of};
 ghost use Rattle.eval.specs.Tables.{AreRankedLists, cell_in, tally_on};
 
 use crate::judgements::{Judgements, LEVEL, Tally, judgements_of};
-use decimal_rank::{DocId, Memory, Text};
+use decimal_rank::{DocId, Memory};
 use measures::{Cell, scratch};
 use std::alloc::Global;
-use trec_formats::{QrelTable, TopicList};
+use trec_formats::{Docnos, QrelTable, TopicList};
 
 /// The cells of a run on the topics of the qrels.
 pub(crate) fn cells_of(
@@ -38,12 +38,14 @@ fn cells_on(
     ensures cells { IfOk result (λ cells. cells.items ≡ map (cell_on lists.now qrels.now) judgements.now.topics) }
     ensures sound { IfOk result (λ cells. All IsSound cells.items) }
 {
+    let none = Docnos::new(alloc);
     let count = judgements.topics.len();
     let mut cells = Vec::with_capacity(alloc, count as usize)?;
     for number in 0..count {
         let topic = judgements.topics.name(DocId(number));
         let tally = judgements.tallies[number as usize];
-        cells.push(topic_cell(alloc, docs_on(lists, topic), qrels, topic, tally)?)?;
+        let docs = docs_on(lists, topic, &none);
+        cells.push(topic_cell(alloc, docs, qrels, topic, tally)?)?;
     }
     Ok(cells)
 }
@@ -51,7 +53,7 @@ fn cells_on(
 /// The cell of a topic, by its documents and its judgements.
 fn topic_cell(
     alloc: Global,
-    docs: &[Text],
+    docs: &Docnos,
     qrels: &QrelTable<'_>,
     topic: &[u8],
     tally: Tally,
@@ -68,12 +70,13 @@ fn topic_cell(
 }
 
 /// The documents that a run lists on a topic, by rank; none where the run lacks the topic.
-fn docs_on<'a>(lists: &'a [TopicList], topic: &[u8]) -> &'a [Text]
-    requires { AreRankedLists lists.now }
+fn docs_on<'a>(lists: &'a [TopicList], topic: &[u8], none: &'a Docnos) -> &'a Docnos
+    requires lists { AreRankedLists lists.now }
+    requires none { none.now ≡ [] }
     ensures { result.now ≡ listed_on lists.now topic.now }
 {
     match lists.binary_search_by(|list| list.topic.bytes().cmp(topic)) {
-        Ok(place) => lists[place].docs.items(),
-        Err(_) => &[],
+        Ok(place) => &lists[place].docs,
+        Err(_) => none,
     }
 }

@@ -1,37 +1,16 @@
 -- Facts of lists.
-use Rattle.std.proofs.Common.{◌≡◌, ◌&&◌, ◌<◌, ◌≤◌, ◌++◌, ◌+◌, ◌∙◌, ℕ, zero, suc, Bool, true, false, List, [], ◌∷◌, Option, None, Some, ap, arith, get_or, length, map, refl, sym, take}
-use Rattle.std.specs.Prelude.{slice_get}
+use Rattle.std.proofs.Common.{◌≡◌, ◌&&◌, ◌<◌, ◌≤◌, ◌++◌, ◌+◌, ◌∙◌, ℕ, zero, suc, Bool, true, List, [], ◌∷◌, Option, None, Some, ap, arith, get_or, length, map, refl, sym, take}
 use Rattle.std.specs.List.{cons_option, filter_map, list_all}
 use Rattle.std.specs.Option.{option_map}
 use Rattle.std.proofs.lemmas.List.{take_more}
 use Rattle.std.proofs.lemmas.List.Elements.{filter_map-append}
+use Rattle.campaign_core.proofs.Lists.Elements.{both_true}
 
 -- what is told of a value that is there
 pub told : {X Y : Type 0} (o : Option X) (x : X) (f : X → Y) (y : Y) → o ≡ Some x → option_map f o ≡ Some y → f x ≡ y
 told {X} {Y} o x f y there is =
     let both : ◌≡◌ {A = Option Y} (Some (f x)) (Some y) = sym (ap (option_map f) there) ∙ is in
     let same : f x ≡ y = cc both in same
-
-pub get-there : {X : Type 0} (xs : List X) (i : ℕ) (d : X) → i < length xs → slice_get xs i ≡ Some (get_or xs i d)
-get-there [] i d within = absurd (omega (arith, within))
-get-there (x ∷ xs) zero d within = refl
-get-there (x ∷ xs) (suc i) d within = get-there xs i d (omega (arith, within))
-
-pub slice-there : {X : Type 0} (xs : List X) (i : ℕ) (d x : X) → slice_get xs i ≡ Some x → (i < length xs) × (get_or xs i d ≡ x)
-slice-there [] i d x is = cc is
-slice-there (y ∷ xs) zero d x is = (omega arith, (let same : y ≡ x = cc is in same))
-slice-there (y ∷ xs) (suc i) d x is = let rest = slice-there xs i d x is in (omega (arith, rest.0), rest.1)
-
-pub both_true : (s t : Bool) → s && t ≡ true → (s ≡ true) × (t ≡ true)
-both_true true true e = (refl, refl)
-both_true true false e = cc e
-both_true false t e = cc e
-
--- what holds of all holds of each
-pub all-at : {X : Type 0} (p : X → Bool) (xs : List X) (i : ℕ) (d : X) → i < length xs → list_all p xs ≡ true → p (get_or xs i d) ≡ true
-all-at p [] i d within all = absurd (omega (arith, within))
-all-at p (x ∷ xs) zero d within all = (both_true (p x) (list_all p xs) all).0
-all-at p (x ∷ xs) (suc i) d within all = all-at p xs i d (omega (arith, within)) (both_true (p x) (list_all p xs) all).1
 
 -- one more that passes
 pub all-push : {X : Type 0} (p : X → Bool) (xs : List X) (x : X) → list_all p xs ≡ true → p x ≡ true → list_all p (xs ++ x ∷ []) ≡ true

@@ -8,7 +8,8 @@ use Rattle.rulebook.specs.Grades.{effective}
 use Rattle.measures.specs.Means.{summary_of}
 use Rattle.measures.specs.declared.cells.Cell.{Cell}
 use Rattle.campaign_core.specs.Gradings.{Grading, cell_by, counts_by}
-use Rattle.leave_out.specs.Reuse.{ReducedIsFull, ids, reduced}
+use Rattle.campaign_core.specs.Topics.{topic_ids}
+use Rattle.leave_out.specs.Reuse.{ReducedIsFull, reduced}
 
 or-true : (t : Bool) → (t || true) ≡ true
 or-true true = refl
@@ -31,9 +32,9 @@ module _ {X : Type 0} (f g : Text → X) (p q : Text → Bool) where
 
 pub full : ReducedIsFull
 full H group run nothing =
-    let same : (topic : Text) → contains_text (ids H) topic ≡ true → reduced H group topic ≡ effective H topic = λ topic there.
+    let same : (topic : Text) → contains_text (topic_ids H) topic ≡ true → reduced H group topic ≡ effective H topic = λ topic there.
     λ i doc. ap (λ (docs : List Text). if contains_text docs doc then None else effective H topic doc) (nothing topic there) i in
     ap (λ (cs : List Cell). (summary_of cs).map)
     (same-passing (λ topic. cell_by H run topic (reduced H group topic)) (λ topic. cell_by H run topic (effective H topic))
-    (λ topic. counts_by H topic (reduced H group topic)) (λ topic. counts_by H topic (effective H topic)) (ids H)
+    (λ topic. counts_by H topic (reduced H group topic)) (λ topic. counts_by H topic (effective H topic)) (topic_ids H)
     (λ topic there. (ap (λ (grade : Grading). counts_by H topic grade) (same topic there), ap (λ (grade : Grading). cell_by H run topic grade) (same topic there))))

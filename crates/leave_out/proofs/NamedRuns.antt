@@ -15,7 +15,7 @@ use Rattle.rulebook.specs.Plain.{EntriesArePlain}
 use Rattle.rulebook.specs.Words.{Text, contains_text}
 use Rattle.campaign_core.specs.Numbers.{are_named, names_of}
 use Rattle.campaign_core.specs.Scoring.{unless_withdrawn}
-use Rattle.leave_out.specs.Lefts.{IsLive}
+use Rattle.leave_out.specs.ReducedJudgements.{IsLive}
 use Rattle.leave_out.proofs.NumberedRuns.{Each, each-numbered}
 use Rattle.leave_out.proofs.PlainRuns.{run-once}
 

@@ -13,7 +13,7 @@ use Rattle.rulebook.specs.Campaign.{History, Run, docs_on, run_in, runs}
 use Rattle.rulebook.specs.Plain.{is_plain_and_short, is_plain_entry}
 use Rattle.rulebook.specs.Spelling.{differ, is_ascending, is_plain, is_plain_list}
 use Rattle.rulebook.specs.Words.{Text}
-use Rattle.leave_out.proofs.Elements.{both_true}
+use Rattle.campaign_core.proofs.Lists.Elements.{both_true}
 
 list-once : (lists : List TopicList) (topic : Text) → list_all is_plain_list lists ≡ true → differ (docs_on lists topic) ≡ true
 list-once [] topic plain = refl

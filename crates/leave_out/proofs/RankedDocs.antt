@@ -10,7 +10,7 @@ use Rattle.campaign_core.specs.LentTopics.{topic_at}
 use Rattle.campaign_core.specs.Numbers.{docs_in, names_of}
 use Rattle.campaign_core.specs.Scoring.{list_in, ranked_on, run_at}
 use Rattle.campaign_core.specs.Topics.{topic_ids}
-use Rattle.leave_out.specs.Lefts.{IsLive}
+use Rattle.leave_out.specs.ReducedJudgements.{IsLive}
 
 listed : (H : History) (topic : ℕ) (id : Text) (number : RunId) (one : ℕ × Run) → topic_at H topic ≡ Some id → IsLive H number one
     → list_in (names_of H) (topic_ids H) (run_at H number) topic ≡ ranked_on (names_of H) id one.1

@@ -1,4 +1,4 @@
--- The documents of a ranked list that pass by what is left of their grades are no more than those of its topic that pass.
+-- The documents of a ranked list that pass by reduced judgements are no more than those of its topic that pass.
 use Rattle.std.proofs.Common.{◌≡◌, ◌&&◌, ◌||◌, ◌≤◌, ◌+◌, ◌∙◌, ℕ, Bool, true, false, cond, not, List, [], ◌∷◌, None, Option, Some, ap, arith, filter, is_some, length, map, refl, sym, ◌<◌, get_or}
 use Rattle.std.specs.Prelude.{count_by, if◌then◌else◌}
 use Rattle.std.specs.Option.{option_map}
@@ -18,11 +18,12 @@ use Rattle.rulebook.specs.Spelling.{differ}
 use Rattle.rulebook.specs.Words.{Text, contains_text}
 use Rattle.campaign_core.specs.LentTopics.{topic_at}
 use Rattle.campaign_core.specs.Topics.{topic_ids}
-use Rattle.leave_out.specs.Lefts.{IsLive, left_in}
+use Rattle.leave_out.specs.ReducedJudgements.{IsLive, reduced_in}
 use Rattle.leave_out.specs.Reuse.{own, reduced}
-use Rattle.leave_out.specs.declared.lefts.Left.{Left}
-use Rattle.leave_out.proofs.Elements.{both_true, get-there, told}
-use Rattle.leave_out.proofs.LeftDocs.{count-cons}
+use Rattle.leave_out.specs.declared.reduced_judgements.ReducedJudgements.{ReducedJudgements}
+use Rattle.campaign_core.proofs.Lists.Elements.{both_true, get-there}
+use Rattle.leave_out.proofs.Elements.{told}
+use Rattle.leave_out.proofs.ReducedDocs.{count-cons}
 use Rattle.leave_out.proofs.OwnDocs.{any-filter}
 
 -- Texts of which none stands twice.
@@ -89,14 +90,14 @@ module _ (H : History) (there : GradedAreThere) (on : GradedAreOnTrail) (legal :
       has false None passes = cc (sym none ∙ passes)
       has false (Some grade) passes = refl
 
-  -- the relevant ones and those with a lower grade of a live run's list are among those that are left
-  pub list-within : (n : ℕ) (group : Text) (number : RunId) (left : Left) (grades : List (Option ℕ)) (bound : ℕ) → n < length (topic_ids H)
+  -- the relevant ones and those with a lower grade of a live run's list are among those of the reduced judgements
+  pub list-within : (n : ℕ) (group : Text) (number : RunId) (judgements : ReducedJudgements) (grades : List (Option ℕ)) (bound : ℕ) → n < length (topic_ids H)
       → (one : ℕ × Run) × IsLive H number one
-      → ((id : Text) → topic_at H n ≡ Some id → left ≡ left_in H group id (labelled H id))
+      → ((id : Text) → topic_at H n ≡ Some id → judgements ≡ reduced_in H group id (labelled H id))
       → ((id : Text) (one : ℕ × Run) → topic_at H n ≡ Some id → IsLive H number one → grades ≡ map (reduced H group id) (docs_on one.1.lists id))
       → option_map (level H) (topic_at H n) ≡ Some bound
-      → (count_by (is_relevant bound) grades ≤ left.relevant) × (count_by (is_non_relevant bound) grades ≤ left.lower)
-  list-within n group number left grades bound inside live left_is grades_are level_is =
+      → (count_by (is_relevant bound) grades ≤ judgements.relevant) × (count_by (is_non_relevant bound) grades ≤ judgements.lower)
+  list-within n group number judgements grades bound inside live judgements_are grades_are level_is =
       let id : Text = get_or (topic_ids H) n [] in
       let at : topic_at H n ≡ Some id = get-there (topic_ids H) n [] inside in
       let docs = docs_on live.0.1.lists id in
@@ -104,6 +105,16 @@ module _ (H : History) (there : GradedAreThere) (on : GradedAreOnTrail) (legal :
       let bound_is : level H id ≡ bound = told (topic_at H n) id (level H) bound at level_is in
       let relevant = ap (λ l. count_by (is_relevant l) grades) (sym bound_is) ∙ ap (count_by (is_relevant (level H id))) is in
       let lower = ap (λ l. count_by (is_non_relevant l) grades) (sym bound_is) ∙ ap (count_by (is_non_relevant (level H id))) is in (
-        omega (arith, relevant, list-few group id (is_relevant (level H id)) refl docs (live.1.once id), ap (λ (l : Left). l.relevant) (left_is id at)),
-        omega (arith, lower, list-few group id (is_non_relevant (level H id)) refl docs (live.1.once id), ap (λ (l : Left). l.lower) (left_is id at)),
+        omega (
+          arith,
+          relevant,
+          list-few group id (is_relevant (level H id)) refl docs (live.1.once id),
+          ap (λ (l : ReducedJudgements). l.relevant) (judgements_are id at),
+        ),
+        omega (
+          arith,
+          lower,
+          list-few group id (is_non_relevant (level H id)) refl docs (live.1.once id),
+          ap (λ (l : ReducedJudgements). l.lower) (judgements_are id at),
+        ),
       )

@@ -7,7 +7,7 @@ use Rattle.trec_formats.specs.Names.{is_name}
 use Rattle.rulebook.specs.declared.systems.System.{System}
 use Rattle.rulebook.specs.Spelling.{differ}
 use Rattle.rulebook.specs.Systems.{are_means, are_sound_systems, is_mean, is_sound_system, runs_of}
-use Rattle.leave_out.proofs.Elements.{all-at, both_true}
+use Rattle.campaign_core.proofs.Lists.Elements.{all_at, both_true}
 
 first-mean : (s : Summary) → are_means s ≡ true → is_mean s.map ≡ true
 first-mean s means =
@@ -22,5 +22,5 @@ sound-mean systems i d sound within =
     let few = both_true (nat_le (length systems) 256 && list_all is_sound_system systems) (differ (runs_of systems)) sound in
     let all = (both_true (nat_le (length systems) 256) (list_all is_sound_system systems) few.0).1 in
     let one : System = get_or systems i d in
-    let here = all-at is_sound_system systems i d within all in
+    let here = all_at is_sound_system systems i d within all in
     first-mean one.summary (both_true (is_name one.run && is_name one.group) (are_means one.summary) here).1

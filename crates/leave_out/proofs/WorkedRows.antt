@@ -1,4 +1,4 @@
--- Small campaigns on one topic: what is left of two runs without their own groups' documents, and how two assessors agree.
+-- Small campaigns on one topic: two runs by the reduced judgements of their groups, and how two assessors agree.
 use Rattle.std.specs.Prelude.{◌≡◌, ℕ, ◌++◌, ◌+◌, List, [], ◌∷◌, None, codes, map, refl}
 use Rattle.measures.specs.Cells.{cell_of}
 use Rattle.measures.specs.Means.{summary_of}

@@ -1,5 +1,5 @@
 pub mod Agreement
-pub mod Lefts
+pub mod ReducedJudgements
 pub mod Pairs
 pub mod Reuse
 pub mod TopicOrder

@@ -3,10 +3,11 @@ use Rattle.std.specs.Prelude.{◌≡◌, ℕ, ◌&&◌, Bool, true, [], List, No
 use Rattle.std.specs.List.{list_all}
 use Rattle.std.specs.Str.{bytes_eq}
 use Rattle.rulebook.specs.Words.{Text, contains_text}
-use Rattle.rulebook.specs.Campaign.{History, Run, numbered, pool, topics}
+use Rattle.rulebook.specs.Campaign.{History, Run, numbered, pool}
 use Rattle.rulebook.specs.Grades.{effective, graded}
 use Rattle.campaign_core.specs.Gradings.{summary_by}
 use Rattle.campaign_core.specs.Groups.{group_of}
+use Rattle.campaign_core.specs.Topics.{topic_ids}
 use Rattle.rulebook.specs.Holders.{holders}
 use Rattle.rulebook.specs.Scores.{summary_on}
 use Rattle.rulebook.specs.Systems.{is_mean}
@@ -16,19 +17,15 @@ use Rattle.leave_out.specs.declared.reusability.Reused.{Reused}
 abbrev pub own : History → Text → Text → List Text
 own H group topic = filter (λ doc. list_all (λ run. bytes_eq (group_of H run.0) group) (holders H topic doc)) (pool H topic)
 
--- the effective grades of a topic but for those of a group's own documents
+-- the reduced judgements of a group: the effective grades of a topic but for those of the group's own documents
 abbrev pub reduced : History → Text → Text → Text → Option ℕ
 reduced H group topic doc = if contains_text (own H group topic) doc then None else effective H topic doc
 
--- the ids of the topics
-abbrev pub ids : History → List Text
-ids H = map (λ t. t.id) (topics H)
-
 -- how many documents with an effective grade are a group's own, over all topics
 abbrev pub unique_count : History → Text → ℕ
-unique_count H group = sum_by (λ topic. count_by (contains_text (own H group topic)) (graded H topic)) (ids H)
+unique_count H group = sum_by (λ topic. count_by (contains_text (own H group topic)) (graded H topic)) (topic_ids H)
 
--- the mean average precision of a run by the grades that are left without a group's own documents
+-- the mean average precision of a run by the reduced judgements of a group
 abbrev pub reduced_map : History → Text → Run → ℕ
 reduced_map H group run = (summary_by H run (reduced H group)).map
 
@@ -51,7 +48,7 @@ are_means row = is_mean row.full && is_mean row.reduced
 
 -- a group brought no document in alone
 abbrev pub OwnsNothing : History → Text → Type 0
-OwnsNothing H group = (topic : Text) → contains_text (ids H) topic ≡ true → own H group topic ≡ []
+OwnsNothing H group = (topic : Text) → contains_text (topic_ids H) topic ≡ true → own H group topic ≡ []
 
 -- Where a group owns nothing, a run's reduced mean is its mean by all grades.
 abbrev pub ReducedIsFull : Type 0

@@ -1,13 +1,14 @@
-//! What a campaign's collection is worth: how its runs would score without the judgements that their own groups alone
-//! brought in, and how its assessors agree.
+//! What a campaign's collection is worth: how its runs would score by reduced judgements, without those that their own
+//! groups alone brought in; and how its assessors agree.
 #![tactic(auto)]
 
 mod assessors;
+mod groups;
 mod laws;
-mod lefts;
 mod own_docs;
 mod pairs;
 mod precision;
+mod reduced_judgements;
 mod reusability;
 mod topic_order;
 

@@ -1,4 +1,4 @@
-//! The average precision of a run on a topic without the grades of a group's own documents.
+//! The average precision of a run on a topic by the reduced judgements of a group.
 ghost use Rattle.std.specs.Prelude.{◌≡◌, ◌<◌, ◌≤◌, ◌^◌, ℕ, IfOk, IsTrue, List, Some, count_by, length, map, slice_get, unwrap_or};
 ghost use Rattle.decimal_rank.specs.Relevance.{is_non_relevant, is_relevant};
 ghost use Rattle.measures.specs.Cells.{cell_of};
@@ -10,11 +10,11 @@ ghost use Rattle.rulebook.specs.Words.{Text as Words};
 ghost use Rattle.campaign_core.specs.LentTopics.{topic_at};
 ghost use Rattle.campaign_core.specs.Numbers.{are_named, docs_in, names_of};
 ghost use Rattle.campaign_core.specs.Topics.{topic_ids};
-ghost use Rattle.leave_out.specs.Lefts.{AreFew, IsLive, is_counted, left_in, value_on};
+ghost use Rattle.leave_out.specs.ReducedJudgements.{AreFew, IsLive, is_counted, reduced_in, value_on};
 ghost use Rattle.leave_out.specs.Reuse.{reduced};
 
-use crate::lefts::Left;
-use crate::own_docs::left_grade;
+use crate::own_docs::reduced_grade;
+use crate::reduced_judgements::ReducedJudgements;
 use campaign_core::State;
 use decimal_rank::{DocId, Memory, Ranking, Steps};
 use depth_pool::RunId;
@@ -24,46 +24,46 @@ use std::alloc::Global;
 use std::marker::Brand;
 use std::sync::ledger::{Blank, Ledger};
 
-/// The average precision of a run on a topic of which so much is left: None where no document with a grade is.
+/// The average precision of a run on a topic with these reduced judgements: None where no document has a grade by them.
 pub(crate) fn value_on(
     alloc: Global,
     state: &State,
     topic: u16,
     group: &[u8],
     run: RunId,
-    left: Left,
+    judgements: ReducedJudgements,
 ) -> Result<Option<u64>, Memory>
     requires topic { topic < length (topic_ids state.now.history) }
     requires live { (one : ℕ × Run) × IsLive state.now.history run one }
-    requires left { let H = state.now.history in (id : Words) → topic_at H topic ≡ Some id
-        → left ≡ left_in H group.now id (labelled H id) }
-    requires few { AreFew left }
+    requires judgements { let H = state.now.history in (id : Words) → topic_at H topic ≡ Some id
+        → judgements ≡ reduced_in H group.now id (labelled H id) }
+    requires few { AreFew judgements }
     ensures value { let H = state.now.history in (id : Words) (one : ℕ × Run)
         → topic_at H topic ≡ Some id → IsLive H run one
         → IfOk result (λ value. value ≡ value_on H group.now one.1 id) }
     ensures mean { IfOk result (λ value. unwrap_or value 0 ≤ 10 ^ 15) }
 {
-    if !is_counted(left) {
+    if !is_counted(judgements) {
         return Ok(None);
     }
     // a document that is listed once and has a grade is among those with a label
     graded_are_there();
     graded_are_on_trail();
     let _entries = state.entries();
-    let grades = left_grades(alloc, state, topic, group, run)?;
-    let value = average_precision(&grades, left, state.level(topic));
+    let grades = reduced_grades(alloc, state, topic, group, run)?;
+    let value = average_precision(&grades, judgements, state.level(topic));
     Ok(Some(value))
 }
 
-/// Whether a document with a grade is left.
-fn is_counted(left: Left) -> bool
-    ensures { result ≡ is_counted left }
+/// Whether a document has a grade.
+fn is_counted(judgements: ReducedJudgements) -> bool
+    ensures { result ≡ is_counted judgements }
 {
-    left.relevant > 0 || left.lower > 0
+    judgements.relevant > 0 || judgements.lower > 0
 }
 
-/// The grades of a run's ranked list on a topic without those of a group's own documents, by rank.
-fn left_grades(
+/// The grades of a run's ranked list on a topic by the reduced judgements of a group, by rank.
+fn reduced_grades(
     alloc: Global,
     state: &State,
     topic: u16,
@@ -100,7 +100,7 @@ fn listed_grades(
     let mut grades = Vec::new(alloc);
     for place in 0..len {
         let doc = doc_at(ranking, place);
-        grades.push(left_grade(state, topic, group, doc))?;
+        grades.push(reduced_grade(state, topic, group, doc))?;
     }
     Ok(grades)
 }
@@ -125,19 +125,25 @@ fn counted_doc_at<L: Ledger>(ranking: &Ranking, place: u32, blank: Blank) -> Doc
     ranking.doc_at(place + 1, &mut steps)
 }
 
-/// The average precision of a ranked list from its grades by rank, in units of 10^-15, on a topic of which so much is left.
+/// The average precision of a ranked list from its grades by rank, in units of 10^-15, on a topic with these reduced
+/// judgements.
 #[tactic(auto, unfolding(measures::specs::Cells::cell_of))]
-fn average_precision(grades: &[Option<u8>], left: Left, level: u8) -> u64
+fn average_precision(grades: &[Option<u8>], judgements: ReducedJudgements, level: u8) -> u64
     requires short { length grades.now ≤ 1000 }
-    requires relevant { count_by (is_relevant level) grades.now ≤ left.relevant }
-    requires lower { count_by (is_non_relevant level) grades.now ≤ left.lower }
-    requires few { AreFew left }
-    ensures value { result ≡ value_of Map (cell_of grades.now left.relevant left.lower level) }
+    requires relevant { count_by (is_relevant level) grades.now ≤ judgements.relevant }
+    requires lower { count_by (is_non_relevant level) grades.now ≤ judgements.lower }
+    requires few { AreFew judgements }
+    ensures value { result ≡ value_of Map (cell_of grades.now judgements.relevant judgements.lower level) }
     ensures mean { result ≤ 10 ^ 15 }
 {
-    if left.relevant == 0 {
+    if judgements.relevant == 0 {
         return 0;
     }
-    let cell = scratch(grades, left.relevant as u32, left.lower as u32, level);
-    cell.ap_sum / left.relevant as u64
+    let cell = scratch(
+        grades,
+        judgements.relevant as u32,
+        judgements.lower as u32,
+        level,
+    );
+    cell.ap_sum / judgements.relevant as u64
 }

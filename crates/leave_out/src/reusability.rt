@@ -5,10 +5,10 @@ ghost use Rattle.rulebook.specs.Campaign.{Run};
 ghost use Rattle.rulebook.specs.Systems.{is_mean, system_of};
 ghost use Rattle.campaign_core.specs.Groups.{group_of};
 ghost use Rattle.campaign_core.specs.Topics.{topic_ids};
-ghost use Rattle.leave_out.specs.Lefts.{IsLive, sums_in, with_topic};
+ghost use Rattle.leave_out.specs.ReducedJudgements.{AreOfGroup, IsLive, sums_in, with_topic};
 ghost use Rattle.leave_out.specs.Reuse.{are_means, reuse, reused};
 
-use crate::lefts::left_on;
+use crate::groups::{GroupJudgements, place_of};
 use crate::precision::value_on;
 use campaign_core::State;
 use decimal_rank::{Memory, Text};
@@ -46,26 +46,36 @@ pub fn reuse(alloc: Global, state: &State) -> Result<Vec<Reused>, Memory>
     let _entries = state.entries();
     let systems = state.systems()?;
     let live = state.live();
+    let mut groups = Vec::new(alloc);
     let mut rows = Vec::new(alloc);
     for (place, system) in systems.items().iter().enumerate() {
-        let row = row_of(alloc, state, live[place], system)?;
+        let group = place_of(alloc, state, &mut groups, system.group.bytes())?;
+        let row = row_of(alloc, state, live[place], system, &groups[group])?;
         rows.push(row)?;
     }
     Ok(rows)
 }
 
-/// A live run, without what its own group alone brought in.
-fn row_of(alloc: Global, state: &State, run: RunId, system: &System) -> Result<Reused, Memory>
+/// A live run, by the reduced judgements of its group.
+fn row_of(
+    alloc: Global,
+    state: &State,
+    run: RunId,
+    system: &System,
+    judgements: &GroupJudgements,
+) -> Result<Reused, Memory>
     requires topics { length (topic_ids state.now.history) ≤ 250 }
     requires live { let H = state.now.history in
         (one : ℕ × Run) × IsLive H run one × (system.now ≡ system_of H (group_of H one.0) one.1) }
     requires mean { IsTrue (is_mean system.now.summary.map) }
+    requires group { judgements.now.group ≡ system.now.group }
+    requires reduced { AreOfGroup state.now.history judgements.now }
     ensures reused { let H = state.now.history in (one : ℕ × Run) → IsLive H run one
         → system.now ≡ system_of H (group_of H one.0) one.1
         → IfOk result (λ row. row ≡ reused H one) }
     ensures means { IfOk result (λ row. IsTrue (are_means row)) }
 {
-    let sums = sums_of(alloc, state, system.group.bytes(), run)?;
+    let sums = sums_of(alloc, state, judgements, run)?;
     let name = system.run.copy()?;
     Ok(Reused {
         run: name,
@@ -88,12 +98,18 @@ fn mean_of(sums: Sums) -> u64
 }
 
 /// The sums of a run over all topics.
-fn sums_of(alloc: Global, state: &State, group: &[u8], run: RunId) -> Result<Sums, Memory>
-    requires { (one : ℕ × Run) × IsLive state.now.history run one }
+fn sums_of(
+    alloc: Global,
+    state: &State,
+    judgements: &GroupJudgements,
+    run: RunId,
+) -> Result<Sums, Memory>
+    requires live { (one : ℕ × Run) × IsLive state.now.history run one }
+    requires reduced { AreOfGroup state.now.history judgements.now }
     ensures means { IfOk result (λ sums. sums.precisions ≤ sums.topics * 10 ^ 15) }
     ensures own { IfOk result (λ sums. sums.own ≤ length (topic_ids state.now.history) * 4000000) }
     ensures sums { let H = state.now.history in (one : ℕ × Run) → IsLive H run one
-        → IfOk result (λ sums. sums ≡ sums_in H group.now one.1 (topic_ids H)) }
+        → IfOk result (λ sums. sums ≡ sums_in H judgements.now.group one.1 (topic_ids H)) }
 {
     let mut sums = Sums {
         own: 0,
@@ -101,9 +117,9 @@ fn sums_of(alloc: Global, state: &State, group: &[u8], run: RunId) -> Result<Sum
         precisions: 0,
     };
     for topic in 0..state.topics() {
-        let left = left_on(state, topic, group);
-        let value = value_on(alloc, state, topic, group, run, left)?;
-        sums = with_topic(left.own as u64, value, sums);
+        let reduced = judgements.topics[topic as usize];
+        let value = value_on(alloc, state, topic, judgements.group.bytes(), run, reduced)?;
+        sums = with_topic(reduced.own as u64, value, sums);
     }
     Ok(sums)
 }

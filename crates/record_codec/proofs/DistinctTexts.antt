@@ -7,14 +7,19 @@ use Rattle.std.proofs.lemmas.Cmp.{nat_list_eq_equiv}
 use Rattle.std.proofs.lemmas.List.{map-append, take-append-drop, drop_more, take_all, map_more}
 use denote.Ref.{Bor}
 use Rattle.decimal_rank.specs.declared.secrets.Secret.{Secret}
+use Rattle.record_codec.specs.declared.text_orders.TextKey.{TextKey}
 use Rattle.rulebook.specs.Spelling.{differ}
 use Rattle.rulebook.specs.Words.{Text, contains_text}
 
 abbrev pub Seen : Type 0
-Seen = HashMap (Bor (List ℕ)) (Unit {0}) Secret
+Seen = HashMap TextKey (Unit {0}) Secret
+
+-- the key of a text
+abbrev pub key_of : Text → TextKey
+key_of text = record { 0 = record { ref_ptr = (0, 0); now = text } }
 
 abbrev pub is_seen : Seen → Text → Bool
-is_seen seen text = is_some (get_by (λ key. bytes_eq text key.now) seen)
+is_seen seen text = is_some (get_by (λ key. bytes_eq text key.0.now) seen)
 
 -- texts that are lent
 abbrev pub shown : List (Bor (List ℕ)) → List Text
@@ -76,8 +81,8 @@ module _ (seen : Seen) (texts : List (Bor (List ℕ))) (i : ℕ) where
   text = text_at texts i
 
   pub seen_next : (more : Seen) → i < length texts → AreSeen seen (shown (take i texts))
-      → ((other : Text) → get_by (λ key. bytes_eq other key.now) more ≡ cond (bytes_eq text.now other) (Some tt)
-      (get_by (λ key. bytes_eq other key.now) seen))
+      → ((other : Text) → get_by (λ key. bytes_eq other key.0.now) more ≡ cond (bytes_eq text.now other) (Some tt)
+      (get_by (λ key. bytes_eq other key.0.now) seen))
       → is_seen seen text.now ≡ false → AreSeen more (shown (take (i + 1) texts))
   seen_next more within w changes absent =
       let before : List Text = shown (take i texts) in
@@ -86,7 +91,7 @@ module _ (seen : Seen) (texts : List (Bor (List ℕ))) (i : ℕ) where
       rw now record {
         seen_are = λ other.
             ap is_some (changes other) ∙ step other (bytes_eq text.now other)
-            (get_by (λ key. bytes_eq other key.now) seen) (w.seen_are other)
+            (get_by (λ key. bytes_eq other key.0.now) seen) (w.seen_are other)
             ∙ ap (λ (s : Bool). s || contains_text before other) (nat_list_eq_equiv.symm text.now other)
             ∙ sym (contains_push before text.now other);
         differing = differ_push before text.now w.differing (sym (w.seen_are text.now) ∙ absent);
@@ -109,7 +114,7 @@ module _ (seen : Seen) (texts : List (Bor (List ℕ))) (i : ℕ) where
       ap differ parts ∙ differ_again (shown (take i texts)) (shown (drop (i + 1) texts)) text.now
       (sym (w.seen_are text.now) ∙ there)
 
-pub seen_none : (seen : Seen) → ((text : Text) → get_by (λ key. bytes_eq text key.now) seen ≡ None) → AreSeen seen []
+pub seen_none : (seen : Seen) → ((text : Text) → get_by (λ key. bytes_eq text key.0.now) seen ≡ None) → AreSeen seen []
 seen_none seen empty = record { seen_are = λ text. ap is_some (empty text); differing = refl }
 
 pub seen_all : (seen : Seen) (texts : List (Bor (List ℕ))) (i : ℕ) → length texts ≤ i

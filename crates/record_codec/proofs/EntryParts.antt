@@ -1,8 +1,8 @@
 -- What the parts of an entry with a spelling may be written as.
-use Rattle.std.proofs.Common.{◌≡◌, ◌++◌, ◌∙◌, ℕ, append_assoc, ◌^◌, ◌<◌, ◌&&◌, Bool, true, List, [], ◌∷◌, length, refl, arith}
+use Rattle.std.proofs.Common.{◌≡◌, ◌++◌, ◌∙◌, ℕ, append_assoc, ◌^◌, ◌<◌, ◌&&◌, Bool, true, List, [], ◌∷◌, zero, suc, get_or, length, refl, arith}
 use Rattle.std.specs.Prelude.{IsTrue, nat_le, nat_lt}
 use Rattle.std.specs.List.{list_all}
-use Rattle.std.proofs.lemmas.Bool.{and_from, and_parts, lt-ltb}
+use Rattle.std.proofs.lemmas.Bool.{and_from, and_parts, lt-ltb, ltb-true}
 use Rattle.trec_formats.specs.declared.TopicList.{TopicList}
 use Rattle.trec_formats.specs.Names.{is_between, is_docno, is_name}
 use Rattle.rulebook.specs.Limits.{max_moment}
@@ -25,6 +25,13 @@ all_short test short [] all = refl
 all_short test short (text ∷ texts) all =
     let parts = and_parts (test text) (list_all test texts) all in
     and_from (is_short text) (list_all is_short texts) (lt-ltb (length text) 256 (short text parts.0)) (all_short test short texts parts.1)
+
+-- each of short texts is short
+pub short_at : (texts : List Text) (place : ℕ) (other : Text) → AreShort texts → place < length texts → length (get_or texts place other) < 256
+short_at [] place other are less = absurd (omega (arith, less))
+short_at (text ∷ texts) zero other are less = ltb-true (length text) 256 (and_parts (is_short text) (list_all is_short texts) are).0
+short_at (text ∷ texts) (suc place) other are less =
+    short_at texts place other (and_parts (is_short text) (list_all is_short texts) are).1 (omega (arith, less))
 
 pub doubles_short : (r : Rules) → IsTrue (are_settings r) → AreShort r.doubles
 doubles_short r is =

@@ -52,12 +52,23 @@ pub(crate) fn name(alloc: Global, left: &mut Cursor) -> Result<Text, CodecFault>
     kept(alloc, text, is_name(text))
 }
 
+/// A docno, lent from the bytes.
 #[tactic(auto, unfolding(crate::specs::Readings::docno_at))]
+pub(crate) fn docno_bytes<'a>(left: &mut Cursor<'a>) -> Result<&'a [u8], CodecFault>
+    ensures { GivesBy (λ docno. docno.now) result left.new.bytes.now (docno_at left.old.bytes.now) }
+{
+    let text = short(left)?;
+    if !is_docno(text) {
+        return Err(CodecFault::NoEntry);
+    }
+    Ok(text)
+}
+
 pub(crate) fn docno(alloc: Global, left: &mut Cursor) -> Result<Text, CodecFault>
     ensures { Gives result left.new.bytes.now (docno_at left.old.bytes.now) }
 {
-    let text = short(left)?;
-    kept(alloc, text, is_docno(text))
+    let docno = docno_bytes(left)?;
+    Ok(Text::from_slice(alloc, docno)?)
 }
 
 /// Whether each byte is printable ASCII, the space included.

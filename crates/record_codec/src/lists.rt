@@ -5,13 +5,13 @@ ghost use Rattle.record_codec.specs.Readings.{Read, docno_at, docs_at, doubles_a
 
 use crate::cursor::Cursor;
 use crate::faults::CodecFault;
-use crate::fields::{docno, name, printable};
+use crate::fields::{docno_bytes, name, printable};
 use crate::layout::{MOST_DESC, MOST_DOCS, MOST_NARR, MOST_TITLE};
-use crate::text_orders::{are_ascending, are_distinct, ids, lent, leveled, topics};
+use crate::text_orders::{are_ascending, are_distinct, ids, lent, lent_docnos, leveled, topics};
 use decimal_rank::{Rows, Text};
 use rulebook::{MAX_TOPICS, TopicLevel};
 use std::alloc::Global;
-use trec_formats::{Topic, TopicList};
+use trec_formats::{Docnos, Topic, TopicList};
 
 /// What lists are made of.
 pub(crate) trait Item {
@@ -33,18 +33,6 @@ impl Item for Name {
 
     fn read(alloc: Global, left: &mut Cursor) -> Result<Text, CodecFault> {
         name(alloc, left)
-    }
-}
-
-struct Docno;
-
-impl Item for Docno {
-    type Value = Text;
-
-    ghost at = { docno_at };
-
-    fn read(alloc: Global, left: &mut Cursor) -> Result<Text, CodecFault> {
-        docno(alloc, left)
     }
 }
 
@@ -144,20 +132,34 @@ pub(crate) fn topic_levels(alloc: Global, left: &mut Cursor) -> Result<Rows<Topi
     Ok(Rows::new(levels))
 }
 
+/// So many docnos, one behind the other.
+fn docnos_of(alloc: Global, left: &mut Cursor, count: u32) -> Result<Docnos, CodecFault>
+    ensures { Gives result left.new.bytes.now (items_at docno_at count left.old.bytes.now) }
+{
+    // the count is only told: room for so many at most
+    let mut docs = Docnos::with_capacity(alloc, count.min(MOST_DOCS) as usize)?;
+    for _ in 0..count {
+        let docno = docno_bytes(left)?;
+        docs.push(docno)?;
+    }
+    docs.shrink_to_fit();
+    Ok(docs)
+}
+
 /// The documents of a list, which differ.
 #[tactic(auto, unfolding(crate::specs::Readings::docs_at, crate::specs::Readings::counted_at))]
-fn docs(alloc: Global, left: &mut Cursor) -> Result<Rows<Text>, CodecFault>
+fn docs(alloc: Global, left: &mut Cursor) -> Result<Docnos, CodecFault>
     ensures { Gives result left.new.bytes.now (docs_at left.old.bytes.now) }
 {
     let count = left.number32()?;
     if count < 1 || count > MOST_DOCS {
         return Err(CodecFault::NoEntry);
     }
-    let docs = items_of::<Docno>(alloc, left, count)?;
-    if !are_distinct(alloc, lent(alloc, docs.as_slice())?.as_slice())? {
+    let docs = docnos_of(alloc, left, count)?;
+    if !are_distinct(alloc, lent_docnos(alloc, &docs)?.as_slice())? {
         return Err(CodecFault::NoEntry);
     }
-    Ok(Rows::new(docs))
+    Ok(docs)
 }
 
 /// The topics of a campaign, whose ids differ.

@@ -12,7 +12,7 @@ use crate::layout::{
 };
 use decimal_rank::{Memory, Rows, Text, append};
 use rulebook::{Caller, Command, EntryCore, Role, Rules, TopicLevel};
-use trec_formats::{Topic, TopicList};
+use trec_formats::{Docnos, Topic, TopicList};
 
 /// A byte for the length of a text, and the text.
 fn put_short(text: &Text, out: &mut Vec<u8>) -> Result<(), Memory>
@@ -85,7 +85,7 @@ impl Spelled for TopicList {
     fn put(&self, out: &mut Vec<u8>) -> Result<(), Memory> {
         put_short(&self.topic, out)?;
         append(out, &self.line.to_le_bytes())?;
-        put_items(&self.docs, out)
+        put_docnos(&self.docs, out)
     }
 }
 
@@ -109,6 +109,20 @@ fn put_items<T: Spelled>(items: &Rows<T>, out: &mut Vec<u8>) -> Result<(), Memor
     append(out, &(items.items().len() as u32).to_le_bytes())?;
     for item in items.items() {
         item.put(out)?;
+    }
+    Ok(())
+}
+
+/// A count of four bytes, and the docnos.
+fn put_docnos(docs: &Docnos, out: &mut Vec<u8>) -> Result<(), Memory>
+    requires few { length docs.now < 2 ^ 32 }
+    requires plain { IsTrue (list_all is_short docs.now) }
+    ensures { OnOk result (out.new.items ≡ out.old.items ++ listed short docs.now) }
+{
+    let count = docs.len();
+    append(out, &(count as u32).to_le_bytes())?;
+    for place in 0..count {
+        put_text(docs.at(place), out)?;
     }
     Ok(())
 }

@@ -8,7 +8,26 @@ use decimal_rank::{Memory, Secret, Text};
 use rulebook::TopicLevel;
 use std::alloc::Global;
 use std::collections::HashMap;
-use trec_formats::{Topic, TopicList};
+use std::hash::{Hash, Hasher};
+use trec_formats::{Docnos, Topic, TopicList};
+
+/// A text as a key of a table. It hashes by one write of its bytes, where a slice writes each byte apart.
+#[derive(Clone, Copy, PartialEq, Eq)]
+struct TextKey<'a>(&'a [u8]);
+
+impl Hash for TextKey<'_> {
+    ghost use Rattle.std.specs.Prelude.{◌∷◌, []};
+    ghost use Rattle.std.specs.Cmp.Rules.{hashing};
+    ghost use Rattle.std.proofs.Common.{rules};
+
+    ghost hash_input = { λ key. key.0.now ∷ [] };
+
+    ghost respects_eq = { Prim.search (hashing, rules) };
+
+    fn hash<H: Hasher>(&self, state: &mut H) {
+        state.write(self.0);
+    }
+}
 
 /// Whether no text stands twice. A table of the texts makes this linear in them.
 pub(crate) fn are_distinct(alloc: Global, texts: &[&[u8]]) -> Result<bool, Memory>
@@ -16,7 +35,7 @@ pub(crate) fn are_distinct(alloc: Global, texts: &[&[u8]]) -> Result<bool, Memor
 {
     let mut seen = HashMap::with_capacity_and_hasher(alloc, texts.len(), Secret::drawn())?;
     for text in texts {
-        if let Some(()) = seen.insert(*text, ())? {
+        if let Some(()) = seen.insert(TextKey(text), ())? {
             return Ok(false);
         }
     }
@@ -49,6 +68,18 @@ pub(crate) fn lent(alloc: Global, texts: &[Text]) -> Result<Vec<&[u8]>, Memory>
     let mut lent = Vec::with_capacity(alloc, texts.len())?;
     for text in texts {
         lent.push(text.bytes())?;
+    }
+    Ok(lent)
+}
+
+/// The docnos of a list, lent.
+pub(crate) fn lent_docnos(alloc: Global, docs: &Docnos) -> Result<Vec<&[u8]>, Memory>
+    ensures { IfOk result (λ lent. map (λ text. text.now) lent.items ≡ docs.entry.now) }
+{
+    let count = docs.len();
+    let mut lent = Vec::with_capacity(alloc, count)?;
+    for place in 0..count {
+        lent.push(docs.at(place))?;
     }
     Ok(lent)
 }

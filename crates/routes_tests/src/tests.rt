@@ -10,7 +10,7 @@ use rulebook::{Ask, Caller, Command, Phase, Quantity, Query, Refusal, Reply, Rol
 use std::alloc::Global;
 use std::process::Abort;
 use std::test::Fail;
-use trec_formats::{Topic, TopicList};
+use trec_formats::{Docnos, Topic, TopicList};
 
 fn text(alloc: Global, bytes: &[u8]) -> Result<Text, Memory>
     ensures { IfOk result (λ text. text ≡ bytes.now) }
@@ -149,9 +149,9 @@ fn tell_topics(told: &mut Vec<u8>, topics: &[Topic]) -> Result<(), Memory> {
     Ok(())
 }
 
-fn tell_docs(told: &mut Vec<u8>, docs: &[Text]) -> Result<(), Memory> {
-    for doc in docs {
-        tell(told, doc.bytes())?;
+fn tell_docs(told: &mut Vec<u8>, docs: &Docnos) -> Result<(), Memory> {
+    for place in 0..docs.len() {
+        tell(told, docs.at(place))?;
     }
     Ok(())
 }
@@ -162,7 +162,7 @@ fn tell_lists(told: &mut Vec<u8>, run: &[u8], lists: &[TopicList]) -> Result<(),
     for list in lists {
         tell(told, list.topic.bytes())?;
         tell_number(told, list.line)?;
-        tell_docs(told, list.docs.items())?;
+        tell_docs(told, &list.docs)?;
     }
     Ok(())
 }

@@ -3,7 +3,7 @@ use decimal_rank::{Memory, Rows, Text};
 use rulebook::{Caller, Command, Quantity, Refusal, Reply, Role};
 use std::alloc::Global;
 use std::test::Fail;
-use trec_formats::TopicList;
+use trec_formats::{Docnos, TopicList};
 
 fn text(alloc: Global, bytes: &[u8]) -> Result<Text, Memory> {
     Text::from_slice(alloc, bytes)
@@ -55,13 +55,13 @@ fn a_pool_is_copied(rt: HostRuntime) -> Result<(), Fail> {
 }
 
 fn submission(alloc: Global, line: u32, doc: &[u8]) -> Result<Command, Memory> {
-    let mut docs = Vec::new(alloc);
-    docs.push(text(alloc, doc)?)?;
+    let mut docs = Docnos::new(alloc);
+    docs.push(doc)?;
     let mut lists = Vec::new(alloc);
     lists.push(TopicList {
         topic: text(alloc, b"1")?,
         line,
-        docs: Rows::new(docs),
+        docs,
     })?;
     Ok(Command::Submit {
         run: text(alloc, b"X")?,

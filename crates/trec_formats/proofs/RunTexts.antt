@@ -8,3 +8,4 @@ pub mod RunFormat
 pub mod RunLines
 pub mod RunPieces
 pub mod RunSteps
+pub mod WholeLines

@@ -1,5 +1,6 @@
 pub mod Counts
 pub mod DocnoKeys
+pub mod DocnoParts
 pub mod Documents
 pub mod FaultNames
 pub mod Faults

@@ -1,6 +1,8 @@
 //! The run, qrels and topics formats of TREC: their texts as lines and as topics, and the ranked lists of a run.
 #![tactic(auto)]
 
+mod docno_fields;
+mod docnos;
 mod document_keys;
 mod documents;
 mod faults;
@@ -17,6 +19,7 @@ mod qrels_text;
 mod repeats;
 mod run_fields;
 mod run_reader;
+mod run_views;
 mod runs;
 mod topic_blocks;
 mod topic_counts;
@@ -26,6 +29,7 @@ mod topic_marks;
 mod topic_numbers;
 mod topics;
 
+pub use docnos::Docnos;
 pub use faults::{FormatEnd, FormatFault, Kind, cause_name};
 pub use laws::{one_qrels_reading, one_rankable_reading, one_run_reading};
 pub use lists::{TopicList, rank_run};

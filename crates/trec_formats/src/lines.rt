@@ -10,7 +10,8 @@ pub(crate) fn is_white_space(byte: u8) -> bool
     byte == 9 || byte == 11 || byte == 12 || byte == 13 || byte == 32
 }
 
-fn line_feed(text: &[u8]) -> Option<usize>
+/// The place of the first line feed.
+pub(crate) fn line_feed(text: &[u8]) -> Option<usize>
     ensures { result ≡ position (λ b. b == 10) text.now }
 {
     memchr(b'\n', text)

@@ -10,11 +10,12 @@ ghost use Rattle.trec_formats.specs.Lists.{same_document, standing, AreLists, Ar
 ghost use Rattle.trec_formats.specs.PackedRuns.{text_in, line_in, lines_in, kept_lines, shown};
 ghost use Rattle.trec_formats.specs.Runs.{count_on};
 
+use crate::docnos::Docnos;
 use crate::faults::FormatEnd;
 use crate::packed_runs::{PackedLine, PackedRun, Span, is_one_span, packed, text_of};
 use crate::repeats::check_distinct;
 use crate::runs::RunLine;
-use decimal_rank::{Memory, Rows, Text, decimals_have_an_order};
+use decimal_rank::{Memory, Text, decimals_have_an_order};
 use std::alloc::Global;
 use std::cmp::Ordering;
 
@@ -25,7 +26,7 @@ pub struct TopicList {
     /// The topic's first line in the run's text, from 1.
     pub line: u32,
     /// The docnos by rank.
-    pub docs: Rows<Text>,
+    pub docs: Docnos,
 }
 
 /// The order of two lines by topic.
@@ -115,24 +116,25 @@ fn by_rank<'a>(
 }
 
 /// The docnos of lines, in their order.
-fn docnos(alloc: Global, bytes: &[u8], order: &[&PackedLine]) -> Result<Rows<Text>, Memory>
+fn docnos_of(alloc: Global, bytes: &[u8], order: &[&PackedLine]) -> Result<Docnos, Memory>
     ensures { IfOk result (λ docs. docs ≡ map (λ line. line.doc) (shown bytes.now order.now)) }
 {
-    let mut docs = Vec::with_capacity(alloc, order.len())?;
+    let mut docs = Docnos::with_capacity(alloc, order.len())?;
     for line in order {
-        docs.push(Text::from_slice(alloc, text_of(bytes, line.doc))?)?;
+        docs.push(text_of(bytes, line.doc))?;
     }
-    Ok(Rows::new(docs))
+    docs.shrink_to_fit();
+    Ok(docs)
 }
 
 /// The docnos of a topic's lines, by rank.
-fn ranked(alloc: Global, bytes: &[u8], lines: &[PackedLine]) -> Result<Rows<Text>, Memory>
+fn ranked(alloc: Global, bytes: &[u8], lines: &[PackedLine]) -> Result<Docnos, Memory>
     requires { DocsDiffer (lines_in bytes.now lines.now) }
     ensures { IfOk result (AreRanked (lines_in bytes.now lines.now)) }
 {
     decimals_have_an_order();
     let order = by_rank(alloc, bytes, lines)?;
-    docnos(alloc, bytes, order.as_slice())
+    docnos_of(alloc, bytes, order.as_slice())
 }
 
 /// The list of a topic's lines.

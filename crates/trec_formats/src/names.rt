@@ -24,11 +24,23 @@ pub fn is_name(text: &[u8]) -> bool
     1 <= text.len() && text.len() <= 32 && are_name_bytes(text)
 }
 
+pub(crate) fn is_visible(byte: u8) -> bool
+    ensures { result ≡ is_between 33 126 byte }
+{
+    33 <= byte && byte <= 126
+}
+
 #[inline(never)]
 fn are_visible(text: &[u8]) -> bool
     ensures { result ≡ list_all (is_between 33 126) text.now }
 {
-    text.iter().all(|byte| 33 <= *byte && *byte <= 126)
+    text.iter().all(|byte| is_visible(*byte))
+}
+
+pub(crate) fn has_docno_length(length: usize) -> bool
+    ensures { result ≡ is_between 1 64 length }
+{
+    1 <= length && length <= 64
 }
 
 /// Whether a field may be the number of a document.
@@ -36,7 +48,7 @@ fn are_visible(text: &[u8]) -> bool
 pub fn is_docno(text: &[u8]) -> bool
     ensures { result ≡ is_docno text.now }
 {
-    1 <= text.len() && text.len() <= 64 && are_visible(text)
+    has_docno_length(text.len()) && are_visible(text)
 }
 
 /// The value of a field of digits alone, up to 255.

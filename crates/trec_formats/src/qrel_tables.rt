@@ -7,10 +7,11 @@ ghost use Rattle.trec_formats.specs.Faults.{IfFault};
 ghost use Rattle.trec_formats.specs.LineViews.{qrel_shown};
 ghost use Rattle.trec_formats.specs.Qrels.{grade_on, IsQrels, IsQrelsFault};
 
+use crate::docnos::Docnos;
 use crate::documents::{Document, DocumentTable, line_of, table_of};
 use crate::faults::FormatEnd;
 use crate::qrels::{QrelView, read_lines};
-use decimal_rank::{Memory, Text};
+use decimal_rank::Memory;
 use std::alloc::Global;
 use std::marker::Model;
 
@@ -59,7 +60,7 @@ impl<'a> QrelTable<'a> {
         &self,
         alloc: Global,
         topic: &[u8],
-        docs: &[Text],
+        docs: &Docnos,
     ) -> Result<Vec<Option<u8>>, Memory>
         ensures { IfOk result (λ grades. grades.items ≡ map (grade_on self.now topic.now) docs.now) }
     {
@@ -73,17 +74,18 @@ fn grades_of(
     lines: &[QrelView<'_>],
     table: &DocumentTable,
     topic: &[u8],
-    docs: &[Text],
+    docs: &Docnos,
 ) -> Result<Vec<Option<u8>>, Memory>
     requires { AreByDocument (λ view. view.topic.now) (λ view. view.doc.now) table.now.keys table.now.chains lines.now }
     ensures { IfOk result (λ grades. grades.items ≡ map (grade_on (map qrel_shown lines.now) topic.now) docs.now) }
 {
     let topic_key = table.keys.of_topic(topic);
-    let mut grades = Vec::with_capacity(alloc, docs.len())?;
-    for doc in docs {
+    let count = docs.len();
+    let mut grades = Vec::with_capacity(alloc, count)?;
+    for place in 0..count {
         let document = Document {
             topic,
-            doc: doc.bytes(),
+            doc: docs.at(place),
         };
         grades.push(grade_of(lines, table, document, topic_key))?;
     }

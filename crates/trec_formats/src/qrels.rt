@@ -3,12 +3,14 @@ ghost use Rattle.std.specs.Prelude.{◌≡◌, ◌≢◌, ◌≤◌, [], ◌∷�
 ghost use Rattle.trec_formats.specs.Lines.{fields_of};
 ghost use Rattle.trec_formats.specs.Faults.{IfFault};
 ghost use Rattle.trec_formats.specs.LineViews.{qrel_shown};
+ghost use Rattle.trec_formats.specs.Names.{is_docno};
 ghost use Rattle.trec_formats.specs.Qrels.{qrel_of, IsEachRead, IsQrels, IsQrelsFault};
 
+use crate::docno_fields::cut_docno;
 use crate::documents::DocumentLine;
 use crate::faults::{FormatEnd, Kind};
 use crate::lines::{cut_field, next_row};
-use crate::names::{grade_of, is_docno, is_name};
+use crate::names::{grade_of, is_name};
 use crate::qrel_tables::read_qrel_table;
 use decimal_rank::{Memory, Text};
 use std::alloc::Global;
@@ -53,17 +55,18 @@ impl<'a> DocumentLine for QrelView<'a> {
     }
 }
 
-/// The fields of a line that has exactly four.
-fn four_fields(line: &[u8]) -> Option<(&[u8], &[u8], &[u8], &[u8])>
-    ensures { MatchOption result (length (fields_of line.now) ≢ 4) (λ f. fields_of line.now ≡ f.0.now ∷ f.1.now ∷ f.2.now ∷ f.3.now ∷ []) }
+/// The fields of a line that has exactly four, and whether the third is a docno.
+fn four_fields(line: &[u8]) -> Option<(&[u8], &[u8], &[u8], bool, &[u8])>
+    ensures { MatchOption result (length (fields_of line.now) ≢ 4) (λ f.
+        (fields_of line.now ≡ f.0.now ∷ f.1.now ∷ f.2.now ∷ f.4.now ∷ []) × (f.3 ≡ is_docno f.2.now)) }
 {
     let (first, rest) = cut_field(line)?;
     let (second, rest) = cut_field(rest)?;
-    let (third, rest) = cut_field(rest)?;
+    let (third, is_docno, rest) = cut_docno(rest)?;
     let (fourth, rest) = cut_field(rest)?;
     match cut_field(rest) {
         Some(_) => None,
-        None => Some((first, second, third, fourth)),
+        None => Some((first, second, third, is_docno, fourth)),
     }
 }
 
@@ -74,13 +77,13 @@ fn qrel_view(number: u32, line: &[u8]) -> Result<QrelView<'_>, Kind>
         (λ view. qrel_of (number, fields_of line.now) ≡ Ok (qrel_shown view))
         (λ kind. qrel_of (number, fields_of line.now) ≡ Err kind) }
 {
-    let Some((topic, _, doc, grade)) = four_fields(line) else {
+    let Some((topic, _, doc, is_docno, grade)) = four_fields(line) else {
         return Err(Kind::Fields);
     };
     if !is_name(topic) {
         return Err(Kind::Topic);
     }
-    if !is_docno(doc) {
+    if !is_docno {
         return Err(Kind::Docno);
     }
     let Some(grade) = grade_of(grade) else {

@@ -1,11 +1,11 @@
-//! A run read as it comes. Of the line that isn't whole its ended fields are kept as far as they are looked at,
-//! and of the present field at most 401 bytes. A line is judged where it ends, since a seventh field makes
-//! another fault of it.
-ghost use Rattle.std.specs.Prelude.{◌≡◌, ◌≤◌, ◌<◌, ◌+◌, ◌^◌, ◌++◌, ℕ, List, [], ◌∷◌, map, length, take, position, Ok, Err, IfOk, OnOk, OnErr, IsErr};
+//! A run read as it comes. A line that stands whole in a piece is read in place. Of the line that isn't whole its
+//! ended fields are kept as far as they are looked at, and of the present field at most 401 bytes. A line is judged
+//! where it ends, since a seventh field makes another fault of it.
+ghost use Rattle.std.specs.Prelude.{◌≡◌, ◌≤◌, ◌<◌, ◌+◌, ◌^◌, ◌++◌, ℕ, List, [], ◌∷◌, true, map, length, take, position, Ok, Err, IfOk, OnOk, OnErr, IsErr};
 ghost use Rattle.std.specs.List.Sorted.{IsStrictlyIncreasing};
 ghost use Rattle.trec_formats.specs.Faults.{IfFault};
 ghost use Rattle.trec_formats.specs.LineViews.{view_shown};
-ghost use Rattle.trec_formats.specs.Lines.{Row};
+ghost use Rattle.trec_formats.specs.Lines.{Row, fields_of};
 ghost use Rattle.trec_formats.specs.Lists.{IsRankedRun, IsRankedRunFault};
 ghost use Rattle.trec_formats.specs.PackedRuns.{kept_lines, ArePlaced};
 ghost use Rattle.trec_formats.specs.Counts.{IsTally};
@@ -15,10 +15,11 @@ ghost use Rattle.trec_formats.specs.Runs.{run_of, count_on, IsRun, IsRunFault};
 
 use crate::faults::{FormatEnd, FormatFault, Kind};
 use crate::line_views::LineView;
-use crate::lines::is_white_space;
+use crate::lines::{has_field, is_white_space, line_feed};
 use crate::lists::{TopicList, rank_packed};
 use crate::packed_runs::{PackedRun, push, unpacked};
 use crate::run_fields::{KeptLine, end_field, hold, judged};
+use crate::run_views::{lent, run_view};
 use crate::runs::RunLine;
 use crate::topic_counts::{TopicCounts, count_line};
 use decimal_rank::Memory;
@@ -147,6 +148,53 @@ fn step(alloc: Global, reading: &mut Reading, rest: &[u8]) -> Result<usize, Form
     Ok(end + 1)
 }
 
+/// Reads a line that stands whole in a piece.
+fn whole_line(alloc: Global, ended: &mut Ended, line: &[u8]) -> Result<(), FormatEnd>
+    requires within { AreWithin ended.old }
+    requires long { ended.old.number + 1 ≤ 268435456 }
+    ensures number { OnOk result (ended.new.number ≡ ended.old.number + 1) }
+    ensures within { OnOk result (AreWithin ended.new) }
+    ensures ok { OnOk result ((done : List Row) → AreEnded done ended.old → AreEnded (done ++ row_if (ended.old.number + 1) (fields_of line.now)) ended.new) }
+    ensures fault { IfFault result (λ fault. (done : List Row) → AreEnded done ended.old → IsFaultBehind done (row_if (ended.old.number + 1) (fields_of line.now)) fault) }
+{
+    ended.number += 1;
+    if !has_field(line) {
+        return Ok(());
+    }
+    match run_view(ended.number, line) {
+        Ok(view) => add_line(alloc, ended, lent(&view)),
+        Err(kind) => Err(FormatEnd::at(ended.number, kind)),
+    }
+}
+
+/// Whether a reading stands before a line, of which the next byte isn't white space.
+fn begins_line(line: &KeptLine, held: &[u8], next: u8) -> bool
+    ensures fields { result ≡ true → line.now.count ≡ 0 }
+    ensures held { result ≡ true → held.now ≡ [] }
+{
+    line.count == 0 && held.is_empty() && !is_white_space(next)
+}
+
+/// Reads on, up to the end of a line that stands whole in the rest, or else up to the next end of a field.
+/// How many bytes were read.
+fn advance(alloc: Global, reading: &mut Reading, rest: &[u8]) -> Result<usize, FormatEnd>
+    requires within { IsWithin reading.old }
+    requires some { 0 < length rest.now }
+    requires long { reading.old.ended.number + length rest.now ≤ 268435456 }
+    ensures taken { IfOk result (λ taken. (0 < taken) × (taken ≤ length rest.now) × (reading.new.ended.number ≤ reading.old.ended.number + taken)) }
+    ensures within { OnOk result (IsWithin reading.new) }
+    ensures ok { IfOk result (λ taken. (text : List ℕ) → IsRead text reading.old → IsRead (text ++ take taken rest.now) reading.new) }
+    ensures fault { IfFault result (λ fault. (text : List ℕ) → IsRead text reading.old → IsFaulty (text ++ rest.now) fault) }
+{
+    if begins_line(&reading.line, reading.held.as_slice(), rest[0]) {
+        if let Some(end) = line_feed(rest) {
+            whole_line(alloc, &mut reading.ended, &rest[..end])?;
+            return Ok(end + 1);
+        }
+    }
+    step(alloc, reading, rest)
+}
+
 /// Reads a piece.
 fn read_piece(alloc: Global, reading: &mut Reading, piece: &[u8]) -> Result<(), FormatEnd>
     requires within { IsWithin reading.old }
@@ -158,7 +206,7 @@ fn read_piece(alloc: Global, reading: &mut Reading, piece: &[u8]) -> Result<(), 
 {
     let mut at = 0;
     while at < piece.len() {
-        at += step(alloc, reading, &piece[at..])?;
+        at += advance(alloc, reading, &piece[at..])?;
     }
     Ok(())
 }

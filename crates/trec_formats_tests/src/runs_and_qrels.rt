@@ -1,20 +1,21 @@
 //! Runs and qrels, read and ranked.
 use crate::faults::is_fault;
 use crate::readings::{lists_read, qrels_of, run_of, short, table_of};
-use decimal_rank::{Decimal, Memory, Text};
+use decimal_rank::{Decimal, Memory};
 use std::alloc::Global;
 use std::cmp::Ordering;
 use std::fmt::Write;
 use std::test::Fail;
-use trec_formats::{FormatEnd, Kind, QrelLine, QrelTable, RunLine, TopicList, rank_run, read_run};
+use trec_formats::{
+    Docnos, FormatEnd, Kind, QrelLine, QrelTable, RunLine, TopicList, rank_run, read_run,
+};
 
 /// The grades of three documents on a topic.
 fn grades_on(alloc: Global, table: &QrelTable<'_>, topic: &str) -> Result<Vec<Option<u8>>, Memory> {
-    let docs = [
-        Text::from_slice(alloc, b"A")?,
-        Text::from_slice(alloc, b"B")?,
-        Text::from_slice(alloc, b"C")?,
-    ];
+    let mut docs = Docnos::new(alloc);
+    docs.push(b"A")?;
+    docs.push(b"B")?;
+    docs.push(b"C")?;
     table.grades(alloc, topic.as_bytes(), &docs)
 }
 
@@ -57,16 +58,21 @@ fn is_qrel_line(line: &QrelLine, wanted: &(u32, &str, &str, u8)) -> bool {
         && line.grade == wanted.3
 }
 
-fn are_docs(docs: &[Text], wanted: &[&str]) -> bool {
-    docs.len() == wanted.len()
-        && docs
-            .iter()
-            .zip(wanted)
-            .all(|(doc, name)| doc.bytes() == name.as_bytes())
+/// Whether the first docnos are these.
+fn begin_with(docs: &Docnos, wanted: &[&str]) -> bool {
+    for place in 0..wanted.len() {
+        if docs.len() <= place || docs.at(place) != wanted[place].as_bytes() {
+            return false;
+        }
+    }
+    true
 }
 
 pub fn is_list(list: &TopicList, topic: &str, line: u32, docs: &[&str]) -> bool {
-    list.topic.bytes() == topic.as_bytes() && list.line == line && are_docs(list.docs.items(), docs)
+    list.topic.bytes() == topic.as_bytes()
+        && list.line == line
+        && list.docs.len() == docs.len()
+        && begin_with(&list.docs, docs)
 }
 
 #[test]
@@ -98,10 +104,10 @@ fn a_topic_has_a_thousand_lines(rt: HostRuntime) -> Result<(), Fail> {
     }
     let lists = lists_of(rt.alloc(), text.as_str())?;
     assert_eq!(rt; lists.len(), 2);
-    assert_eq!(rt; lists[0].docs.items().len(), 1000);
-    assert_eq!(rt; lists[1].docs.items().len(), 1000);
-    assert!(rt; are_docs(&lists[0].docs.items()[..2], &["D1000", "D999"]));
-    assert!(rt; are_docs(&lists[1].docs.items()[..2], &["D999", "D998"]));
+    assert_eq!(rt; lists[0].docs.len(), 1000);
+    assert_eq!(rt; lists[1].docs.len(), 1000);
+    assert!(rt; begin_with(&lists[0].docs, &["D1000", "D999"]));
+    assert!(rt; begin_with(&lists[1].docs, &["D999", "D998"]));
     writeln!(text, "1 Q0 D1001 1 1 t")?;
     assert!(rt; is_fault(run_of(rt.alloc(), text.as_str()).err(), 2001, Kind::TooLong));
     Ok(())

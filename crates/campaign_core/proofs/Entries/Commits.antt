@@ -29,7 +29,8 @@ use Rattle.rulebook.specs.Campaign.{History, Run, docnos, docs_on, has_topics, i
 use Rattle.rulebook.specs.Entries.{AreKept, AreWithLabel, AreWithRuling, GivesLabel, GivesRuling, IsQuiet, LabelsJoin, QuietEntriesKeepGrades, RulingsJoin}
 use Rattle.rulebook.specs.Grades.{Label, given_labels, is_labelled, label_in, label_of, ruling_in}
 use Rattle.rulebook.specs.Refusals.{Ruling}
-use Rattle.rulebook.specs.Leases.{Lease, ends, lease_in, leases}
+use Rattle.rulebook.specs.LeaseEntries.{EndsAreThere, LeasesAreEntries, end_in}
+use Rattle.rulebook.specs.Leases.{Lease, lease_in, leases}
 use Rattle.rulebook.specs.Spelling.{differ}
 use Rattle.campaign_core.specs.Growth.{BeginsWith, lists_in}
 use Rattle.campaign_core.specs.Kept.{IsAssessmentOf, IsFew, IsKnown, IsReady, IsUnjudged}
@@ -54,7 +55,7 @@ use Rattle.campaign_core.proofs.Rulings.AcceptedCommands.{amend-told, grade-told
 use Rattle.campaign_core.proofs.Entries.HistoryGrowth.{submitted_docnos-push, submitted_lines-push}
 use Rattle.campaign_core.proofs.Entries.LabelSteps.{GivenFollow, GivenStay, RulingsFollow, RulingsStay, few-here, few-more, few-ruled, labelled-elsewhere, labelled-here, marked-there, ruled-elsewhere, ruled-here}
 use Rattle.campaign_core.proofs.Entries.GrowingNames.{labelled-grows, leased-grows}
-use Rattle.campaign_core.proofs.Entries.LeaseSteps.{leased-ended, leased-granted}
+use Rattle.campaign_core.proofs.Entries.LeaseSteps.{leased-ended, leased-granted, unended-of}
 use Rattle.campaign_core.proofs.Entries.Legality.{IsLegal-push, moment_after-push}
 use Rattle.assessment.proofs.ListFacts.{each_cons, map-map}
 use Rattle.campaign_core.proofs.Lists.Elements.{both_true, get-map, map-at_place, map-at_same}
@@ -87,6 +88,8 @@ pub record Laws : Type 0 where
   pub rulings_join : RulingsJoin
   pub rulings_follow : RulingsFollow
   pub given_stay : GivenStay
+  pub ends_there : EndsAreThere
+  pub lease_entries : LeasesAreEntries
 
 -- What holds after the entry, once its change is made.
 pub record IsCarriedOut (s : Campaign) (e : Entry) (c : Change) : Type 0 where
@@ -396,14 +399,16 @@ module _ (laws : Laws) where
 
   -- where the entry changes nothing but the phase
   still-assessed : (s : Campaign) (e : Entry) (c : Command) → IsKnown s → IsPlain e.core.command → e.core.command ≡ c → e.reply ≡ reply.Done → label_in e.core.caller.name c e.reply ≡ None
-      → ((topic doc : Text) → ruling_in topic doc c ≡ None) → ((number : ℕ) → ends number c ≡ false) → IsAssessmentOf (s.history.items ++ e ∷ []) (facts s.assessment)
+      → ((topic doc : Text) → ruling_in topic doc c ≡ None) → ((number : ℕ) → end_in number c ≡ None)
+      → IsAssessmentOf (s.history.items ++ e ∷ []) (facts s.assessment)
   still-assessed s e c kept_s plain is reply_is no_label no_ruling no_end =
       let H = s.history.items in
       let J : History = H ++ e ∷ [] in
       let quiet : IsQuiet e = record { no_label = ap (λ c. label_in e.core.caller.name c e.reply) is ∙ no_label; no_ruling = λ topic doc. ap (ruling_in topic doc) is ∙ no_ruling topic doc } in
       let no_lease : leases J ≡ leases H = no-lease H e (ap (lease_in e.core.caller.name) reply_is) in
       quiet-assessed s e s.assessment.leases kept_s plain quiet
-      (leased-stays H J s.assessment.leases no_lease (none-ended H e (λ n. ap (ends n) is ∙ no_end n)) (ids-stay H e plain.no_topics) (names-stay H e plain.no_docnos) kept_s.assessed.knows.leased)
+      (leased-stays laws.ends_there H J s.assessment.leases no_lease (none-ended H e (λ n. ap (end_in n) is ∙ no_end n))
+      (ids-stay H e plain.no_topics) (names-stay H e plain.no_docnos) kept_s.assessed.knows.leased)
 
   pub carried-out : (s : Campaign) (names : List Text) (e : Entry) (c : Change) → IsKnown s → IsReady s e → names ≡ names_of (s.history.items ++ e ∷ []) → CarriesOut s.history.items names (topics_of s) s.assessment.leases e c → IsCarriedOut s e c
   carried-out s names e (change.Topics made) kept_s ready names_is (given, is, made_is, labelled_is, is_new) =
@@ -434,7 +439,7 @@ module _ (laws : Laws) where
           knows = record {
             topics_are = made_is ∙ topics-made J given (rules_of H) (sym rules_are) none_numbered ∙ ap (λ (ts : List Topic). map (kept_of J) (map (λ (t : Topic). t.id) ts)) (sym given_is);
             labels_are = subst (All (IsLabelled J (names_of J))) (sym labelled_is) (fresh-labels s e new keeps labels_are no_lease none (new-marks given) (new-grades given));
-            leased = leased-none H J s.assessment.leases none.no_lease no_lease (none-ended H e (λ n. ap (ends n) is)) kept_s.assessed.knows.leased;
+            leased = leased-none H J s.assessment.leases none.no_lease no_lease (none-ended H e (λ n. ap (end_in n) is)) kept_s.assessed.knows.leased;
             topics_differ = ap differ ids_are ∙ topics-plain given plain;
             topics_fit = rw ids_are (omega (arith, length-map given (λ (t : Topic). t.id), topics-few H given e.reply ruled));
           };
@@ -479,7 +484,8 @@ module _ (laws : Laws) where
                 ∙ runs-added H J name lists run names ts (topic_ids H) laws.goes_last rules_are grown (numbered-more H J new run_is withdrawn_are live) names_is number kept_s.assessed.knows.topics_are
                 ∙ ap (λ (ts : List Topic). map (kept_of J) (map (λ (t : Topic). t.id) ts)) (sym same);
             labels_are = subst (All (IsLabelled J (names_of J))) (sym labelled_is) (λ k d within. labelled-grows H J (get_or (map labelled_of ts) k d) keeps grown (kept_s.assessed.knows.labels_are k d within));
-            leased = leased-grows H J s.assessment.leases no_lease (none-ended H e (λ n. ap (ends n) is)) ids_are grown kept_s.assessed.knows.leased;
+            leased = leased-grows laws.ends_there H J s.assessment.leases no_lease (none-ended H e (λ n. ap (end_in n) is)) ids_are grown
+                kept_s.assessed.knows.leased;
             topics_differ = ap differ ids_are ∙ kept_s.assessed.knows.topics_differ;
             topics_fit = rw ids_are kept_s.assessed.knows.topics_fit;
           };
@@ -508,7 +514,8 @@ module _ (laws : Laws) where
       let quiet : IsQuiet e = record { no_label = ap (λ c. label_in e.core.caller.name c e.reply) is; no_ruling = λ topic doc. ap (ruling_in topic doc) is } in
       let keeps = keeps-all s e kept_s quiet in
       let no_lease : leases J ≡ leases H = no-lease H e (ap (lease_in e.core.caller.name) told.reply_is) in
-      let leased = leased-stays H J s.assessment.leases no_lease (none-ended H e (λ n. ap (ends n) is)) ids_are names_are kept_s.assessed.knows.leased in
+      let leased = leased-stays laws.ends_there H J s.assessment.leases no_lease (none-ended H e (λ n. ap (end_in n) is)) ids_are names_are
+      kept_s.assessed.knows.leased in
       let labelled_is = without-labelled run ts in
       record {
         phase_is = ap (λ c. phase_after c s.phase) is ∙ kept_s.phase_is ∙ sym phases;
@@ -563,7 +570,8 @@ module _ (laws : Laws) where
       let lease_is : w.lease ≡ granted_lease = some-same w.lease granted_lease (sym w.told ∙ ap (lease_in e.core.caller.name) told.reply_is) in
       let docnos_are : names ≡ names_of H = names_is ∙ names_are in
       let listed : contains_text (topic_ids H) w.lease.topic ≡ true = ap (λ (l : Lease). contains_text (topic_ids H) l.topic) lease_is ∙ sym (listed-id (topics H) wanted) ∙ told.listed in
-      let leased = leased-granted H e w.lease s.assessment.leases grant.topic grant.doc grant.until grant.assessor w.told (ap (λ (l : Lease). l.number) lease_is) (λ n. ap (ends n) is) ids_are names_are
+      let leased = leased-granted laws.ends_there H e w.lease s.assessment.leases grant.topic grant.doc grant.until grant.assessor w.told
+      (ap (λ (l : Lease). l.number) lease_is) (λ n. ap (end_in n) is) ids_are names_are
       w.topic_is (w.doc_is ∙ ap (λ names. doc_in names w.lease.doc) docnos_are) w.until_is w.assessor_is (ap (λ names. contains_text names w.lease.doc) (sym docnos_are) ∙ w.doc_named) listed kept_s.assessed.knows.leased in
       plain-carried s e (change.Lease grant) kept_s plain (ap (λ c. phase_after c s.phase) is ∙ kept_s.phase_is ∙ sym phases) (not-collecting (phase J) (phases ∙ told.judging))
       (quiet-assessed s e (granted s.assessment.leases grant.assessor grant.topic grant.doc grant.until) kept_s plain quiet leased)
@@ -590,7 +598,9 @@ module _ (laws : Laws) where
       let topic_is : label.topic ≡ topic_in (topic_ids H) l.topic = w.topic_is ∙ ap (λ (l : Lease). topic_in (topic_ids H) l.topic) lease_is in
       let doc_is : label.doc ≡ doc_in (names_of H) l.doc = w.doc_is ∙ ap (λ (l : Lease). doc_in names l.doc) lease_is ∙ ap (λ names. doc_in names l.doc) docnos_are in
       let labels = label-after s e given label.topic label.doc label.assessor kept_s joined needs names_are topic_is doc_is w.assessor_is both.0 both.1 in
-      let leased = leased-ended H e number Graded (λ n. ap (ends n) is) ids_are names_are s.assessment.leases no_lease (numbered-within H number l told.0.found) kept_s.assessed.knows.leased in
+      let without_end = unended-of laws.ends_there laws.lease_entries H kept_s.legal number l told.0.found told.0.unended in
+      let leased = leased-ended laws.ends_there H e number Graded (λ n. ap (end_in n) is) without_end ids_are names_are s.assessment.leases no_lease
+      (numbered-within H number l told.0.found) kept_s.assessed.knows.leased in
       plain-carried s e (change.Grade number label) kept_s plain (ap (λ c. phase_after c s.phase) is ∙ kept_s.phase_is ∙ sym phases) (not-collecting (phase J) (phases ∙ told.0.judging))
       (marked-assessed s e label.topic (with_label label.doc label.assessor label.grade) (with_end s.assessment.leases number Graded) kept_s plain (λ t. refl) labels leased)
   carried-out s names e (change.Amend label) kept_s ready names_is (topic, doc, is, assessor_is, w) =
@@ -608,7 +618,8 @@ module _ (laws : Laws) where
       let docnos_are : names ≡ names_of H = names_is ∙ names_are in
       let labels = label-after s e given label.topic label.doc label.assessor kept_s (laws.labels_join H e given rules_are gives) (λ id. ap (λ (r : Rules). needed r id) rules_are) names_are
       w.number_is (w.at_is ∙ ap (λ names. doc_in names doc) docnos_are) assessor_is (ap (λ names. contains_text names doc) (sym docnos_are) ∙ w.doc_named) w.listed in
-      let leased = leased-stays H J s.assessment.leases no_lease (none-ended H e (λ n. ap (ends n) is)) ids_are names_are kept_s.assessed.knows.leased in
+      let leased = leased-stays laws.ends_there H J s.assessment.leases no_lease (none-ended H e (λ n. ap (end_in n) is)) ids_are names_are
+      kept_s.assessed.knows.leased in
       plain-carried s e (change.Amend label) kept_s plain (ap (λ c. phase_after c s.phase) is ∙ kept_s.phase_is ∙ sym phases) (not-collecting (phase J) (phases ∙ told.judging))
       (marked-assessed s e label.topic (with_label label.doc label.assessor label.grade) s.assessment.leases kept_s plain (λ t. refl) labels leased)
   carried-out s names e (change.Rule ruling) kept_s ready names_is (topic, doc, is, w) =
@@ -625,7 +636,8 @@ module _ (laws : Laws) where
       let docnos_are : names ≡ names_of H = names_is ∙ names_are in
       let labels = ruling-after s e topic doc ruling.topic ruling.doc ruling.grade kept_s (laws.rulings_join H e topic doc ruling.grade rules_are gives told.has_label) (λ id. ap (λ (r : Rules). needed r id) rules_are) names_are
       w.number_is (w.at_is ∙ ap (λ names. doc_in names doc) docnos_are) (ap (λ names. contains_text names doc) (sym docnos_are) ∙ w.doc_named) w.listed told.has_label in
-      let leased = leased-stays H J s.assessment.leases no_lease (none-ended H e (λ n. ap (ends n) is)) ids_are names_are kept_s.assessed.knows.leased in
+      let leased = leased-stays laws.ends_there H J s.assessment.leases no_lease (none-ended H e (λ n. ap (end_in n) is)) ids_are names_are
+      kept_s.assessed.knows.leased in
       plain-carried s e (change.Rule ruling) kept_s plain (ap (λ c. phase_after c s.phase) is ∙ kept_s.phase_is ∙ sym phases) (not-collecting (phase J) (phases ∙ told.judging))
       (marked-assessed s e ruling.topic (with_ruling ruling.doc ruling.grade) s.assessment.leases kept_s plain (λ t. refl) labels leased)
   carried-out s names e (change.Release number) kept_s ready names_is (is, unended) =
@@ -636,7 +648,9 @@ module _ (laws : Laws) where
       let quiet : IsQuiet e = record { no_label = ap (λ c. label_in e.core.caller.name c e.reply) is; no_ruling = λ topic doc. ap (ruling_in topic doc) is } in
       let no_lease : leases J ≡ leases H = no-lease H e (ap (lease_in e.core.caller.name) told.1) in
       let phases = phase-stays H e (ap publishes is) (ap opens is) in
-      let leased = leased-ended H e number Released (λ n. ap (ends n) is) (ids-stay H e plain.no_topics) (names-stay H e plain.no_docnos) s.assessment.leases no_lease (numbered-within H number told.0.lease told.0.found) kept_s.assessed.knows.leased in
+      let without_end = unended-of laws.ends_there laws.lease_entries H kept_s.legal number told.0.lease told.0.found told.0.unended in
+      let leased = leased-ended laws.ends_there H e number Released (λ n. ap (end_in n) is) without_end (ids-stay H e plain.no_topics)
+      (names-stay H e plain.no_docnos) s.assessment.leases no_lease (numbered-within H number told.0.lease told.0.found) kept_s.assessed.knows.leased in
       plain-carried s e (change.Release number) kept_s plain (ap (λ c. phase_after c s.phase) is ∙ kept_s.phase_is ∙ sym phases) (not-collecting (phase J) (phases ∙ told.0.judging))
       (quiet-assessed s e (with_end s.assessment.leases number Released) kept_s plain quiet leased)
 

@@ -12,12 +12,14 @@ use Rattle.rulebook.specs.Words.{Text, contains_text}
 use Rattle.rulebook.specs.Campaign.{History}
 use Rattle.rulebook.specs.Entries.{AreKept}
 use Rattle.rulebook.specs.Grades.{effective, labelled, labels_on, ruling, trail}
-use Rattle.rulebook.specs.Leases.{Lease, is_ended, leases}
+use Rattle.rulebook.specs.LeaseEntries.{EndsAreThere, end_of}
+use Rattle.rulebook.specs.Leases.{Lease, leases}
 use Rattle.campaign_core.specs.Growth.{BeginsWith}
 use Rattle.campaign_core.specs.Labelling.{IsLabelled, graded_in}
-use Rattle.campaign_core.specs.Leasing.{IsLeased, KnownLease, is_known, known, topic_in}
+use Rattle.campaign_core.specs.Leasing.{IsLeased, is_known, known}
 use Rattle.campaign_core.specs.Numbers.{are_named, doc_in, docs_in, names_of}
 use Rattle.campaign_core.specs.Topics.{LabelledTopic, topic_ids}
+use Rattle.campaign_core.proofs.Entries.QuietEntries.{known-stays}
 use Rattle.campaign_core.proofs.Lists.Elements.{all_head, all_tail, and_true, both_true}
 use Rattle.campaign_core.proofs.Numbers.DocNumbers.{number-stays}
 
@@ -114,12 +116,10 @@ module _ (H J : History) (t : LabelledTopic) (keeps : AreKept H J) (grown : Begi
 
 -- The leases.
 
-module _ (H J : History) (ends_are : (number : ℕ) → is_ended J number ≡ is_ended H number) (ids_are : topic_ids J ≡ topic_ids H) (grown : BeginsWith (names_of H) (names_of J)) where
+module _ (ends_there : EndsAreThere) (H J : History) (ends_are : (number : ℕ) → end_of J number ≡ end_of H number)
+    (ids_are : topic_ids J ≡ topic_ids H) (grown : BeginsWith (names_of H) (names_of J)) where
   known-grows : (l : Lease) → contains_text (names_of H) l.doc ≡ true → known J (names_of J) l ≡ known H (names_of H) l
-  known-grows l named =
-      ap (λ t. let k : KnownLease = record { number = l.number; assessor = l.assessor; topic = topic_in (topic_ids J) l.topic; doc = doc_in (names_of J) l.doc; until = l.until; ended = t } in k) (ends_are l.number)
-      ∙ ap (λ ids. let k : KnownLease = record { number = l.number; assessor = l.assessor; topic = topic_in ids l.topic; doc = doc_in (names_of J) l.doc; until = l.until; ended = is_ended H l.number } in k) ids_are
-      ∙ ap (λ doc. let k : KnownLease = record { number = l.number; assessor = l.assessor; topic = topic_in (topic_ids H) l.topic; doc = doc; until = l.until; ended = is_ended H l.number } in k) (number-kept (names_of H) (names_of J) l.doc grown named)
+  known-grows l named = known-stays ends_there H J l (ends_are l.number) ids_are (number-kept (names_of H) (names_of J) l.doc grown named)
 
   all-known : (ls : List Lease) → list_all (is_known H (names_of H)) ls ≡ true → map (known J (names_of J)) ls ≡ map (known H (names_of H)) ls
   all-known [] named = refl
@@ -134,10 +134,11 @@ module _ (H J : History) (ends_are : (number : ℕ) → is_ended J number ≡ is
       and_true _ _ (and_true _ _ (still-named (names_of H) (names_of J) l.doc grown first.0) (ap (λ ids. contains_text ids l.topic) ids_are ∙ first.1))
       (all-listed ls (all_tail (is_known H (names_of H)) l ls named))
 
-pub leased-grows : (H J : History) (desk : List DeskLease) → leases J ≡ leases H → ((number : ℕ) → is_ended J number ≡ is_ended H number) → topic_ids J ≡ topic_ids H → BeginsWith (names_of H) (names_of J)
-    → IsLeased H (names_of H) desk → IsLeased J (names_of J) desk
-leased-grows H J desk leases_are ends_are ids_are grown leased = record {
-  leases_are = leased.leases_are ∙ sym (all-known H J ends_are ids_are grown (leases H) leased.are_known) ∙ ap (map (known J (names_of J))) (sym leases_are);
-  are_known = ap (list_all (is_known J (names_of J))) leases_are ∙ all-listed H J ends_are ids_are grown (leases H) leased.are_known;
+pub leased-grows : EndsAreThere → (H J : History) (desk : List DeskLease) → leases J ≡ leases H → ((number : ℕ) → end_of J number ≡ end_of H number)
+    → topic_ids J ≡ topic_ids H → BeginsWith (names_of H) (names_of J) → IsLeased H (names_of H) desk → IsLeased J (names_of J) desk
+leased-grows ends_there H J desk leases_are ends_are ids_are grown leased = record {
+  leases_are = leased.leases_are ∙ sym (all-known ends_there H J ends_are ids_are grown (leases H) leased.are_known)
+      ∙ ap (map (known J (names_of J))) (sym leases_are);
+  are_known = ap (list_all (is_known J (names_of J))) leases_are ∙ all-listed ends_there H J ends_are ids_are grown (leases H) leased.are_known;
   ends_granted = λ number beyond. ends_are number ∙ leased.ends_granted number (subst (λ ls. length ls < number) leases_are beyond);
 }

@@ -1,12 +1,15 @@
 -- What an entry leaves of labels and leases that gives none.
-use Rattle.std.proofs.Common.{◌≡◌, ◌||◌, ◌&&◌, ◌<◌, ℕ, Bool, true, false, List, ◌++◌, ◌∷◌, [], Option, None, Some, Ok, filter, length, map, subst, refl, sym, ap, ◌∙◌}
-use Rattle.std.specs.List.{filter_map, list_all}
+use Rattle.std.proofs.Common.{◌≡◌, ◌&&◌, ◌<◌, ℕ, true, false, List, ◌++◌, ◌∷◌, [], Option, None, Some, Ok, filter, is_some, length, map, subst, refl, sym, ap, ◌∙◌}
+use Rattle.std.specs.Prelude.{slice_get}
+use Rattle.std.specs.List.{cons_option, filter_map, list_all}
+use Rattle.std.specs.Option.{option_or}
 use Rattle.std.specs.Str.{bytes_eq}
 use Rattle.std.proofs.lemmas.List.{append-nil}
 use Rattle.std.proofs.lemmas.List.Elements.{filter_map-append}
-use Rattle.std.proofs.lemmas.List.Folds.{list_any-append}
+use Rattle.decimal_rank.specs.declared.naming.DocId.{DocId}
 use Rattle.labels.specs.Marked.{docs_in as marked_docs}
 use Rattle.lease_desk.specs.declared.leases.Lease.{Lease as DeskLease}
+use Rattle.lease_desk.specs.declared.leases.LeaseEnd.{LeaseEnd}
 use Rattle.rulebook.specs.declared.entry.Entry.{Entry}
 use Rattle.rulebook.specs.declared.reply.Refusal.{Refusal}
 use Rattle.rulebook.specs.declared.reply.Reply.{Reply}
@@ -14,7 +17,8 @@ use Rattle.rulebook.specs.Words.{Text, contains_text, each_once}
 use Rattle.rulebook.specs.Campaign.{History}
 use Rattle.rulebook.specs.Entries.{AreKept}
 use Rattle.rulebook.specs.Grades.{Label, given_labels, labelled, ruling, trail}
-use Rattle.rulebook.specs.Leases.{Lease, ends, is_ended, lease_in, leases}
+use Rattle.rulebook.specs.LeaseEntries.{EndsAreThere, end_in, end_of}
+use Rattle.rulebook.specs.Leases.{Lease, lease_in, leases}
 use Rattle.rulebook.specs.Refusals.{Ruling, given, unless}
 use Rattle.campaign_core.specs.Kept.{IsUnjudged}
 use Rattle.campaign_core.specs.Labelling.{IsLabelled, graded_in}
@@ -45,22 +49,56 @@ leases-push H e (Some l) is =
 pub no-lease : (H : History) (e : Entry) → lease_in e.core.caller.name e.reply ≡ None → leases (H ++ e ∷ []) ≡ leases H
 no-lease H e none = leases-push H e None none ∙ append-nil (leases H)
 
-pub ended-push : (H : History) (e : Entry) (number : ℕ) → is_ended (H ++ e ∷ []) number ≡ (is_ended H number || (ends number e.core.command || false))
-ended-push H e number = list_any-append (λ (e : Entry). ends number e.core.command) H (e ∷ [])
+-- the first of a list with one more behind it
+first-or : {X : Type 0} (xs : List X) (o : Option X) → slice_get (xs ++ cons_option o []) 0 ≡ option_or (slice_get xs 0) o
+first-or [] None = refl
+first-or [] (Some x) = refl
+first-or (x ∷ xs) o = refl
 
-or_none : (t : Bool) → (t || (false || false)) ≡ t
-or_none true = refl
-or_none false = refl
+pub end-push : (H : History) (e : Entry) (number : ℕ) → end_of (H ++ e ∷ []) number ≡ option_or (end_of H number) (end_in number e.core.command)
+end-push H e number =
+    ap (λ (ends : List LeaseEnd). slice_get ends 0) (filter_map-append (λ (e : Entry). end_in number e.core.command) H (e ∷ []))
+    ∙ first-or (filter_map (λ (e : Entry). end_in number e.core.command) H) (end_in number e.core.command)
 
-pub none-ended : (H : History) (e : Entry) → ((number : ℕ) → ends number e.core.command ≡ false) → (number : ℕ) → is_ended (H ++ e ∷ []) number ≡ is_ended H number
-none-ended H e none number = ended-push H e number ∙ ap (λ t. is_ended H number || (t || false)) (none number) ∙ or_none (is_ended H number)
+pub no-end : (end : Option LeaseEnd) → is_some end ≡ false → end ≡ None
+no-end None is = refl
+no-end (Some how) is = cc is
 
--- the leases where they, their ends and all names stay
-known-stays : (H J : History) → ((number : ℕ) → is_ended J number ≡ is_ended H number) → topic_ids J ≡ topic_ids H → names_of J ≡ names_of H → (l : Lease) → known J (names_of J) l ≡ known H (names_of H) l
-known-stays H J ends_are ids_are names_are l =
-    ap (λ t. let k : KnownLease = record { number = l.number; assessor = l.assessor; topic = topic_in (topic_ids J) l.topic; doc = doc_in (names_of J) l.doc; until = l.until; ended = t } in k) (ends_are l.number)
-    ∙ ap (λ ids. let k : KnownLease = record { number = l.number; assessor = l.assessor; topic = topic_in ids l.topic; doc = doc_in (names_of J) l.doc; until = l.until; ended = is_ended H l.number } in k) ids_are
-    ∙ ap (λ names. let k : KnownLease = record { number = l.number; assessor = l.assessor; topic = topic_in (topic_ids H) l.topic; doc = doc_in names l.doc; until = l.until; ended = is_ended H l.number } in k) names_are
+pub or-none : (end : Option LeaseEnd) → option_or end None ≡ end
+or-none None = refl
+or-none (Some how) = refl
+
+pub none-ended : (H : History) (e : Entry) → ((number : ℕ) → end_in number e.core.command ≡ None) → (number : ℕ) → end_of (H ++ e ∷ []) number ≡ end_of H number
+none-ended H e none number = end-push H e number ∙ ap (option_or (end_of H number)) (none number) ∙ or-none (end_of H number)
+
+-- a lease by these numbers, with this end
+abbrev pub known-by : List Text → DocId → Option LeaseEnd → Lease → KnownLease
+known-by ids doc end l = record {
+  number = l.number;
+  assessor = l.assessor;
+  topic = topic_in ids l.topic;
+  doc = doc;
+  until = l.until;
+  ended = is_some end;
+  end = end;
+}
+
+-- a known lease, where a lease has an end where it ended
+module _ (ends_there : EndsAreThere) where
+  known-told : (H : History) (names : List Text) (l : Lease) → known H names l ≡ known-by (topic_ids H) (doc_in names l.doc) (end_of H l.number) l
+  known-told H names l = ap (λ t. let k : KnownLease = record (known H names l) { ended = t } in k) (sym (ends_there H l.number))
+
+  pub known-with : (H J : History) (l : Lease) (end : Option LeaseEnd) → end_of J l.number ≡ end → topic_ids J ≡ topic_ids H
+      → doc_in (names_of J) l.doc ≡ doc_in (names_of H) l.doc → known J (names_of J) l ≡ known-by (topic_ids H) (doc_in (names_of H) l.doc) end l
+  known-with H J l end end_is ids_are doc_is =
+      known-told J (names_of J) l
+      ∙ ap (λ ids. known-by ids (doc_in (names_of J) l.doc) (end_of J l.number) l) ids_are
+      ∙ ap (λ doc. known-by (topic_ids H) doc (end_of J l.number) l) doc_is
+      ∙ ap (λ end. known-by (topic_ids H) (doc_in (names_of H) l.doc) end l) end_is
+
+  pub known-stays : (H J : History) (l : Lease) → end_of J l.number ≡ end_of H l.number → topic_ids J ≡ topic_ids H
+      → doc_in (names_of J) l.doc ≡ doc_in (names_of H) l.doc → known J (names_of J) l ≡ known H (names_of H) l
+  known-stays H J l end_is ids_are doc_is = known-with H J l (end_of H l.number) end_is ids_are doc_is ∙ sym (known-told H (names_of H) l)
 
 pub map-same : {X Y : Type 0} (f g : X → Y) (xs : List X) → ((x : X) → f x ≡ g x) → map f xs ≡ map g xs
 map-same f g [] same = refl
@@ -71,18 +109,24 @@ listed-stays H J ls ids_are names_are all =
     ap (λ names. list_all (λ (l : Lease). contains_text names l.doc && contains_text (topic_ids J) l.topic) ls) names_are
     ∙ ap (λ ids. list_all (λ (l : Lease). contains_text (names_of H) l.doc && contains_text ids l.topic) ls) ids_are ∙ all
 
-pub leased-stays : (H J : History) (desk : List DeskLease) → leases J ≡ leases H → ((number : ℕ) → is_ended J number ≡ is_ended H number) → topic_ids J ≡ topic_ids H → names_of J ≡ names_of H
-    → IsLeased H (names_of H) desk → IsLeased J (names_of J) desk
-leased-stays H J desk leases_are ends_are ids_are names_are leased = record {
-  leases_are = leased.leases_are
-      ∙ sym (map-same (known J (names_of J)) (known H (names_of H)) (leases H) (known-stays H J ends_are ids_are names_are))
-      ∙ ap (map (known J (names_of J))) (sym leases_are);
+-- the leases where they, their ends and all names stay
+pub all-stay : EndsAreThere → (H J : History) (ls : List Lease) → ((number : ℕ) → end_of J number ≡ end_of H number)
+    → topic_ids J ≡ topic_ids H → names_of J ≡ names_of H → map (known J (names_of J)) ls ≡ map (known H (names_of H)) ls
+all-stay ends_there H J ls ends_are ids_are names_are =
+    map-same (known J (names_of J)) (known H (names_of H)) ls
+    (λ l. known-stays ends_there H J l (ends_are l.number) ids_are (ap (λ names. doc_in names l.doc) names_are))
+
+pub leased-stays : EndsAreThere → (H J : History) (desk : List DeskLease) → leases J ≡ leases H → ((number : ℕ) → end_of J number ≡ end_of H number)
+    → topic_ids J ≡ topic_ids H → names_of J ≡ names_of H → IsLeased H (names_of H) desk → IsLeased J (names_of J) desk
+leased-stays ends_there H J desk leases_are ends_are ids_are names_are leased = record {
+  leases_are = leased.leases_are ∙ sym (all-stay ends_there H J (leases H) ends_are ids_are names_are) ∙ ap (map (known J (names_of J))) (sym leases_are);
   are_known = ap (list_all (is_known J (names_of J))) leases_are ∙ listed-stays H J (leases H) ids_are names_are leased.are_known;
   ends_granted = λ number beyond. ends_are number ∙ leased.ends_granted number (subst (λ ls. length ls < number) leases_are beyond);
 }
 
 -- the leases where there are none
-pub leased-none : (H J : History) (desk : List DeskLease) → leases H ≡ [] → leases J ≡ leases H → ((number : ℕ) → is_ended J number ≡ is_ended H number) → IsLeased H (names_of H) desk → IsLeased J (names_of J) desk
+pub leased-none : (H J : History) (desk : List DeskLease) → leases H ≡ [] → leases J ≡ leases H → ((number : ℕ) → end_of J number ≡ end_of H number)
+    → IsLeased H (names_of H) desk → IsLeased J (names_of J) desk
 leased-none H J desk none leases_are ends_are leased =
     let empty : leases J ≡ [] = leases_are ∙ none in
     record {

@@ -12,7 +12,6 @@ use Rattle.depth_pool.specs.Holdings.{Held}
 use Rattle.depth_pool.specs.declared.runs.RunId.{RunId}
 use Rattle.lease_desk.specs.Leases.{lease_numbered as desk_lease}
 use Rattle.lease_desk.specs.declared.leases.Lease.{Lease as DeskLease}
-use Rattle.lease_desk.specs.declared.leases.LeaseEnd.{LeaseEnd}
 use Rattle.mtf_queue.specs.Rule.{IsInOrder, first_of as first_there}
 use Rattle.mtf_queue.specs.declared.rule.Judged.{Judged}
 use Rattle.rulebook.specs.declared.entry.Entry.{Entry}
@@ -38,6 +37,7 @@ use Rattle.assessment.specs.TopicFacts.{IsQueued, TopicFacts, judged_of}
 use Rattle.mtf_queue.specs.QueueView.{QueueView}
 use Rattle.campaign_core.proofs.Rulings.AcceptedCommands.{listed-id}
 use Rattle.campaign_core.proofs.Entries.LabelSteps.{bytes-swap}
+use Rattle.campaign_core.proofs.Entries.QuietEntries.{no-end}
 use Rattle.campaign_core.proofs.Lists.Elements.{both_true}
 use Rattle.campaign_core.proofs.Judging.NamedDocs.{named-known, named-same}
 use Rattle.campaign_core.proofs.Numbers.DocNumbers.{number-within}
@@ -194,10 +194,6 @@ second-none : (r s : Refusal) (t u : Bool) (tests : List (Option Refusal)) → f
 second-none r s true u tests is = cc is
 second-none r s false true tests is = cc is
 second-none r s false false tests is = refl
-
-no-end : (o : Option LeaseEnd) → is_some o ≡ false → o ≡ None
-no-end None is = refl
-no-end (Some how) is = cc is
 
 pub unended : (desk : List DeskLease) (number : ℕ) (x : DeskLease) (caller : Text) (now : ℕ) → desk_lease desk number ≡ Some x → first_refusal (refusals_of x caller now) ≡ None → IsUnended number desk
 unended desk number x caller now there none =

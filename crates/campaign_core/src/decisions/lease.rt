@@ -1,34 +1,36 @@
 //! Lease: an assessor asks for a document of a topic.
 ghost use Rattle.std.specs.Prelude.{IfOk};
 ghost use Rattle.rulebook.specs.declared.ask.Command.TheVariants as command;
-ghost use Rattle.campaign_core.specs.Decisions.{IsAskedWith, IsDecision};
+ghost use Rattle.campaign_core.specs.Decisions.{IsAskedWith, IsDecision, IsNumberFor};
 
 use super::leases::docno;
 use super::{Decision, is_in, wrong_phase};
 use crate::campaign::Campaign;
 use crate::selection::named;
-use crate::topics::topic_number;
 use assessment::{Change, Grant};
 use decimal_rank::{Memory, Names, Text};
 use mtf_queue::first_that_passes;
 use rulebook::{EntryCore, Phase, Refusal, Reply};
 use std::alloc::Global;
 
+/// `number` is the topic's, from 0, if it is a topic.
 pub(crate) fn lease_decision(
     alloc: Global,
     campaign: &Campaign,
     docnos: &Names,
     core: &EntryCore,
     topic: &Text,
+    number: Option<usize>,
 ) -> Result<Decision, Memory>
-    requires { IsAskedWith campaign.now docnos.now core.now (command.Lease topic.now) }
+    requires asked { IsAskedWith campaign.now docnos.now core.now (command.Lease topic.now) }
+    requires number { IsNumberFor campaign.now (command.Lease topic.now) number }
     ensures { IfOk result (IsDecision campaign.now docnos.now core.now) }
 {
     if !is_in(campaign, Phase::Judging) {
         return Ok(wrong_phase(campaign));
     }
     let topics = campaign.topics();
-    let Some(number) = topic_number(topics, topic.bytes()) else {
+    let Some(number) = number else {
         return Ok(Decision::Refused(Refusal::UnknownTopic));
     };
     let desk = campaign.assessment.desk();
@@ -50,7 +52,7 @@ pub(crate) fn lease_decision(
         topic: topic.copy()?,
         doc: docno(alloc, docnos, doc)?,
         until,
-        title: Text::from_slice(alloc, campaign.title(topic.bytes()))?,
+        title: Text::from_slice(alloc, campaign.title(number))?,
     };
     let grant = Grant {
         topic: number as u16,

@@ -72,7 +72,8 @@ pub lines_of-none : (text : List ℕ) → 0 < length text → None ≡ position 
 lines_of-none [] some is = absurd (omega (arith, some))
 lines_of-none (b ∷ bytes) some is = last_line b bytes (none_past is_line_feed (b ∷ bytes) is)
 
-fields_of-white : (b : ℕ) (bytes : List ℕ) → is_white_space b ≡ true → fields_of (b ∷ bytes) ≡ fields_of bytes
+-- white space in front of a line
+pub fields_of-white : (b : ℕ) (bytes : List ℕ) → is_white_space b ≡ true → fields_of (b ∷ bytes) ≡ fields_of bytes
 unfolding fields_of
 fields_of-white b bytes white = ap (filter is_filled) (slice_split-cons_yes is_white_space b bytes white)
 
@@ -117,7 +118,8 @@ begins_solid line start is =
       same = from_solid line;
     })
 
-cut_solid : (b : ℕ) (bytes : List ℕ) → is_solid b ≡ true → (end : ℕ) → Some end ≡ position is_white_space (b ∷ bytes) → fields_of (b ∷ bytes) ≡ take end (b ∷ bytes) ∷ fields_of (drop (end + 1) (b ∷ bytes))
+-- a line that begins with its first field
+pub cut_solid : (b : ℕ) (bytes : List ℕ) → is_solid b ≡ true → (end : ℕ) → Some end ≡ position is_white_space (b ∷ bytes) → fields_of (b ∷ bytes) ≡ take end (b ∷ bytes) ∷ fields_of (drop (end + 1) (b ∷ bytes))
 unfolding fields_of
 cut_solid b bytes solid end is =
     let p = cond_some _ _ _ (sym is) in
@@ -135,7 +137,7 @@ filled_onto : (b : ℕ) (parts : List (List ℕ)) → is_filled (filter is_fille
 filled_onto b [] = refl
 filled_onto b (part ∷ parts) = refl
 
-filled_solid : (b : ℕ) (bytes : List ℕ) → is_white_space b ≡ false → is_filled (fields_of (b ∷ bytes)) ≡ true
+pub filled_solid : (b : ℕ) (bytes : List ℕ) → is_white_space b ≡ false → is_filled (fields_of (b ∷ bytes)) ≡ true
 unfolding fields_of
 filled_solid b bytes solid =
     ap (λ parts. is_filled (filter is_filled parts)) (slice_split-cons_no is_white_space b bytes solid) ∙ filled_onto b (slice_split is_white_space bytes)

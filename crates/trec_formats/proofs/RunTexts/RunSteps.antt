@@ -1,7 +1,7 @@
 -- A stretch of a run up to the next end of a field.
 use Rattle.std.proofs.Common.{◌≡◌, ◌≢◌, ◌<◌, ◌+◌, ℕ, suc, Bool, true, false, List, [], ◌∷◌, ◌++◌, length, take, drop, get_or, refl, sym, ◌∙◌, ap, subst, arith, Some, None, position, ltb-true, append_assoc}
-use Rattle.std.specs.Prelude.{◌||◌}
-use Rattle.std.specs.List.{position_or_len}
+use Rattle.std.specs.Prelude.{◌||◌, not}
+use Rattle.std.specs.List.{list_all, position_or_len}
 use Rattle.std.proofs.lemmas.Bool.{eq-eqb, ne_eqb}
 use Rattle.std.proofs.lemmas.List.{take_all, take_more, take-append-drop}
 use Rattle.std.proofs.lemmas.List.Sums.{passes_at_first}
@@ -15,37 +15,41 @@ use Rattle.trec_formats.specs.RunStates.{is_break, is_line_feed, IsFaulty, IsGoi
 use Rattle.trec_formats.proofs.LineTexts.Cuts.{none_past}
 use Rattle.trec_formats.proofs.RunTexts.RunPieces.{EndsFaulty, EndsLine, faulty_line, faulty_more, going_line, going_part, going_white, is_solid_part}
 
-solid_step : (b : ℕ) (bytes : List ℕ) (t : Bool) → is_break b ≡ t → is_solid_part (take (position_or_len is_break bytes) bytes) ≡ true → is_solid_part (take (position_or_len is_break (b ∷ bytes)) (b ∷ bytes)) ≡ true
-solid_step b bytes true is rest = rw is refl
-solid_step b bytes false is rest =
-    let here : position_or_len is_break (b ∷ bytes) ≡ suc (position_or_len is_break bytes) = rw is (omega arith) in
-    rw (here, is, rest) refl
+-- a stretch up to the first byte of a kind
+module _ (p : ℕ → Bool) where
+  abbrev has_none : List ℕ → Bool
+  has_none part = list_all (λ b. not (p b)) part
 
-solid_front : (bytes : List ℕ) → is_solid_part (take (position_or_len is_break bytes) bytes) ≡ true
-solid_front [] = refl
-solid_front (b ∷ bytes) = solid_step b bytes (is_break b) refl (solid_front bytes)
+  front_step : (b : ℕ) (bytes : List ℕ) (t : Bool) → p b ≡ t → has_none (take (position_or_len p bytes) bytes) ≡ true → has_none (take (position_or_len p (b ∷ bytes)) (b ∷ bytes)) ≡ true
+  front_step b bytes true is rest = rw is refl
+  front_step b bytes false is rest =
+      let here : position_or_len p (b ∷ bytes) ≡ suc (position_or_len p bytes) = rw is (omega arith) in
+      rw (here, is, rest) refl
+
+  front : (bytes : List ℕ) → has_none (take (position_or_len p bytes) bytes) ≡ true
+  front [] = refl
+  front (b ∷ bytes) = front_step b bytes (p b) refl (front bytes)
+
+  pub record IsCut (rest : List ℕ) (end : ℕ) : Type 0 where
+    pub clear : has_none (take end rest) ≡ true
+    pub inside : end < length rest
+    pub breaks : p (get_or rest end 0) ≡ true
+    pub taken : take (end + 1) rest ≡ take end rest ++ get_or rest end 0 ∷ []
+
+  pub cut_at : (rest : List ℕ) (end : ℕ) → Some end ≡ position p rest → IsCut rest end
+  cut_at rest end is =
+      let q = cond_some _ _ _ (sym is) in
+      let less : position_or_len p rest < length rest = ltb-true _ _ q.0 in
+      rw (← q.1) (record {
+        clear = front rest;
+        inside = less;
+        breaks = passes_at_first p rest 0 less;
+        taken = take_more rest (position_or_len p rest) 0 less;
+      })
 
 -- a stretch in which no field ends
 pub solid_whole : (rest : List ℕ) → None ≡ position is_break rest → is_solid_part rest ≡ true
-solid_whole rest is = subst (λ part. is_solid_part part ≡ true) (take_all _ rest (none_past is_break rest is)) (solid_front rest)
-
--- a stretch up to the first byte that ends a field
-record IsCut (rest : List ℕ) (end : ℕ) : Type 0 where
-  solid : is_solid_part (take end rest) ≡ true
-  inside : end < length rest
-  breaks : is_break (get_or rest end 0) ≡ true
-  taken : take (end + 1) rest ≡ take end rest ++ get_or rest end 0 ∷ []
-
-cut_at : (rest : List ℕ) (end : ℕ) → Some end ≡ position is_break rest → IsCut rest end
-cut_at rest end is =
-    let p = cond_some _ _ _ (sym is) in
-    let less : position_or_len is_break rest < length rest = ltb-true _ _ p.0 in
-    rw (← p.1) (record {
-      solid = solid_front rest;
-      inside = less;
-      breaks = passes_at_first is_break rest 0 less;
-      taken = take_more rest (position_or_len is_break rest) 0 less;
-    })
+solid_whole rest is = subst (λ part. is_solid_part part ≡ true) (take_all _ rest (none_past is_break rest is)) (front is_break rest)
 
 white : (b : ℕ) (t : Bool) → is_break b ≡ true → is_line_feed b ≡ t → t ≡ false → is_white_space b ≡ true
 white b true breaks is not_end = cc
@@ -68,16 +72,16 @@ module _ (text : List ℕ) (ended : Ended) (line : KeptLine) (held rest : List �
     part_held = kept (held ++ take end rest)
 
     before : IsGoing text ended line held → IsGoing (text ++ take end rest) ended line part_held
-    before w = going_part text ended line held (take end rest) w (cut_at rest end is).solid
+    before w = going_part text ended line held (take end rest) w (cut_at is_break rest end is).clear
 
     taken : text ++ take (end + 1) rest ≡ (text ++ take end rest) ++ byte ∷ []
-    taken = ap (λ part. text ++ part) (cut_at rest end is).taken ∙ sym (append_assoc text (take end rest) (byte ∷ []))
+    taken = ap (λ part. text ++ part) (cut_at is_break rest end is).taken ∙ sym (append_assoc text (take end rest) (byte ∷ []))
 
     -- a field ends, and its line goes on
     pub step_white : (new_line : KeptLine) (new_held : List ℕ) → byte ≢ 10 → new_line ≡ with_part line part_held → new_held ≡ [] → IsGoing text ended line held → IsGoing (text ++ take (end + 1) rest) ended new_line new_held
     step_white new_line new_held other line_is held_is w =
         let not_end : is_line_feed byte ≡ false = ne_eqb _ _ other in
-        rw (taken, line_is, held_is) (going_white (text ++ take end rest) ended line part_held byte (before w) (white byte false (cut_at rest end is).breaks not_end refl) not_end)
+        rw (taken, line_is, held_is) (going_white (text ++ take end rest) ended line part_held byte (before w) (white byte false (cut_at is_break rest end is).breaks not_end refl) not_end)
 
     -- a line ends
     pub step_line : (old_line new_line : KeptLine) (new_held : List ℕ) (new : Ended) → byte ≡ 10 → old_line ≡ with_part line part_held → new_line ≡ empty_line → new_held ≡ [] → EndsLine ended old_line new → new.number ≡ ended.number + 1 → IsGoing text ended line held → IsGoing (text ++ take (end + 1) rest) new new_line new_held

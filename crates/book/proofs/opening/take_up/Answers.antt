@@ -1,30 +1,48 @@
 -- An open journal as a book.
-use Rattle.std.proofs.Common.{◌∷◌, ◌-◌, List, length, take, drop, subst, sym, ap, ◌∙◌, arith}
+use Rattle.std.proofs.Common.{◌≡◌, ◌∷◌, ◌<◌, List, Vec, ℕ, length, subst, sym, ap, ◌∙◌, arith}
+use Rattle.std.specs.declared.alloc.Global.{Global}
 use Rattle.journal.specs.Kept.{Settled, payloads as payloads_of}
 use Rattle.rulebook.specs.Words.{Text}
 use Rattle.book.specs.Openings.{OpensWith}
 use Rattle.book.specs.OpenJournals.{TakesUp}
 use Rattle.book.specs.Replays.{Stops}
 use Rattle.book.specs.Stories.{IsStory}
-use Rattle.book.proofs.Founders.{founding_story}
-use Rattle.book.proofs.OpenJournals.{first_and_others, given_up, no_records, taken_up}
+use Rattle.book.proofs.OpenJournals.{first_removed, given_up, no_records, taken_up}
+use Rattle.book.proofs.opening.take_up.Given.{Over}
+use Rattle.book.proofs.opening.take_up.Goals.{After-replay, Then-len-eq0}
 use Rattle.book.proofs.opening.take_up.Goals as goal
 
-pub establish-requires-clause-settled : goal.establish-requires-clause-settled
-establish-requires-clause-settled g c =
-    subst (λ (all : List Text). Settled (g.D.Disk.seen c.args.journal.disk).images c.args.journal.place all) (sym (no_records c.args.records.now c.in-empty.len_below)) c.requires.settled
+none : (g : Over) (c : Then-len-eq0 g) → length c.args.records.items < 1
+none g c = omega (arith, c.if-len-eq0.true, c.len.ensures, c.args.records.ok.0)
 
-pub establish-requires-clause-founded : goal.establish-requires-clause-founded
-establish-requires-clause-founded g c =
-    founding_story c.args.rules c.in-Ok.state.history c.in-Ok.frame c.requires.rules c.in-Ok.ensures.history c.in-Ok.ensures.frame
+pub start-requires-clause-settled : goal.start-requires-clause-settled
+start-requires-clause-settled g c =
+    let here = (goal.at.start-requires-clause-settled g c).Then-len-eq0 in
+    subst (λ (all : List Text). Settled (g.D.Disk.seen c.args.journal.disk).images c.args.journal.place all)
+    (sym (no_records c.args.records.items (none g here))) c.requires.settled
+
+pub returns-then-len-eq0 : goal.returns-then-len-eq0
+returns-then-len-eq0 g c =
+    let here = (goal.at.returns-then-len-eq0 g c).Then-len-eq0 in
+    subst (λ (all : List Text). TakesUp g.D.Disk.seen c.args.rules all c.args.opening c.args.journal.disk c.start.result)
+    (no_records c.args.records.items (none g here)) c.start.ensures
+
+-- the first record, and the others
+all_is : (g : Over) (c : After-replay g) → c.deref.result.now ∷ payloads_of c.remove-first.new.self.items ≡ payloads_of c.args.records.items
+all_is g c =
+    let records = c.args.records.items in
+    let first = c.remove-first.result in
+    let some : 0 < length records = omega (arith, c.if-len-eq0.false, c.len.ensures, c.args.records.ok.0) in
+    ap (λ (x : Text). x ∷ payloads_of c.remove-first.new.self.items) c.deref.ensures.value
+    ∙ ap (λ (rest : List (Vec ℕ Global)). first.items ∷ payloads_of rest) c.remove-first.ensures.items
+    ∙ first_removed records first some c.remove-first.ensures.value
 
 pub reopen-requires-clause-settled : goal.reopen-requires-clause-settled
 reopen-requires-clause-settled g c =
-    let records = c.args.records.now in
-    let others = payloads_of (take (length records - 1) (drop 1 records)) in
-    let opens : OpensWith c.args.rules (c.deref.result.now ∷ others) c.in-Ok-replay.state.history = c.in-Ok-replay.ensures in
-    let all_is = ap (λ (x : Text). x ∷ others) c.deref.ensures.value ∙ first_and_others records c.first-item.result c.in-len1-up.len_at_least c.first-item.is in
-    (payloads_of records, subst (λ (all : List Text). IsStory all c.in-Ok-replay.state.history) all_is opens.0.0, c.requires.settled)
+    let records = payloads_of c.args.records.items in
+    let opens : OpensWith c.args.rules (c.deref.result.now ∷ payloads_of c.remove-first.new.self.items) c.in-Ok.state.history = c.in-Ok.ensures in
+    let here = (goal.at.reopen-requires-clause-settled g c).After-replay in
+    (records, subst (λ (all : List Text). IsStory all c.in-Ok.state.history) (all_is g here) opens.0.0, c.requires.settled)
 
 pub reopen-requires-clause-within : goal.reopen-requires-clause-within
 reopen-requires-clause-within g c = omega (arith, c.requires.small)
@@ -32,26 +50,19 @@ reopen-requires-clause-within g c = omega (arith, c.requires.small)
 pub returns-in-Ok : goal.returns-in-Ok
 returns-in-Ok g c =
     let D = g.D.Disk in
-    subst (λ (all : List Text). TakesUp D.seen c.args.rules all c.args.opening c.args.journal.disk c.establish.result)
-    (no_records c.args.records.now c.in-empty.len_below) (c.establish.ensures c.args.rules c.in-Ok.ensures.history)
+    let records = payloads_of c.args.records.items in
+    let opens : OpensWith c.args.rules (c.deref.result.now ∷ payloads_of c.remove-first.new.self.items) c.in-Ok.state.history = c.in-Ok.ensures in
+    let here = (goal.at.returns-in-Ok g c).After-replay in
+    taken_up D.seen g.met.D.Disk.only_now c.args.rules records c.args.opening c.args.journal.disk
+    (c.stands.ensures.alone records c.requires.settled) c.reopen.result c.in-Ok.state.history c.reopen.ensures.view c.reopen.ensures.sound
+    (subst (λ (all : List Text). OpensWith c.args.rules all c.in-Ok.state.history) (all_is g here) opens)
 
-pub returns-in-Ok-replay : goal.returns-in-Ok-replay
-returns-in-Ok-replay g c =
+pub returns : goal.returns
+returns g c =
     let D = g.D.Disk in
-    let records = c.args.records.now in
-    let others = payloads_of (take (length records - 1) (drop 1 records)) in
-    let opens : OpensWith c.args.rules (c.deref.result.now ∷ others) c.in-Ok-replay.state.history = c.in-Ok-replay.ensures in
-    let all_is = ap (λ (x : Text). x ∷ others) c.deref.ensures.value ∙ first_and_others records c.first-item.result c.in-len1-up.len_at_least c.first-item.is in
-    taken_up D.seen g.met.D.Disk.only_now c.args.rules (payloads_of records) c.args.opening c.args.journal.disk
-    (c.stands.ensures.alone (payloads_of records) c.requires.settled) c.reopen.result c.in-Ok-replay.state.history c.reopen.ensures.view c.reopen.ensures.sound
-    (subst (λ (all : List Text). OpensWith c.args.rules all c.in-Ok-replay.state.history) all_is opens)
-
-pub returns-in-Err-replay : goal.returns-in-Err-replay
-returns-in-Err-replay g c =
-    let D = g.D.Disk in
-    let records = c.args.records.now in
-    let others = payloads_of (take (length records - 1) (drop 1 records)) in
-    let all_is = ap (λ (x : Text). x ∷ others) c.deref.ensures.value ∙ first_and_others records c.first-item.result c.in-len1-up.len_at_least c.first-item.is in
-    let stops : Stops c.args.rules (payloads_of records) c.in-Err-replay.fault = subst (λ (all : List Text). Stops c.args.rules all c.in-Err-replay.fault) all_is c.in-Err-replay.ensures in
-    rw c.close-in-Err-replay.ensures (given_up D.seen g.met.D.Disk.only_now c.args.rules (payloads_of records) c.args.opening c.args.journal.disk
-    (c.stands.ensures.alone (payloads_of records) c.requires.settled) c.in-Err-replay.fault stops)
+    let records = payloads_of c.args.records.items in
+    let here = (goal.at.returns g c).After-replay in
+    let stops : Stops c.args.rules records c.in-Err.fault =
+    subst (λ (all : List Text). Stops c.args.rules all c.in-Err.fault) (all_is g here) c.in-Err.ensures in
+    rw c.close.ensures (given_up D.seen g.met.D.Disk.only_now c.args.rules records c.args.opening c.args.journal.disk
+    (c.stands.ensures.alone records c.requires.settled) c.in-Err.fault stops)

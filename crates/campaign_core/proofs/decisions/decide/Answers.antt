@@ -12,4 +12,4 @@ returns-in-Found-clause-decision c =
     let core = c.args.core.now in
     subst (IsDecision campaign c.args.docnos.now core) (sym c.wrong_phase.ensures)
     (ap (ruled campaign.history.items core.caller core.moment) c.in-Found.is
-    ∙ ap (λ (p : Phase). let told : Ruling = Err (refusal.WrongPhase p) in told) (sym c.requires.asked.asked.known.phase_is))
+    ∙ ap (λ (p : Phase). let told : Ruling = Err (refusal.WrongPhase p) in told) (sym c.requires.asked.asked.asked.known.phase_is))

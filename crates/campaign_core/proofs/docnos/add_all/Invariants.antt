@@ -4,8 +4,8 @@ use Rattle.campaign_core.specs.Growth.{BeginsWith}
 use Rattle.campaign_core.specs.Numbers.{AreAdded}
 use Rattle.campaign_core.proofs.docnos.add_all.Given as goal
 
-abbrev pub invariant-loop-doc : goal.invariant-loop-doc
-invariant-loop-doc l =
-    AreAdded (take l.doc-index l.docs) l.fn.docnos l.docnos l.fn.numbers.items l.numbers.items
+abbrev pub invariant-loop-place : goal.invariant-loop-place
+invariant-loop-place l =
+    AreAdded (take l.place l.docs) l.fn.docnos l.docnos l.fn.numbers.items l.numbers.items
     × BeginsWith l.fn.docnos l.docnos
-    × (length l.docnos ≤ length l.fn.docnos + l.doc-index)
+    × (length l.docnos ≤ length l.fn.docnos + l.place)

@@ -26,7 +26,6 @@ add_all-requires c =
       sum_by-take-drop lines lists (i + 1),
       sum_by_more lines lists i list c.loop-list-test.true,
       ap lines c.list-item.is,
-      ap (λ (docs : List Text). length docs) c.items.ensures,
     )
 
 pub loop-list-preserved : goal.loop-list-preserved
@@ -37,18 +36,15 @@ loop-list-preserved c =
     let was = c.loop-list.docnos in
     let now = c.add_all.new.docnos in
     let numbers = c.add_all.new.numbers.items in
-    let own : c.items.result.now ≡ list.docs = c.items.ensures in
-    let one = subst (λ (docs : List Text). AreAdded docs was now c.loop-list.numbers.items numbers) own c.in_ok-add_all.ensures.added in
     let grown = c.add_all.ensures.grown in
-    let all = added-all (docnos (take i lists)) list.docs c.args.docnos.now was now [] c.loop-list.numbers.items numbers c.loop-list.invariant.0 grown.grown one in
+    let all = added-all (docnos (take i lists)) list.docs c.args.docnos.now was now [] c.loop-list.numbers.items numbers c.loop-list.invariant.0 grown.grown c.in_ok-add_all.ensures.added in
     let docs_are : docnos (take (i + 1) lists) ≡ docnos (take i lists) ++ list.docs =
     ap docnos (take_more lists i list c.loop-list-test.true ∙ ap (λ (l : TopicList). take i lists ++ l ∷ []) (sym c.list-item.is))
     ∙ flat_map-append (λ (l : TopicList). l.docs) (take i lists) (list ∷ []) ∙ ap (λ docs. docnos (take i lists) ++ docs) (append-nil list.docs) in
     let lines : TopicList → ℕ = λ l. length l.docs in
     let more = sum_by_more lines lists i list c.loop-list-test.true in
-    let own_lines : length c.items.result.now ≡ length list.docs = ap (λ (docs : List Text). length docs) own in
     let same = ap lines c.list-item.is in (
       subst (λ (docs : List Text). AreAdded docs c.args.docnos.now now [] numbers) (sym docs_are) all,
       begins-later c.args.docnos.now was now c.loop-list.invariant.1 grown.grown,
-      omega (arith, sum_by-take-drop lines lists i, sum_by-take-drop lines lists (i + 1), more, own_lines, same, grown.bound, c.loop-list.invariant.2),
+      omega (arith, sum_by-take-drop lines lists i, sum_by-take-drop lines lists (i + 1), more, same, grown.bound, c.loop-list.invariant.2),
     )

@@ -1,4 +1,4 @@
-use Rattle.std.proofs.Common.{◌≡◌, ◌+◌, ◌-◌, ◌∷◌, ◌++◌, ◌∙◌, List, suc, true, ap, arith, drop, length, sym, take}
+use Rattle.std.proofs.Common.{◌≡◌, ◌+◌, ◌-◌, ◌∷◌, ◌++◌, ◌∙◌, suc, true, ap, arith, drop, length, sym, take}
 use Rattle.std.specs.Str.{bytes_eq}
 use Rattle.std.proofs.Math.Seq.{drop-cons}
 use Rattle.std.proofs.lemmas.List.{take-append-drop}
@@ -18,7 +18,7 @@ returns-then-eq c = λ names are.
     let numbers = c.args.numbers.now in
     let rest : drop i lists ≡ list ∷ drop (suc i) lists = drop-cons lists i list c.loop-list-test.true ∙ ap (λ (l : TopicList). l ∷ drop (suc i) lists) (sym c.list-item.is) in
     let cut : lists ≡ take i lists ++ list ∷ drop (suc i) lists = sym (take-append-drop i lists) ∙ ap (λ ls. take i lists ++ ls) rest in
-    let count : start + length c.items.result.now - start ≡ length list.docs = omega (arith, ap (λ (docs : List Text). length docs) c.items.ensures) in
+    let count : start + c.len.result - start ≡ length list.docs = omega (arith, c.len.ensures) in
     let is : bytes_eq list.topic c.args.topic.now ≡ true = ap (λ (id : Text). bytes_eq id c.args.topic.now) (sym c.bytes.ensures) ∙ sym c.eq.ensures ∙ c.if-eq.true in
     let here : docs_on lists c.args.topic.now ≡ list.docs =
     sym c.loop-list.invariant.0 ∙ ap (λ ls. docs_on ls c.args.topic.now) rest ∙ docs-first list (drop (suc i) lists) c.args.topic.now is in

@@ -13,8 +13,8 @@ use Rattle.campaign_core.proofs.Numbers.UsedNumbers.{unused-kept}
 use Rattle.campaign_core.proofs.preparations.decided.Goals.{After-len}
 use Rattle.campaign_core.proofs.preparations.decided.Goals as goal
 
-pub decide-requires : goal.decide-requires
-decide-requires c = record { asked = record { asked = c.requires.new.asked; command_is = refl }; names = c.requires.new.names_are }
+pub decide-requires-clause-asked : goal.decide-requires-clause-asked
+decide-requires-clause-asked c = record { asked = record { asked = c.requires.new.asked; command_is = refl }; names = c.requires.new.names_are }
 
 pub returns-in_err-refusal-clause-unchanged : goal.returns-in_err-refusal-clause-unchanged
 returns-in_err-refusal-clause-unchanged c = unchanged c.args.campaign.now

@@ -12,10 +12,10 @@ pub loop-number-init : goal.loop-number-init
 loop-number-init c = rw c.in_ok-cells.ensures.items (record { cells = refl; sound = λ k d within. absurd (omega (arith, within)) })
 
 pub topic_cell-requires-clause-differ : goal.topic_cell-requires-clause-differ
-topic_cell-requires-clause-differ c = rw c.docs_on.ensures (docs_differ c.args.lists.now c.name-topic.result.now c.requires.lists)
+topic_cell-requires-clause-differ c = rw c.docs_on-docs.ensures (docs_differ c.args.lists.now c.name-topic.result.now c.requires.lists)
 
 pub topic_cell-requires-clause-short : goal.topic_cell-requires-clause-short
-topic_cell-requires-clause-short c = rw c.docs_on.ensures (docs_short c.args.lists.now c.name-topic.result.now c.requires.lists)
+topic_cell-requires-clause-short c = rw c.docs_on-docs.ensures (docs_short c.args.lists.now c.name-topic.result.now c.requires.lists)
 
 pub topic_cell-requires-clause-tally : goal.topic_cell-requires-clause-tally
 topic_cell-requires-clause-tally c =
@@ -35,7 +35,7 @@ loop-number-preserved c =
     let topics = c.args.judgements.now.topics in
     let topic = c.name-topic.result.now in
     let cell : c.in_ok-topic_cell.field-0 ≡ cell_on lists qrels topic =
-    c.in_ok-topic_cell.ensures.cell ∙ ap (λ docs. cell_in docs qrels topic) c.docs_on.ensures in
+    c.in_ok-topic_cell.ensures.cell ∙ ap (λ docs. cell_in docs qrels topic) c.docs_on-docs.ensures in
     let before = take c.loop-number.number topics in
     record {
       cells = c.in_ok-push.ensures.items ∙ ap (λ cells. cells ++ c.in_ok-topic_cell.field-0 ∷ []) c.loop-number.invariant.cells ∙ ap (λ cell. map (cell_on lists qrels) before ++ cell ∷ []) cell

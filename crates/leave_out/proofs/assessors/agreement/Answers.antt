@@ -7,7 +7,8 @@ use Rattle.campaign_core.specs.Topics.{topic_ids}
 use Rattle.leave_out.specs.Agreement.{agreed_on}
 use Rattle.leave_out.specs.declared.assessors.Agreed.{Agreed}
 use Rattle.leave_out.proofs.AgreedTopics.{agreed-topics}
-use Rattle.leave_out.proofs.Elements.{filter_map-more, slice-there, there-at, there-long, told}
+use Rattle.campaign_core.proofs.Lists.Elements.{slice-there}
+use Rattle.leave_out.proofs.Elements.{filter_map-more, there-at, there-long, told}
 use Rattle.leave_out.proofs.assessors.agreement.Goals as goal
 
 pub agreed_on-requires : goal.agreed_on-requires

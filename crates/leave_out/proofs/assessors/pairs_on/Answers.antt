@@ -12,7 +12,8 @@ use Rattle.campaign_core.specs.Topics.{topic_ids}
 use Rattle.leave_out.specs.Agreement.{pairs_on, two_grades}
 use Rattle.leave_out.proofs.AgreedTopics.{labelled-few}
 use Rattle.leave_out.proofs.LabelledNames.{labelled-named}
-use Rattle.leave_out.proofs.Elements.{all-at, filter_map-more, get-there, length-filter_map}
+use Rattle.campaign_core.proofs.Lists.Elements.{all_at, get-there}
+use Rattle.leave_out.proofs.Elements.{filter_map-more, length-filter_map}
 use Rattle.leave_out.proofs.assessors.pairs_on.Goals as goal
 
 abbrev no_doc : DocId
@@ -34,7 +35,7 @@ loop-doc-preserved c =
     let docs_are : docs_in names listed ≡ docs = sym (c.labelled-docs.ensures id at) in
     let within : i < length listed = omega (arith, c.loop-doc-test.true, ap (λ (ds : List DocId). length ds) docs_are, length-map listed (doc_in names)) in
     let all_named : are_named names listed ≡ true = labelled-named H c.board-board.result.now c.labelled_are_listed.ensures c.board-board.ensures.board c.args.topic id at in
-    let named : contains_text names d ≡ true = all-at (contains_text names) listed i [] within all_named in
+    let named : contains_text names d ≡ true = all_at (contains_text names) listed i [] within all_named in
     let doc_is : get_or docs i no_doc ≡ doc_in names d = ap (λ (ds : List DocId). get_or ds i no_doc) (sym docs_are) ∙ get_or-map (doc_in names) listed i [] no_doc within in
     let pair_is : c.pair_on.result ≡ pair H id d = c.pair_on.ensures id d at named doc_is in
     c.in_ok-push_some.ensures

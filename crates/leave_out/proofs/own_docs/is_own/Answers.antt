@@ -14,8 +14,9 @@ use Rattle.campaign_core.specs.LentTopics.{topic_at}
 use Rattle.campaign_core.specs.NumberedHolders.{HoldersByNumbers}
 use Rattle.campaign_core.specs.Tallies.{submitted_at}
 use Rattle.campaign_core.specs.Topics.{pool_of, topic_ids}
-use Rattle.leave_out.specs.Lefts.{IsDocAt}
-use Rattle.leave_out.proofs.Elements.{get-there, told}
+use Rattle.leave_out.specs.ReducedJudgements.{IsDocAt}
+use Rattle.campaign_core.proofs.Lists.Elements.{get-there}
+use Rattle.leave_out.proofs.Elements.{told}
 use Rattle.leave_out.proofs.NumberedRuns.{holders-submitted}
 use Rattle.leave_out.proofs.OwnDocs.{own-is, own-none, some-there}
 use Rattle.leave_out.proofs.own_docs.is_own.Goals as goal

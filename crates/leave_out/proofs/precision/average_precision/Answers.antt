@@ -8,4 +8,4 @@ pub returns-clause-mean : goal.returns-clause-mean
 unfolding cell_of
 returns-clause-mean c =
     let relevant_is = ap (λ (cell : Cell). cell.rel) c.scratch-cell.ensures.cell in
-    div-le_of_le-mul c.args.left.relevant (omega (arith, c.scratch-cell.ensures.sound.ap_sum, relevant_is, c.requires.few.relevant))
+    div-le_of_le-mul c.args.judgements.relevant (omega (arith, c.scratch-cell.ensures.sound.ap_sum, relevant_is, c.requires.few.relevant))

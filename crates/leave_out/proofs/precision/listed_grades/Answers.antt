@@ -3,9 +3,9 @@ use Rattle.std.proofs.lemmas.List.{get_or-map, length-append, length-map, map_mo
 use Rattle.decimal_rank.specs.declared.naming.DocId.{DocId}
 use Rattle.rulebook.specs.Words.{Text, contains_text}
 use Rattle.campaign_core.specs.Numbers.{doc_in, names_of}
-use Rattle.leave_out.specs.Lefts.{IsDocAt}
+use Rattle.leave_out.specs.ReducedJudgements.{IsDocAt}
 use Rattle.leave_out.specs.Reuse.{reduced}
-use Rattle.leave_out.proofs.Elements.{all-at, slice-there}
+use Rattle.campaign_core.proofs.Lists.Elements.{all_at, slice-there}
 use Rattle.leave_out.proofs.precision.listed_grades.Goals as goal
 
 abbrev no_doc : DocId
@@ -24,14 +24,14 @@ loop-place-preserved c = record {
       let there = slice-there list i no_doc doc c.doc_at-doc.ensures in
       let within : i < length docs = omega (arith, there.0, ap (λ (ds : List DocId). length ds) is, length-map docs (doc_in names)) in
       let doc_is : doc ≡ doc_in names d = sym there.1 ∙ ap (λ (ds : List DocId). get_or ds i no_doc) is ∙ get_or-map (doc_in names) docs i [] no_doc within in
-      let here : IsDocAt H c.args.topic id d doc = record { at = at; named = all-at (contains_text names) docs i [] within named; number_is = doc_is } in
+      let here : IsDocAt H c.args.topic id d doc = record { at = at; named = all_at (contains_text names) docs i [] within named; number_is = doc_is } in
       c.in_ok-push.ensures.items
-      ∙ ap (λ (gs : List (Option ℕ)). gs ++ c.left_grade.result ∷ []) (c.loop-place.invariant.grades id docs at named is)
-      ∙ ap (λ (g : Option ℕ). map (reduced H group id) (take i docs) ++ g ∷ []) (c.left_grade.ensures id d here)
+      ∙ ap (λ (gs : List (Option ℕ)). gs ++ c.reduced_grade.result ∷ []) (c.loop-place.invariant.grades id docs at named is)
+      ∙ ap (λ (g : Option ℕ). map (reduced H group id) (take i docs) ++ g ∷ []) (c.reduced_grade.ensures id d here)
       ∙ sym (map_more (reduced H group id) docs i [] within);
   few =
       let long = ap (λ (gs : List (Option ℕ)). length gs) c.in_ok-push.ensures.items in
-      omega (arith, long, c.loop-place.invariant.few, length-push c.loop-place.grades.items c.left_grade.result);
+      omega (arith, long, c.loop-place.invariant.few, length-push c.loop-place.grades.items c.reduced_grade.result);
 }
   where
     length-push : (gs : List (Option ℕ)) (g : Option ℕ) → length (gs ++ g ∷ []) ≡ length gs + 1

@@ -1,4 +1,4 @@
-use Rattle.std.proofs.Common.{◌≡◌, ◌<◌, ◌≤◌, ◌++◌, ◌∷◌, ◌∙◌, ℕ, List, [], ap, arith, get_or, length, map, subst, sym, take, take_all, true}
+use Rattle.std.proofs.Common.{◌≡◌, ◌<◌, ◌≤◌, ◌++◌, ◌∷◌, ◌∙◌, ℕ, List, [], ap, arith, get_or, length, map, subst, sym, take, take_all, true, rules, vec_len}
 use Rattle.std.specs.List.{list_all}
 use Rattle.std.proofs.lemmas.List.{get_or-map, length-map, map_more}
 use Rattle.depth_pool.specs.declared.runs.RunId.{RunId}
@@ -7,10 +7,11 @@ use Rattle.rulebook.specs.Campaign.{History, Run, numbered}
 use Rattle.rulebook.specs.Legal.{IsLegal}
 use Rattle.rulebook.specs.Plain.{EntriesArePlain}
 use Rattle.rulebook.specs.Systems.{are_sound_systems, is_mean, systems}
-use Rattle.leave_out.specs.Lefts.{IsLive}
+use Rattle.leave_out.specs.ReducedJudgements.{IsLive}
 use Rattle.leave_out.specs.Reuse.{are_means, reused}
 use Rattle.leave_out.specs.declared.reusability.Reused.{Reused}
 use Rattle.leave_out.proofs.Elements.{all-push}
+use Rattle.leave_out.proofs.GroupPlaces.{place-group, place-reduced, place-within}
 use Rattle.leave_out.proofs.NamedRuns.{each-live}
 use Rattle.leave_out.proofs.NumberedRuns.{each-at}
 use Rattle.leave_out.proofs.NumberedSystems.{system_at, systems-numbered}
@@ -72,6 +73,22 @@ row_of-requires-clause-mean c =
     let sound : are_sound_systems all ≡ true = ap are_sound_systems c.items-system-items.ensures ∙ c.in_ok-systems.ensures.sound in
     ap (λ (s : System). is_mean s.summary.map) c.system-item.is ∙ sound-mean all c.loop-place.place c.system-item.result sound c.loop-place-test.true
 
+pub index-requires : goal.index-requires
+index-requires c =
+    let within = place-within c.args.state.now.history c.place_of.new.groups.items c.in_ok-group.group c.bytes.result.now c.in_ok-group.ensures.place in
+    let counted : length c.place_of.new.groups.items ≡ vec_len c.place_of.new.groups = search rules in
+    omega (arith, within, counted)
+
+pub row_of-requires-clause-group : goal.row_of-requires-clause-group
+row_of-requires-clause-group c =
+    place-group c.args.state.now.history c.place_of.new.groups.items c.in_ok-group.group c.bytes.result.now c.in_ok-group.ensures.place
+    c.index.result.now c.index.ensures ∙ c.bytes.ensures
+
+pub row_of-requires-clause-reduced : goal.row_of-requires-clause-reduced
+row_of-requires-clause-reduced c =
+    place-reduced c.args.state.now.history c.place_of.new.groups.items c.in_ok-group.group c.bytes.result.now c.in_ok-group.ensures.place
+    c.index.result.now c.index.ensures c.in_ok-group.ensures.reduced
+
 pub loop-place-preserved : goal.loop-place-preserved
 loop-place-preserved c =
     let H = c.args.state.now.history in
@@ -90,6 +107,7 @@ loop-place-preserved c =
           ∙ ap (λ (row : Reused). map (reused H) (take i pairs) ++ row ∷ []) (c.in_ok-row.ensures.reused one at.live at.system_is)
           ∙ sym (map_more (reused H) pairs i no_run within);
       means = ap (list_all are_means) c.in_ok-push.ensures.items ∙ all-push are_means c.loop-place.rows.items row c.loop-place.invariant.means c.in_ok-row.ensures.means;
+      reduced = c.in_ok-group.ensures.reduced;
     }
 
 pub returns-clause-reused : goal.returns-clause-reused

@@ -2,14 +2,14 @@
 use Rattle.std.proofs.Common.{◌≡◌, ◌≤◌, ◌*◌, ◌^◌, ℕ, take}
 use Rattle.rulebook.specs.Campaign.{Run}
 use Rattle.campaign_core.specs.Topics.{topic_ids}
-use Rattle.leave_out.specs.Lefts.{IsLive, sums_in}
+use Rattle.leave_out.specs.ReducedJudgements.{IsLive, sums_in}
 use Rattle.leave_out.proofs.reusability.sums_of.Given as goal
 
 abbrev pub invariant-loop-topic : goal.invariant-loop-topic
 invariant-loop-topic l =
     let H = l.state.history in
     record {
-      sums : (one : ℕ × Run) → IsLive H l.run one → l.sums ≡ sums_in H l.group one.1 (take l.topic (topic_ids H));
+      sums : (one : ℕ × Run) → IsLive H l.run one → l.sums ≡ sums_in H l.judgements.group one.1 (take l.topic (topic_ids H));
       own : l.sums.own ≤ l.topic * 4000000;
       topics : l.sums.topics ≤ l.topic;
       precisions : l.sums.precisions ≤ l.sums.topics * 10 ^ 15;

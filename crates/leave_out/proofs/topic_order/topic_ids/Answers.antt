@@ -6,7 +6,7 @@ use Rattle.rulebook.specs.Words.{Text}
 use Rattle.campaign_core.specs.LentTopics.{topic_at}
 use Rattle.campaign_core.specs.Topics.{topic_ids}
 use Rattle.leave_out.specs.TopicOrder.{AreNumbered}
-use Rattle.leave_out.proofs.Elements.{slice-there}
+use Rattle.campaign_core.proofs.Lists.Elements.{slice-there}
 use Rattle.leave_out.proofs.TopicsById.{keys-put, numbered-put, text_cmp}
 use Rattle.leave_out.proofs.topic_order.topic_ids.Goals as goal
 

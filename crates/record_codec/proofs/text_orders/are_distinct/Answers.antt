@@ -1,7 +1,7 @@
+-- The texts seen are those so far, no two of them the same.
 use Rattle.std.proofs.Common.{sym, ap, ◌∙◌}
 use Rattle.std.specs.Prelude.{is_some}
-use Rattle.std.proofs.lemmas.Map.Text.{hash_map_updates_str}
-use Rattle.record_codec.proofs.DistinctTexts.{seen_next, seen_twice, text_at}
+use Rattle.record_codec.proofs.DistinctTexts.{key_of, seen_next, seen_twice}
 use Rattle.record_codec.proofs.text_orders.are_distinct.Goals as goal
 
 pub returns-in-Some : goal.returns-in-Some
@@ -12,5 +12,4 @@ returns-in-Some c =
 pub loop-text-preserved : goal.loop-text-preserved
 loop-text-preserved c =
     seen_next c.loop-text.seen c.args.texts.now c.loop-text.text-index c.insert.new.self c.loop-text-test.true c.loop-text.invariant
-    (hash_map_updates_str (text_at c.args.texts.now c.loop-text.text-index).now c.loop-text.seen c.insert.new.self _ c.in_ok-insert.ensures.updates)
-    (ap is_some (sym c.in_ok-insert.ensures.old ∙ c.in_default.is))
+    (λ other. c.in_ok-insert.ensures.updates.0 (key_of other)) (ap is_some (sym c.in_ok-insert.ensures.old ∙ c.in_default.is))

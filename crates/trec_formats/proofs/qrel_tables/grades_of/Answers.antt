@@ -1,15 +1,25 @@
-use Rattle.std.proofs.Common.{◌∙◌, ◌∷◌, ◌++◌, [], ap, sym, map, take}
-use Rattle.std.proofs.lemmas.List.{take_more, map-append}
+use Rattle.std.proofs.Common.{◌<◌, ◌∙◌, ◌∷◌, ◌++◌, [], ap, arith, length, sym, map, take}
+use Rattle.std.proofs.lemmas.List.{take_all, take_more, map-append}
+use Rattle.std.proofs.lemmas.Option.{get_or_from_slice_get}
 use Rattle.trec_formats.specs.LineViews.{qrel_shown}
 use Rattle.trec_formats.specs.Qrels.{grade_on}
 use Rattle.trec_formats.proofs.qrel_tables.grades_of.Goals as goal
 
-pub loop-doc-preserved : goal.loop-doc-preserved
-loop-doc-preserved c =
+pub loop-place-preserved : goal.loop-place-preserved
+loop-place-preserved c =
     let grade = grade_on (map qrel_shown c.args.lines.now) c.args.topic.now in
-    let before = take c.loop-doc.doc-index c.args.docs.now in
+    let docs = c.args.docs.now in
+    let place = c.loop-place.place in
+    let before = take place docs in
+    let doc = c.at.result.now in
+    let within : place < length docs = omega (arith, c.loop-place-test.true, c.len-count.ensures) in
     c.in_ok-push.ensures.items
-    ∙ ap (λ items. items ++ c.grade_of.result ∷ []) c.loop-doc.invariant
-    ∙ ap (λ g. map grade before ++ g ∷ []) (c.grade_of.ensures ∙ ap grade c.bytes.ensures)
-    ∙ sym (map-append grade before (c.doc-item.result ∷ []))
-    ∙ ap (map grade) (sym (take_more c.args.docs.now c.loop-doc.doc-index c.doc-item.result c.loop-doc-test.true ∙ ap (λ d. before ++ d ∷ []) (sym c.doc-item.is)))
+    ∙ ap (λ items. items ++ c.grade_of.result ∷ []) c.loop-place.invariant
+    ∙ ap (λ g. map grade before ++ g ∷ []) c.grade_of.ensures
+    ∙ sym (map-append grade before (doc ∷ []))
+    ∙ ap (map grade) (sym (take_more docs place doc within ∙ ap (λ d. before ++ d ∷ []) (get_or_from_slice_get docs place doc doc c.at.ensures)))
+
+pub returns : goal.returns
+returns c =
+    c.loop-place.invariant
+    ∙ ap (map (grade_on (map qrel_shown c.args.lines.now) c.args.topic.now)) (take_all c.loop-place.place c.args.docs.now (omega (arith, c.loop-place-test.false, c.len-count.ensures)))

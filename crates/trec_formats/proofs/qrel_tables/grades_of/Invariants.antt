@@ -4,5 +4,5 @@ use Rattle.trec_formats.specs.LineViews.{qrel_shown}
 use Rattle.trec_formats.specs.Qrels.{grade_on}
 use Rattle.trec_formats.proofs.qrel_tables.grades_of.Given as goal
 
-abbrev pub invariant-loop-doc : goal.invariant-loop-doc
-invariant-loop-doc l = l.grades.items ≡ map (grade_on (map qrel_shown l.lines) l.topic) (take l.doc-index l.docs)
+abbrev pub invariant-loop-place : goal.invariant-loop-place
+invariant-loop-place l = l.grades.items ≡ map (grade_on (map qrel_shown l.lines) l.topic) (take l.place l.docs)

@@ -19,5 +19,5 @@ loop-at-preserved c =
       omega (arith, taken.2, w.1),
       c.in_ok-at.ensures.within,
       (λ text read.
-          subst (λ t. IsRead t c.step.new.reading) (piece_more text c.args.piece.now c.loop-at.at c.in_ok-at.field-0) (c.in_ok-at.ensures.ok (text ++ take c.loop-at.at c.args.piece.now) (w.3 text read))),
+          subst (λ t. IsRead t c.advance.new.reading) (piece_more text c.args.piece.now c.loop-at.at c.in_ok-at.field-0) (c.in_ok-at.ensures.ok (text ++ take c.loop-at.at c.args.piece.now) (w.3 text read))),
     )

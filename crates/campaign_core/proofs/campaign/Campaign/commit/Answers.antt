@@ -29,6 +29,8 @@ returns-clause-known g c =
       rulings_join = c.rulings_join.ensures;
       rulings_follow = c.marks_follow_rulings.ensures.ruling;
       given_stay = c.marks_follow_rulings.ensures.given;
+      ends_there = c.ends_are_there.ensures;
+      lease_entries = c.leases_are_entries.ensures;
     } in
     let facts_are : facts c.commit.new.self ≡ after ready.change (facts s.assessment) =
     subst (λ (o : Option Change). IfSome o (λ change. facts c.commit.new.self ≡ after change (facts s.assessment))) ready.awaits.waits c.commit.ensures.facts in

@@ -18,8 +18,12 @@ lead_fronts-requires c =
     let within = (position-Some is_it (map facts_of topics) c.in-Some.number none at).0 in
     omega (arith, within, length-map topics facts_of)
 
-pub returns-in-Some : goal.returns-in-Some
-returns-in-Some c =
-    let campaign = c.args.self.now in
-    let with_assessment : AssessmentView → Campaign = λ assessment. record campaign { assessment = assessment } in
-    ap with_assessment c.lead_fronts.ensures
+-- the campaign with this assessment
+abbrev holding : Campaign → AssessmentView → Campaign
+holding campaign assessment = record campaign { assessment = assessment }
+
+pub returns-clause-unchanged : goal.returns-clause-unchanged
+returns-clause-unchanged c = ap (holding c.args.self.now) c.lead_fronts.ensures
+
+pub returns-in_err-lead_fronts-clause-unchanged : goal.returns-in_err-lead_fronts-clause-unchanged
+returns-in_err-lead_fronts-clause-unchanged c = ap (holding c.args.self.now) c.lead_fronts.ensures

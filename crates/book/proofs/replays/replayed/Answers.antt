@@ -1,0 +1,7 @@
+-- The other records behind the first.
+use Rattle.journal.specs.Kept.{payloads as payloads_of}
+use Rattle.book.proofs.replays.replayed.Goals as goal
+
+pub returns-in-Ok : goal.returns-in-Ok
+returns-in-Ok c =
+    c.ended.ensures c.args.rules c.args.first.now (payloads_of c.args.others.now) c.in-Ok.replay c.requires.rules c.in-Ok.ensures c.enter_all-entered.ensures
