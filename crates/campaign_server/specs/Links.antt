@@ -1,5 +1,5 @@
 -- What links tell, and what a call may do to it.
-use Rattle.std.specs.Prelude.{◌≡◌, ℕ, ◌-◌, ◌≤◌, List, Option, Result, IfSome, MatchResult, is_some, length, min, slice_index}
+use Rattle.std.specs.Prelude.{◌≡◌, ℕ, ◌-◌, ◌≤◌, List, None, Option, Result, IfSome, MatchResult, is_some, length, min, slice_index}
 use Rattle.std.specs.Io.KnownBytes.{WriteAppends}
 use Rattle.rulebook.specs.declared.limits.TheConstants.{MAX_MOMENT}
 use Rattle.decimal_rank.specs.FailurePlans.{count_more}
@@ -21,6 +21,14 @@ pub record LinkState : Type 0 where
   pub reading : Reading
   pub writing : Writing
   pub clock : Clock
+
+-- what a link tells that tells its counts alone: how many reads and writes failed, and how many moments were asked for
+abbrev pub counts_of : ℕ → ℕ → ℕ → LinkState
+counts_of reads writes asked = record {
+  reading = record { taken = None; left = None; last = None; faults = reads };
+  writing = record { written = None; faults = writes };
+  clock = record { moments = None; asked = asked };
+}
 
 -- Each part is told of both or of neither.
 pub record Alike (a b : LinkState) : Type 0 where

@@ -1,9 +1,7 @@
 -- How far a connection has come.
 use Rattle.std.specs.Prelude.{◌≡◌, ◌⊎◌, ℕ, ◌+◌, ◌^◌, ◌≤◌, Bool, List, [], Result, Ok, Err, length, nat_lt, if◌then◌else◌}
-use Rattle.std.specs.Io.KnownBytes.{Appends, IsAtEnd}
+use Rattle.std.specs.Io.KnownBytes.{IsAtEnd}
 use Rattle.decimal_rank.specs.Causes.{Rose}
-use Rattle.decimal_rank.specs.KnownBytes.{AppendsPart}
-use Rattle.http_wire.specs.declared.messages.WireFault.{WireFault}
 use Rattle.http_wire.specs.Messages.{Closed, Refused}
 use Rattle.routes.specs.declared.keys.KeyRow.{KeyRow}
 use Rattle.rulebook.specs.declared.answer.Answer.{Answer}
@@ -14,7 +12,7 @@ use Rattle.campaign_server.specs.declared.ends.End.{End}
 use Rattle.campaign_server.specs.declared.ends.End.TheVariants as end
 use Rattle.campaign_server.specs.Links.{LinkState}
 use Rattle.campaign_server.specs.Asking.{StreamState, StandsFor, fed_on}
-use Rattle.campaign_server.specs.Chains.{Chain, Said, last_text}
+use Rattle.campaign_server.specs.Chains.{Chain, Said}
 use Rattle.campaign_server.specs.Connections.{Hears, IsLast, ReadsNoMore, Spoke, SpokeAll, SpokeCut, SpokePart, at_pause}
 
 module _ (talks : List Said → Type 0) where
@@ -72,16 +70,6 @@ ReadsPiece old new stream taken (Ok count) after =
     (piece : List ℕ) × IsPiece taken piece count × Hears old new piece × IsLast new count × (after ≡ fed_on stream piece) × (count ≡ 0 → IsAtEnd new.reading.left)
 ReadsPiece old new stream taken (Err Failed) after = Hears old new [] × IsLast new 0 × Rose old.reading.faults new.reading.faults
 ReadsPiece old new stream taken (Err Memory) after = (piece : List ℕ) × (length piece ≤ 8192) × Hears old new piece × IsLast new (length piece)
-
--- a refused message was answered, or a write failed in its answer
-abbrev pub RefusesWith : LinkState → LinkState → WireFault → End → Type 0
-RefusesWith old new cause (end.Refused told) = (told ≡ cause) × Appends old.writing.written new.writing.written (last_text (Refused cause)) × (old.writing.faults ≤ new.writing.faults)
-RefusesWith old new cause end.WriteFault = AppendsPart old.writing.written new.writing.written (last_text (Refused cause)) × Rose old.writing.faults new.writing.faults
-RefusesWith old new cause end.Ended = ⊥
-RefusesWith old new cause end.Cut = ⊥
-RefusesWith old new cause end.ReadFault = ⊥
-RefusesWith old new cause end.Memory = ⊥
-RefusesWith old new cause end.Worn = ⊥
 
 -- the end where as many bytes were taken as may be
 abbrev pub worn : End → End

@@ -13,7 +13,7 @@ use Rattle.campaign_server.specs.Links.{Alike, LinkState}
 
 -- A record of a link is that of a connection of a new link, which told what the link tells at its end, from so many entries and failed disk
 -- calls on, over the entries S, where it added the entries at these places.
-pub record IsServed (keys : List KeyRow) (n c : ℕ) (S : History) (last : ℕ) (ended : Ended) (told : ℕ) (places : List ℕ) : Type 0 where
+pub record IsLinkRecord (keys : List KeyRow) (n c : ℕ) (S : History) (last : ℕ) (ended : Ended) (told : ℕ) (places : List ℕ) : Type 0 where
   pub was : LinkState
   pub is : LinkState
   pub new : IsNew was
@@ -25,7 +25,7 @@ pub record IsServed (keys : List KeyRow) (n c : ℕ) (S : History) (last : ℕ) 
 abbrev pub AreServed : List KeyRow → ℕ → ℕ → History → ℕ → List Ended → ℕ → List ℕ → Type 0
 AreServed keys n c S last [] told places = (told ≡ 0) × (places ≡ [])
 AreServed keys n c S last (first ∷ others) told places =
-    (here : ℕ) × (there : ℕ) × (own : List ℕ) × (rest : List ℕ) × IsServed keys n c S last first here own × AreServed keys n c S last others there rest
+    (here : ℕ) × (there : ℕ) × (own : List ℕ) × (rest : List ℕ) × IsLinkRecord keys n c S last first here own × AreServed keys n c S last others there rest
     × (told ≡ here + there) × (places ≡ own ++ rest) × Apart own rest
 
 -- no connection ended for want of memory

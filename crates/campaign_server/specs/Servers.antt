@@ -28,7 +28,7 @@ pub record Leaves (keys : List KeyRow) (numbers : ServerNumbers) (start after : 
 
 -- What a server comes to, from a campaign and a door: the entries only grow, what the door tells is left so, and a fault of the door is told only
 -- where one is counted.
-pub record ServesDoor (keys : List KeyRow) (numbers : ServerNumbers) (start after : Story) (old new : DoorState) (how : ServeEnd) : Type 0 where
+pub record IsServed (keys : List KeyRow) (numbers : ServerNumbers) (start after : Story) (old new : DoorState) (how : ServeEnd) : Type 0 where
   pub grown : AtMost start after
   pub leaves : IfSome new.told (λ told. Leaves keys numbers start after how told)
   pub fault : how ≡ serve_end.DoorFault → Rose old.faults new.faults
@@ -36,7 +36,7 @@ pub record ServesDoor (keys : List KeyRow) (numbers : ServerNumbers) (start afte
 
 -- the same of a campaign on a disk
 abbrev pub ServesBook : {D : Type 0} → (D → DiskState) → List KeyRow → ServerNumbers → Seen D → Seen D → DoorState → DoorState → ServeEnd → Type 0
-ServesBook seen keys numbers start after old new how = ServesDoor keys numbers (story_of seen start) (story_of seen after) old new how
+ServesBook seen keys numbers start after old new how = IsServed keys numbers (story_of seen start) (story_of seen after) old new how
 
 -- The door was handed all of these records, and the server ends so; or memory was short, and it was handed the first of them.
 abbrev pub Settles : Option Told → List Ended → Bool → ServeEnd → Option Told → ServeEnd → Type 0

@@ -16,17 +16,6 @@ use Rattle.campaign_server.specs.Records.{AreServed, NoneShort}
 abbrev pub AreOwn : List ℕ → List ℕ → Type 0
 AreOwn mine places = (place : ℕ) → Contains places place → Contains mine (suc place)
 
--- What so many workers did since the start: the records of their links, over what they have seen, and the places of what they added, which are
--- those of a pass. One is short where memory was.
-pub record Worked (keys : List KeyRow) (start : Story) (workers : ℕ) (seen : Story) (mine : List ℕ) (records : List Ended) (short : Bool) : Type 0 where
-  pub grown : AtMost start seen
-  pub told : ℕ
-  pub places : List ℕ
-  pub served : AreServed keys (length start.list) start.faults seen.list seen.faults records told places
-  pub own : AreOwn mine places
-  pub licensed : (told ≤ workers * (seen.faults - start.faults)) ⊎ (2 ^ 64 - 1 ≤ seen.faults)
-  pub none_short : short ≡ false → NoneShort records
-
 -- what contracts see of a worker: its pass, its parts of the ledger, what the records of its links tell, and whether memory was short for it
 pub record WorkState : Type 0 where
   pub pass : Known Entry
@@ -34,9 +23,16 @@ pub record WorkState : Type 0 where
   pub records : List Ended
   pub short : Bool
 
--- what one or more workers did, over what their pass has seen
-abbrev pub Works : List KeyRow → Story → ℕ → WorkState → Type 0
-Works keys start workers work = Worked keys start workers (seen_as work.pass.seen) work.pass.mine work.records work.short
+-- What so many workers did since the start: the records of their links, over what their pass has seen, and the places of what they added, which are
+-- its own. One is short where memory was.
+pub record Works (keys : List KeyRow) (start : Story) (workers : ℕ) (work : WorkState) : Type 0 where
+  pub grown : AtMost start (seen_as work.pass.seen)
+  pub told : ℕ
+  pub places : List ℕ
+  pub served : AreServed keys (length start.list) start.faults work.pass.seen.list work.pass.seen.faults work.records told places
+  pub own : AreOwn work.pass.mine places
+  pub licensed : (told ≤ workers * (work.pass.seen.faults - start.faults)) ⊎ (2 ^ 64 - 1 ≤ work.pass.seen.faults)
+  pub none_short : work.short ≡ false → NoneShort work.records
 
 -- a worker that did nothing yet: its pass is of the hall and has seen the start, and it has one part of the ledger
 pub record IsFresh (hall : TableId) (start : Story) (work : WorkState) : Type 0 where

@@ -1,5 +1,33 @@
 //! The requests of a connection's bytes, as what they ask. A head begins a reader, the pieces of the body go to
 //! it as they come, and where the body is whole its reading is given. How bytes are kept is known here alone.
+//!
+//! # The way of a body, piece by piece
+//!
+//!     link         at most 8,192 bytes a read                        connections.rt
+//!     Wire         Head, then Piece by Piece, then Whole             http_wire/src/fronts.rt
+//!     AskStream    the present request: its reader, or none          campaign_server/src/asks.rt
+//!     AskReader    of the head: who asks and where, or its fault     routes/src/ask_reader.rt
+//!       a run        to `RunReader`: whole lines, and of the present field at most 401 bytes
+//!       a query      passed over
+//!       another      gathered
+//!     Whole        what is asked, or its first fault; then its moment and its answer
+//!
+//! A run's text goes to the `RunReader` as it comes, and is gathered nowhere: a line that stands
+//! whole in a piece is read in place (`trec_formats/src/run_views.rt`), and only one that is cut
+//! between pieces is kept field by field (`run_fields.rt`). Of a line the reader keeps its number,
+//! its score and where its topic and docno stand in one vector of bytes
+//! (`trec_formats/src/packed_runs.rt`); the ranked lists are made from these, and the lines are let
+//! go of meanwhile (`drop_done` in `lists.rt`), so that lines and lists aren't held twice. Behind a
+//! fault of the head, and behind the first fault of a run, the rest of the body is taken and passed
+//! over. Where there is no memory for a reader or for what it has to keep, the rest of the body is
+//! taken too, and the answer is 507 (`Present::Starved`).
+//!
+//! What is known of a stream is said of any bytes that it may have been fed from behind the last
+//! whole request on (`StandsFor` in `campaign_server/specs/Asking.antt`): the wire stands behind
+//! their head and the bytes given (`StandsOn` in `http_wire/specs/Pieces.antt`), and the reader was
+//! made of this head and fed these bytes (`IsAsking` in `routes/specs/AskStates.antt`). At Whole
+//! the two make one request and its reading, and from there on the loop knows messages and readings
+//! alone.
 ghost use Rattle.std.specs.Prelude.{◌≡◌, ◌+◌, ◌≤◌, IfOk, OnOk, OnErr, length};
 ghost use Rattle.http_wire.specs.Pieces.{BodyFits, Shortens, Steps};
 ghost use Rattle.campaign_server.specs.Asking.{AsksNext, Begins, EndsWith, Fits, Goes, GoesFit, GoesShorter, IsAskable, IsBegun, IsShorter, PieceFits, PieceOn, fed_on, fresh, stream_at};

@@ -3,7 +3,7 @@
 ghost use Rattle.std.specs.Prelude.{◌≡◌, ◌<◌, ◌≤◌, ◌^◌, IfOk, IfErr};
 ghost use Rattle.campaign_server.specs.Asking.{fresh};
 ghost use Rattle.campaign_server.specs.Connections.{Converses};
-ghost use Rattle.campaign_server.specs.LoopParts.{EndsFrom, Pauses, ReadsPiece, RefusesWith, at_end, last_end, worn};
+ghost use Rattle.campaign_server.specs.LoopParts.{EndsFrom, Pauses, ReadsPiece, at_end, last_end};
 
 use crate::answers::{answer, refuse};
 use crate::asks::{AskStep, AskStream};
@@ -12,7 +12,7 @@ use crate::ends::End;
 use crate::links::Link;
 use crate::tellers::Teller;
 use decimal_rank::{Failed, Memory};
-use http_wire::{WireFault, fronts_are_messages, pieces_go_on, readings_go_on};
+use http_wire::{fronts_are_messages, pieces_go_on, readings_go_on};
 use routes::{Keys, Paths};
 use std::alloc::Global;
 
@@ -43,7 +43,12 @@ fn answer_all<T: Teller, I: Link>(
         match stream.next(alloc, keys) {
             Err(Memory) => return Err(End::Memory),
             Ok(AskStep::Need { clean }) => return Ok(clean),
-            Ok(AskStep::Refused(fault)) => return Err(refuse_with(link, buffer, fault)),
+            Ok(AskStep::Refused(fault)) => {
+                return match refuse(link, buffer, fault) {
+                    Ok(()) => Err(End::Refused(fault)),
+                    Err(Failed) => Err(End::WriteFault),
+                };
+            }
             Ok(AskStep::Whole { reading, close }) => {
                 match answer(teller, link, buffer, reading, close) {
                     Ok(()) => {
@@ -55,18 +60,6 @@ fn answer_all<T: Teller, I: Link>(
                 }
             }
         }
-    }
-}
-
-// The end behind the answer of a refused message.
-fn refuse_with<I: Link>(link: &mut I, buffer: &mut Buffer, fault: WireFault) -> End
-    ensures ends { RefusesWith (I.seen link.old) (I.seen link.new) fault result }
-    ensures reading_kept { (I.seen link.new).reading ≡ (I.seen link.old).reading }
-    ensures clock_kept { (I.seen link.new).clock ≡ (I.seen link.old).clock }
-{
-    match refuse(link, buffer, fault) {
-        Ok(()) => End::Refused(fault),
-        Err(Failed) => End::WriteFault,
     }
 }
 
@@ -101,22 +94,19 @@ fn read_piece<I: Link>(
     }
 }
 
-// The end where as many bytes were taken as may be.
-fn worn(end: End) -> End
-    ensures { result ≡ worn end }
+// The end where so many bytes were taken: at as many as may be, Worn stands for Ended, Cut and Refused.
+fn last_end(end: End, taken: usize) -> End
+    ensures { result ≡ last_end end taken }
 {
+    if taken < MOST_TAKEN {
+        return end;
+    }
     match end {
         End::Ended | End::Cut | End::Refused(_) | End::Worn => End::Worn,
         End::ReadFault => End::ReadFault,
         End::WriteFault => End::WriteFault,
         End::Memory => End::Memory,
     }
-}
-
-fn last_end(end: End, taken: usize) -> End
-    ensures { result ≡ last_end end taken }
-{
-    if taken < MOST_TAKEN { end } else { worn(end) }
 }
 
 fn at_end(clean: bool) -> End
@@ -159,6 +149,7 @@ fn converse_by<T: Teller, I: Link>(
 }
 
 /// Answers the requests of a link as they come. An answer is written before more is read.
+#[tactic(auto, using(crate::proofs::ReadPieces::Hearing::ends_before))]
 pub fn converse<T: Teller, I: Link>(alloc: Global, teller: &mut T, link: &mut I, keys: &Keys) -> End
     ensures { Converses T.tells keys.now teller.old (I.seen link.old) teller.new (I.seen link.new)
         result }
@@ -170,6 +161,7 @@ pub fn converse<T: Teller, I: Link>(alloc: Global, teller: &mut T, link: &mut I,
 }
 
 /// The same by a table of the paths that was made before.
+#[tactic(auto, using(crate::proofs::ReadPieces::Hearing::ends_before))]
 pub(crate) fn converse_with<T: Teller, I: Link>(
     alloc: Global,
     teller: &mut T,

@@ -1,5 +1,5 @@
-//! A connection to a campaign in a hall, on which others act too: the loop of a connection over a teller that holds
-//! the hall, a pass of its own and the handle by which it waits.
+//! A connection to a campaign in a hall, on which others act too: the loop of a connection over a teller that is lent
+//! the hall, the caller's pass and the handle by which it waits.
 ghost use Rattle.std.specs.Prelude.{◌≡◌};
 ghost use Rattle.campaign_server.specs.HallConnections.{Serves, TellsInHall};
 
@@ -16,21 +16,24 @@ use std::alloc::Global;
 use std::sync::Wait;
 
 /// A campaign in a hall as a teller, which waits for the turn at each request.
+#[derive(Drop)]
 struct HallTeller<'a, D: Disk, W: Wait> {
     rt: &'a W,
     hall: &'a Hall<Book<D>>,
-    pass: Pass<Book<D>>,
-    ghost of: { pass.hall ≡ hall.now },
+    pass: &'a mut Pass<Book<D>>,
+    ghost of: { pass.now.hall ≡ hall.now },
 }
 
 impl<'a, D: Disk, W: Wait> Teller for HallTeller<'a, D, W> {
-    ghost tells = { λ old asked answer new. TellsInHall old.pass asked answer new.pass };
+    // it stays the same pass
+    ghost tells = { λ old asked answer new. TellsInHall old.pass.now asked answer new.pass.now
+        × (new.pass.ghost_name ≡ old.pass.ghost_name) };
 
     ghost by_rules = { λ old asked reply new tells.
-        (tells.0.0.list, tells.0.3.legal, tells.0.3.leads.0) };
+        (tells.0.0.0.list, tells.0.0.3.legal, tells.0.0.3.leads.0) };
 
     fn tell(&mut self, asked: Addressed) -> Answer {
-        self.hall.act(self.rt, &mut self.pass, asked)
+        self.hall.act(self.rt, self.pass, asked)
     }
 }
 
@@ -68,19 +71,6 @@ pub(crate) fn serve_link<D: Disk, I: Link, W: Wait>(
     ensures hall { pass.new.hall ≡ pass.old.hall }
     ensures serves { Serves keys.now pass.old pass.new (I.seen link.old) (I.seen link.new) result }
 {
-    pass.places_rise();
-    let own = hall.split(pass);
-    let mut teller = HallTeller {
-        rt,
-        hall,
-        pass: own,
-    };
-    let end = converse_with(alloc, &mut teller, link, paths, keys);
-    let HallTeller {
-        rt: _,
-        hall: _,
-        pass: own,
-    } = teller;
-    hall.join(own, pass);
-    end
+    let mut teller = HallTeller { rt, hall, pass };
+    converse_with(alloc, &mut teller, link, paths, keys)
 }

@@ -23,7 +23,6 @@ mod numbers;
 mod patience;
 mod servers;
 mod sessions;
-mod sites;
 mod stream_link;
 mod system_calls;
 mod tcp_door;

@@ -7,6 +7,49 @@
 //! joining     the passes are joined, the shares merged; so the number of records is that of the links
 //! settling    each record is handed to the door, and the book is taken out of the hall
 //! ```
+//!
+//! # The way of a connection
+//!
+//!     serve        takes the door out of its loan (`replace_with`)      servers.rt
+//!       room       the team and its list of records, the table of      Memory where there is none
+//!                  the paths, the hall
+//!       open       the door on its port                                DoorFault where it fails
+//!       workers    `thread::for_each_mut` over the team, which shares   workers.rt
+//!                  the hall, the lock, the paths and the keys           workers.rt
+//!         next     the lock, then the acceptor's next link              acceptors.rt
+//!         serve    `serve_link` with the worker's own pass              hall_connections.rt
+//!         record   the link's record and its end
+//!       join       the passes and the shares of the ledger              teams.rt
+//!       settle     each record is handed to the door, the book comes out of the hall
+//!
+//! A connection is the loop of `session` (`connections::converse_with`) over a teller that is lent
+//! the hall, the worker's pass and the handle by which it waits. Bytes are read, parsed, rendered
+//! and written without the turn; `Hall::act` takes it for `Book::act` alone, which journals an
+//! accepted command before it answers. The text of an answer is one buffer, and one write where the
+//! link takes it whole.
+//!
+//! That the talk on each link is one over the returned book's entries goes through the passes: what
+//! a pass has seen begins what it sees later, and at the joins what all have seen begins the book's
+//! list. Behind the chain of states that the loop proves,
+//! `campaign_server/proofs/BookTalks/HallTalks.antt` makes the talk by induction. A ledger ties the
+//! links to the records: each link that the acceptor gives adds 1 to its book and to the worker's
+//! share, and a worker has as many records as its share (the invariants of `Work` and `Gathered`).
+//! So at the end, when the shares are one again, there are as many records as links. `TcpDoor` and
+//! its links tell their counts of faults alone (`tcp_door.rt`); `MemoryDoor` tells all.
+//!
+//! On the network the next connection, and what is passed over or waited for until there is one, is
+//! in `listeners.rt`; how long a peer may take to send a request and to take its answer, in
+//! `patience.rt`; how a connection ends, in `tcp_door.rt`. `tests/peers` tries all three.
+//!
+//! # What a connection costs
+//!
+//! A request costs what it does in a session, and the turn: one compare-exchange, the move of the
+//! book's own fields out of the slot and back, which is no copy of its entries, and a store; where
+//! another worker has the turn, a sleep. The table of the paths is made once, and the workers share
+//! it: a connection with one request takes the buffer of its answers and the bytes of its wire.
+//! Most of what it costs beside its request is the system's: taking the connection, a wake-up for
+//! each of its steps, and its end. Connections past the number of workers wait for one to end.
+//! `docs/PERFORMANCE.md` has small GETs beside nginx.
 ghost use Rattle.std.specs.Prelude.{◌≡◌, ◌<◌, ◌≤◌, ◌++◌, [], All, OnOk, vec_len};
 ghost use Rattle.std.specs.Thread.{IsSync};
 ghost use Rattle.rulebook.specs.Legal.{IsLegal};
@@ -20,9 +63,8 @@ use crate::acceptors::{Acceptor, Opening};
 use crate::doors::Door;
 use crate::ends::{End, ServeEnd};
 use crate::numbers::ServerNumbers;
-use crate::sites::Site;
 use crate::teams::{Gathered, fill_team, take_in};
-use crate::workers::{Work, serve_by};
+use crate::workers::{Crew, Work, serve_by};
 use book::Book;
 use core::mem::replace_with;
 use decimal_rank::{Failed, Memory};
@@ -67,22 +109,22 @@ fn hand_all<R: Door>(door: &mut R, all: Vec<Vec<(R::Record, End)>>) -> Result<()
 fn work_together<D: Disk + Send, R: Door, J: Opening + Send + Sync, W: Threads + Wait + Sync>(
     rt: &W,
     alloc: Global,
-    site: &Site<D, R, J>,
+    crew: &Crew<D, R, J>,
     team: Vec<Work<D, R, J>>,
     all: &mut Gathered<D, R, J>,
 )
-    requires none { IsEmpty site.now.hall all.old.done }
+    requires none { IsEmpty crew.now.hall all.old.done }
     requires team { (0 < vec_len team) × (vec_len team ≤ all.old.room) }
-    requires fresh { All (IsFresh site.now.hall (seen_as all.old.done.pass.seen)) team.items }
-    ensures hall { all.new.done.pass.hall ≡ site.now.hall }
+    requires fresh { All (IsFresh crew.now.hall (seen_as all.old.done.pass.seen)) team.items }
+    ensures hall { all.new.done.pass.hall ≡ crew.now.hall }
     ensures parts { all.new.done.parts ≡ vec_len team }
-    ensures worked { Works site.now.keys.now (seen_as all.old.done.pass.seen) (vec_len team)
+    ensures worked { Works crew.now.keys.now (seen_as all.old.done.pass.seen) (vec_len team)
         all.new.done }
 {
     let mut team = team;
-    serve_by(rt, alloc, site, team.as_mut_slice());
+    serve_by(rt, alloc, crew, team.as_mut_slice());
     'workers: while let Some(work) = team.pop() {
-        take_in(&site.hall, all, work);
+        take_in(&crew.hall, all, work);
     }
 }
 
@@ -156,7 +198,7 @@ fn serve_owned<D: Disk + Send, R: Door, J: Opening + Send + Sync, W: Threads + W
         numbers.workers,
         &mut team,
     );
-    let site = Site {
+    let crew = Crew {
         hall,
         acceptor: Mutex::new(Acceptor::new(door, numbers.connections, count)),
         paths,
@@ -169,14 +211,14 @@ fn serve_owned<D: Disk + Send, R: Door, J: Opening + Send + Sync, W: Threads + W
         records,
         short: false,
     };
-    work_together(rt, alloc, &site, team, &mut all);
-    let Site {
+    work_together(rt, alloc, &crew, team, &mut all);
+    let Crew {
         hall,
         acceptor,
         paths: _,
         keys: _,
         limit: _,
-    } = site;
+    } = crew;
     let Gathered {
         pass,
         share,

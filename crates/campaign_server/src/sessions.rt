@@ -1,4 +1,14 @@
 //! A session: one connection to a campaign on a disk.
+//!
+//! # The way of a session
+//!
+//! `campaign_cli::campaign` reads the settings, opens the campaign of their rules from the disk and
+//! calls `session` on the program's own link. That is `connections::converse` over the book: it
+//! makes the table of the paths and takes the buffer of the answers (`buffers.rt`), reads a piece,
+//! feeds it to the stream of asks (`asks.rt`, over `http_wire::Wire` and `routes::AskReader`), and
+//! answers each whole request before it reads on: `answers.rt` takes a moment, has the teller
+//! answer (`book_tellers.rt` for a book), puts the answer's text into the buffer
+//! (`routes::render`), and writes it.
 ghost use Rattle.book.specs.Books.{IsSound, Runs};
 ghost use Rattle.campaign_server.specs.Connections.{Ends};
 ghost use Rattle.campaign_server.specs.Sessions.{AreNumberedOnce, IsSession};
@@ -20,9 +30,8 @@ pub fn session<R, D: Disk, I: Link>(
     link: &mut I,
     keys: &Keys,
 ) -> End
-    ensures ends { Ends
-        (IsSession D.seen keys.now book.old (I.seen link.old).clock book.new (I.seen link.new).clock)
-        (I.seen link.old) (I.seen link.new) result }
+    ensures ends { let was = I.seen link.old in let is = I.seen link.new in
+        Ends (IsSession D.seen keys.now book.old was.clock book.new is.clock) was is result }
     ensures runs { Runs D.seen book.old book.new }
     ensures sound { IsSound D.seen book.new }
     ensures numbered { AreNumberedOnce book.new.history }

@@ -1,5 +1,6 @@
 //! A connection over standard input and output.
-ghost use Rattle.std.specs.Prelude.{◌≡◌, None};
+ghost use Rattle.std.specs.Prelude.{◌≡◌};
+ghost use Rattle.campaign_server.specs.Links.{counts_of};
 
 use crate::links::Link;
 use crate::system_calls::{given_by, taken_by};
@@ -20,11 +21,7 @@ pub struct StreamLink<R: Input + Print + Clock> {
 
 impl<R: Input + Print + Clock + Drop> StreamLink<R> {
     pub fn new(runtime: R) -> StreamLink<R>
-        ensures { ⟦<StreamLink<R> as Link>⟧.seen result ≡ record {
-          reading = record { taken = None; left = None; last = None; faults = 0 };
-          writing = record { written = None; faults = 0 };
-          clock = record { moments = None; asked = 0 };
-        } }
+        ensures { ⟦<StreamLink<R> as Link>⟧.seen result ≡ counts_of 0 0 0 }
     {
         StreamLink {
             input: runtime.reader(),
@@ -39,11 +36,7 @@ impl<R: Input + Print + Clock + Drop> StreamLink<R> {
 impl<R: Input + Print + Clock + Drop> Link for StreamLink<R> {
     ghost use Rattle.std.proofs.Common.{refl};
 
-    ghost seen = { λ link. record {
-      reading = record { taken = None; left = None; last = None; faults = link.read_faults };
-      writing = record { written = None; faults = link.write_faults };
-      clock = record { moments = None; asked = link.watch.asked };
-    } };
+    ghost seen = { λ link. counts_of link.read_faults link.write_faults link.watch.asked };
 
     fn read(&mut self, out: &mut [u8]) -> Result<usize, Failed> {
         given_by(self.input.read(out), &mut self.read_faults)

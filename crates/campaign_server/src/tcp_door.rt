@@ -1,6 +1,7 @@
 //! The door on the network: a listener on 127.0.0.1. It tells its counts of faults alone, and so do its links. A
 //! peer that goes away, or takes too long, is a fault of its own link, and none of the door.
 ghost use Rattle.std.specs.Prelude.{◌≡◌, None};
+ghost use Rattle.campaign_server.specs.Links.{counts_of};
 
 use crate::doors::Door;
 use crate::ends::End;
@@ -34,11 +35,7 @@ pub struct TcpLink<R: Clock> {
 impl<R: Clock + Drop> Link for TcpLink<R> {
     ghost use Rattle.std.proofs.Common.{refl};
 
-    ghost seen = { λ link. record {
-      reading = record { taken = None; left = None; last = None; faults = link.read_faults };
-      writing = record { written = None; faults = link.write_faults };
-      clock = record { moments = None; asked = link.watch.asked };
-    } };
+    ghost seen = { λ link. counts_of link.read_faults link.write_faults link.watch.asked };
 
     fn read(&mut self, out: &mut [u8]) -> Result<usize, Failed> {
         self.patience.turn_to(&self.runtime, Turn::Sends);

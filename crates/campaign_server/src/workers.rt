@@ -5,20 +5,30 @@ ghost use Rattle.rulebook.specs.Stories.{Story};
 ghost use Rattle.campaign_server.specs.declared.ends.End.TheVariants.{Memory as EndMemory};
 ghost use Rattle.campaign_server.specs.Workers.{GoesOn, HasServed, IsFresh};
 
-use crate::acceptors::Opening;
+use crate::acceptors::{Acceptor, Opening};
 use crate::doors::Door;
 use crate::ends::End;
 use crate::hall_connections::serve_link;
-use crate::sites::Site;
 use book::Book;
 use disk_model::Disk;
-use hall::Pass;
+use hall::{Hall, Pass};
+use routes::{Keys, Paths};
 use std::alloc::Global;
 use std::marker::Model;
-use std::sync::Wait;
 use std::sync::ledger::Share;
+use std::sync::{Mutex, Wait};
 use std::thread;
 use std::thread::Threads;
+
+/// What the workers of a server share while they serve: the campaign in its hall, the door behind its lock, the table of
+/// the paths, the callers' keys, and how many links there may be.
+pub(crate) struct Crew<'a, D: Disk, R: Door, J: Opening> {
+    pub(crate) hall: Hall<Book<D>>,
+    pub(crate) acceptor: Mutex<Acceptor<R, J>>,
+    pub(crate) paths: Paths,
+    pub(crate) keys: &'a Keys,
+    pub(crate) limit: u32,
+}
 
 /// What one worker has, and the records of its links, each of which counts in its share. Contracts see the pass, the
 /// parts of the share, what the records tell, and whether memory was short.
@@ -64,13 +74,13 @@ fn is_memory(end: End) -> bool
 fn serve_next<D: Disk, R: Door, J: Opening, W: Wait>(
     rt: &W,
     alloc: Global,
-    site: &Site<D, R, J>,
+    crew: &Crew<D, R, J>,
     work: &mut Work<D, R, J>,
 ) -> bool
-    requires hall { work.old.pass.hall ≡ site.now.hall }
+    requires hall { work.old.pass.hall ≡ crew.now.hall }
     requires parts { 0 < work.old.parts }
     requires not_short { work.old.short ≡ false }
-    ensures goes_on { GoesOn site.now.keys.now work.old work.new }
+    ensures goes_on { GoesOn crew.now.keys.now work.old work.new }
     ensures not_short { result ≡ true → work.new.short ≡ false }
     ensures stops { result ≡ false
         → (work.new.short ≡ true) ⊎ (work.new.records ≡ work.old.records) }
@@ -79,18 +89,18 @@ fn serve_next<D: Disk, R: Door, J: Opening, W: Wait>(
         work.short = true;
         return false;
     }
-    let next = site.acceptor.lock(rt).next(&mut work.share);
+    let next = crew.acceptor.lock(rt).next(&mut work.share);
     let Some(mut line) = next else {
         return false;
     };
     let end = serve_link(
         rt,
         alloc,
-        &site.hall,
+        &crew.hall,
         &mut work.pass,
         &mut line,
-        &site.paths,
-        site.keys,
+        &crew.paths,
+        crew.keys,
     );
     work.pass.places_rise();
     work.records.push_reserved((R::finish(line), end));
@@ -104,47 +114,33 @@ fn serve_next<D: Disk, R: Door, J: Opening, W: Wait>(
 fn serve_all<D: Disk, R: Door, J: Opening, W: Wait>(
     rt: &W,
     alloc: Global,
-    site: &Site<D, R, J>,
+    crew: &Crew<D, R, J>,
     work: &mut Work<D, R, J>,
 )
-    requires hall { work.old.pass.hall ≡ site.now.hall }
+    requires hall { work.old.pass.hall ≡ crew.now.hall }
     requires parts { 0 < work.old.parts }
     requires not_short { work.old.short ≡ false }
-    ensures { GoesOn site.now.keys.now work.old work.new }
+    ensures { GoesOn crew.now.keys.now work.old work.new }
 {
-    for _ in 0..site.limit {
-        if !serve_next(rt, alloc, site, work) {
+    for _ in 0..crew.limit {
+        if !serve_next(rt, alloc, crew, work) {
             break;
         }
     }
-}
-
-/// Serves links as a worker that did nothing yet.
-fn serve_first<D: Disk, R: Door, J: Opening, W: Wait>(
-    rt: &W,
-    alloc: Global,
-    site: &Site<D, R, J>,
-    work: &mut Work<D, R, J>,
-)
-    requires { (start : Story) × IsFresh site.now.hall start work.old }
-    ensures { (start : Story) → IsFresh site.now.hall start work.old
-        → HasServed site.now.keys.now site.now.hall start work.new }
-{
-    serve_all(rt, alloc, site, work)
 }
 
 /// All workers of a team serve at the same time, until the acceptor gives no link.
 pub(crate) fn serve_by<D: Disk + Send, R: Door, J: Opening + Send + Sync, W: Threads + Wait + Sync>(
     rt: &W,
     alloc: Global,
-    site: &Site<D, R, J>,
+    crew: &Crew<D, R, J>,
     team: &mut [Work<D, R, J>],
 )
     requires some { 0 < length team.old }
-    requires fresh { (start : Story) × All (IsFresh site.now.hall start) team.old }
+    requires fresh { (start : Story) × All (IsFresh crew.now.hall start) team.old }
     ensures len { length team.new ≡ length team.old }
-    ensures served { (start : Story) → All (IsFresh site.now.hall start) team.old
-        → All (HasServed site.now.keys.now site.now.hall start) team.new }
+    ensures served { (start : Story) → All (IsFresh crew.now.hall start) team.old
+        → All (HasServed crew.now.keys.now crew.now.hall start) team.new }
 {
     let workers = team.len();
     thread::for_each_mut(
@@ -152,9 +148,9 @@ pub(crate) fn serve_by<D: Disk + Send, R: Door, J: Opening + Send + Sync, W: Thr
         team,
         workers,
         &|_: usize, work: &mut Work<D, R, J>|
-            requires { (start : Story) × IsFresh site.now.hall start work.old }
-            ensures { (start : Story) → IsFresh site.entry.now.hall start work.old
-                → HasServed site.entry.now.keys.now site.entry.now.hall start work.new }
-        { serve_first(rt, alloc, site, work) },
+            requires { (start : Story) × IsFresh crew.now.hall start work.old }
+            ensures { (start : Story) → IsFresh crew.entry.now.hall start work.old
+                → HasServed crew.entry.now.keys.now crew.entry.now.hall start work.new }
+        { serve_all(rt, alloc, crew, work) },
     );
 }

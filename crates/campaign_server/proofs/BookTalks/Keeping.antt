@@ -17,7 +17,7 @@ use Rattle.campaign_server.specs.Connections.{Ends}
 use Rattle.campaign_server.specs.Links.{Clock, LinkState}
 use Rattle.campaign_server.specs.Sessions.{IsLeft, IsSession, IsTalkAlone}
 use Rattle.campaign_server.specs.Talks.{IsSeen}
-use Rattle.campaign_server.proofs.TalkSteps.Chaining.{chain_talks, chain_ticks}
+use Rattle.campaign_server.proofs.TalkSteps.Chaining.{chain_talks}
 use Rattle.campaign_server.proofs.TalkSteps.TalkFacts.{ends_known}
 
 module _ {D : Type 0} (seen : D → DiskState) (keys : List KeyRow) where
@@ -33,8 +33,7 @@ module _ {D : Type 0} (seen : D → DiskState) (keys : List KeyRow) where
       → IsTalkAlone keys (story_of seen old) at (story_of seen new) later said
   chain_alone old at new later said chain =
       let talked = chain_talks (Acts seen) keys true (story_of seen) (λ (old : Seen D) (places : List ℕ) (new : Seen D). Unit {0}) book_seen old at new later said chain in
-      let ticked = chain_ticks (Acts seen) keys true (story_of seen) (λ (old : Seen D) (places : List ℕ) (new : Seen D). Unit {0}) book_seen old at new later said chain in
-      (talked.places, record { talk = talked.talk; moments = ticked })
+      (talked.places, talked.talks)
 
   -- what one answer leaves pending: what was so, with nothing accepted, or the entry that a fault of the disk kept from being added
   record Faulted (old : Seen D) (request : HttpRequest) (moment : ℕ) (answer : Answered) (mid : Seen D) (e : Entry) : Type 0 where
@@ -79,11 +78,7 @@ module _ {D : Type 0} (seen : D → DiskState) (keys : List KeyRow) where
     mid : Seen D
     time : Clock
     first : Chain (Acts seen) keys old at mid time front
-    answer : refused.answer ≡ answered.DiskFault
-    asked : Asked
-    reads : Reads refused.request keys (Ok asked)
-    adds : added_by mid.history (at_moment asked refused.moment) ≡ e ∷ []
-    same : new.history ≡ mid.history
+    fault : Faulted mid refused.request refused.moment refused.answer new e
 
   chain_left : (old : Seen D) (at : Clock) (new : Seen D) (later : Clock) (said : List Said) (e : Entry) → Chain (Acts seen) keys old at new later said → new.pending ≡ Some e
       → Stayed old new e ⊎ ChainLeft old at new said e
@@ -100,11 +95,7 @@ module _ {D : Type 0} (seen : D → DiskState) (keys : List KeyRow) where
         mid = old;
         time = at;
         first = (refl, refl);
-        answer = w.is;
-        asked = w.asked;
-        reads = w.reads;
-        adds = w.adds;
-        same = stayed.1 ∙ w.same;
+        fault = record { is = w.is; asked = w.asked; reads = w.reads; adds = w.adds; same = stayed.1 ∙ w.same };
       })
 
       by : Stayed mid new e ⊎ ChainLeft mid next new said e → Stayed old new e ⊎ ChainLeft old at new (x ∷ said) e
@@ -117,11 +108,7 @@ module _ {D : Type 0} (seen : D → DiskState) (keys : List KeyRow) where
         mid = w.mid;
         time = w.time;
         first = (mid, next, ticks, answers, w.first);
-        answer = w.answer;
-        asked = w.asked;
-        reads = w.reads;
-        adds = w.adds;
-        same = w.same;
+        fault = w.fault;
       })
 
   left_of : (old : Seen D) (at : Clock) (new : Seen D) (said : List Said) (e : Entry) → Stayed old new e ⊎ ChainLeft old at new said e → Stayed old new e ⊎ IsLeft keys (story_of seen old) at (story_of seen new) said e
@@ -131,13 +118,13 @@ module _ {D : Type 0} (seen : D → DiskState) (keys : List KeyRow) where
     refused = w.refused;
     behind = w.behind;
     split = w.split;
-    answer = w.answer;
-    asked = w.asked;
-    reads = w.reads;
-    adds = subst (λ (H : History). added_by H (at_moment w.asked w.refused.moment) ≡ e ∷ []) (sym w.same) w.adds;
+    answer = w.fault.is;
+    asked = w.fault.asked;
+    reads = w.fault.reads;
+    adds = subst (λ (H : History). added_by H (at_moment w.fault.asked w.refused.moment) ≡ e ∷ []) (sym w.fault.same) w.fault.adds;
     count = (seen w.mid.disk).faults;
     time = w.time;
-    first = talk w.same (chain_alone old at w.mid w.time w.front w.first);
+    first = talk w.fault.same (chain_alone old at w.mid w.time w.front w.first);
   })
     where
       talk : new.history ≡ w.mid.history → IsTalkAlone keys (story_of seen old) at (story_of seen w.mid) w.time w.front

@@ -1,6 +1,6 @@
 -- What a connection comes to, as its pieces are read.
 use Rattle.std.proofs.Common.{◌≡◌, ℕ, ◌+◌, ◌<◌, ◌≤◌, ◌^◌, List, [], ◌∷◌, ◌++◌, Bool, true, false, length, refl, sym, ap, ◌∙◌, arith, subst, inl, inr, append-nil, length-append}
-use Rattle.std.specs.Prelude.{◌⊎◌, IfSome, nat_lt}
+use Rattle.std.specs.Prelude.{IfSome, nat_lt}
 use Rattle.std.specs.Io.KnownBytes.{IsAtEnd}
 use Rattle.std.proofs.KnownBytes.{Appends-nil, Appends-trans, Consumes-nil, Consumes-trans}
 use Rattle.std.proofs.lemmas.Bool.{cond_both, ltb-true, ltb-false}
@@ -27,19 +27,6 @@ hears_more old mid new bytes piece first second = record {
 -- what was heard, where the reading stays
 heard_still : (old mid new : LinkState) (bytes : List ℕ) → new.reading ≡ mid.reading → Hears old mid bytes → Hears old new bytes
 heard_still old mid new bytes same heard = record { left = rw same heard.left; taken = rw same heard.taken }
-
--- what was read no further, where the reading stays
-no_more_still : (old mid new : LinkState) (bytes : List ℕ) → new.reading ≡ mid.reading → ReadsNoMore old mid bytes → ReadsNoMore old new bytes
-no_more_still old mid new bytes same stands = record {
-  before = stands.before;
-  piece = stands.piece;
-  split = stands.split;
-  few = stands.few;
-  last = subst (λ (reading : Reading). IfSome reading.last (λ given. given ≡ length stands.piece) ⊎ (reading ≡ old.reading)) (sym same) stands.last;
-  requests = stands.requests;
-  clean = stands.clean;
-  goes_on = stands.goes_on;
-}
 
 none_read : (was : LinkState) → ReadsNoMore was was []
 none_read was = record { before = []; piece = []; split = refl; few = omega arith; last = inr refl; requests = []; clean = true; goes_on = ((Needs, refl, refl), refl) }
@@ -156,8 +143,8 @@ module _ (talks : Clock → List Said → Type 0) (was : LinkState) (rest : List
   -- the bytes before a piece that was read went on
   piece_no_more : (piece : List ℕ) (mid : LinkState) (count : ℕ) (is : LinkState) → IsPiece taken piece count → IsLast mid count → is.reading ≡ mid.reading → ReadsNoMore was is (so.bytes ++ piece)
   piece_no_more piece mid count is sized last reading =
-      no_more_still was mid is (so.bytes ++ piece) reading
-      (pause_no_more (talks now.clock) was so.bytes piece rest now mid clean so.pause (omega (arith, sized.size, sized.few)) (subst (IsLast mid) (sym sized.size) last))
+      pause_no_more (talks now.clock) was so.bytes piece rest now is clean so.pause (omega (arith, sized.size, sized.few))
+      (subst (λ (r : Reading). IfSome r.last (λ given. given ≡ length piece)) (sym reading) (subst (IsLast mid) (sym sized.size) last))
 
   -- all requests of the piece are answered, and more is read
   pub so_more : (other : Clock → List Said → Type 0) (piece : List ℕ) (mid : LinkState) (count : ℕ) (after : List ℕ) (is : LinkState) (next : Bool) → IsPiece taken piece count → Hears now mid piece → IsLast mid count

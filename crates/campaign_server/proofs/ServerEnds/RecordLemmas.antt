@@ -1,5 +1,5 @@
 -- Records that a door is handed, one after another.
-use Rattle.std.proofs.Common.{◌≡◌, List, [], ◌∷◌, ◌++◌, Option, None, Some, length, refl, sym, ap, ◌∙◌, arith, append-nil, append_assoc, subst}
+use Rattle.std.proofs.Common.{◌≡◌, List, [], ◌∷◌, ◌++◌, Option, None, Some, length, refl, sym, ap, ◌∙◌, arith, append-nil, append_assoc}
 use Rattle.std.proofs.lemmas.List.{map-append}
 use Rattle.std.proofs.lemmas.List.Concat.{flat_map-append}
 use Rattle.campaign_server.specs.declared.ends.End.{End}
@@ -19,10 +19,6 @@ hands_more (Some a) None c first second one other = absurd one
 hands_more None (Some b) c first second one other = absurd one
 hands_more None None (Some c) first second one other = other
 hands_more None None None first second one other = tt
-
--- no more was handed where what is told stayed
-pub hands_still : (a b c : Option Told) (records : List Ended) → c ≡ b → HandsOver a records b → HandsOver a records c
-hands_still a b c records same one = subst (HandsOver a records) (sym same) one
 
 pub nothing_left : {X : Type 0} (items : List X) → length items ≡ 0 → items ≡ []
 nothing_left [] none = refl

@@ -1,47 +1,41 @@
 -- What a server leaves of its door.
-use Rattle.std.proofs.Common.{◌≡◌, ◌≢◌, ◌⊎◌, ℕ, ◌+◌, ◌-◌, ◌^◌, ◌≤◌, Bool, false, List, [], ◌∷◌, ◌++◌, None, Some, IfSome, length, refl, sym, ap, ◌∙◌, arith, subst, inl, inr, append_assoc, length-append}
+use Rattle.std.proofs.Common.{◌≡◌, ◌≢◌, ◌⊎◌, ℕ, ◌+◌, ◌-◌, ◌*◌, ◌^◌, ◌≤◌, false, List, [], ◌∷◌, ◌++◌, None, Some, IfSome, length, refl, sym, ap, ◌∙◌, arith, subst, inl, inr, append_assoc, length-append}
 use Rattle.std.specs.Prelude.{Option}
 use Rattle.decimal_rank.specs.Causes.{Rose}
 use Rattle.hall.specs.Places.{Apart}
 use Rattle.routes.specs.declared.keys.KeyRow.{KeyRow}
 use Rattle.rulebook.specs.Campaign.{History}
 use Rattle.rulebook.specs.Stories.{AtMost, Story}
+use Rattle.book.specs.Halls.{seen_as}
 use Rattle.campaign_server.specs.declared.ends.ServeEnd.{ServeEnd}
 use Rattle.campaign_server.specs.declared.ends.ServeEnd.TheVariants as serve_end
 use Rattle.campaign_server.specs.declared.numbers.ServerNumbers.{ServerNumbers}
 use Rattle.campaign_server.specs.Doors.{DoorState, Ended, IsShut, Opens, Told}
 use Rattle.campaign_server.specs.Acceptors.{Closes, IsAcceptor}
 use Rattle.campaign_server.specs.Records.{AreServed, NoneShort}
-use Rattle.campaign_server.specs.Servers.{Leaves, ServesDoor, Settles}
-use Rattle.campaign_server.specs.Workers.{Worked}
+use Rattle.campaign_server.specs.Servers.{Leaves, IsServed, Settles}
+use Rattle.campaign_server.specs.Workers.{WorkState, Works}
 use Rattle.campaign_server.proofs.ServerEnds.PlaceLemmas.{front_apart}
-use Rattle.campaign_server.proofs.ServerEnds.WorkerLemmas.{most_on, most_same, works_later}
+use Rattle.campaign_server.proofs.ServerEnds.WorkerLemmas.{licensed_later, most_on, most_same, served_later}
 
-on-port : (port : ℕ) (was is : Option Told) → Opens was port is → IfSome is (λ t. t.port ≡ Some port)
-on-port port (Some t) (Some u) e = ap (λ (told : Told). told.port) e
-on-port port (Some t) None e = absurd e
-on-port port None (Some u) e = absurd e
-on-port port None None e = e
+abbrev Unopened : Told → Type 0
+Unopened t = (t.port ≡ None) × (t.accepted ≡ 0) × (t.served ≡ [])
 
-none-given : (port : ℕ) (was is : Option Told) → IfSome was (λ t. (t.port ≡ None) × (t.accepted ≡ 0) × (t.served ≡ [])) → Opens was port is → IfSome is (λ t. t.accepted ≡ 0)
-none-given port (Some t) (Some u) shut e = ap (λ (told : Told). told.accepted) e ∙ shut.1
-none-given port (Some t) None shut e = absurd e
-none-given port None (Some u) shut e = absurd e
-none-given port None None shut e = e
-
-none-handed : (port : ℕ) (was is : Option Told) → IfSome was (λ t. (t.port ≡ None) × (t.accepted ≡ 0) × (t.served ≡ [])) → Opens was port is → IfSome is (λ t. t.served ≡ [])
-none-handed port (Some t) (Some u) shut e = ap (λ (told : Told). told.served) e ∙ shut.2
-none-handed port (Some t) None shut e = absurd e
-none-handed port None (Some u) shut e = absurd e
-none-handed port None None shut e = e
+-- what holds of a door behind its opening
+opened_so : (Q : Told → Type 0) (port : ℕ) (was is : Option Told) → ((t : Told) → Unopened t → Q (record t { port = Some port })) → IfSome was Unopened
+    → Opens was port is → IfSome is Q
+opened_so Q port (Some t) (Some u) holds shut e = subst Q (sym e) (holds t shut)
+opened_so Q port (Some t) None holds shut e = absurd e
+opened_so Q port None (Some u) holds shut e = absurd e
+opened_so Q port None None holds shut e = e
 
 -- a door that was just opened
 pub accepts_on : (port opening limit : ℕ) (was is : DoorState) → IsShut was → Opens was.told port is.told → opening ≤ is.faults
     → IsAcceptor port opening limit (record { door = is; accepted = 0; ended = false; failed = false })
 accepts_on port opening limit was is shut opens later = record {
-  open_on = on-port port was.told is.told opens;
-  counted = none-given port was.told is.told shut opens;
-  none_served = none-handed port was.told is.told shut opens;
+  open_on = opened_so (λ t. t.port ≡ Some port) port was.told is.told (λ t none. refl) shut opens;
+  counted = opened_so (λ t. t.accepted ≡ 0) port was.told is.told (λ t none. none.1) shut opens;
+  none_served = opened_so (λ t. t.served ≡ []) port was.told is.told (λ t none. none.2) shut opens;
   none_left = λ wrong. cc wrong;
   few = omega arith;
   later = later;
@@ -50,7 +44,7 @@ accepts_on port opening limit was is shut opens later = record {
 
 -- a door through which nothing came
 leaves_shut : (keys : List KeyRow) (numbers : ServerNumbers) (start after : Story) (how : ServeEnd) (told : Option Told) → how ≢ serve_end.Ended
-    → IfSome told (λ t. (t.port ≡ None) × (t.accepted ≡ 0) × (t.served ≡ [])) → IfSome told (λ t. Leaves keys numbers start after how t)
+    → IfSome told Unopened → IfSome told (λ t. Leaves keys numbers start after how t)
 leaves_shut keys numbers start after how None other shut = shut
 leaves_shut keys numbers start after how (Some t) other shut = record {
   opened = inr (shut.0, other);
@@ -67,17 +61,17 @@ leaves_shut keys numbers start after how (Some t) other shut = record {
 
 -- a server that took no link: its door tells what it told
 pub serves_shut : (keys : List KeyRow) (numbers : ServerNumbers) (start after : Story) (old new : DoorState) (how : ServeEnd) → how ≢ serve_end.Ended → AtMost start after → IsShut old
-    → new.told ≡ old.told → (how ≡ serve_end.DoorFault → Rose old.faults new.faults) → old.faults ≤ new.faults → ServesDoor keys numbers start after old new how
+    → new.told ≡ old.told → (how ≡ serve_end.DoorFault → Rose old.faults new.faults) → old.faults ≤ new.faults → IsServed keys numbers start after old new how
 serves_shut keys numbers start after old new how other grown shut same fault later = record {
   grown = grown;
-  leaves = leaves_shut keys numbers start after how new.told other (subst (λ told. IfSome told (λ t. (t.port ≡ None) × (t.accepted ≡ 0) × (t.served ≡ []))) (sym same) shut);
+  leaves = leaves_shut keys numbers start after how new.told other (subst (λ told. IfSome told Unopened) (sym same) shut);
   fault = fault;
   later = later;
 }
 
 -- one for which there was no memory
 pub serves_none : (keys : List KeyRow) (numbers : ServerNumbers) (start after : Story) (door : DoorState) → after ≡ start → IsShut door
-    → ServesDoor keys numbers start after door door serve_end.Memory
+    → IsServed keys numbers start after door door serve_end.Memory
 serves_none keys numbers start after door same shut =
     serves_shut keys numbers start after door door serve_end.Memory (λ wrong. cc wrong) (most_same start after same) shut refl (λ wrong. absurd (cc wrong)) (omega arith)
 
@@ -94,18 +88,15 @@ served_front keys n c S last (first ∷ part) rest told places (here, there, own
       all ∙ ap (λ ps. own ++ ps) split ∙ sym (append_assoc own few more),
     )
 
--- a server ends with a fault of the door only where one is counted
-fault_counted : (port opening limit accepted : ℕ) (door : DoorState) (end how : ServeEnd) (records : List Ended) (short : Bool) (new : Option Told) (faults : ℕ)
-    → Closes port opening limit door accepted end → Settles door.told records short end new how → faults ≡ door.faults → how ≡ serve_end.DoorFault → Rose opening faults
-fault_counted port opening limit accepted door end how records short new faults closes (inl (not_short, same, handed)) is e = subst (Rose opening) (sym is) (closes.fault (sym same ∙ e))
-fault_counted port opening limit accepted door end how records short new faults closes (inr (memory, handed)) is e =
-    absurd (let wrong : serve_end.Memory ≡ serve_end.DoorFault = sym memory ∙ e in cc wrong)
+module _ (keys : List KeyRow) (numbers : ServerNumbers) (start after : Story) (opening accepted : ℕ) (door : DoorState) (end how : ServeEnd) (work : WorkState)
+    (closes : Closes numbers.port opening numbers.connections door accepted end) (all_counted : accepted ≡ length work.records)
+    (worked : Works keys start numbers.workers work)
+    (most : AtMost (seen_as work.pass.seen) after) where
+  served_there : AreServed keys (length start.list) start.faults after.list after.faults work.records worked.told worked.places
+  served_there = served_later keys (length start.list) start.faults (seen_as work.pass.seen) after work.records worked.told worked.places most worked.served
 
-module _ (keys : List KeyRow) (numbers : ServerNumbers) (start seen after : Story) (mine : List ℕ) (opening accepted : ℕ) (door : DoorState) (end how : ServeEnd) (records : List Ended) (short : Bool)
-    (closes : Closes numbers.port opening numbers.connections door accepted end) (all_counted : accepted ≡ length records) (worked : Worked keys start numbers.workers seen mine records short)
-    (most : AtMost seen after) where
-  at_end : Worked keys start numbers.workers after mine records short
-  at_end = works_later keys start numbers.workers seen after mine records short most worked
+  licensed_there : (worked.told ≤ numbers.workers * (after.faults - start.faults)) ⊎ (2 ^ 64 - 1 ≤ after.faults)
+  licensed_there = licensed_later numbers.workers start.faults work.pass.seen.faults after.faults worked.told most.later worked.licensed
 
   -- what is known of a door that told
   record Known (t : Told) : Type 0 where
@@ -114,9 +105,10 @@ module _ (keys : List KeyRow) (numbers : ServerNumbers) (start seen after : Stor
     none : t.served ≡ []
     ended : end ≡ serve_end.Ended → (t.left ≡ []) ⊎ (accepted ≡ numbers.connections)
 
-  leaves_all : (t u : Told) → Known t → short ≡ false → how ≡ end → u ≡ record t { served = t.served ++ records } → Leaves keys numbers start after how u
+  leaves_all : (t u : Told) → Known t → work.short ≡ false → how ≡ end → u ≡ record t { served = t.served ++ work.records }
+      → Leaves keys numbers start after how u
   leaves_all t u known not_short same is =
-      let served : u.served ≡ records = ap (λ (x : Told). x.served) is ∙ ap (λ before. before ++ records) known.none in
+      let served : u.served ≡ work.records = ap (λ (x : Told). x.served) is ∙ ap (λ before. before ++ work.records) known.none in
       let accepted_is : u.accepted ≡ accepted = ap (λ (x : Told). x.accepted) is ∙ known.counted in
       let many : length u.served ≡ u.accepted = ap length served ∙ sym all_counted ∙ sym accepted_is in
       record {
@@ -124,11 +116,11 @@ module _ (keys : List KeyRow) (numbers : ServerNumbers) (start seen after : Stor
         few = let few = closes.few in omega (arith, accepted_is, few);
         none_made_up = omega (arith, many);
         all = λ e. many;
-        none_short = λ e. subst NoneShort (sym served) (at_end.none_short not_short);
-        faults = at_end.told;
-        places = at_end.places;
-        served = subst (λ rs. AreServed keys (length start.list) start.faults after.list after.faults rs at_end.told at_end.places) (sym served) at_end.served;
-        licensed = at_end.licensed;
+        none_short = λ e. subst NoneShort (sym served) (worked.none_short not_short);
+        faults = worked.told;
+        places = worked.places;
+        served = subst (λ rs. AreServed keys (length start.list) start.faults after.list after.faults rs worked.told worked.places) (sym served) served_there;
+        licensed = licensed_there;
         ended = λ e. ended_so (ap (λ (x : Told). x.left) is) accepted_is (known.ended (sym same ∙ e));
       }
     where
@@ -136,14 +128,15 @@ module _ (keys : List KeyRow) (numbers : ServerNumbers) (start seen after : Stor
       ended_so left_is accepted_is (inl none) = inl (left_is ∙ none)
       ended_so left_is accepted_is (inr full) = inr (accepted_is ∙ full)
 
-  leaves_part : (t u : Told) → Known t → how ≡ serve_end.Memory → (part rest : List Ended) → records ≡ part ++ rest → u ≡ record t { served = t.served ++ part }
+  leaves_part : (t u : Told) → Known t → how ≡ serve_end.Memory → (part rest : List Ended) → work.records ≡ part ++ rest
+      → u ≡ record t { served = t.served ++ part }
       → Leaves keys numbers start after how u
   leaves_part t u known memory part rest split is =
       let served : u.served ≡ part = ap (λ (x : Told). x.served) is ∙ ap (λ before. before ++ part) known.none in
       let accepted_is : u.accepted ≡ accepted = ap (λ (x : Told). x.accepted) is ∙ known.counted in
       let (fewer, few, more, front, less, places_split) =
-      served_front keys (length start.list) start.faults after.list after.faults part rest at_end.told at_end.places
-      (subst (λ rs. AreServed keys (length start.list) start.faults after.list after.faults rs at_end.told at_end.places) split at_end.served) in
+      served_front keys (length start.list) start.faults after.list after.faults part rest worked.told worked.places
+      (subst (λ rs. AreServed keys (length start.list) start.faults after.list after.faults rs worked.told worked.places) split served_there) in
       record {
         opened = inl (ap (λ (x : Told). x.port) is ∙ known.port_is);
         few = let few = closes.few in omega (arith, accepted_is, few);
@@ -153,7 +146,7 @@ module _ (keys : List KeyRow) (numbers : ServerNumbers) (start seen after : Stor
         faults = fewer;
         places = few;
         served = subst (λ rs. AreServed keys (length start.list) start.faults after.list after.faults rs fewer few) (sym served) front;
-        licensed = fewer_licensed less at_end.licensed;
+        licensed = fewer_licensed less licensed_there;
         ended = λ e. absurd (let wrong : serve_end.Memory ≡ serve_end.Ended = sym memory ∙ e in cc wrong);
       }
     where
@@ -161,7 +154,8 @@ module _ (keys : List KeyRow) (numbers : ServerNumbers) (start seen after : Stor
       fewer_licensed least (inl within) = inl (omega (arith, least, within))
       fewer_licensed least (inr great) = inr great
 
-  leaves_by : (was new : Option Told) → IfSome was Known → Settles was records short end new how → IfSome new (λ u. Leaves keys numbers start after how u)
+  leaves_by : (was new : Option Told) → IfSome was Known → Settles was work.records work.short end new how
+      → IfSome new (λ u. Leaves keys numbers start after how u)
   leaves_by was None known settles = tt
   leaves_by None (Some u) known (inl (not_short, same, handed)) = absurd handed
   leaves_by None (Some u) known (inr (memory, (part, rest, split, handed))) = absurd handed
@@ -174,16 +168,21 @@ module _ (keys : List KeyRow) (numbers : ServerNumbers) (start seen after : Stor
   known_of (Some t) port_is counted none ended = record { port_is = port_is; counted = counted; none = none; ended = ended }
 
   -- a door through which links came, behind its last record
-  leaves_closed : (new : Option Told) → Settles door.told records short end new how → IfSome new (λ u. Leaves keys numbers start after how u)
+  leaves_closed : (new : Option Told) → Settles door.told work.records work.short end new how → IfSome new (λ u. Leaves keys numbers start after how u)
   leaves_closed new settles = leaves_by door.told new (known_of door.told closes.open_on closes.counted closes.none_served closes.ended) settles
 
+  -- it ends with a fault of the door only where one is counted
+  fault_counted : (new : Option Told) (faults : ℕ) → Settles door.told work.records work.short end new how → faults ≡ door.faults → how ≡ serve_end.DoorFault
+      → Rose opening faults
+  fault_counted new faults (inl (not_short, same, handed)) is e = subst (Rose opening) (sym is) (closes.fault (sym same ∙ e))
+  fault_counted new faults (inr (memory, handed)) is e = absurd (let wrong : serve_end.Memory ≡ serve_end.DoorFault = sym memory ∙ e in cc wrong)
+
   -- what a server comes to that opened its door
-  pub serves_closed : (old new : DoorState) → opening ≡ old.faults → Settles door.told records short end new.told how → new.faults ≡ door.faults → ServesDoor keys numbers start after old new how
+  pub serves_closed : (old new : DoorState) → opening ≡ old.faults → Settles door.told work.records work.short end new.told how
+      → new.faults ≡ door.faults → IsServed keys numbers start after old new how
   serves_closed old new is settles same = record {
-    grown = most_on start seen after worked.grown most;
+    grown = most_on start (seen_as work.pass.seen) after worked.grown most;
     leaves = leaves_closed new.told settles;
-    fault = λ e.
-        subst (λ faults. Rose faults new.faults) is
-        (fault_counted numbers.port opening numbers.connections accepted door end how records short new.told new.faults closes settles same e);
+    fault = λ e. subst (λ faults. Rose faults new.faults) is (fault_counted new.told new.faults settles same e);
     later = let later = closes.later in omega (arith, later, is, same);
   }

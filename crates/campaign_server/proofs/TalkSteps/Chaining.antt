@@ -17,9 +17,9 @@ use Rattle.rulebook.specs.Answers.{answer}
 use Rattle.rulebook.specs.Campaign.{History}
 use Rattle.rulebook.specs.Stories.{Story, StartsWith, added_by}
 use Rattle.campaign_server.specs.Chains.{Said, at_moment, Answers, Chain}
-use Rattle.campaign_server.specs.Links.{Clock}
+use Rattle.campaign_server.specs.Links.{Clock, Ticks}
 use Rattle.campaign_server.specs.Stories.{added_since, is_query}
-use Rattle.campaign_server.specs.Talks.{Before, Between, IsSeen, Says, Talk, Ticked, place_of}
+use Rattle.campaign_server.specs.Talks.{Before, Between, IsSeen, Says, Talk, Talks, place_of}
 use Rattle.campaign_server.proofs.TalkSteps.Speaking.{rose_later}
 
 asking_adds : (H : History) (who : Caller) (number : Option ℕ) (ask : Ask) (moment : ℕ) → is_query ask ≡ true → (answer H who number ask moment).added ≡ []
@@ -139,51 +139,60 @@ module _ {S : Type 0} (tells : S → Addressed → Answer → S → Type 0) (key
       }
 
   -- a talk, what it gained, and how the story went on
-  pub record Talked (old new : S) (said : List Said) : Type 0 where
+  pub record Talked (old : S) (clock : Clock) (new : S) (later : Clock) (said : List Said) : Type 0 where
     pub places : List ℕ
-    pub talk : Talk alone keys (length (look old).list) (look old).faults (look new).list (look new).faults places said
+    pub talks : Talks alone keys (length (look old).list) (look old).faults clock (look new).list (look new).faults later places said
     pub gained : gains old places new
     pub longer : StartsWith (look new).list (look old).list
-    pub later : (look old).faults ≤ (look new).faults
+    pub fewer : (look old).faults ≤ (look new).faults
 
-  talk_next : (old : S) (x : Said) (mid new : S) (said : List Said) → Moves old x.request x.moment x.answer mid → Talked mid new said → Talked old new (x ∷ said)
-  talk_next old x mid new said m behind =
+  talk_next : (old : S) (clock : Clock) (x : Said) (mid : S) (next : Clock) (new : S) (later : Clock) (said : List Said) → Ticks clock next x.moment
+      → Moves old x.request x.moment x.answer mid
+      → Talked mid next new later said → Talked old clock new later (x ∷ said)
+  talk_next old clock x mid next new later said ticks m behind =
       let (starts, few, between) = before_starts alone (look old) m.b m.before in
       let there : StartsWith (look new).list (m.b.list ++ m.more) = subst (StartsWith (look new).list) m.list behind.longer in
       let after : StartsWith (look mid).list m.b.list = (m.more, m.list) in
       record {
         places = place_of m.b.list m.more ++ behind.places;
-        talk = (
-          m.b.list,
-          m.more,
-          (look mid).faults,
-          behind.places,
-          record {
-            after = between;
-            says = m.says;
-            stands = there;
-            later = omega (arith, few, m.later);
-            fault = λ is. rose_later (look old).faults m.b.faults (look mid).faults few (m.fault is);
-          },
-          refl,
-          subst (λ H. Talk alone keys (length H) (look mid).faults (look new).list (look new).faults behind.places said) m.list behind.talk,
-        );
+        talks = record {
+          talk = (
+            m.b.list,
+            m.more,
+            (look mid).faults,
+            behind.places,
+            record {
+              after = between;
+              says = m.says;
+              stands = there;
+              later = omega (arith, few, m.later);
+              fault = λ is. rose_later (look old).faults m.b.faults (look mid).faults few (m.fault is);
+            },
+            refl,
+            subst (λ H. Talk alone keys (length H) (look mid).faults (look new).list (look new).faults behind.places said) m.list behind.talks.talk,
+          );
+          moments = (next, ticks, behind.talks.moments);
+        };
         gained = seen.both old mid new (place_of m.b.list m.more) behind.places m.gained behind.gained;
         longer = starts_still (look new).list (look mid).list (look old).list behind.longer (starts_still (look mid).list m.b.list (look old).list after starts);
-        later = omega (arith, few, m.later, behind.later);
+        fewer = omega (arith, few, m.later, behind.fewer);
       }
 
-  pub chain_talks : (old : S) (clock : Clock) (new : S) (later : Clock) (said : List Said) → Chain tells keys old clock new later said → Talked old new said
+  pub chain_talks : (old : S) (clock : Clock) (new : S) (later : Clock) (said : List Said) → Chain tells keys old clock new later said
+      → Talked old clock new later said
   chain_talks old clock new later [] chain = record {
     places = [];
-    talk = (between_same alone (length (look old).list) (length (look new).list) (ap (λ (s : S). length (look s).list) chain.0), omega (arith, ap (λ (s : S). (look s).faults) chain.0), refl);
+    talks = record {
+      talk = (
+        between_same alone (length (look old).list) (length (look new).list) (ap (λ (s : S). length (look s).list) chain.0),
+        omega (arith, ap (λ (s : S). (look s).faults) chain.0),
+        refl,
+      );
+      moments = chain.1;
+    };
     gained = subst (λ s. gains old [] s) (sym chain.0) (seen.none old);
     longer = starts_here (look new).list (look old).list (ap (λ (s : S). (look s).list) chain.0);
-    later = omega (arith, ap (λ (s : S). (look s).faults) chain.0);
+    fewer = omega (arith, ap (λ (s : S). (look s).faults) chain.0);
   }
   chain_talks old clock new later (x ∷ said) (mid, next, ticks, answers, chain) =
-      talk_next old x mid new said (moves old x.request x.moment x.answer mid answers) (chain_talks mid next new later said chain)
-
-  pub chain_ticks : (old : S) (clock : Clock) (new : S) (later : Clock) (said : List Said) → Chain tells keys old clock new later said → Ticked clock later said
-  chain_ticks old clock new later [] chain = chain.1
-  chain_ticks old clock new later (x ∷ said) (mid, next, ticks, answers, chain) = (next, ticks, chain_ticks mid next new later said chain)
+      talk_next old clock x mid next new later said ticks (moves old x.request x.moment x.answer mid answers) (chain_talks mid next new later said chain)

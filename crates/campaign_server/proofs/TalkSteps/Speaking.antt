@@ -1,5 +1,5 @@
 -- What is said on a connection goes on by one request, and ends.
-use Rattle.std.proofs.Common.{◌≡◌, ℕ, ◌≤◌, List, [], ◌∷◌, ◌++◌, Bool, true, false, take, refl, sym, ap, ◌∙◌, arith, subst, inr, append-nil, append_assoc}
+use Rattle.std.proofs.Common.{◌≡◌, ℕ, ◌≤◌, List, [], ◌∷◌, ◌++◌, Bool, true, false, take, refl, sym, ap, ◌∙◌, arith, subst, append-nil, append_assoc}
 use Rattle.std.specs.Prelude.{Result, Ok, Err}
 use Rattle.std.specs.Io.KnownBytes.{Appends}
 use Rattle.std.proofs.KnownBytes.{Appends-trans}
@@ -8,7 +8,7 @@ use Rattle.decimal_rank.specs.KnownBytes.{AppendsPart}
 use Rattle.http_wire.specs.declared.messages.HttpRequest.{HttpRequest}
 use Rattle.http_wire.specs.declared.messages.WireFault.{WireFault}
 use Rattle.http_wire.specs.Heads.{passed}
-use Rattle.http_wire.specs.Messages.{Behind, Faulty, GoesOn, IsFront, Messages, ReadsOn, Waits, Whole, Closed, Refused}
+use Rattle.http_wire.specs.Messages.{Behind, Faulty, GoesOn, IsFront, Messages, ReadsOn, Waits, Closed, Refused}
 use Rattle.routes.specs.declared.answers.Answered.{Answered}
 use Rattle.routes.specs.declared.faults.RouteFault.{RouteFault}
 use Rattle.routes.specs.declared.keys.KeyRow.{KeyRow}
@@ -21,9 +21,7 @@ use Rattle.campaign_server.specs.Asking.{IsRequest}
 use Rattle.campaign_server.specs.Chains.{Said, requests_of, text_said, texts_of, last_text, Answers, Chain}
 use Rattle.campaign_server.specs.Connections.{at_pause, Spoke, SpokeAll, SpokeCut, SpokePart}
 use Rattle.campaign_server.specs.Links.{LinkState, Clock, Ticks}
-use Rattle.campaign_server.specs.LoopParts.{EndsHere, IsAtPause, RefusesWith}
-use Rattle.campaign_server.specs.declared.ends.End.{End}
-use Rattle.campaign_server.specs.declared.ends.End.TheVariants as end
+use Rattle.campaign_server.specs.LoopParts.{IsAtPause}
 use Rattle.decimal_rank.specs.declared.failures.Failed.{Failed}
 
 requests_more : (said : List Said) (x : Said) → requests_of (said ++ x ∷ []) ≡ requests_of said ++ x.request ∷ []
@@ -62,46 +60,6 @@ module _ {S : Type 0} (tells : S → Addressed → Answer → S → Type 0) (key
     said_written x is wrote =
         subst (Appends was.writing.written is.writing.written) (sym (texts_more spoke.said x))
         (Appends-trans was.writing.written now.writing.written is.writing.written (texts_of spoke.said) (text_said x) spoke.written wrote)
-
-    pub spoke_more : (x : Said) (next : List ℕ) (new : S) (is : LinkState) → IsFront rest (Whole x.request next) → x.request.close ≡ false
-        → Ticks now.clock is.clock x.moment → Answers tells keys mid x.request x.moment x.answer new → Appends now.writing.written is.writing.written (text_said x)
-        → now.writing.faults ≤ is.writing.faults → Spoke (Chain tells keys old was.clock new is.clock) was bytes next is
-    spoke_more x next new is step open_ ticks answers wrote later = record {
-      said = spoke.said ++ x ∷ [];
-      split = subst (λ rs. Behind bytes rs next) (sym (requests_more spoke.said x)) ((laws bytes (requests_of spoke.said) rest next []).request x.request spoke.split step open_);
-      talk = said_talk x new is ticks answers;
-      written = said_written x is wrote;
-      later = omega (arith, spoke.later, later);
-    }
-
-    pub spoke_closes : (x : Said) (next : List ℕ) (new : S) (is : LinkState) → IsFront rest (Whole x.request next) → x.request.close ≡ true
-        → Ticks now.clock is.clock x.moment → Answers tells keys mid x.request x.moment x.answer new → Appends now.writing.written is.writing.written (text_said x)
-        → SpokeAll (Chain tells keys old was.clock new is.clock) was bytes is Closed
-    spoke_closes x next new is step closes ticks answers wrote =
-        let last : Messages rest (x.request ∷ []) Closed = subst (λ b. Messages b (x.request ∷ []) Closed) (append-nil rest) ((wire rest next []).last x.request step closes) in
-        record {
-          said = spoke.said ++ x ∷ [];
-          are_messages = subst (λ rs. Messages bytes rs Closed) (sym (requests_more spoke.said x)) ((laws bytes (requests_of spoke.said) rest next []).ends (x.request ∷ []) Closed spoke.split last);
-          talk = said_talk x new is ticks answers;
-          written = subst (Appends was.writing.written is.writing.written) (sym (append-nil (texts_of (spoke.said ++ x ∷ [])))) (said_written x is wrote);
-        }
-
-    pub spoke_part : (x : Said) (next : List ℕ) (new : S) (is : LinkState) → IsFront rest (Whole x.request next)
-        → Ticks now.clock is.clock x.moment → Answers tells keys mid x.request x.moment x.answer new → AppendsPart now.writing.written is.writing.written (text_said x)
-        → Rose now.writing.faults is.writing.faults → SpokePart (Chain tells keys old was.clock new is.clock) was bytes is
-    spoke_part x next new is step ticks answers (count, few, wrote) rose = record {
-      said = spoke.said;
-      last = x;
-      rest = rest;
-      next = next;
-      count = count;
-      split = spoke.split;
-      front = step;
-      talk = said_talk x new is ticks answers;
-      few = few;
-      written = Appends-trans was.writing.written now.writing.written is.writing.written (texts_of spoke.said) (take count (text_said x)) spoke.written wrote;
-      fault = rose_later was.writing.faults now.writing.faults is.writing.faults spoke.later rose;
-    }
 
     refused_messages : (cause : WireFault) → IsFront rest (Faulty cause) → Messages bytes (requests_of spoke.said) (Refused cause)
     refused_messages cause front =
@@ -160,33 +118,53 @@ module _ {S : Type 0} (tells : S → Addressed → Answer → S → Type 0) (key
         → Spoke (Chain tells keys old was.clock new is.clock) was bytes next is
     turn_more reading close next new is u asked turn later open_ =
         let x : Said = record { request = asked.request; moment = turn.moment; answer = turn.told } in
-        spoke_more x next new is asked.front (sym asked.is_reading.close_is ∙ open_) turn.ticks (turn.answers keys asked.request asked.is_reading)
-        (subst (Appends now.writing.written is.writing.written) (asked_text reading close next asked turn.told) turn.whole) later
+        record {
+          said = spoke.said ++ x ∷ [];
+          split =
+              subst (λ rs. Behind bytes rs next) (sym (requests_more spoke.said x))
+              ((laws bytes (requests_of spoke.said) rest next []).request x.request spoke.split asked.front (sym asked.is_reading.close_is ∙ open_));
+          talk = said_talk x new is turn.ticks (turn.answers keys asked.request asked.is_reading);
+          written = said_written x is (subst (Appends now.writing.written is.writing.written) (asked_text reading close next asked turn.told) turn.whole);
+          later = omega (arith, spoke.later, later);
+        }
 
     pub turn_closes : (reading : Result Asked RouteFault) (close : Bool) (next : List ℕ) (new : S) (is : LinkState) (u : Unit {0}) → IsRequest keys rest reading close next
         → IsTurn tells {T = Unit {0}} {E = Failed} mid now reading close (Ok u) new is → close ≡ true
         → SpokeAll (Chain tells keys old was.clock new is.clock) was bytes is Closed
     turn_closes reading close next new is u asked turn closes =
         let x : Said = record { request = asked.request; moment = turn.moment; answer = turn.told } in
-        spoke_closes x next new is asked.front (sym asked.is_reading.close_is ∙ closes) turn.ticks (turn.answers keys asked.request asked.is_reading)
-        (subst (Appends now.writing.written is.writing.written) (asked_text reading close next asked turn.told) turn.whole)
+        let last : Messages rest (x.request ∷ []) Closed =
+        subst (λ b. Messages b (x.request ∷ []) Closed) (append-nil rest)
+        ((wire rest next []).last x.request asked.front (sym asked.is_reading.close_is ∙ closes)) in
+        record {
+          said = spoke.said ++ x ∷ [];
+          are_messages =
+              subst (λ rs. Messages bytes rs Closed) (sym (requests_more spoke.said x))
+              ((laws bytes (requests_of spoke.said) rest next []).ends (x.request ∷ []) Closed spoke.split last);
+          talk = said_talk x new is turn.ticks (turn.answers keys asked.request asked.is_reading);
+          written =
+              subst (Appends was.writing.written is.writing.written) (sym (append-nil (texts_of (spoke.said ++ x ∷ []))))
+              (said_written x is (subst (Appends now.writing.written is.writing.written) (asked_text reading close next asked turn.told) turn.whole));
+        }
 
     pub turn_part : (reading : Result Asked RouteFault) (close : Bool) (next : List ℕ) (new : S) (is : LinkState) (e : Failed) → IsRequest keys rest reading close next
         → IsTurn tells {T = Unit {0}} {E = Failed} mid now reading close (Err e) new is → Rose now.writing.faults is.writing.faults
         → SpokePart (Chain tells keys old was.clock new is.clock) was bytes is
     turn_part reading close next new is e asked turn rose =
         let x : Said = record { request = asked.request; moment = turn.moment; answer = turn.told } in
-        spoke_part x next new is asked.front turn.ticks (turn.answers keys asked.request asked.is_reading)
-        (subst (AppendsPart now.writing.written is.writing.written) (asked_text reading close next asked turn.told) turn.part) rose
-
-    -- the end behind a refused message
-    pub refused_ends : (cause : WireFault) (is : LinkState) (e : End) → IsFront rest (Faulty cause) → is.clock ≡ now.clock → RefusesWith now is cause e
-        → EndsHere (Chain tells keys old was.clock mid is.clock) was bytes is e
-    refused_ends cause is (end.Refused told) front same refuses =
-        subst (λ c. SpokeAll (Chain tells keys old was.clock mid is.clock) was bytes is (Refused c)) (sym refuses.0) (spoke_refused cause is front same refuses.1)
-    refused_ends cause is end.WriteFault front same refuses = inr (spoke_cut cause is front same refuses.0 refuses.1)
-    refused_ends cause is end.Ended front same refuses = absurd refuses
-    refused_ends cause is end.Cut front same refuses = absurd refuses
-    refused_ends cause is end.ReadFault front same refuses = absurd refuses
-    refused_ends cause is end.Memory front same refuses = absurd refuses
-    refused_ends cause is end.Worn front same refuses = absurd refuses
+        let (count, few, wrote) = subst (AppendsPart now.writing.written is.writing.written) (asked_text reading close next asked turn.told) turn.part in
+        record {
+          said = spoke.said;
+          last = x;
+          rest = rest;
+          next = next;
+          count = count;
+          split = spoke.split;
+          front = asked.front;
+          talk = said_talk x new is turn.ticks (turn.answers keys asked.request asked.is_reading);
+          few = few;
+          written =
+              Appends-trans was.writing.written now.writing.written is.writing.written (texts_of spoke.said) (take count (text_said x)) spoke.written
+              wrote;
+          fault = rose_later was.writing.faults now.writing.faults is.writing.faults spoke.later rose;
+        }

@@ -1,5 +1,5 @@
 -- A request's turn: what was written is the text of what the teller answered, or of want of memory for a query's reply.
-use Rattle.std.proofs.Common.{◌≡◌, ◌⊎◌, ℕ, List, Bool, true, false, refl, sym, ap, ◌∙◌, subst, inl, inr}
+use Rattle.std.proofs.Common.{◌≡◌, ◌⊎◌, ℕ, List, Bool, true, false, refl, sym, ◌∙◌, subst, inl, inr}
 use Rattle.std.specs.Prelude.{Result, Ok, Err, IsTrue, OnOk, OnErr}
 use Rattle.std.specs.Io.KnownBytes.{Appends}
 use Rattle.decimal_rank.specs.KnownBytes.{AppendsPart}
@@ -47,28 +47,14 @@ module _ {S : Type 0} (tells : S → Addressed → Answer → S → Type 0) wher
       subst (λ t. Answers tells keys old request moment t new) (sym is) (fault_answers keys request cause close old moment new reading same)
 
   -- a reply to a query, for whose text there was no memory
-  missed_reply : (keys : List KeyRow) (request : HttpRequest) (asked : Asked) (close : Bool) (old : S) (moment : ℕ) (answer : Answer) (new : S)
-      → IsReading keys request (Ok asked) close → tells old (at_moment asked moment) answer new → is_of_query (told_as (is_query asked.2) answer) ≡ true
+  missed : (keys : List KeyRow) (request : HttpRequest) (old : S) (moment : ℕ) (told : Answered) (new : S)
+      → Answers tells keys old request moment told new → is_of_query told ≡ true
       → Answers tells keys old request moment answered.Memory new
-  missed_reply keys request asked close old moment (answers.Reply reply) new reading told query = inr (asked, reading.reads, inr (reply, query, told))
-  missed_reply keys request asked close old moment answers.DiskFault new reading told query = let wrong : false ≡ true = query in cc
-  missed_reply keys request asked close old moment answers.Memory new reading told query = let wrong : false ≡ true = query in cc
-
-  no_query : (cause : RouteFault) → is_of_query (fault_told cause) ≡ true → ⊥
-  no_query faults.Memory is = cc
-  no_query faults.Route is = cc
-  no_query faults.Method is = cc
-  no_query faults.Key is = cc
-  no_query faults.Role is = cc
-  no_query faults.Number is = cc
-  no_query faults.Body is = cc
-  no_query (faults.Format at) is = cc
-
-  missed_of : (keys : List KeyRow) (request : HttpRequest) (reading : Result Asked RouteFault) (close : Bool) (old : S) (moment : ℕ) (told : Answered) (new : S)
-      → IsReading keys request reading close → IsAnswer tells old reading moment told new → is_of_query told ≡ true → Answers tells keys old request moment answered.Memory new
-  missed_of keys request (Ok asked) close old moment told new reading (answer, tells_so, is) query =
-      missed_reply keys request asked close old moment answer new reading tells_so (ap is_of_query (sym is) ∙ query)
-  missed_of keys request (Err cause) close old moment told new reading (is, same) query = absurd (no_query cause (ap is_of_query (sym is) ∙ query))
+  missed keys request old moment (answered.Reply reply query) new (asked, reads, is, told) of_query = inr (asked, reads, inr (reply, sym is ∙ of_query, told))
+  missed keys request old moment (answered.Route cause) new said of_query = let wrong : false ≡ true = of_query in cc
+  missed keys request old moment (answered.Wire cause) new said of_query = absurd said
+  missed keys request old moment answered.DiskFault new said of_query = let wrong : false ≡ true = of_query in cc
+  missed keys request old moment answered.Memory new said of_query = said
 
   module _ {T E : Type 0} (old : S) (was mid is : LinkState) (reading : Result Asked RouteFault) (close : Bool) (moment : ℕ) (told : Answered) (text : List ℕ) (result : Result T E) (new : S)
       (ticks : Ticks was.clock mid.clock moment) (clock : is.clock ≡ mid.clock) (answer : IsAnswer tells old reading moment told new)
@@ -93,7 +79,7 @@ module _ {S : Type 0} (tells : S → Addressed → Answer → S → Type 0) wher
 
         by_text : is_of_query told ≡ true → (text ≡ text_of told close) ⊎ (text ≡ text_of answered.Memory close) → IsTurn tells old was reading close result new is
         by_text query (inl same) = with_text told same says
-        by_text query (inr same) = with_text answered.Memory same (λ keys request read. missed_of keys request reading close old moment told new read answer query)
+        by_text query (inr same) = with_text answered.Memory same (λ keys request read. missed keys request old moment told new (says keys request read) query)
 
         by_query : (query : Bool) → is_of_query told ≡ query → IsTurn tells old was reading close result new is
         by_query true query = by_text query either

@@ -1,5 +1,5 @@
-use Rattle.std.proofs.Common.{◌∙◌, inl, refl}
-use Rattle.campaign_server.proofs.TalkSteps.Speaking.{turn_more, turn_closes, turn_part, refused_ends, spoke_pause}
+use Rattle.std.proofs.Common.{◌∙◌, inl, inr, refl}
+use Rattle.campaign_server.proofs.TalkSteps.Speaking.{turn_more, turn_closes, turn_part, spoke_refused, spoke_cut, spoke_pause}
 use Rattle.http_wire.specs.Heads.{passed}
 use Rattle.campaign_server.proofs.connections.answer_all.Goals as goal
 
@@ -20,19 +20,30 @@ returns-in-Ok-Need-clause-pause g c = λ old was bytes rest stands spoke.
           said c.in-Ok-Need.clean need.0,
     )
 
-pub returns-in-Ok-Refused-clause-ends : goal.returns-in-Ok-Refused-clause-ends
-returns-in-Ok-Refused-clause-ends g c = λ old was bytes rest stands spoke.
+pub returns-in-Ok-clause-ends : goal.returns-in-Ok-clause-ends
+returns-in-Ok-clause-ends g c = λ old was bytes rest stands spoke.
     let (at, on, said) = c.requests.invariant.goes_on old was bytes rest stands spoke in
     let front = (rw c.in-Ok-Refused.field-0-is at c.in-Ok-Refused.ensures.asks) at on in
-    refused_ends g.T.Teller.tells c.args.keys.now c.readings_go_on.ensures c.fronts_are_messages.ensures old was bytes at c.requests.teller (g.I.Link.seen c.requests.link)
-    said c.in-Ok-Refused.fault (g.I.Link.seen c.refuse_with.new.link) c.refuse_with.result front c.refuse_with.ensures.clock_kept c.refuse_with.ensures.ends
+    spoke_refused g.T.Teller.tells c.args.keys.now c.readings_go_on.ensures c.fronts_are_messages.ensures old was bytes at c.requests.teller
+    (g.I.Link.seen c.requests.link)
+    said c.in-Ok-Refused.fault (g.I.Link.seen c.refuse.new.link) front c.in-Ok.ensures.clock_kept c.in-Ok.ensures.all
+
+pub returns-in-Err-refuse-clause-ends : goal.returns-in-Err-refuse-clause-ends
+returns-in-Err-refuse-clause-ends g c = λ old was bytes rest stands spoke.
+    let (at, on, said) = c.requests.invariant.goes_on old was bytes rest stands spoke in
+    let front = (rw c.in-Ok-Refused.field-0-is at c.in-Ok-Refused.ensures.asks) at on in
+    inr (spoke_cut g.T.Teller.tells c.args.keys.now c.readings_go_on.ensures c.fronts_are_messages.ensures old was bytes at c.requests.teller
+    (g.I.Link.seen c.requests.link)
+    said c.in-Ok-Refused.fault (g.I.Link.seen c.refuse.new.link) front c.in-Err-refuse.ensures.clock_kept c.in-Err-refuse.ensures.part
+    c.in-Err-refuse.ensures.cause.failed)
 
 pub returns-then-close-clause-ends : goal.returns-then-close-clause-ends
 returns-then-close-clause-ends g c = λ old was bytes rest stands spoke.
     let (at, on, said) = c.requests.invariant.goes_on old was bytes rest stands spoke in
     let (next, asked, behind) = (rw c.in-Ok-Whole.field-0-is at c.in-Ok-Whole.ensures.asks) at on in
     turn_closes g.T.Teller.tells c.args.keys.now c.readings_go_on.ensures c.fronts_are_messages.ensures old was bytes at c.requests.teller (g.I.Link.seen c.requests.link)
-    said c.in-Ok-Whole.reading c.in-Ok-Whole.close next c.answer.new.teller (g.I.Link.seen c.answer.new.link) tt asked c.in-Ok.ensures.turn c.if-close.true
+    said c.in-Ok-Whole.reading c.in-Ok-Whole.close next c.answer.new.teller (g.I.Link.seen c.answer.new.link) tt asked c.in-Ok-answer.ensures.turn
+    c.if-close.true
 
 pub requests-preserved : goal.requests-preserved
 requests-preserved g c = record {
@@ -42,9 +53,10 @@ requests-preserved g c = record {
         next,
         behind,
         turn_more g.T.Teller.tells c.args.keys.now c.readings_go_on.ensures c.fronts_are_messages.ensures old was bytes at c.requests.teller (g.I.Link.seen c.requests.link)
-            said c.in-Ok-Whole.reading c.in-Ok-Whole.close next c.answer.new.teller (g.I.Link.seen c.answer.new.link) tt asked c.in-Ok.ensures.turn c.in-Ok.ensures.cause.later c.if-close.false,
+            said c.in-Ok-Whole.reading c.in-Ok-Whole.close next c.answer.new.teller (g.I.Link.seen c.answer.new.link) tt asked
+            c.in-Ok-answer.ensures.turn c.in-Ok-answer.ensures.cause.later c.if-close.false,
       );
-  reading_kept = c.in-Ok.ensures.reading_kept ∙ c.requests.invariant.reading_kept;
+  reading_kept = c.in-Ok-answer.ensures.reading_kept ∙ c.requests.invariant.reading_kept;
 }
 
 pub returns-in-Err-answer-clause-ends : goal.returns-in-Err-answer-clause-ends

@@ -1,22 +1,19 @@
-use Rattle.std.proofs.Common.{rules, ◌≡◌, ◌∙◌, ap, length, subst, sym}
-use Rattle.hall.specs.Places.{Rises}
+use Rattle.std.proofs.Common.{rules, subst}
+use Rattle.hall.specs.Acts.{Known}
+use Rattle.rulebook.specs.declared.entry.Entry.{Entry}
 use Rattle.campaign_server.specs.HallConnections.{Serves}
-use Rattle.campaign_server.proofs.BookTalks.HallTalks.{connection_serves, ends_come}
+use Rattle.campaign_server.proofs.BookTalks.HallTalks.{connection_serves}
 use Rattle.campaign_server.proofs.hall_connections.serve_link.Goals as goal
 
-pub join-requires-clause-other : goal.join-requires-clause-other
-join-requires-clause-other g c =
-    let (came, come) = ends_come (λ v. v.pass) c.args.keys.now _ c.converse_with-end.new.teller (g.I.Link.seen c.args.link.now) (g.I.Link.seen c.converse_with-end.new.link) c.converse_with-end.result c.converse_with-end.ensures in
-    let here : c.args.pass.now.hall ≡ c.args.hall.now = search rules in came.hall ∙ c.split-own.ensures.new.0 ∙ here
-
-pub returns-clause-serves : goal.returns-clause-serves
-returns-clause-serves g c =
-    let same : c.split-own.new.pass ≡ c.args.pass.now = c.split-own.ensures.same in
+-- the pass that is handed back is the one that was lent
+pub returns : goal.returns
+returns g c =
     let was = g.I.Link.seen c.args.link.now in
-    let is = g.I.Link.seen c.converse_with-end.new.link in
-    let after = c.join.new.pass in
-    let served =
-    connection_serves (λ v. v.pass) c.args.keys.now _ c.converse_with-end.new.teller was is c.converse_with-end.result c.split-own.new.pass after c.converse_with-end.ensures
-    (g.met.I.Link.tells_alike c.args.link.now c.converse_with-end.new.link) (subst (λ p. Rises 0 p.mine (length p.seen.list)) (sym same) c.places_rise.ensures)
-    (c.split-own.ensures.new.1 ∙ ap (λ p. p.seen) (sym same)) c.split-own.ensures.new.2 c.join.ensures.seen c.join.ensures.mine.1 in
-    subst (λ p. Serves c.args.keys.now p after was is c.converse_with-end.result) same served
+    let is = g.I.Link.seen c.converse_with.new.link in
+    let (same, hall, serves) =
+    connection_serves (λ v. v.pass.now) (λ v. v.pass.ghost_name) c.args.keys.now _ c.converse_with.new.teller was is
+    c.converse_with.result c.converse_with.ensures (g.met.I.Link.tells_alike c.args.link.now c.converse_with.new.link) in
+    record {
+      hall = search rules;
+      serves = subst (λ (p : Known Entry). Serves c.args.keys.now c.args.pass.now p was is c.converse_with.result) (search rules) serves;
+    }

@@ -2,7 +2,7 @@ use Rattle.std.proofs.Common.{rules, ◌≡◌, [], ◌∷◌, ◌++◌, ap, app
 use Rattle.std.specs.Vec.Iter.{into_iter_items}
 use Rattle.campaign_server.specs.Doors.{HandsOver}
 use Rattle.campaign_server.specs.Records.{ended_of}
-use Rattle.campaign_server.proofs.ServerEnds.RecordLemmas.{hands_more, hands_none, hands_still, nothing_left, part_of}
+use Rattle.campaign_server.proofs.ServerEnds.RecordLemmas.{hands_more, hands_none, nothing_left, part_of}
 use Rattle.campaign_server.proofs.ServerEnds.WorkerLemmas.{ended_more}
 use Rattle.campaign_server.proofs.servers.hand_over.Goals as goal
 
@@ -31,7 +31,7 @@ returns-in_err-done-clause-part g c =
       ended_of g.R.Door.kept at.yielded,
       ended_of g.R.Door.kept (into_iter_items at.record-iterator),
       part_of g.R.Door.kept at.yielded (into_iter_items at.record-iterator) c.args.records.items all,
-      hands_still (told c.args.door.now).told (told at.door).told (told c.done.new.self).told (ended_of g.R.Door.kept at.yielded) same at.invariant.2,
+      subst (HandsOver (told c.args.door.now).told (ended_of g.R.Door.kept at.yielded)) (sym same) at.invariant.2,
     )
 
 pub returns-in_err-done-clause-faults : goal.returns-in_err-done-clause-faults

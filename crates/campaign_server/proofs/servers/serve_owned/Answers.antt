@@ -6,24 +6,18 @@ use Rattle.book.specs.Halls.{seen_as}
 use Rattle.campaign_server.specs.declared.ends.ServeEnd.TheVariants as serve_end
 use Rattle.campaign_server.specs.Acceptors.{Closes, IsAcceptor}
 use Rattle.campaign_server.specs.Records.{ended_all}
-use Rattle.campaign_server.specs.Workers.{GatheredState, Worked, Works}
+use Rattle.campaign_server.specs.Workers.{GatheredState, WorkState, Works}
 use Rattle.campaign_server.proofs.ServerEnds.ServerLemmas.{accepts_on, serves_closed, serves_none, serves_shut}
 use Rattle.campaign_server.proofs.servers.serve_owned.Goals as goal
 
 pub returns-in_default : goal.returns-in_default
-returns-in_default g c =
-    let start = story_of g.D.Disk.seen c.args.book in
-    serves_none c.args.keys.now c.args.numbers start start (g.R.Door.seen c.args.door) refl c.requires.shut
+returns-in_default g c = serves_none _ _ _ _ _ refl c.requires.shut
 
 pub returns-in_default-with_capacity : goal.returns-in_default-with_capacity
-returns-in_default-with_capacity g c =
-    let start = story_of g.D.Disk.seen c.args.book in
-    serves_none c.args.keys.now c.args.numbers start start (g.R.Door.seen c.args.door) refl c.requires.shut
+returns-in_default-with_capacity g c = serves_none _ _ _ _ _ refl c.requires.shut
 
 pub returns-in_default-new : goal.returns-in_default-new
-returns-in_default-new g c =
-    let start = story_of g.D.Disk.seen c.args.book in
-    serves_none c.args.keys.now c.args.numbers start start (g.R.Door.seen c.args.door) refl c.requires.shut
+returns-in_default-new g c = serves_none _ _ _ _ _ refl c.requires.shut
 
 pub returns-in-Err : goal.returns-in-Err
 returns-in-Err g c =
@@ -61,17 +55,18 @@ returns g c =
     let workers = c.args.numbers.workers in
     let after = story c.close-2.result in
     let all = c.all.inside in
-    let seen = seen_as all.pass.seen in
-    let records = ended_all (λ v. v.items) g.R.Door.kept all.records.items in
     let was = (told c.args.door).faults in
     let closes : Closes c.args.numbers.port was c.args.numbers.connections (told c.close-door.result.0) all.share.amount c.close-door.result.1 = search rules in
     let first = c.fill_team.new.first in
-    let worked : Worked keys (story c.args.book) workers seen all.pass.mine records all.short =
-    subst (λ s. Worked keys (seen_as s) workers seen all.pass.mine records all.short) c.in-Ok-new-2.ensures.pass.0
-    (subst (λ p. Worked keys (seen_as p.seen) workers seen all.pass.mine records all.short) c.fill_team.ensures.same
-    (subst (λ n. Worked keys (seen_as first.seen) n seen all.pass.mine records all.short) c.fill_team.ensures.len
+    let work : WorkState =
+    record { pass = all.pass; parts = all.share.parts; records = ended_all (λ v. v.items) g.R.Door.kept all.records.items; short = all.short } in
+    let worked : Works keys (story c.args.book) workers work =
+    subst (λ s. Works keys (seen_as s) workers work) c.in-Ok-new-2.ensures.pass.0
+    (subst (λ p. Works keys (seen_as p.seen) workers work) c.fill_team.ensures.same
+    (subst (λ n. Works keys (seen_as first.seen) n work) c.fill_team.ensures.len
     (subst (λ (v : GatheredState). Works keys (seen_as first.seen) (vec_len c.fill_team.new.team) v.done) (sym c.all.view_is) c.work_together.ensures.worked))) in
     let most = c.close-2.ensures in
-    let grown : AtMost seen after = record { longer = most.0; later = most.1; opening = most.2 } in
-    serves_closed keys c.args.numbers (story c.args.book) seen after all.pass.mine was all.share.amount (told c.close-door.result.0) c.close-door.result.1 c.settle-door.result.1 records all.short
+    let grown : AtMost (seen_as all.pass.seen) after = record { longer = most.0; later = most.1; opening = most.2 } in
+    serves_closed keys c.args.numbers (story c.args.book) after was all.share.amount (told c.close-door.result.0) c.close-door.result.1
+    c.settle-door.result.1 work
     closes c.all.invariant worked grown (told c.args.door) (told c.settle-door.result.0) refl c.settle-door.ensures.settled c.settle-door.ensures.faults

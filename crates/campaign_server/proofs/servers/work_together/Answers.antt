@@ -9,14 +9,14 @@ use Rattle.campaign_server.proofs.servers.work_together.Goals as goal
 pub serve_by-requires-clause-fresh : goal.serve_by-requires-clause-fresh
 serve_by-requires-clause-fresh g c κs within = (
   seen_as c.args.all.now.done.pass.seen,
-  subst (All (IsFresh c.args.site.now.hall (seen_as c.args.all.now.done.pass.seen))) (sym c.as_mut_slice.ensures.value) c.requires.fresh,
+  subst (All (IsFresh c.args.crew.now.hall (seen_as c.args.all.now.done.pass.seen))) (sym c.as_mut_slice.ensures.value) c.requires.fresh,
 )
 
 pub workers-init : goal.workers-init
 workers-init g c =
     let start = seen_as c.args.all.now.done.pass.seen in
-    let keys = c.args.site.now.keys.now in
-    let hall = c.args.site.now.hall in
+    let keys = c.args.crew.now.keys.now in
+    let hall = c.args.crew.now.hall in
     let none = c.requires.none in
     let len : length c.serve_by.new.team ≡ c.args.team.len = search rules in
     let whole = with_items_is c.args.team c.serve_by.new.team len in
@@ -32,15 +32,16 @@ workers-init g c =
 pub take_in-requires-clause-other : goal.take_in-requires-clause-other
 take_in-requires-clause-other g c κs within =
     let parted =
-    All-pop (HasServed c.args.site.now.keys.now c.args.site.now.hall (seen_as c.args.all.now.done.pass.seen)) c.workers.team.items c.pop.new.self.items (Some c.in-Some.work)
+    All-pop (HasServed c.args.crew.now.keys.now c.args.crew.now.hall (seen_as c.args.all.now.done.pass.seen)) c.workers.team.items
+    c.pop.new.self.items (Some c.in-Some.work)
     c.in-Some.ensures.items c.workers.invariant.left in
     parted.1.of
 
 pub workers-preserved : goal.workers-preserved
 workers-preserved g c =
     let start = seen_as c.args.all.now.done.pass.seen in
-    let keys = c.args.site.now.keys.now in
-    let hall = c.args.site.now.hall in
+    let keys = c.args.crew.now.keys.now in
+    let hall = c.args.crew.now.hall in
     let at = c.workers.invariant in
     let takes = c.take_in.ensures in
     let parted = All-pop (HasServed keys hall start) c.workers.team.items c.pop.new.self.items (Some c.in-Some.work) c.in-Some.ensures.items at.left in
@@ -56,4 +57,4 @@ workers-preserved g c =
 pub returns-clause-worked : goal.returns-clause-worked
 returns-clause-worked g c =
     let parts : c.workers.all.done.parts ≡ vec_len c.args.team = search rules in
-    subst (λ n. Works c.args.site.now.keys.now (seen_as c.args.all.now.done.pass.seen) n c.workers.all.done) parts c.workers.invariant.worked
+    subst (λ n. Works c.args.crew.now.keys.now (seen_as c.args.all.now.done.pass.seen) n c.workers.all.done) parts c.workers.invariant.worked

@@ -6,11 +6,11 @@ use Rattle.campaign_server.proofs.servers.work_together.Given as goal
 
 abbrev pub invariant-workers : goal.invariant-workers
 invariant-workers g l = record {
-  hall : l.all.done.pass.hall ≡ l.site.hall;
-  left : All (HasServed l.site.keys.now l.site.hall (seen_as l.fn.all.done.pass.seen)) l.team.items;
+  hall : l.all.done.pass.hall ≡ l.crew.hall;
+  left : All (HasServed l.crew.keys.now l.crew.hall (seen_as l.fn.all.done.pass.seen)) l.team.items;
   parts : l.all.done.parts + vec_len l.team ≡ vec_len l.fn.team;
   room : vec_len l.team ≤ l.all.room;
-  worked : Works l.site.keys.now (seen_as l.fn.all.done.pass.seen) l.all.done.parts l.all.done;
+  worked : Works l.crew.keys.now (seen_as l.fn.all.done.pass.seen) l.all.done.parts l.all.done;
 }
 
 abbrev pub decreases-workers : goal.decreases-workers

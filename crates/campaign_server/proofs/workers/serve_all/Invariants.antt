@@ -5,8 +5,8 @@ use Rattle.campaign_server.proofs.workers.serve_all.Given as goal
 
 abbrev pub invariant-loop : goal.invariant-loop
 invariant-loop g l = record {
-  goes_on : GoesOn l.site.keys.now l.initial.work l.work;
-  hall : l.work.pass.hall ≡ l.site.hall;
+  goes_on : GoesOn l.crew.keys.now l.initial.work l.work;
+  hall : l.work.pass.hall ≡ l.crew.hall;
   parts : 0 < l.work.parts;
   not_short : l.work.short ≡ false;
 }

@@ -36,5 +36,5 @@ returns-clause-served g c = λ start all k d less.
     let same : length c.for_each_mut.new.s ≡ length c.args.team.now = search rules in
     let within : k < length c.args.team.now = subst (λ n. k < n) same less in
     let x = (c.for_each_mut.ensures k d within).1 in
-    let hall = c.args.site.now.hall in
-    subst (HasServed c.args.site.now.keys.now hall start) x.left (x.call start (subst (IsFresh hall start) (sym x.argument_is) (all k d within)))
+    let hall = c.args.crew.now.hall in
+    subst (HasServed c.args.crew.now.keys.now hall start) x.left (x.call start (subst (IsFresh hall start) (sym x.argument_is) (all k d within)))

@@ -6,7 +6,7 @@ use Rattle.campaign_server.proofs.workers.serve_next.Goals as goal
 
 pub returns-then-is_err-clause-goes_on : goal.returns-then-is_err-clause-goes_on
 returns-then-is_err-clause-goes_on g c =
-    let keys = c.args.site.now.keys.now in
+    let keys = c.args.crew.now.keys.now in
     let seen = ended_of g.R.Door.kept in
     let inside = c.work.inside in
     let work : WorkState = record { pass = inside.pass; parts = inside.share.parts; records = seen inside.records.items; short = inside.short } in
@@ -29,6 +29,7 @@ returns-clause-goes_on g c =
     } in
     let records : later.records ≡ work.records ++ (kept c.finish.result, end) ∷ [] =
     ap (ended_of kept) (c.push_reserved.ensures.items ∙ ap (λ items. items ++ (c.finish.result, end) ∷ []) c.reserve.ensures.items) ∙ ended_more kept before c.finish.result end in
-    subst (λ was. GoesOn c.args.site.now.keys.now was later) c.work.view_is
-    (goes_more c.args.site.now.keys.now work later (kept c.finish.result) end (seen c.in-Some.line) (seen c.serve_link-end.new.link) c.serve_link-end.ensures.hall c.next-next.ensures.parts records
+    subst (λ was. GoesOn c.args.crew.now.keys.now was later) c.work.view_is
+    (goes_more c.args.crew.now.keys.now work later (kept c.finish.result) end (seen c.in-Some.line) (seen c.serve_link-end.new.link)
+    c.serve_link-end.ensures.hall c.next-next.ensures.parts records
     c.in-Some.ensures.some.0 c.finish.ensures c.serve_link-end.ensures.serves c.places_rise.ensures (ap (λ (w : WorkState). w.short) c.work.view_is ∙ c.requires.not_short) c.is_memory-short.ensures)
