@@ -1,5 +1,5 @@
 -- A session in which no call failed: no answer of it tells a fault of the disk, and it ended by no failed call.
-use Rattle.std.proofs.Common.{◌≡◌, ◌≤◌, ◌⊎◌, ◌++◌, inl, inr, ℕ, Bool, true, List, [], ◌∷◌, length, sym, subst, arith}
+use Rattle.std.proofs.Common.{◌≡◌, ◌≤◌, ◌⊎◌, ◌++◌, inl, inr, ℕ, Bool, true, List, [], ◌∷◌, length, sym, ap, subst, ◌∙◌, arith}
 use Rattle.decimal_rank.specs.Causes.{Rose}
 use Rattle.disk_model.specs.Disks.{DiskState}
 use Rattle.http_wire.specs.Messages.{End as Ending}
@@ -12,8 +12,13 @@ use Rattle.campaign_server.specs.Connections.{EndsOn, SpokeAll}
 use Rattle.campaign_server.specs.Links.{LinkState}
 use Rattle.campaign_server.specs.Sessions.{IsSession}
 use Rattle.campaign_server.specs.Talks.{Talk}
+use Rattle.campaign_cli.specs.Outside.{Outside}
 use Rattle.campaign_cli.specs.CalmSessions.{CalmSessionsAreAnswered, HasNoDiskFault, IsAnswered, IsCalmEnd}
-use Rattle.campaign_cli.specs.SessionEnds.{SessionWay, held, unheld}
+use Rattle.campaign_cli.specs.declared.endings.Cause.TheVariants as cause
+use Rattle.campaign_cli.specs.BookEnds.{BookWay, cause_by_work, unopened, worked}
+use Rattle.campaign_cli.specs.Causes.{Ending as Told, Tells, silent}
+use Rattle.campaign_cli.specs.Kinds.{ended, unread}
+use Rattle.campaign_cli.specs.SessionEnds.{Holds, session_cause}
 use Rattle.campaign_cli.proofs.ToldDisks.{none_opened}
 
 -- the disk's count at the end of a talk is no less than at its start
@@ -63,15 +68,19 @@ calm_end old new talks bytes end.Worn reading writing ends = tt
 
 module _ {D : Type 0} (seen : D → DiskState) where
   pub calm_sessions : CalmSessionsAreAnswered seen
-  calm_sessions old new status ends can calm = by ends.way
+  calm_sessions old new status (unread same e) can calm = inl (e, ap (λ (o : Outside D). o.own) same)
+  calm_sessions old new status (ended ending done tells) can calm = by done.way (subst (λ (e : Told). Tells e old.out new.out status) done.told tells)
     where
-      by : SessionWay seen old new status → ((status ≡ 7) × (new.streams.own ≡ old.streams.own)) ⊎ IsAnswered seen old new status
-      by (unheld none own) = inl (none_opened seen old new status calm can none, own)
-      by (held how (text, settings, gives, is, holds) same status_is) =
-          let before = old.streams.own in
-          let after = new.streams.own in
+      by : (way : BookWay seen (Holds seen old.own new.own old.disk new.disk) (new.own ≡ old.own) old.shelf new.shelf old.disk new.disk)
+          → Tells (cause_by_work seen (session_cause seen) way) old.out new.out status → ((status ≡ 7) × (new.own ≡ old.own)) ⊎ IsAnswered seen old new status
+      by (unopened none same) told =
+          let here : Tells (silent cause.Memory) old.out new.out status = subst (λ (e : Told). Tells e old.out new.out status) (none_opened seen old new calm can none) told in
+          inl (here.1, same)
+      by (worked (text, settings, gives, is, holds)) told =
+          let before = old.own in
+          let after = new.own in
           let talks : List Said → Type 0 = IsSession seen settings.callers holds.opened before.clock holds.closed after.clock in
-          let quiet = calm_end before after talks holds.talk.bytes how calm.reading calm.writing holds.talk.ends in
+          let quiet = calm_end before after talks holds.talk.bytes holds.how calm.reading calm.writing holds.talk.ends in
           let still : ¬ (Rose (seen old.disk).faults (seen holds.closed.disk).faults) = λ rose. calm.disk (subst (λ (disk : D). Rose (seen old.disk).faults (seen disk).faults) (sym holds.closes) rose) in
           let also : (said : List Said) → talks said → talks said × HasNoDiskFault said = λ said session.
           (session, no_fault (seen old.disk).faults (seen holds.closed.disk).faults still true settings.callers (length holds.opened.history) (seen holds.opened.disk).faults holds.closed.history session.talk.0 said holds.opens.later session.talk.1.talk) in
@@ -83,13 +92,13 @@ module _ {D : Type 0} (seen : D → DiskState) where
             opened = holds.opened;
             closed = holds.closed;
             opens = holds.opens;
-            how = how;
+            how = holds.how;
             calm = quiet;
-            status_is = status_is;
+            status_is = told.1;
             talk = record {
               bytes = holds.talk.bytes;
               heard = holds.talk.heard;
-              ends = calm_ends talks (λ said. talks said × HasNoDiskFault said) also before after holds.talk.bytes how quiet holds.talk.ends;
+              ends = calm_ends talks (λ said. talks said × HasNoDiskFault said) also before after holds.talk.bytes holds.how quiet holds.talk.ends;
               no_more = holds.talk.no_more;
             };
           })

@@ -1,11 +1,9 @@
 pub mod ArchiveWays
+pub mod BookWays
 pub mod ByStatus
 pub mod CalmTalks
 pub mod CodeForms
-pub mod CompactWays
 pub mod MemoryForms
-pub mod ReportWays
-pub mod ShownWays
 pub mod SoundReleases
 pub mod Told
 pub mod ToldDisks

@@ -1,7 +1,6 @@
 -- Settings and a disk that are told: what is refused or damaged, or another campaign's, is told, and what may be opened is.
 use Rattle.std.proofs.Common.{◌≡◌, ◌⊎◌, inl, inr, ℕ, List, [], ◌∷◌, Option, Some, None, refl, sym, ap, subst, ◌∙◌}
 use Rattle.std.specs.Prelude.{IfSome}
-use Rattle.std.specs.Io.KnownBytes.{Appends}
 use Rattle.disk_model.specs.Disks.{DiskState}
 use Rattle.journal.specs.Format.{decode}
 use Rattle.rulebook.specs.declared.rules.Rules.{Rules}
@@ -13,17 +12,16 @@ use Rattle.book.specs.Books.{Seen}
 use Rattle.book.specs.Openings.{DiffersFrom, Opened, OpensWith, Reads, Refused}
 use Rattle.book.specs.OpeningLaws.{opens_or_memory, opens_unbroken, story_unbroken}
 use Rattle.book.specs.Stories.{BreaksAt}
-use Rattle.campaign_server.specs.declared.numbers.ServerNumbers.{ServerNumbers}
 use Rattle.campaign_settings.specs.declared.settings.Settings.{Settings}
-use Rattle.campaign_cli.specs.BookEnds.{GivesSettings, TellsFault, Unopened, entry_line, header_line, not_begun, not_opened, rules_line, settings_file, settings_line, settings_refused, settings_unread}
-use Rattle.campaign_cli.specs.BookKinds.{CanOpen, TellsSettings}
-use Rattle.campaign_cli.specs.Outside.{Outside}
-use Rattle.campaign_cli.specs.ServeEnds.{ServeWay, served, unserved}
-use Rattle.campaign_cli.specs.SessionEnds.{SessionWay, held, unheld}
 use Rattle.campaign_settings.specs.Settings.{settings_of}
+use Rattle.campaign_cli.specs.declared.endings.Cause.TheVariants as cause
+use Rattle.campaign_cli.specs.BookEnds.{BookWay, CanOpen, TellsSettings, Unopened, cause_by_work, cause_of_fault, cause_of_none, missed, not_opened, not_told, refused, settings_file, short as no_memory, unopened, unset, worked}
+use Rattle.campaign_cli.specs.Causes.{Ending, silent}
+use Rattle.campaign_cli.specs.Outside.{Outside}
 use Rattle.campaign_cli.specs.Shelves.{Gives}
 use Rattle.campaign_cli.specs.Statuses.{IsCalm, IsDamaged, IsOfOthers, TellsDisk}
-use Rattle.campaign_cli.proofs.ToldFiles.{not_missed, prints_all, prints_whole, told_settings}
+use Rattle.campaign_cli.proofs.Told.{IsOrShort, TellsOthers}
+use Rattle.campaign_cli.proofs.ToldFiles.{not_missed, told_settings}
 
 -- what was read of bytes that are told
 read_of : (told : Option (List ℕ)) (bytes : List ℕ) (payloads : List Text) → told ≡ Some bytes → Reads told payloads → decode bytes ≡ Some payloads
@@ -59,113 +57,98 @@ module _ {D : Type 0} (seen : D → DiskState) where
   pub book_opens : (rules : Rules) (disk : D) (book : Seen D) → Opened seen rules disk book → OpensStory rules disk
   book_opens rules disk book opens = (opens.payloads, book.history, opens.reads, opens.opens)
 
-  -- the disk was opened under the settings that the shelf gives, or there is no campaign
-  abbrev pub Opening : Outside D → Outside D → ℕ → Type 0
-  Opening old new status = GivesSettings old.streams.shelf (λ settings. OpensStory settings.rules old.disk) ⊎ Unopened seen old new status
-
-  -- so it is with each command that keeps a campaign
-  pub session_opening : (old new : Outside D) (status : ℕ) → SessionWay seen old new status → Opening old new status
-  session_opening old new status (held how (text, settings, gives, is, holds) same e) = inl (text, settings, gives, is, book_opens settings.rules old.disk holds.opened holds.opens)
-  session_opening old new status (unheld none own) = inr none
-
-  pub serve_opening : (numbers : ServerNumbers) (old new : Outside D) (status : ℕ) → ServeWay seen numbers old new status → Opening old new status
-  serve_opening numbers old new status (served how (text, settings, gives, is, serves) same e) = inl (text, settings, gives, is, book_opens settings.rules old.disk serves.opened serves.opens)
-  serve_opening numbers old new status (unserved none door) = inr none
-
-  module _ (old new : Outside D) (status : ℕ) (calm : IsCalm seen old new) where
-    -- settings that have to be refused are
-    pub settings_told : TellsSettings old.streams.shelf (λ bytes. settings_of bytes ≡ None) → Opening old new status → (status ≡ 3) ⊎ (status ≡ 7)
-    settings_told has opening = by opening
-      where
-        not_read : (text : List ℕ) (settings : Settings) → Gives old.streams.shelf settings_file text → settings_of text ≡ Some settings → ⊥
-        not_read text settings gives is =
-            let both : None ≡ Some settings = sym (told_settings old.streams.shelf text (λ bytes. settings_of bytes ≡ None) has gives) ∙ is in
-            cc both
-
-        by : Opening old new status → (status ≡ 3) ⊎ (status ≡ 7)
-        by (inl (text, settings, gives, is, opens)) = absurd (not_read text settings gives is)
-        by (inr (settings_refused none prints kept)) = inl (prints_whole old.streams.out new.streams.out settings_line 3 status prints calm.out)
-        by (inr (settings_unread missed same kept e)) =
-            absurd (not_missed old.streams.shelf new.streams.shelf settings_file has.1 has.0 has.2 has.3 calm.shelf missed)
-        by (inr (not_begun same kept e)) = inr e
-        by (inr (not_opened (text, settings, gives, is, given_up))) = absurd (not_read text settings gives is)
-
+  module _ (old new : Outside D) (calm : IsCalm seen old new) where
     -- with settings that are told and accepted there is no campaign for want of memory, or since the disk isn't opened under them
-    module _ (settings : Settings) (told : TellsSettings old.streams.shelf (λ text. settings_of text ≡ Some settings)) where
-      one : (text : List ℕ) (found : Settings) → Gives old.streams.shelf settings_file text → settings_of text ≡ Some found → found ≡ settings
+    module _ (settings : Settings) (told : TellsSettings old.shelf (λ text. settings_of text ≡ Some settings)) where
+      one : (text : List ℕ) (found : Settings) → Gives old.shelf settings_file text → settings_of text ≡ Some found → found ≡ settings
       one text found gives is =
-          let here = told_settings old.streams.shelf text (λ bytes. settings_of bytes ≡ Some settings) told gives in
+          let here = told_settings old.shelf text (λ bytes. settings_of bytes ≡ Some settings) told gives in
           cc (here, is)
 
-      why_none : (P : Type 0) → (status ≡ 7 → P)
-          → ((why : BookFault) → Refused seen settings.rules old.disk new.disk why → TellsFault why old.streams.out new.streams.out status → P)
-          → Unopened seen old new status → P
-      why_none P short refused (settings_refused (text, gives, none) prints kept) =
-          let both : None ≡ Some settings = sym none ∙ told_settings old.streams.shelf text (λ bytes. settings_of bytes ≡ Some settings) told gives in
+      why_none : (P : Ending → Type 0) → P (silent cause.Memory)
+          → ((why : BookFault) → Refused seen settings.rules old.disk new.disk why → P (cause_of_fault why))
+          → (none : Unopened seen old.shelf new.shelf old.disk new.disk) → P (cause_of_none seen none)
+      why_none P short fails (unset (refused (text, gives, none)) same) =
+          let both : None ≡ Some settings = sym none ∙ told_settings old.shelf text (λ bytes. settings_of bytes ≡ Some settings) told gives in
           absurd (cc both)
-      why_none P short refused (settings_unread missed same kept e) =
-          absurd (not_missed old.streams.shelf new.streams.shelf settings_file told.1 told.0 told.2 told.3 calm.shelf missed)
-      why_none P short refused (not_begun same kept e) = short e
-      why_none P short refused (not_opened (text, found, gives, is, given_up)) =
-          let same = one text found gives is in
-          refused given_up.why (subst (λ (s : Settings). Refused seen s.rules old.disk new.disk given_up.why) same given_up.refused) given_up.told
+      why_none P short fails (unset (missed miss) same) = absurd (not_missed old.shelf new.shelf settings_file told.1 told.0 told.2 told.3 calm.shelf miss)
+      why_none P short fails (unset no_memory same) = short
+      why_none P short fails (not_opened why (text, found, gives, is, given_up)) =
+          fails why (subst (λ (s : Settings). Refused seen s.rules old.disk new.disk why) (one text found gives is) given_up)
+      why_none P short fails (not_told entry given_up) = short
 
     -- a disk that may be opened is, or memory is short
-    pub none_opened : CanOpen seen old → Unopened seen old new status → status ≡ 7
+    pub none_opened : CanOpen seen old → (none : Unopened seen old.shelf new.shelf old.disk new.disk) → cause_of_none seen none ≡ silent cause.Memory
     none_opened (files, text, there, at, (settings, reads, (payloads, (bytes, tells, decodes), may))) none =
-        why_none settings (files, text, there, at, reads) (status ≡ 7) (λ e. e)
-        (λ why refused tells_fault.
-        let short = opens_or_memory seen settings.rules old.disk bytes payloads tells decodes may new.disk why calm.disk refused in
-        let here : TellsFault fault.Memory old.streams.out new.streams.out status =
-        subst (λ (why : BookFault). TellsFault why old.streams.out new.streams.out status) short tells_fault in
-        here.1) none
+        why_none settings (files, text, there, at, reads) (λ e. e ≡ silent cause.Memory) refl
+        (λ why given_up. ap cause_of_fault (opens_or_memory seen settings.rules old.disk bytes payloads tells decodes may new.disk why calm.disk given_up)) none
 
-    -- a damaged disk is told, or memory is short
-    pub damage_told : TellsDisk seen old IsDamaged → Opening old new status → (status ≡ 9) ⊎ (status ≡ 7)
-    damage_told (files, text, there, at, (settings, reads, (bytes, tells, damaged))) opening = by opening
-      where
-        by_fault : (why : BookFault) → Refused seen settings.rules old.disk new.disk why → TellsFault why old.streams.out new.streams.out status → (status ≡ 9) ⊎ (status ≡ 7)
-        by_fault fault.Disk refused none = absurd (calm.disk refused.causes)
-        by_fault fault.Header refused prints = inl (prints_whole old.streams.out new.streams.out header_line 9 status prints calm.out)
-        by_fault (fault.Damaged entry) refused (inl prints) = inl (prints_whole old.streams.out new.streams.out (entry_line entry) 9 status prints calm.out)
-        by_fault (fault.Damaged entry) refused (inr none) = inr none.1
-        by_fault fault.RulesDiffer refused prints =
-            let differs = refused.causes in
-            absurd (not_damaged settings.rules bytes differs.0 (read_of (seen old.disk).content bytes differs.0 tells differs.1)
-            (λ entry at. story_unbroken differs.0 differs.2.1.0 entry differs.2.1.1.0 at) damaged)
-        by_fault fault.Memory refused none = inr none.1
+    -- of a command that works on the campaign of the settings
+    module _ (Work : Settings → Type 0) (Still : Type 0) (cause_of : (settings : Settings) → Work settings → Ending)
+        (opens : (settings : Settings) → Work settings → OpensStory settings.rules old.disk) where
+      abbrev pub Way : Type 0
+      Way = BookWay seen Work Still old.shelf new.shelf old.disk new.disk
 
-        by : Opening old new status → (status ≡ 9) ⊎ (status ≡ 7)
-        by (inl (read, found, gives, is, (payloads, H, told, opens))) =
-            absurd (not_damaged found.rules bytes payloads (read_of (seen old.disk).content bytes payloads tells told)
-            (λ entry at. opens_unbroken found.rules payloads H entry opens at) damaged)
-        by (inr none) = why_none settings (files, text, there, at, reads) ((status ≡ 9) ⊎ (status ≡ 7)) (λ e. inr e) by_fault none
+      -- settings that have to be refused are
+      pub settings_told : TellsSettings old.shelf (λ bytes. settings_of bytes ≡ None) → (way : Way) → IsOrShort cause.Input (cause_by_work seen cause_of way)
+      settings_told has way = by way
+        where
+          not_read : (text : List ℕ) (settings : Settings) → Gives old.shelf settings_file text → settings_of text ≡ Some settings → ⊥
+          not_read text settings gives is =
+              let both : None ≡ Some settings = sym (told_settings old.shelf text (λ bytes. settings_of bytes ≡ None) has gives) ∙ is in
+              cc both
 
-    -- another campaign's disk is told, or memory is short
-    pub others_told : TellsDisk seen old IsOfOthers → Opening old new status
-        → ((status ≡ 3) × Appends old.streams.out.written new.streams.out.written rules_line) ⊎ (status ≡ 7)
-    others_told (files, text, there, at, (settings, reads, (bytes, tells, (payloads, decodes, differs)))) opening = by opening
-      where
-        by_fault : (why : BookFault) → Refused seen settings.rules old.disk new.disk why → TellsFault why old.streams.out new.streams.out status
-            → ((status ≡ 3) × Appends old.streams.out.written new.streams.out.written rules_line) ⊎ (status ≡ 7)
-        by_fault fault.Disk refused none = absurd (calm.disk refused.causes)
-        by_fault fault.Header refused prints =
-            absurd (not_damaged settings.rules bytes payloads decodes (λ entry at. story_unbroken payloads differs.1.0 entry differs.1.1.0 at)
-            (inl (no_records (seen old.disk).content bytes tells refused.causes.0)))
-        by_fault (fault.Damaged entry) refused line =
-            let at = refused.causes in
-            let same = same_records bytes at.0 payloads (read_of (seen old.disk).content bytes at.0 tells at.1) decodes in
-            absurd (story_unbroken payloads differs.1.0 entry differs.1.1.0 (subst (λ (p : List Text). BreaksAt p entry) same at.2))
-        by_fault fault.RulesDiffer refused prints = inl (prints_all old.streams.out new.streams.out rules_line 3 status prints calm.out)
-        by_fault fault.Memory refused none = inr none.1
+          by : (way : Way) → IsOrShort cause.Input (cause_by_work seen cause_of way)
+          by (worked (text, settings, gives, is, work)) = absurd (not_read text settings gives is)
+          by (unopened (unset (refused none) same) kept) = inl refl
+          by (unopened (unset (missed miss) same) kept) = absurd (not_missed old.shelf new.shelf settings_file has.1 has.0 has.2 has.3 calm.shelf miss)
+          by (unopened (unset no_memory same) kept) = inr refl
+          by (unopened (not_opened why (text, settings, gives, is, given_up)) kept) = absurd (not_read text settings gives is)
+          by (unopened (not_told entry (text, settings, gives, is, given_up)) kept) = absurd (not_read text settings gives is)
 
-        by : Opening old new status → ((status ≡ 3) × Appends old.streams.out.written new.streams.out.written rules_line) ⊎ (status ≡ 7)
-        by (inl (read, found, gives, is, (records, H, told, opens))) =
-            let same = same_records bytes payloads records decodes (read_of (seen old.disk).content bytes records tells told) in
-            let there_too : DiffersFrom settings.rules records = subst (DiffersFrom settings.rules) same differs in
-            let rules_too : OpensWith settings.rules records H =
-            subst (λ (s : Settings). OpensWith s.rules records H) (one settings (files, text, there, at, reads) read found gives is) opens in
-            absurd (not_of_others settings.rules records H there_too rules_too)
-        by (inr none) =
-            why_none settings (files, text, there, at, reads) (((status ≡ 3) × Appends old.streams.out.written new.streams.out.written rules_line) ⊎ (status ≡ 7))
-            (λ e. inr e) by_fault none
+      -- a damaged disk is told, or memory is short
+      pub damage_told : TellsDisk seen old IsDamaged → (way : Way) → IsOrShort cause.Damaged (cause_by_work seen cause_of way)
+      damage_told (files, text, there, at, (settings, reads, (bytes, tells, damaged))) way = by way
+        where
+          by_fault : (why : BookFault) → Refused seen settings.rules old.disk new.disk why → IsOrShort cause.Damaged (cause_of_fault why)
+          by_fault fault.Disk given_up = absurd (calm.disk given_up.causes)
+          by_fault fault.Header given_up = inl refl
+          by_fault (fault.Damaged entry) given_up = inl refl
+          by_fault fault.RulesDiffer given_up =
+              let differs = given_up.causes in
+              absurd (not_damaged settings.rules bytes differs.0 (read_of (seen old.disk).content bytes differs.0 tells differs.1)
+              (λ entry at. story_unbroken differs.0 differs.2.1.0 entry differs.2.1.1.0 at) damaged)
+          by_fault fault.Memory given_up = inr refl
+
+          by : (way : Way) → IsOrShort cause.Damaged (cause_by_work seen cause_of way)
+          by (worked (read, found, gives, is, work)) =
+              let story = opens found work in
+              absurd (not_damaged found.rules bytes story.0 (read_of (seen old.disk).content bytes story.0 tells story.2)
+              (λ entry at. opens_unbroken found.rules story.0 story.1 entry story.3 at) damaged)
+          by (unopened none kept) = why_none settings (files, text, there, at, reads) (IsOrShort cause.Damaged) (inr refl) by_fault none
+
+      -- another campaign's disk is told, or memory is short
+      pub others_told : TellsDisk seen old IsOfOthers → (way : Way) → TellsOthers (cause_by_work seen cause_of way)
+      others_told (files, text, there, at, (settings, reads, (bytes, tells, (payloads, decodes, differs)))) way = by way
+        where
+          by_fault : (why : BookFault) → Refused seen settings.rules old.disk new.disk why → TellsOthers (cause_of_fault why)
+          by_fault fault.Disk given_up = absurd (calm.disk given_up.causes)
+          by_fault fault.Header given_up =
+              absurd (not_damaged settings.rules bytes payloads decodes (λ entry at. story_unbroken payloads differs.1.0 entry differs.1.1.0 at)
+              (inl (no_records (seen old.disk).content bytes tells given_up.causes.0)))
+          by_fault (fault.Damaged entry) given_up =
+              let at = given_up.causes in
+              let same = same_records bytes at.0 payloads (read_of (seen old.disk).content bytes at.0 tells at.1) decodes in
+              absurd (story_unbroken payloads differs.1.0 entry differs.1.1.0 (subst (λ (p : List Text). BreaksAt p entry) same at.2))
+          by_fault fault.RulesDiffer given_up = inl refl
+          by_fault fault.Memory given_up = inr refl
+
+          by : (way : Way) → TellsOthers (cause_by_work seen cause_of way)
+          by (worked (read, found, gives, is, work)) =
+              let story = opens found work in
+              let same = same_records bytes payloads story.0 decodes (read_of (seen old.disk).content bytes story.0 tells story.2) in
+              let there_too : DiffersFrom settings.rules story.0 = subst (DiffersFrom settings.rules) same differs in
+              let rules_too : OpensWith settings.rules story.0 story.1 =
+              subst (λ (s : Settings). OpensWith s.rules story.0 story.1) (one settings (files, text, there, at, reads) read found gives is) story.3 in
+              absurd (not_of_others settings.rules story.0 story.1 there_too rules_too)
+          by (unopened none kept) = why_none settings (files, text, there, at, reads) TellsOthers (inr refl) by_fault none

@@ -1,14 +1,24 @@
--- Files that are told: what is given of them, that they aren't missed, and a text that is printed, where no call failed.
-use Rattle.std.proofs.Common.{◌≡◌, ◌⊎◌, inl, inr, ℕ, List, Some, None, subst}
-use Rattle.std.specs.Io.KnownBytes.{Appends}
+-- Files that are told: what is given of them, and that they aren't missed where no call failed.
+use Rattle.std.proofs.Common.{◌≡◌, ◌⊎◌, inl, inr, ℕ, List, Some, None, subst, ◌∙◌, arith}
+use Rattle.std.specs.Prelude.{IfSome}
 use Rattle.decimal_rank.specs.Causes.{Rose}
-use Rattle.decimal_rank.specs.KnownBytes.{AppendsPart}
-use Rattle.decimal_rank.specs.Writings.{Writing}
-use Rattle.campaign_cli.specs.BookEnds.{settings_file}
-use Rattle.campaign_cli.specs.Outside.{Misses, Prints}
-use Rattle.campaign_cli.specs.Shelves.{Files, Gives, ShelfState, file_at}
-use Rattle.campaign_cli.specs.BookKinds.{TellsSettings}
+use Rattle.campaign_cli.specs.BookEnds.{TellsSettings, settings_file}
 use Rattle.campaign_cli.specs.EvalEnds.{TellsBoth}
+use Rattle.campaign_cli.specs.Outside.{Misses}
+use Rattle.campaign_cli.specs.Shelves.{Files, Follows, Gives, ShelfState, file_at}
+
+-- what follows on what
+pub follows_on : (a b c : ShelfState) → Follows a b → Follows b c → Follows a c
+follows_on a b c w v = record {
+  files = v.files ∙ w.files;
+  faults = omega (arith, w.faults, v.faults);
+  misses = omega (arith, w.misses, v.misses);
+}
+
+-- what is given later was there before
+pub given_before : (a b : ShelfState) (name bytes : List ℕ) → Follows a b → Gives b name bytes → Gives a name bytes
+given_before a b name bytes w gives =
+    record { few = gives.few; same = subst (λ files. IfSome files (λ files. file_at files name ≡ Some bytes)) w.files gives.same }
 
 -- what was given of a file that is told is the file
 pub given : (shelf : ShelfState) (name bytes there : List ℕ) (files : Files) → shelf.files ≡ Some files → file_at files name ≡ Some there → Gives shelf name bytes → there ≡ bytes
@@ -35,15 +45,7 @@ pub not_both_missed : (old new : ShelfState) (run qrels : List ℕ) (P : List �
 not_both_missed old new run qrels P w calm (inl missed) = not_missed old new run w.1 w.0 w.3 w.4 calm missed
 not_both_missed old new run qrels P w calm (inr missed) = not_missed old new qrels w.2 w.0 w.3 w.5 calm missed
 
--- a text was printed whole, where no write failed
-pub prints_all : (old new : Writing) (text : List ℕ) (status ended : ℕ) → Prints old new text status ended → ¬ (Rose old.faults new.faults) → (ended ≡ status) × Appends old.written new.written text
-prints_all old new text status ended prints calm = by prints.either
-  where
-    by : ((ended ≡ status) × Appends old.written new.written text)
-        ⊎ ((ended ≡ 8) × Rose old.faults new.faults × AppendsPart old.written new.written text)
-        → (ended ≡ status) × Appends old.written new.written text
-    by (inl all) = all
-    by (inr part) = absurd (calm part.1)
-
-pub prints_whole : (old new : Writing) (text : List ℕ) (status ended : ℕ) → Prints old new text status ended → ¬ (Rose old.faults new.faults) → ended ≡ status
-prints_whole old new text status ended prints calm = (prints_all old new text status ended prints calm).0
+-- one that is missed is counted
+pub missed_rose : (old new : ShelfState) (name : List ℕ) → Misses old new name → Rose old.faults new.faults ⊎ Rose old.misses new.misses
+missed_rose old new name (inl rose) = inl rose
+missed_rose old new name (inr missed) = inr missed.0

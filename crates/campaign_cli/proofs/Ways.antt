@@ -1,91 +1,109 @@
--- The ways in which the commands end.
-use Rattle.std.proofs.Common.{◌≡◌, inl, inr, ℕ, List, Some, None, refl, sym, subst, ◌∙◌, arith}
+-- The ways in which the commands end, from what their functions were given.
+use Rattle.std.proofs.Common.{◌≡◌, ◌≤◌, ◌⊎◌, inl, inr, ℕ, List, Option, Some, None, refl, sym, ap, subst, ◌∙◌, arith}
 use Rattle.std.specs.Prelude.{IfErr, IfOk, IfSome, Result, Ok, Err}
 use Rattle.decimal_rank.specs.Causes.{Rose}
-use Rattle.decimal_rank.specs.Writings.{Writing}
 use Rattle.disk_model.specs.Disks.{DiskState}
+use Rattle.book.specs.declared.compacting.CompactEnd.{CompactEnd}
+use Rattle.book.specs.declared.compacting.CompactEnd.TheVariants as compact_end
+use Rattle.book.specs.declared.faults.BookFault.{BookFault}
+use Rattle.book.specs.declared.faults.BookFault.TheVariants as fault
 use Rattle.book.specs.Books.{IsSound, Seen}
+use Rattle.book.specs.Compactings.{CompactsTo, LeavesStory}
 use Rattle.book.specs.Images.{StandsFor}
 use Rattle.book.specs.OpeningLaws.{stands_alone}
-use Rattle.book.specs.Openings.{Opened}
-use Rattle.campaign_server.specs.declared.numbers.ServerNumbers.{ServerNumbers}
-use Rattle.campaign_server.specs.Connections.{Ends}
-use Rattle.campaign_server.specs.Doors.{DoorState}
-use Rattle.campaign_server.specs.Links.{LinkState}
-use Rattle.campaign_server.specs.Servers.{ServesBook}
-use Rattle.campaign_server.specs.Sessions.{IsSession}
-use Rattle.eval.specs.Evaluations.{IsReport, IsInputFault}
+use Rattle.book.specs.Openings.{Opened, Refused}
+use Rattle.release_archive.specs.declared.ends.KeepEnd.{KeepEnd}
+use Rattle.release_archive.specs.declared.ends.KeepEnd.TheVariants as keep_end
+use Rattle.release_archive.specs.declared.kept.Kept.{Kept}
+use Rattle.release_archive.specs.Keepers.{Finds, KeeperState}
 use Rattle.routes.specs.declared.keys.KeyRow.{KeyRow}
-use Rattle.rulebook.specs.Campaign.{History}
-use Rattle.drill.specs.Plays.{IsPlayed}
-use Rattle.drill.specs.Summaries.{summary_of}
-use Rattle.drill.specs.declared.numbers.DrillNumbers.{DrillNumbers}
+use Rattle.release_archive.specs.Archiving.{Archives}
+use Rattle.rulebook.specs.declared.rules.Phase.TheVariants as phase_name
+use Rattle.rulebook.specs.Campaign.{History, phase}
 use Rattle.campaign_settings.specs.declared.settings.Settings.{Settings}
-use Rattle.campaign_cli.specs.declared.statuses.Status.{Status}
-use Rattle.campaign_cli.specs.ArchiveEnds.{unarchived}
-use Rattle.campaign_cli.specs.BookEnds.{GivesSettings, HasNone, IsGiven, IsOpened, IsRefused, Shows, Unopened, not_begun, not_opened, settings_file, settings_refused, settings_unread}
-use Rattle.campaign_cli.specs.CompactEnds.{uncompacted}
-use Rattle.campaign_cli.specs.DrillEnds.{DrillEnds, played, unplayed}
-use Rattle.campaign_cli.specs.EvalEnds.{EvalEnds, scored, refused, short}
-use Rattle.campaign_cli.specs.Outside.{Outside, Streams, Prints, outside_of}
-use Rattle.campaign_cli.specs.Endings.{Ends as Finishes}
-use Rattle.campaign_cli.specs.ReportEnds.{CompareWay, ListingWay, export_text, history_text, short_of}
-use Rattle.campaign_cli.specs.ReportEnds.{short as short_report}
-use Rattle.campaign_cli.specs.Requests.{Request, Eval, Session, Serve, Drill, Check, Compact, Archive, RunHistory, Compare, Export, Reuse, Agreement, Nothing}
-use Rattle.campaign_cli.specs.UsageEnds.{untold as unasked}
-use Rattle.campaign_cli.specs.ServeEnds.{Closes, ServeEnds, Served, ServersStand, served, unserved}
-use Rattle.campaign_cli.specs.SessionEnds.{Answers, Holds, SessionEnds, SessionsStand, held, unheld}
-use Rattle.campaign_cli.specs.ShownEnds.{ShownEnds, Tells, shown, unshown}
-use Rattle.campaign_settings.specs.Settings.{settings_of}
-use Rattle.campaign_cli.specs.Shelves.{Follows, Gives, ShelfState, file_at}
-use Rattle.campaign_cli.proofs.ReportWays.{reported}
+use Rattle.campaign_cli.specs.declared.endings.Cause.{Cause}
+use Rattle.campaign_cli.specs.declared.endings.Cause.TheVariants as cause
+use Rattle.campaign_cli.specs.declared.endings.Outcome.{Outcome}
+use Rattle.campaign_cli.specs.ArchiveEnds.{Archiving, PutsRelease, cause_of as archive_cause, kept_of, released, short as unarchived}
+use Rattle.campaign_cli.specs.BookEnds.{BookEnds, IsGiven, IsOpened, IsToldOf, NoSettings, Unopened, cause_of_fault, cause_of_none, cause_without_settings, missed, not_opened, not_told, settings_file, short as no_memory, unopened, unset, worked}
+use Rattle.campaign_cli.specs.Causes.{Ending, IsUnread, IsWay, SaysOrShort, ending_of, silent}
+use Rattle.campaign_cli.specs.CompactEnds.{CompactEnds, CompactWork, Compacting, IsToldEnd, cause_of as compact_cause, compact_text, left, packed, short as untold}
+use Rattle.campaign_cli.specs.EvalEnds.{EvalEnds, short, unread}
+use Rattle.campaign_cli.specs.Outside.{Misses}
+use Rattle.campaign_cli.specs.ReportEnds.{CompareEnds, ListingEnds, cause_of_end, first_unknown, second_unknown, short as unreported, short_of, unfound, unknown_line, unlisted}
+use Rattle.campaign_cli.specs.ServeEnds.{ServersStand}
+use Rattle.campaign_cli.specs.SessionEnds.{SessionsStand}
+use Rattle.campaign_cli.specs.Shelves.{Follows, ShelfState, file_at}
+use Rattle.campaign_cli.specs.ShownEnds.{ShownEnds, Shows, short as unshown, shown}
+use Rattle.campaign_cli.proofs.ToldFiles.{follows_on}
 
-follows_on : (a b c : ShelfState) → Follows a b → Follows b c → Follows a c
-follows_on a b c w v = record {
-  files = v.files ∙ w.files;
-  faults = omega (arith, w.faults, v.faults);
-  misses = omega (arith, w.misses, v.misses);
-}
+-- what rose later rose since before
+pub rose_before : (a b c : ℕ) → a ≤ b → Rose b c → Rose a c
+rose_before a b c before rose = grind (arith, before, rose)
 
--- a shelf that isn't touched
-still : (shelf : ShelfState) → Follows shelf shelf
-still shelf = record { files = refl; faults = omega arith; misses = omega arith }
+-- what is missed later was missing before
+missed_before : (a b c : ShelfState) (name : List ℕ) → Follows a b → Misses b c name → Misses a c name
+missed_before a b c name w (inl rose) = inl (rose_before a.faults b.faults c.faults w.faults rose)
+missed_before a b c name w (inr (rose, lacks)) =
+    inr (rose_before a.misses b.misses c.misses w.misses rose, subst (λ files. IfSome files (λ files. file_at files name ≡ None)) w.files lacks)
 
--- what is given later was there before
-given_before : (a b : ShelfState) (name bytes : List ℕ) → Follows a b → Gives b name bytes → Gives a name bytes
-given_before a b name bytes w gives =
-    record { few = gives.few; same = subst (λ files. IfSome files (λ files. file_at files name ≡ Some bytes)) w.files gives.same }
+module _ (run qrels : List ℕ) (a b : ShelfState) (first : Follows a b) where
+  -- the run wasn't read
+  pub run_unread : (found : Cause) → IsUnread a b run found → EvalEnds run qrels a b (silent found)
+  run_unread found (inl (is, miss)) = (record { way = unread (inl miss); told = ap silent is }, first)
+  run_unread found (inr is) = (record { way = short; told = ap silent is }, first)
 
-module _ (run qrels : List ℕ) (old : Streams) (b c : ShelfState) (out : Writing) (status : ℕ) (first : Follows old.shelf b) (second : Follows b c) where
-  pub eval_scored : (r q text : List ℕ) → Gives old.shelf run r → Gives b qrels q → IsReport run r q text → Prints old.out out text 0 status
-      → EvalEnds run qrels old (record old { shelf = c; out = out }) status
-  eval_scored r q text gr gq report prints = record {
-    way = scored r q text gr (given_before old.shelf b qrels q first gq) report prints;
-    shelf = follows_on old.shelf b c first second;
-    rest = refl;
-  }
+  -- it was, and the qrels weren't
+  pub qrels_unread : (c : ShelfState) (found : Cause) → Follows b c → IsUnread b c qrels found → EvalEnds run qrels a c (silent found)
+  qrels_unread c found second (inl (is, miss)) = (record { way = unread (inr (missed_before a b c qrels first miss)); told = ap silent is }, follows_on a b c first second)
+  qrels_unread c found second (inr is) = (record { way = short; told = ap silent is }, follows_on a b c first second)
 
-  pub eval_refused : (r q line : List ℕ) → Gives old.shelf run r → Gives b qrels q → IsInputFault run qrels r q line → Prints old.out out line 3 status
-      → EvalEnds run qrels old (record old { shelf = c; out = out }) status
-  eval_refused r q line gr gq fault prints = record {
-    way = refused r q line gr (given_before old.shelf b qrels q first gq) fault prints;
-    shelf = follows_on old.shelf b c first second;
-    rest = refl;
-  }
+-- the settings weren't read
+pub settings_unread : (shelf later : ShelfState) (found : Cause) → IsUnread shelf later settings_file found → IsWay (NoSettings shelf later) cause_without_settings (silent found)
+settings_unread shelf later found (inl (is, miss)) = record { way = missed miss; told = ap silent is }
+settings_unread shelf later found (inr is) = record { way = no_memory; told = ap silent is }
 
--- a generated campaign was played
-pub drill_played : (numbers : DrillNumbers) (old : Streams) (out : Writing) (H : History) (text : List ℕ) (status : ℕ) → IsPlayed numbers H → text ≡ summary_of numbers H
-    → Prints old.out out text 0 status → DrillEnds numbers old (record old { out = out }) status
-drill_played numbers old out H text status plays is prints =
-    record { way = played H plays (subst (λ (t : List ℕ). Prints old.out out t 0 status) is prints); rest = refl }
+-- a report for which the archive's keeper failed, or had no memory
+pub not_listed : (text_of : List Kept → List ℕ) (old new : KeeperState) (end : KeepEnd) (found : Cause) → found ≡ cause_of_end end
+    → old.faults ≤ new.faults → new.held ≡ old.held → (end ≡ keep_end.Failed → Rose old.faults new.faults) → ListingEnds text_of old new (silent found)
+not_listed text_of old new keep_end.Failed found is later same failed = record { way = unlisted (failed refl); told = ap silent is; archive = (later, same) }
+not_listed text_of old new keep_end.Memory found is later same failed = record { way = unreported; told = ap silent is; archive = (later, same) }
+
+module _ (first second : List ℕ) (old new : KeeperState) (later : old.faults ≤ new.faults) (same : new.held ≡ old.held) where
+  pub not_compared : (end : KeepEnd) (found : Cause) → found ≡ cause_of_end end → (end ≡ keep_end.Failed → Rose old.faults new.faults)
+      → CompareEnds first second old new (silent found)
+  not_compared keep_end.Failed found is failed = record { way = unfound (failed refl); told = ap silent is; archive = (later, same) }
+  not_compared keep_end.Memory found is failed = record { way = short_of; told = ap silent is; archive = (later, same) }
+
+  pub not_first : (ending : Ending) → Finds old.held first None → SaysOrShort cause.Unknown (unknown_line first) ending → CompareEnds first second old new ending
+  not_first ending none (inl is) = record { way = first_unknown none; told = is; archive = (later, same) }
+  not_first ending none (inr is) = record { way = short_of; told = is; archive = (later, same) }
+
+  pub not_second : (ending : Ending) (kept : Kept) → Finds old.held first (Some kept) → Finds old.held second None
+      → SaysOrShort cause.Unknown (unknown_line second) ending → CompareEnds first second old new ending
+  not_second ending kept one none (inl is) = record { way = second_unknown kept one none; told = is; archive = (later, same) }
+  not_second ending kept one none (inr is) = record { way = short_of; told = is; archive = (later, same) }
+
+-- what came of a release that was to be put into the archive
+pub put_campaign : (name : List ℕ) (H : History) (before after : KeeperState) (ending : Ending) → phase H ≡ phase_name.Published → (kept : Kept) → kept ≡ kept_of name H
+    → PutsRelease name kept before after ending → IsWay (Archiving name H before after) (archive_cause name) ending
+put_campaign name H before after ending published kept is (inl (answer, archives, told)) =
+    record { way = released published answer (subst (λ (k : Kept). Archives before k answer after) is archives); told = told }
+put_campaign name H before after ending published kept is (inr (same, told)) = record { way = unarchived same; told = told }
 
 module _ {D : Type 0} (seen : D → DiskState) where
-  -- there are no settings
-  pub no_settings : (old : Streams) (later : ShelfState) (out : Writing) (disk : D) (status : ℕ) → HasNone old.shelf later old.out out status
-      → Unopened seen (outside_of old disk) (outside_of (record old { shelf = later; out = out }) disk) status
-  no_settings old later out disk status (inl told) = settings_refused told.0 told.1 refl
-  no_settings old later out disk status (inr (same, inl missed)) = settings_unread missed.1 same refl missed.0
-  no_settings old later out disk status (inr (same, inr is)) = not_begun same refl is
+  -- a text of a campaign that was opened is told, or there was no memory for it
+  pub shown_campaign : (shelf later : ShelfState) (disk after : D) (ending : Ending) (text_of : History → List ℕ) (book : Seen D) (callers : List KeyRow)
+      (opened : IsOpened seen shelf disk book callers) → Follows shelf later → SaysOrShort cause.Done (text_of book.history) ending → after ≡ book.disk
+      → ShownEnds seen text_of shelf later disk after ending
+  shown_campaign shelf later disk after ending text_of book callers opened follows told closes = by told
+    where
+      shows : Shows seen disk after opened.settings book
+      shows = record { opens = opened.opened; closes = closes }
+
+      by : SaysOrShort cause.Done (text_of book.history) ending → ShownEnds seen text_of shelf later disk after ending
+      by (inl is) = record { way = worked (opened.text, opened.settings, opened.given, opened.read, shown book shows); told = is; follows = follows }
+      by (inr is) = record { way = worked (opened.text, opened.settings, opened.given, opened.read, unshown book shows); told = is; follows = follows }
 
   -- a disk that was opened under settings that were given
   pub opened_disk : {T : Type 0} (settings : Settings) (shelf : ShelfState) (disk : D) → IsGiven shelf settings → (result : Result (Seen D × List KeyRow) T)
@@ -96,69 +114,38 @@ module _ {D : Type 0} (seen : D → DiskState) where
   opened_disk settings shelf disk given (Err ended) opens callers = tt
 
   -- a disk that wasn't opened
-  pub refused_disk : {T : Type 0} (text : List ℕ) (settings : Settings) (shelf later : ShelfState) (out written : Writing) (disk : D)
-      → Gives shelf settings_file text → settings_of text ≡ Some settings → (result : Result T (Status × D))
-      → IfErr result (λ ended. IsRefused seen settings.rules disk ended.1 out written ended.0.0)
-      → IfErr result (λ ended. (other : Streams) → Unopened seen (outside_of (record other { shelf = shelf; out = out }) disk)
-      (outside_of (record other { shelf = later; out = written }) ended.1) ended.0.0)
-  refused_disk text settings shelf later out written disk gives is (Ok found) none = tt
-  refused_disk text settings shelf later out written disk gives is (Err ended) given_up = λ other. not_opened (text, settings, gives, is, given_up)
+  pub refused_disk : {T : Type 0} (settings : Settings) (shelf later : ShelfState) (disk : D) → IsGiven shelf settings → (result : Result T (Outcome × D))
+      → IfErr result (λ given. (why : BookFault) × Refused seen settings.rules disk given.1 why × IsToldOf why (ending_of given.0))
+      → IfErr result (λ given. IsWay (Unopened seen shelf later disk given.1) (cause_of_none seen) (ending_of given.0))
+  refused_disk settings shelf later disk given (Ok found) none = tt
+  refused_disk settings shelf later disk given (Err ended) (why, given_up, inl told) =
+      record { way = not_opened why (given.0, settings, given.1, given.2, given_up); told = told }
+  refused_disk settings shelf later disk given (Err ended) (why, given_up, inr (entry, is, told)) =
+      record { way = not_told entry (given.0, settings, given.1, given.2, subst (Refused seen settings.rules disk ended.1) is given_up); told = told }
 
-  -- a campaign that was opened
-  module _ (old : Streams) (later : ShelfState) (out : Writing) (disk after : D) (status : ℕ) (follows : Follows old.shelf later)
-      (book : Seen D) (callers : List KeyRow) (opened : IsOpened seen old.shelf disk book callers) where
-    given : (P : Settings → Type 0) → P opened.settings → GivesSettings old.shelf P
-    given P holds = (opened.text, opened.settings, opened.given, opened.read, holds)
+  -- what came of the journal of the settings
+  pub compacted_campaign : (shelf later : ShelfState) (disk after : D) (ending : Ending) (settings : Settings) → IsGiven shelf settings → Follows shelf later
+      → Compacting seen settings disk after ending → CompactEnds seen shelf later disk after ending
+  compacted_campaign shelf later disk after ending settings given follows (end, comes, told) = by end comes told
+    where
+      ended : (work : CompactWork seen disk after settings) → ending ≡ compact_cause seen settings work → CompactEnds seen shelf later disk after ending
+      ended work is = record { way = worked (given.0, settings, given.1, given.2, work); told = is; follows = follows }
 
-    -- it answers a link
-    pub held_session : (own : LinkState) → out ≡ old.out → Answers seen callers book old.own own after status
-        → SessionEnds seen (outside_of old disk) (outside_of (record old { shelf = later; out = out; own = own }) after) status
-    held_session own same answers =
-        let new = outside_of (record old { shelf = later; out = out; own = own }) after in
-        record {
-          way = held answers.how (given (λ settings. Holds seen settings (outside_of old disk) new answers.how) (record {
-            opened = book;
-            closed = answers.closed;
-            opens = opened.opened;
-            talk = subst (λ (callers : List KeyRow). Ends (IsSession seen callers book old.own.clock answers.closed own.clock) old.own own answers.how)
-                opened.callers_are answers.talk;
-            runs = answers.runs;
-            sound = answers.sound;
-            closes = answers.closes;
-          })) same answers.status_is;
-          shelf = follows;
-          rest = refl;
-        }
+      absent : (none : Unopened seen shelf later disk after) → ending ≡ cause_of_none seen none → CompactEnds seen shelf later disk after ending
+      absent none is = record { way = unopened none tt; told = is; follows = follows }
 
-    -- it takes the links of a door
-    pub served_links : (numbers : ServerNumbers) (door : DoorState) → out ≡ old.out → Closes seen callers numbers book old.door door after status
-        → ServeEnds seen numbers (outside_of old disk) (outside_of (record old { shelf = later; out = out; door = door }) after) status
-    served_links numbers door same closes =
-        let new = outside_of (record old { shelf = later; out = out; door = door }) after in
-        record {
-          way = served closes.how (given (λ settings. Served seen settings numbers (outside_of old disk) new closes.how) (record {
-            opened = book;
-            closed = closes.closed;
-            opens = opened.opened;
-            serves = subst (λ (callers : List KeyRow). ServesBook seen callers numbers book closes.closed old.door door closes.how)
-                opened.callers_are closes.serves;
-            sound = closes.sound;
-            closes = closes.closes;
-          })) same closes.status_is;
-          shelf = follows;
-          rest = refl;
-        }
+      never : (entry : ℕ) (why : BookFault) → why ≡ fault.Damaged entry → (why ≡ fault.Memory) ⊎ ((why ≡ fault.Disk) × Rose (seen disk).faults (seen after).faults) → ⊥
+      never entry why is (inl other) = cc (is, other)
+      never entry why is (inr (other, rose)) = cc (is, other)
 
-    -- a text of it is printed
-    pub shown_campaign : (text_of : History → List ℕ) (between : Writing) → between ≡ old.out → Tells text_of book.history between out status → after ≡ book.disk
-        → ShownEnds seen text_of (outside_of old disk) (outside_of (record old { shelf = later; out = out }) after) status
-    shown_campaign text_of between same tells closes = record {
-      way = shown (given (λ settings. (book : Seen D) × Shows seen settings (outside_of old disk) (outside_of (record old { shelf = later; out = out }) after) book
-          × Tells text_of book.history old.out out status)
-          (book, record { opens = opened.opened; closes = closes }, subst (λ (o : Writing). Tells text_of book.history o out status) same tells));
-      shelf = follows;
-      rest = refl;
-    }
+      by : (end : CompactEnd) → CompactsTo seen settings.rules disk after end → IsToldEnd seen end ending → CompactEnds seen shelf later disk after ending
+      by (compact_end.Done entries before size) compacts (inl is) = ended (packed entries before size compacts) is
+      by (compact_end.Done entries before size) compacts (inr is) = ended (untold entries before size compacts) is
+      by (compact_end.Fault why) (inl given_up) (inl is) = absent (not_opened why (given.0, settings, given.1, given.2, given_up)) is
+      by (compact_end.Fault why) (inl given_up) (inr (entry, damaged, is)) =
+          absent (not_told entry (given.0, settings, given.1, given.2, subst (Refused seen settings.rules disk after) damaged given_up)) is
+      by (compact_end.Fault why) (inr leaves) (inl is) = ended (left why leaves) is
+      by (compact_end.Fault why) (inr leaves) (inr (entry, damaged, is)) = absurd (never entry why damaged leaves.cause)
 
   -- what a disk stands for at the end, where no call on it failed since the opening
   stands : (disk after : D) (closed : Seen D) → IsSound seen closed → closed.opening ≡ (seen disk).faults → after ≡ closed.disk
@@ -169,26 +156,9 @@ module _ {D : Type 0} (seen : D → DiskState) where
       subst (λ (last : D). StandsFor (seen last).images closed.history None) (sym closes) alone
 
   pub session_stands : SessionsStand seen
-  session_stands settings old new how session calm =
-      stands old.disk new.disk session.closed session.sound (session.runs.opening ∙ session.opens.opening_is) session.closes calm
+  session_stands settings old new disk after session calm =
+      stands disk after session.closed session.sound (session.runs.opening ∙ session.opens.opening_is) session.closes calm
 
   pub server_stands : ServersStand seen
-  server_stands settings numbers old new how server calm =
-      stands old.disk new.disk server.closed server.sound (sym server.serves.grown.opening ∙ server.opens.opening_is) server.closes calm
-
-  -- there was no memory to read the words: nothing was done, whatever they ask for
-  pub without_memory : (request : Request) (old : Outside D) → Finishes seen request old old 7
-  without_memory (Eval run qrels) old = (record { way = short refl refl; shelf = still old.streams.shelf; rest = refl }, refl)
-  without_memory Session old = record { way = unheld (not_begun refl refl refl) refl; shelf = still old.streams.shelf; rest = refl }
-  without_memory (Serve numbers) old = record { way = unserved (not_begun refl refl refl) refl; shelf = still old.streams.shelf; rest = refl }
-  without_memory (Drill numbers) old = (record { way = unplayed refl refl; rest = refl }, refl)
-  without_memory Check old = record { way = unshown (not_begun refl refl refl); shelf = still old.streams.shelf; rest = refl }
-  without_memory Compact old = record { way = uncompacted (not_begun refl refl refl); shelf = still old.streams.shelf; rest = refl }
-  without_memory (Archive name) old = record { way = unarchived (not_begun refl refl refl) refl; shelf = still old.streams.shelf; rest = refl }
-  without_memory (RunHistory run) old = (reported old.streams old.streams.out old.streams.keeper 7 refl (omega arith) (ListingWay (history_text run)) (short_report refl refl), refl)
-  without_memory (Compare first second) old =
-      (reported old.streams old.streams.out old.streams.keeper 7 refl (omega arith) (CompareWay first second) (short_of refl refl), refl)
-  without_memory Export old = (reported old.streams old.streams.out old.streams.keeper 7 refl (omega arith) (ListingWay export_text) (short_report refl refl), refl)
-  without_memory Reuse old = record { way = unshown (not_begun refl refl refl); shelf = still old.streams.shelf; rest = refl }
-  without_memory Agreement old = record { way = unshown (not_begun refl refl refl); shelf = still old.streams.shelf; rest = refl }
-  without_memory Nothing old = (record { way = unasked refl refl; rest = refl }, refl)
+  server_stands settings numbers old new disk after server calm =
+      stands disk after server.closed server.sound (sym server.serves.grown.opening ∙ server.opens.opening_is) server.closes calm

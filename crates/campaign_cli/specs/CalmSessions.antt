@@ -10,12 +10,13 @@ use Rattle.campaign_server.specs.Chains.{Said}
 use Rattle.campaign_server.specs.Connections.{Ends}
 use Rattle.campaign_server.specs.Sessions.{IsSession}
 use Rattle.campaign_settings.specs.declared.settings.Settings.{Settings}
-use Rattle.campaign_cli.specs.BookEnds.{settings_file}
-use Rattle.campaign_cli.specs.Outside.{Outside}
-use Rattle.campaign_cli.specs.SessionEnds.{SessionEnds, status_of}
 use Rattle.campaign_settings.specs.Settings.{settings_of}
+use Rattle.campaign_cli.specs.BookEnds.{CanOpen, settings_file}
+use Rattle.campaign_cli.specs.Causes.{number_of}
+use Rattle.campaign_cli.specs.Kinds.{Finishes}
+use Rattle.campaign_cli.specs.Outside.{Outside}
+use Rattle.campaign_cli.specs.SessionEnds.{cause_of, session_kind}
 use Rattle.campaign_cli.specs.Shelves.{Gives}
-use Rattle.campaign_cli.specs.BookKinds.{CanOpen}
 use Rattle.campaign_cli.specs.Statuses.{IsCalm}
 
 -- no answer tells a fault of the disk
@@ -38,18 +39,18 @@ module _ {D : Type 0} (seen : D → DiskState) where
   pub record IsAnswered (old new : Outside D) (status : ℕ) : Type 0 where
     pub text : List ℕ
     pub settings : Settings
-    pub given : Gives old.streams.shelf settings_file text
+    pub given : Gives old.shelf settings_file text
     pub read : settings_of text ≡ Some settings
     pub opened : Seen D
     pub closed : Seen D
     pub opens : Opened seen settings.rules old.disk opened
     pub how : End
     pub calm : IsCalmEnd how
-    pub status_is : status ≡ status_of how
-    pub talk : Ends (λ said. IsSession seen settings.callers opened old.streams.own.clock closed new.streams.own.clock said × HasNoDiskFault said) old.streams.own new.streams.own how
+    pub status_is : status ≡ number_of (cause_of how)
+    pub talk : Ends (λ said. IsSession seen settings.callers opened old.own.clock closed new.own.clock said × HasNoDiskFault said) old.own new.own how
 
   -- With its files and its disk told and within their grammars, and no count risen, the requests of a session are answered, or memory was short before the first one was read.
   abbrev pub CalmSessionsAreAnswered : Type 0
-  CalmSessionsAreAnswered = (old new : Outside D) (status : ℕ) → SessionEnds seen old new status
+  CalmSessionsAreAnswered = (old new : Outside D) (status : ℕ) → Finishes (session_kind seen) old new status
       → CanOpen seen old → IsCalm seen old new
-      → ((status ≡ 7) × (new.streams.own ≡ old.streams.own)) ⊎ IsAnswered old new status
+      → ((status ≡ 7) × (new.own ≡ old.own)) ⊎ IsAnswered old new status

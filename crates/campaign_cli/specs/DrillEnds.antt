@@ -1,26 +1,28 @@
 -- How `drill` ends.
-use Rattle.std.specs.Prelude.{◌≡◌, ℕ}
 use Rattle.rulebook.specs.Campaign.{History}
 use Rattle.drill.specs.Plays.{IsPlayed}
 use Rattle.drill.specs.Summaries.{summary_of}
 use Rattle.drill.specs.declared.numbers.DrillNumbers.{DrillNumbers}
-use Rattle.campaign_cli.specs.Kinds.{Kind, plain_kind}
-use Rattle.campaign_cli.specs.Outside.{Streams, Prints}
+use Rattle.campaign_cli.specs.declared.endings.Cause.TheVariants.{Done, Memory}
+use Rattle.campaign_cli.specs.Causes.{Ending, says, silent}
+use Rattle.campaign_cli.specs.Kinds.{Kind, nothing}
 
 -- the ways in which `drill` ends
-pub data DrillWay (numbers : DrillNumbers) (old new : Streams) (status : ℕ) : Type 0 where
+pub data DrillWay (numbers : DrillNumbers) : Type 0 where
   -- the campaign is played, and its seven lines are printed
-  played : (H : History) → IsPlayed numbers H → Prints old.out new.out (summary_of numbers H) 0 status → DrillWay numbers old new status
+  played : (H : History) → IsPlayed numbers H → DrillWay numbers
   -- there was no memory for it, or for the answer to one of its messages
-  unplayed : new.out ≡ old.out → status ≡ 7 → DrillWay numbers old new status
+  short : DrillWay numbers
 
-pub record DrillEnds (numbers : DrillNumbers) (old new : Streams) (status : ℕ) : Type 0 where
-  pub way : DrillWay numbers old new status
-  -- all but the output is as it was
-  pub rest : new ≡ record old { out = new.out }
+abbrev pub cause_of : {numbers : DrillNumbers} → DrillWay numbers → Ending
+cause_of {numbers} (played H plays) = says Done (summary_of numbers H)
+cause_of short = silent Memory
 
 abbrev pub drill_kind : {D : Type 0} → DrillNumbers → Kind D
-drill_kind numbers = record (plain_kind (λ old new status. DrillEnds numbers old.streams new.streams status × (new.disk ≡ old.disk))) {
-  output = λ old new text. (H : History) × IsPlayed numbers H × (text ≡ summary_of numbers H);
+drill_kind numbers = record {
+  Way = λ old new. DrillWay numbers;
+  cause_of = λ old new. cause_of;
+  needs = nothing;
   can_do = λ old. Unit {0};
+  has_to_refuse = λ old. ⊥;
 }

@@ -1,55 +1,71 @@
--- What there is to know of a command besides its words: how it ends, what it needs, what it prints, and when it can do its work.
-use Rattle.std.specs.Prelude.{ℕ, List}
+-- What there is to know of a command besides its words: its ways of ending with their causes, what it needs, and when it can do its work.
+use Rattle.std.specs.Prelude.{◌≡◌, ◌≤◌, ℕ, Bool, true, false}
+use Rattle.release_archive.specs.Keepers.{KeeperState}
+use Rattle.campaign_cli.specs.declared.endings.Cause.TheVariants.{Memory}
+use Rattle.campaign_cli.specs.Causes.{Ending, Tells, number_of}
 use Rattle.campaign_cli.specs.Outside.{Outside}
+use Rattle.campaign_cli.specs.Shelves.{Follows, ShelfState}
+
+-- what a command uses beside the output: files, the own link, the links of a door, the archive of releases, which it may ask or add one to, and the disk
+pub record Needs : Type 0 where
+  pub files : Bool
+  pub own : Bool
+  pub door : Bool
+  pub archive : Bool
+  pub adding : Bool
+  pub book : Bool
+
+abbrev pub nothing : Needs
+nothing = record { files = false; own = false; door = false; archive = false; adding = false; book = false }
+
+-- a command that keeps a campaign uses the file of its settings and the disk
+abbrev pub a_book : Needs
+a_book = record nothing { files = true; book = true }
+
+-- what isn't needed is as it was
+abbrev pub Stays : {T : Type 0} → Bool → T → T → Type 0
+Stays true old new = Unit {0}
+Stays false old new = new ≡ old
+
+-- the files stay, and no count of the shelf falls
+abbrev pub LeavesFiles : Bool → ShelfState → ShelfState → Type 0
+LeavesFiles true old new = Follows old new
+LeavesFiles false old new = new ≡ old
+
+-- who asks the archive, and doesn't add to it, leaves its releases; no count of its keeper falls
+abbrev pub LeavesArchive : Bool → Bool → KeeperState → KeeperState → Type 0
+LeavesArchive true true old new = old.faults ≤ new.faults
+LeavesArchive true false old new = (old.faults ≤ new.faults) × (new.held ≡ old.held)
+LeavesArchive false adding old new = new ≡ old
+
+pub record Leaves {D : Type 0} (needs : Needs) (old new : Outside D) : Type 0 where
+  pub files : LeavesFiles needs.files old.shelf new.shelf
+  pub own : Stays needs.own old.own new.own
+  pub door : Stays needs.door old.door new.door
+  pub archive : LeavesArchive needs.archive needs.adding old.keeper new.keeper
+  pub disk : Stays needs.book old.disk new.disk
 
 pub record Kind (D : Type 0) : Type 1 where
-  -- it was asked and ended with the status; the outside was as the first, and is as the second
-  pub ends : Outside D → Outside D → ℕ → Type 0
-  -- it reads files
-  pub reads_files : Type 0
-  -- it keeps a campaign on the disk
-  pub keeps_book : Type 0
-  -- it takes the links of a door
-  pub takes_links : Type 0
-  -- it asks the archive of releases
-  pub asks_archive : Type 0
-  -- it puts a release into the archive
-  pub adds_release : Type 0
-  -- a file that it reads wasn't read
-  pub misses : Outside D → Outside D → Type 0
-  -- the text is what it prints when its work is done
-  pub output : Outside D → Outside D → List ℕ → Type 0
-  -- a file is refused, or the disk is another campaign's, and the text says so
-  pub refusal : Outside D → Outside D → List ℕ → Type 0
-  -- the campaign isn't published, and the text says so
-  pub unpublished : Outside D → Outside D → List ℕ → Type 0
-  -- the archive has another release of the name, and the text says so
-  pub differing : Outside D → Outside D → List ℕ → Type 0
-  -- the archive has no release of a name, and the text says so
-  pub unknown : Outside D → Outside D → List ℕ → Type 0
-  -- a call on the disk failed behind the opening, and so its work isn't done
-  pub breaks_off : Outside D → Outside D → Type 0
+  -- the ways in which it ends; the outside was as the first, and is as the second
+  pub Way : Outside D → Outside D → Type 0
+  -- the cause of each, and the text that is printed for it
+  pub cause_of : (old new : Outside D) → Way old new → Ending
+  pub needs : Needs
   -- its files are told, and within their grammars, and so is the disk: it can do its work
   pub can_do : Outside D → Type 0
   -- its files are told, and one is outside its grammar: it has to refuse that
   pub has_to_refuse : Outside D → Type 0
 
--- a command that needs nothing, and of which nothing is known but how it ends
-abbrev pub plain_kind : {D : Type 0} → (Outside D → Outside D → ℕ → Type 0) → Kind D
-plain_kind ends = record {
-  ends = ends;
-  reads_files = ⊥;
-  keeps_book = ⊥;
-  takes_links = ⊥;
-  asks_archive = ⊥;
-  adds_release = ⊥;
-  misses = λ old new. ⊥;
-  output = λ old new text. ⊥;
-  refusal = λ old new text. ⊥;
-  unpublished = λ old new text. ⊥;
-  differing = λ old new text. ⊥;
-  unknown = λ old new text. ⊥;
-  breaks_off = λ old new. ⊥;
-  can_do = λ old. ⊥;
-  has_to_refuse = λ old. ⊥;
-}
+module _ {D : Type 0} (kind : Kind D) (old new : Outside D) where
+  -- A command ended in one of its ways, and left what it doesn't need.
+  pub record Ended (ending : Ending) : Type 0 where
+    pub way : kind.Way old new
+    pub told : ending ≡ kind.cause_of old new way
+    pub leaves : Leaves kind.needs old new
+
+  -- how the program ends
+  pub data Finishes (status : ℕ) : Type 0 where
+    -- there was no memory to read the words: all is as it was
+    unread : new ≡ old → status ≡ number_of Memory → Finishes status
+    -- the command ended, and what that has to tell is printed
+    ended : (ending : Ending) → Ended ending → Tells ending old.out new.out status → Finishes status

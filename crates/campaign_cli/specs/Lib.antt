@@ -1,7 +1,7 @@
 pub mod ArchiveEnds
 pub mod BookEnds
-pub mod BookKinds
 pub mod CalmSessions
+pub mod Causes
 pub mod CompactEnds
 pub mod DrillEnds
 pub mod Endings
@@ -18,4 +18,3 @@ pub mod ShownEnds
 pub mod ShownTexts
 pub mod Sinks
 pub mod Statuses
-pub mod UsageEnds

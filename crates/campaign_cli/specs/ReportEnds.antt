@@ -1,5 +1,5 @@
 -- How the reports on the archive end: `history`, `compare` and `export`. They read no settings and no journal.
-use Rattle.std.specs.Prelude.{◌≡◌, ◌≤◌, ◌⊎◌, ℕ, ◌+◌, ◌-◌, List, ◌++◌, Some, None, if◌then◌else◌, nat_lt, max, codes, decimal}
+use Rattle.std.specs.Prelude.{◌≡◌, ℕ, ◌+◌, ◌-◌, List, ◌++◌, Some, None, if◌then◌else◌, nat_lt, max, codes, decimal, true, false}
 use Rattle.std.specs.List.{flat_map}
 use Rattle.decimal_rank.specs.Causes.{Rose}
 use Rattle.archive_reports.specs.Comparisons.{pairs_of}
@@ -11,9 +11,12 @@ use Rattle.measures.specs.ScoreLines.{four_decimals}
 use Rattle.release_archive.specs.declared.ends.KeepEnd.{KeepEnd}
 use Rattle.release_archive.specs.declared.ends.KeepEnd.TheVariants as keep_end
 use Rattle.release_archive.specs.declared.kept.Kept.{Kept}
-use Rattle.release_archive.specs.Keepers.{Finds, Lists}
-use Rattle.campaign_cli.specs.Kinds.{Kind, plain_kind}
-use Rattle.campaign_cli.specs.Outside.{Streams, Prints, count_line, name_line}
+use Rattle.release_archive.specs.Keepers.{Finds, KeeperState, Lists}
+use Rattle.campaign_cli.specs.declared.endings.Cause.{Cause}
+use Rattle.campaign_cli.specs.declared.endings.Cause.TheVariants as cause
+use Rattle.campaign_cli.specs.Causes.{Ending, IsWay, says, silent}
+use Rattle.campaign_cli.specs.Kinds.{Kind, LeavesArchive, nothing}
+use Rattle.campaign_cli.specs.Outside.{count_line, name_line}
 
 -- a run in a release: the release's name, how many topics counted, and the map, with tabs between them
 abbrev pub history_line : HistoryRow → List ℕ
@@ -43,66 +46,68 @@ compare_text pairs = count_line (codes "common ") pairs.common ++ count_line (co
 abbrev pub unknown_line : List ℕ → List ℕ
 unknown_line name = name_line (codes "unknown ") name
 
--- the status where the archive's keeper didn't do its work
-abbrev pub keep_status : KeepEnd → ℕ
-keep_status keep_end.Failed = 12
-keep_status keep_end.Memory = 7
+-- the cause where the archive's keeper didn't do its work
+abbrev pub cause_of_end : KeepEnd → Cause
+cause_of_end keep_end.Failed = cause.Keeper
+cause_of_end keep_end.Memory = cause.Memory
 
 -- the ways in which a report on all releases ends
-pub data ListingWay (text_of : List Kept → List ℕ) (old new : Streams) (status : ℕ) : Type 0 where
+pub data ListingWay (text_of : List Kept → List ℕ) (old new : KeeperState) : Type 0 where
   -- its text of the releases is printed
-  listed : (all : List Kept) → Lists old.keeper.held all → Prints old.out new.out (text_of all) 0 status → ListingWay text_of old new status
+  listed : (all : List Kept) → Lists old.held all → ListingWay text_of old new
   -- the archive's keeper failed
-  unlisted : Rose old.keeper.faults new.keeper.faults → new.out ≡ old.out → status ≡ 12 → ListingWay text_of old new status
+  unlisted : Rose old.faults new.faults → ListingWay text_of old new
   -- there was no memory
-  short : new.out ≡ old.out → status ≡ 7 → ListingWay text_of old new status
+  short : ListingWay text_of old new
+
+abbrev pub listing_cause : {text_of : List Kept → List ℕ} → {old new : KeeperState} → ListingWay text_of old new → Ending
+listing_cause {text_of} (listed all lists) = says cause.Done (text_of all)
+listing_cause (unlisted rose) = silent cause.Keeper
+listing_cause short = silent cause.Memory
 
 -- the ways in which `compare` ends
-pub data CompareWay (first second : List ℕ) (old new : Streams) (status : ℕ) : Type 0 where
+pub data CompareWay (first second : List ℕ) (old new : KeeperState) : Type 0 where
   -- both releases are there: how they agree is printed
-  compared : (kept other : Kept) → Finds old.keeper.held first (Some kept) → Finds old.keeper.held second (Some other)
-      → Prints old.out new.out (compare_text (pairs_of kept.systems other.systems)) 0 status → CompareWay first second old new status
+  compared : (kept other : Kept) → Finds old.held first (Some kept) → Finds old.held second (Some other) → CompareWay first second old new
   -- the first isn't
-  first_unknown : Finds old.keeper.held first None → Prints old.out new.out (unknown_line first) 15 status → CompareWay first second old new status
+  first_unknown : Finds old.held first None → CompareWay first second old new
   -- the first is, and the second isn't
-  second_unknown : (kept : Kept) → Finds old.keeper.held first (Some kept) → Finds old.keeper.held second None
-      → Prints old.out new.out (unknown_line second) 15 status → CompareWay first second old new status
+  second_unknown : (kept : Kept) → Finds old.held first (Some kept) → Finds old.held second None → CompareWay first second old new
   -- the archive's keeper failed
-  unfound : Rose old.keeper.faults new.keeper.faults → new.out ≡ old.out → status ≡ 12 → CompareWay first second old new status
+  unfound : Rose old.faults new.faults → CompareWay first second old new
   -- there was no memory
-  short_of : new.out ≡ old.out → status ≡ 7 → CompareWay first second old new status
+  short_of : CompareWay first second old new
 
--- a report ended in one of these ways
-pub record ReportEnds (Way : Streams → Streams → ℕ → Type 0) (old new : Streams) (status : ℕ) : Type 0 where
-  pub way : Way old new status
-  -- the archive is as it was, but for its count of faults
-  pub held : new.keeper.held ≡ old.keeper.held
-  pub later : old.keeper.faults ≤ new.keeper.faults
-  -- all but the output and the archive is as it was
-  pub rest : new ≡ record old { out = new.out; keeper = new.keeper }
+abbrev pub compare_cause : {first second : List ℕ} → {old new : KeeperState} → CompareWay first second old new → Ending
+compare_cause (compared kept other one two) = says cause.Done (compare_text (pairs_of kept.systems other.systems))
+compare_cause {first} (first_unknown none) = says cause.Unknown (unknown_line first)
+compare_cause {second = second} (second_unknown kept one none) = says cause.Unknown (unknown_line second)
+compare_cause (unfound rose) = silent cause.Keeper
+compare_cause short_of = silent cause.Memory
 
-abbrev pub report_kind : {D : Type 0} → (Streams → Streams → ℕ → Type 0) → Kind D
-report_kind Way = record (plain_kind (λ old new status. ReportEnds Way old.streams new.streams status × (new.disk ≡ old.disk))) {
-  asks_archive = Unit {0};
+-- A report ended in one of its ways. The archive is as it was, but for its keeper's count of faults.
+pub record ReportEnds (Way : KeeperState → KeeperState → Type 0) (cause_of : (old new : KeeperState) → Way old new → Ending) (old new : KeeperState) (ending : Ending) : Type 0 where
+  pub way : Way old new
+  pub told : ending ≡ cause_of old new way
+  pub archive : LeavesArchive true false old new
+
+abbrev pub report_kind : {D : Type 0} → (Way : KeeperState → KeeperState → Type 0) → ((old new : KeeperState) → Way old new → Ending) → Kind D
+report_kind Way cause_of = record {
+  Way = λ old new. Way old.keeper new.keeper;
+  cause_of = λ old new. cause_of old.keeper new.keeper;
+  needs = record nothing { archive = true };
   can_do = λ old. Unit {0};
+  has_to_refuse = λ old. ⊥;
 }
+
+abbrev pub ListingEnds : (List Kept → List ℕ) → KeeperState → KeeperState → Ending → Type 0
+ListingEnds text_of = ReportEnds (ListingWay text_of) (λ old new. listing_cause)
 
 abbrev pub listing_kind : {D : Type 0} → (List Kept → List ℕ) → Kind D
-listing_kind text_of = record (report_kind (ListingWay text_of)) {
-  output = λ old new text. (all : List Kept) × Lists old.streams.keeper.held all × (text ≡ text_of all);
-}
+listing_kind text_of = report_kind (ListingWay text_of) (λ old new. listing_cause)
 
-abbrev pub history_kind : {D : Type 0} → List ℕ → Kind D
-history_kind run = listing_kind (history_text run)
-
-abbrev pub export_kind : {D : Type 0} → Kind D
-export_kind = listing_kind export_text
+abbrev pub CompareEnds : List ℕ → List ℕ → KeeperState → KeeperState → Ending → Type 0
+CompareEnds first second = ReportEnds (CompareWay first second) (λ old new. compare_cause)
 
 abbrev pub compare_kind : {D : Type 0} → List ℕ → List ℕ → Kind D
-compare_kind first second = record (report_kind (CompareWay first second)) {
-  output = λ old new text. (kept : Kept) × (other : Kept) × Finds old.streams.keeper.held first (Some kept)
-      × Finds old.streams.keeper.held second (Some other) × (text ≡ compare_text (pairs_of kept.systems other.systems));
-  unknown = λ old new text. ((text ≡ unknown_line first) × Finds old.streams.keeper.held first None)
-      ⊎ ((text ≡ unknown_line second) × ((kept : Kept) × Finds old.streams.keeper.held first (Some kept))
-      × Finds old.streams.keeper.held second None);
-}
+compare_kind first second = report_kind (CompareWay first second) (λ old new. compare_cause)

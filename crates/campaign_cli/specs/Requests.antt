@@ -8,6 +8,8 @@ use Rattle.campaign_server.specs.declared.numbers.ServerNumbers.{ServerNumbers}
 use Rattle.drill.specs.Figures.{are_numbers}
 use Rattle.trec_formats.specs.Names.{is_name}
 use Rattle.drill.specs.declared.numbers.DrillNumbers.{DrillNumbers}
+use Rattle.campaign_cli.specs.declared.displays.Display.{Display}
+use Rattle.campaign_cli.specs.declared.displays.Display.TheVariants.{Check, Reuse, Agreement}
 use Rattle.campaign_cli.specs.declared.words.Command.{Command}
 use Rattle.campaign_cli.specs.declared.words.Command.TheVariants as command
 
@@ -17,14 +19,12 @@ pub data Request : Type 0 where
   Session : Request
   Serve : ServerNumbers → Request
   Drill : DrillNumbers → Request
-  Check : Request
+  Show : Display → Request
   Compact : Request
   Archive : List ℕ → Request
   RunHistory : List ℕ → Request
   Compare : List ℕ → List ℕ → Request
   Export : Request
-  Reuse : Request
-  Agreement : Request
   Nothing : Request
 
 abbrev pub form : List ℕ → List (List ℕ) → List (List ℕ) → Form
@@ -120,14 +120,14 @@ request_at found = if bytes_eq found.0 (codes "eval") then eval_of found.1
     else (if bytes_eq found.0 (codes "session") then Session
     else (if bytes_eq found.0 (codes "serve") then serve_of found.1
     else (if bytes_eq found.0 (codes "drill") then drill_of found.1
-    else (if bytes_eq found.0 (codes "check") then Check
+    else (if bytes_eq found.0 (codes "check") then Show Check
     else (if bytes_eq found.0 (codes "compact") then Compact
     else (if bytes_eq found.0 (codes "archive") then archive_of found.1
     else (if bytes_eq found.0 (codes "history") then history_of found.1
     else (if bytes_eq found.0 (codes "compare") then compare_of found.1
     else (if bytes_eq found.0 (codes "export") then Export
-    else (if bytes_eq found.0 (codes "reuse") then Reuse
-    else (if bytes_eq found.0 (codes "agreement") then Agreement else Nothing)))))))))))
+    else (if bytes_eq found.0 (codes "reuse") then Show Reuse
+    else (if bytes_eq found.0 (codes "agreement") then Show Agreement else Nothing)))))))))))
 
 -- the request that words give by the forms
 abbrev pub request_of : List (List ℕ) → Request
@@ -143,14 +143,12 @@ meant (command.Eval run qrels) = Eval run.now qrels.now
 meant command.Session = Session
 meant (command.Serve numbers) = Serve numbers
 meant (command.Drill numbers) = Drill numbers
-meant command.Check = Check
+meant (command.Show display) = Show display
 meant command.Compact = Compact
 meant (command.Archive name) = Archive name.now
 meant (command.RunHistory run) = RunHistory run.now
 meant (command.Compare first second) = Compare first.now second.now
 meant command.Export = Export
-meant command.Reuse = Reuse
-meant command.Agreement = Agreement
 meant command.Usage = Nothing
 
 -- a server has 1 to 16 workers, and takes one connection at least; the numbers of a drill are within their ranges; releases and runs have names
@@ -159,14 +157,12 @@ IsInRange (command.Eval run qrels) = Unit {0}
 IsInRange command.Session = Unit {0}
 IsInRange (command.Serve numbers) = (1 ≤ numbers.workers) × (numbers.workers ≤ 16) × (1 ≤ numbers.connections)
 IsInRange (command.Drill numbers) = IsTrue (are_numbers numbers)
-IsInRange command.Check = Unit {0}
+IsInRange (command.Show display) = Unit {0}
 IsInRange command.Compact = Unit {0}
 IsInRange (command.Archive name) = IsTrue (is_name name.now)
 IsInRange (command.RunHistory run) = IsTrue (is_name run.now)
 IsInRange (command.Compare first second) = IsTrue (is_name first.now && is_name second.now)
 IsInRange command.Export = Unit {0}
-IsInRange command.Reuse = Unit {0}
-IsInRange command.Agreement = Unit {0}
 IsInRange command.Usage = Unit {0}
 
 -- what is printed where the words are no command

@@ -1,33 +1,34 @@
 -- How a command ends that opens the campaign of the settings and prints a text of it: `check`, `reuse` and `agreement`.
 use Rattle.std.specs.Prelude.{◌≡◌, ℕ, List}
-use Rattle.decimal_rank.specs.Writings.{Writing}
 use Rattle.disk_model.specs.Disks.{DiskState}
+use Rattle.book.specs.Books.{Seen}
+use Rattle.book.specs.Openings.{Opened}
 use Rattle.rulebook.specs.Campaign.{History}
-use Rattle.campaign_cli.specs.BookEnds.{ShowsCampaign, Unopened}
-use Rattle.campaign_cli.specs.BookKinds.{book_kind}
-use Rattle.campaign_cli.specs.Kinds.{Kind}
-use Rattle.campaign_cli.specs.Outside.{Outside, TellsText}
-use Rattle.campaign_cli.specs.Shelves.{Follows}
+use Rattle.campaign_settings.specs.declared.settings.Settings.{Settings}
+use Rattle.campaign_cli.specs.declared.endings.Cause.TheVariants.{Done, Memory}
+use Rattle.campaign_cli.specs.BookEnds.{BookEnds, book_kind}
+use Rattle.campaign_cli.specs.Causes.{Ending, says, silent}
+use Rattle.campaign_cli.specs.Kinds.{Kind, a_book}
+use Rattle.campaign_cli.specs.Shelves.{ShelfState}
 
--- a text of a campaign was printed, or there was no memory for it
-abbrev pub Tells : (History → List ℕ) → History → Writing → Writing → ℕ → Type 0
-Tells text_of H old new status = TellsText (text_of H) old new status
+module _ {D : Type 0} (seen : D → DiskState) where
+  -- The campaign of these settings was opened from the disk, and no further call was made on it.
+  pub record Shows (disk after : D) (settings : Settings) (book : Seen D) : Type 0 where
+    pub opens : Opened seen settings.rules disk book
+    pub closes : after ≡ book.disk
 
-module _ {D : Type 0} (seen : D → DiskState) (text_of : History → List ℕ) where
-  -- the ways in which such a command ends
-  pub data ShownWay (old new : Outside D) (status : ℕ) : Type 0 where
-    -- the settings are read and the disk is opened: the text of its campaign is printed, or there was no memory for it
-    shown : ShowsCampaign seen old new (λ H. Tells text_of H old.streams.out new.streams.out status) → ShownWay old new status
-    -- there is no campaign
-    unshown : Unopened seen old new status → ShownWay old new status
+  module _ (text_of : History → List ℕ) where
+    -- the text of the campaign is printed, or there was no memory for it
+    pub data ShownWork (disk after : D) (settings : Settings) : Type 0 where
+      shown : (book : Seen D) → Shows disk after settings book → ShownWork disk after settings
+      short : (book : Seen D) → Shows disk after settings book → ShownWork disk after settings
 
-  pub record ShownEnds (old new : Outside D) (status : ℕ) : Type 0 where
-    pub way : ShownWay old new status
-    pub shelf : Follows old.streams.shelf new.streams.shelf
-    -- of the streams all but the shelf and the output is as it was
-    pub rest : new.streams ≡ record old.streams { shelf = new.streams.shelf; out = new.streams.out }
+    abbrev pub cause_of : {disk after : D} → (settings : Settings) → ShownWork disk after settings → Ending
+    cause_of settings (shown book shows) = says Done (text_of book.history)
+    cause_of settings (short book shows) = silent Memory
 
-  abbrev pub shown_kind : Kind D
-  shown_kind = record (book_kind seen ShownEnds) {
-    output = λ old new text. ShowsCampaign seen old new (λ H. text ≡ text_of H);
-  }
+    abbrev pub ShownEnds : ShelfState → ShelfState → D → D → Ending → Type 0
+    ShownEnds shelf later disk after = BookEnds seen (ShownWork disk after) (Unit {0}) cause_of shelf later disk after
+
+    abbrev pub shown_kind : Kind D
+    shown_kind = book_kind seen a_book (λ old new. ShownWork old.disk new.disk) (λ old new. Unit {0}) (λ old new. cause_of)

@@ -1,20 +1,20 @@
 //! `archive NAME`: puts the release of the campaign on the disk into the archive. The campaign is opened as `check` opens
 //! it. All that may be printed is made before the archive is asked, so memory can't be short behind an addition.
-ghost use Rattle.std.specs.Prelude.{◌≡◌, IfOk, IsTrue};
+ghost use Rattle.std.specs.Prelude.{◌≡◌, ◌≤◌, IfOk, IsTrue};
 ghost use Rattle.trec_formats.specs.Names.{is_name};
 ghost use Rattle.rulebook.specs.declared.rules.Phase.TheVariants.{Published};
 ghost use Rattle.rulebook.specs.Campaign.{phase};
 ghost use Rattle.release_archive.specs.Releases.{is_sound};
-ghost use Rattle.campaign_cli.specs.ArchiveEnds.{ArchiveEnds, Archiving, PutsRelease, kept_of};
-ghost use Rattle.campaign_cli.specs.Outside.{Streams, outside_of};
+ghost use Rattle.campaign_cli.specs.ArchiveEnds.{ArchiveEnds, Archiving, PutsRelease, cause_of, kept_of};
+ghost use Rattle.campaign_cli.specs.Causes.{IsWay, ending_of};
 
+use crate::endings::{Cause, Outcome};
 use crate::openings::open_book;
 use crate::pages::page_of;
-use crate::printing::{name_line, print};
+use crate::printing::name_line;
 use crate::shelves::Shelf;
-use crate::statuses::Status;
 use book::{Book, Disk};
-use decimal_rank::{Memory, Output as Sink, Text};
+use decimal_rank::{Memory, Text};
 use release_archive::{ArchiveEnd, Archived, Keeper, Kept, archive_release};
 use rulebook::{Phase, Query};
 use std::alloc::Global;
@@ -26,40 +26,37 @@ const DIFFERS_LINE: &[u8] = b"differs\n";
 const UNPUBLISHED_LINE: &[u8] = b"unpublished\n";
 
 /// Reads the settings, opens their campaign from the disk and puts its release into the archive under a name.
-pub(crate) fn archive_campaign<F: Shelf, O: Sink, D: Disk, K: Keeper>(
+pub(crate) fn archive_campaign<F: Shelf, D: Disk, K: Keeper>(
     alloc: Global,
     name: &[u8],
     shelf: &mut F,
-    out: &mut O,
     keeper: &mut K,
     disk: D,
-) -> (Status, D)
+) -> (Outcome, D)
     requires { IsTrue (is_name name.now) }
-    ensures { (other : Streams) → ArchiveEnds D.seen name.now
-        (outside_of (record other
-        { shelf = F.seen shelf.old; out = O.writing out.old; keeper = K.seen keeper.old }) disk)
-        (outside_of (record other
-        { shelf = F.seen shelf.new; out = O.writing out.new; keeper = K.seen keeper.new }) result.1)
-        result.0.0 }
+    ensures ends { ArchiveEnds D.seen name.now (K.seen keeper.old) (K.seen keeper.new)
+        (F.seen shelf.old) (F.seen shelf.new) disk result.1 (ending_of result.0) }
+    ensures later { (K.seen keeper.old).faults ≤ (K.seen keeper.new).faults }
 {
-    match open_book(alloc, shelf, out, disk) {
-        Ok((book, _callers)) => archive_book(alloc, name, book, out, keeper),
+    match open_book(alloc, shelf, disk) {
+        Ok((book, _callers)) => archive_book(alloc, name, book, keeper),
         Err(given) => given,
     }
 }
 
 // Puts the release of a book's campaign into the archive.
-fn archive_book<O: Sink, D: Disk, K: Keeper>(
+fn archive_book<D: Disk, K: Keeper>(
     alloc: Global,
     name: &[u8],
     book: Book<D>,
-    out: &mut O,
     keeper: &mut K,
-) -> (Status, D)
+) -> (Outcome, D)
     requires { IsTrue (is_name name.now) }
-    ensures archiving { Archiving name.now book.history (O.writing out.old) (O.writing out.new)
-        (K.seen keeper.old) (K.seen keeper.new) result.0.0 }
+    ensures archiving { IsWay
+        (Archiving name.now book.history (K.seen keeper.old) (K.seen keeper.new))
+        (cause_of name.now) (ending_of result.0) }
     ensures disk { result.1 ≡ book.disk }
+    ensures later { (K.seen keeper.old).faults ≤ (K.seen keeper.new).faults }
 {
     let mut book = book;
     match book.phase() {
@@ -67,12 +64,15 @@ fn archive_book<O: Sink, D: Disk, K: Keeper>(
             Ok(kept) => {
                 // (its memory is free for the addition)
                 let disk = book.close();
-                (put(alloc, name, &kept, out, keeper), disk)
+                (put(alloc, name, &kept, keeper), disk)
             }
-            Err(Memory) => (Status(7), book.close()),
+            Err(Memory) => (Outcome::Silent(Cause::Memory), book.close()),
         },
         Phase::Collecting | Phase::Judging => {
-            (print(out, UNPUBLISHED_LINE, Status(13)), book.close())
+            (
+                Outcome::Line(Cause::Unpublished, UNPUBLISHED_LINE),
+                book.close(),
+            )
         }
     }
 }
@@ -96,30 +96,25 @@ fn release_of<D: Disk>(alloc: Global, name: &[u8], book: &mut Book<D>) -> Result
 }
 
 // Puts a release into the archive, and tells what came of that.
-fn put<O: Sink, K: Keeper>(
-    alloc: Global,
-    name: &[u8],
-    kept: &Kept,
-    out: &mut O,
-    keeper: &mut K,
-) -> Status
+fn put<K: Keeper>(alloc: Global, name: &[u8], kept: &Kept, keeper: &mut K) -> Outcome
     requires { IsTrue (is_sound kept.now) }
-    ensures { PutsRelease name.now kept.now (O.writing out.old) (O.writing out.new)
-        (K.seen keeper.old) (K.seen keeper.new) result.0 }
+    ensures puts { PutsRelease name.now kept.now (K.seen keeper.old) (K.seen keeper.new)
+        (ending_of result) }
+    ensures later { (K.seen keeper.old).faults ≤ (K.seen keeper.new).faults }
 {
     let archived = match name_line(alloc, b"archived ", name) {
         Ok(line) => line,
-        Err(Memory) => return Status(7),
+        Err(Memory) => return Outcome::Silent(Cause::Memory),
     };
     let there = match name_line(alloc, b"kept ", name) {
         Ok(line) => line,
-        Err(Memory) => return Status(7),
+        Err(Memory) => return Outcome::Silent(Cause::Memory),
     };
     match archive_release(alloc, keeper, kept) {
-        Ok(Archived::New) => print(out, &archived, Status(0)),
-        Ok(Archived::Same) => print(out, &there, Status(0)),
-        Err(ArchiveEnd::Differs) => print(out, DIFFERS_LINE, Status(14)),
-        Err(ArchiveEnd::Failed) => Status(12),
-        Err(ArchiveEnd::Memory) => Status(7),
+        Ok(Archived::New) => Outcome::Text(Cause::Done, archived),
+        Ok(Archived::Same) => Outcome::Text(Cause::Done, there),
+        Err(ArchiveEnd::Differs) => Outcome::Line(Cause::Differs, DIFFERS_LINE),
+        Err(ArchiveEnd::Failed) => Outcome::Silent(Cause::Keeper),
+        Err(ArchiveEnd::Memory) => Outcome::Silent(Cause::Memory),
     }
 }

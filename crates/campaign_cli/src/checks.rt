@@ -4,9 +4,9 @@ ghost use Rattle.rulebook.specs.Scores.{table_page};
 ghost use Rattle.campaign_cli.specs.ShownTexts.{check_text, phase_word};
 
 use crate::pages::page_of;
+use crate::printing::add_number;
 use book::{Book, Disk};
 use decimal_rank::{Memory, Text};
-use itoa::Buffer as Digits;
 use rulebook::{Phase, Query};
 use std::alloc::Global;
 
@@ -17,8 +17,7 @@ pub(crate) fn check_text<D: Disk>(alloc: Global, book: &mut Book<D>) -> Result<V
 {
     let table = table_of(alloc, book)?;
     let mut text = Vec::new(alloc);
-    text.extend_from_slice(b"entries ")?;
-    text.extend_from_slice(Digits::new().format(book.entries()).as_bytes())?;
+    add_number(b"entries ", u64::from(book.entries()), &mut text)?;
     text.extend_from_slice(b"\nphase ")?;
     text.extend_from_slice(word_of(book.phase()))?;
     text.extend_from_slice(b"\n")?;

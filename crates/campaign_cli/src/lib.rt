@@ -4,12 +4,14 @@
 //! below; each has a form in memory and an adapter over the real thing.
 #![tactic(auto)]
 
+mod agreements;
 mod archives;
 mod checks;
 mod compactions;
 mod devices;
 mod displays;
 mod drills;
+mod endings;
 mod evaluations;
 mod faults;
 mod file_shelf;
@@ -23,15 +25,15 @@ mod printing;
 mod program;
 mod readings;
 mod reports;
+mod reuses;
 mod servers;
 mod sessions;
 mod shelves;
 mod statuses;
-mod usage;
 mod words;
-mod worth;
 
 pub use decimal_rank::{Failed, Output as Sink, write_all};
+pub use displays::Display;
 pub use faults::ShelfFault;
 pub use file_shelf::FileShelf;
 pub use laws::{
@@ -43,5 +45,4 @@ pub use output_sink::OutputSink;
 pub use program::campaign;
 pub use shelves::{MOST_BYTES, Shelf};
 pub use statuses::Status;
-pub use usage::USAGE_LINE;
-pub use words::{Command, read_words};
+pub use words::{Command, USAGE_LINE, read_words};

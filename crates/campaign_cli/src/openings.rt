@@ -1,19 +1,18 @@
 //! The campaign of the settings, as the disk holds it.
-ghost use Rattle.std.specs.Prelude.{◌≡◌, IfErr, IfOk, IsTrue, OnOk};
-ghost use Rattle.book.specs.Openings.{Opened};
+ghost use Rattle.std.specs.Prelude.{◌≡◌, IfErr, IfOk, IsTrue};
+ghost use Rattle.book.specs.Openings.{Opened, Refused};
 ghost use Rattle.rulebook.specs.Spelling.{are_rules};
-ghost use Rattle.campaign_cli.specs.BookEnds.{HasNone, IsGiven, IsOpened, IsRefused, TellsFault, Unopened, entry_line};
-ghost use Rattle.campaign_cli.specs.Outside.{Streams, outside_of};
+ghost use Rattle.campaign_cli.specs.BookEnds.{IsGiven, IsOpened, IsToldOf, NoSettings, Unopened, cause_of_none, cause_without_settings, entry_line};
+ghost use Rattle.campaign_cli.specs.Causes.{IsWay, ending_of};
 ghost use Rattle.campaign_cli.specs.Shelves.{Follows};
 
-use crate::printing::print;
+use crate::endings::{Cause, Outcome};
+use crate::printing::add_count;
 use crate::readings::read;
 use crate::shelves::Shelf;
-use crate::statuses::Status;
 use book::{Book, BookFault, Disk};
 use campaign_settings::{Settings, SettingsEnd, read_settings};
-use decimal_rank::{Memory, Output as Sink};
-use itoa::Buffer as Digits;
+use decimal_rank::Memory;
 use routes::Keys;
 use std::alloc::Global;
 
@@ -28,87 +27,77 @@ const RULES_LINE: &[u8] = b"input: rules\n";
 
 const HEADER_LINE: &[u8] = b"damaged header\n";
 
-/// Reads the settings, and opens the campaign of their rules from the disk. Where there is none, that is
-/// told, with the status to end with.
-pub(crate) fn open_book<F: Shelf, O: Sink, D: Disk>(
+/// Reads the settings, and opens the campaign of their rules from the disk; or why there is none.
+pub(crate) fn open_book<F: Shelf, D: Disk>(
     alloc: Global,
     shelf: &mut F,
-    out: &mut O,
     disk: D,
-) -> Result<(Book<D>, Keys), (Status, D)>
+) -> Result<(Book<D>, Keys), (Outcome, D)>
     ensures opened { IfOk result
         (λ found. IsOpened D.seen (F.seen shelf.old) disk found.0 found.1) }
-    ensures out { OnOk result (O.writing out.new ≡ O.writing out.old) }
+    ensures unopened { IfErr result (λ given.
+        IsWay (Unopened D.seen (F.seen shelf.old) (F.seen shelf.new) disk given.1)
+        (cause_of_none D.seen) (ending_of given.0)) }
     ensures follows { Follows (F.seen shelf.old) (F.seen shelf.new) }
-    ensures unopened { IfErr result (λ given. (other : Streams) → Unopened D.seen
-        (outside_of (record other { shelf = F.seen shelf.old; out = O.writing out.old }) disk)
-        (outside_of (record other { shelf = F.seen shelf.new; out = O.writing out.new }) given.1)
-        given.0.0) }
 {
-    match own_settings(alloc, shelf, out) {
-        Ok(settings) => open_settings(alloc, settings, out, disk),
-        Err(status) => Err((status, disk)),
+    match own_settings(alloc, shelf) {
+        Ok(settings) => open_settings(alloc, settings, disk),
+        Err(outcome) => Err((outcome, disk)),
     }
 }
 
-/// The settings. Where there are none, that is told, with the status to end with.
-pub(crate) fn own_settings<F: Shelf, O: Sink>(
-    alloc: Global,
-    shelf: &mut F,
-    out: &mut O,
-) -> Result<Settings, Status>
+/// The settings, or why there are none.
+pub(crate) fn own_settings<F: Shelf>(alloc: Global, shelf: &mut F) -> Result<Settings, Outcome>
     ensures given { IfOk result (λ settings. IsGiven (F.seen shelf.old) settings) }
     ensures rules { IfOk result (λ settings. IsTrue (are_rules settings.rules)) }
-    ensures out { OnOk result (O.writing out.new ≡ O.writing out.old) }
+    ensures none { IfErr result (λ outcome.
+        IsWay (NoSettings (F.seen shelf.old) (F.seen shelf.new))
+        cause_without_settings (ending_of outcome)) }
     ensures follows { Follows (F.seen shelf.old) (F.seen shelf.new) }
-    ensures none { IfErr result (λ status. HasNone (F.seen shelf.old) (F.seen shelf.new)
-        (O.writing out.old) (O.writing out.new) status.0) }
 {
     let text = match read(alloc, shelf, SETTINGS_FILE) {
         Ok(text) => text,
-        Err(status) => return Err(status),
+        Err(cause) => return Err(Outcome::Silent(cause)),
     };
     match read_settings(alloc, &text) {
         Ok(settings) => Ok(settings),
-        Err(SettingsEnd::Refused) => Err(print(out, SETTINGS_LINE, Status(3))),
-        Err(SettingsEnd::Memory) => Err(Status(7)),
+        Err(SettingsEnd::Refused) => Err(Outcome::Line(Cause::Input, SETTINGS_LINE)),
+        Err(SettingsEnd::Memory) => Err(Outcome::Silent(Cause::Memory)),
     }
 }
 
 // Opens the campaign of these settings.
-fn open_settings<O: Sink, D: Disk>(
+fn open_settings<D: Disk>(
     alloc: Global,
     settings: Settings,
-    out: &mut O,
     disk: D,
-) -> Result<(Book<D>, Keys), (Status, D)>
+) -> Result<(Book<D>, Keys), (Outcome, D)>
     requires { IsTrue (are_rules settings.rules) }
     ensures opened { IfOk result (λ found. Opened D.seen settings.rules disk found.0) }
     ensures callers { IfOk result (λ found. found.1 ≡ settings.callers) }
-    ensures out { OnOk result (O.writing out.new ≡ O.writing out.old) }
-    ensures refused { IfErr result (λ given. IsRefused D.seen settings.rules disk given.1
-        (O.writing out.old) (O.writing out.new) given.0.0) }
+    ensures refused { IfErr result (λ given. (why : BookFault)
+        × Refused D.seen settings.rules disk given.1 why × IsToldOf why (ending_of given.0)) }
 {
     let Settings { rules, callers } = settings;
     match Book::open(alloc, disk, rules) {
         Ok(book) => Ok((book, callers)),
-        Err((disk, fault)) => Err((tell_fault(alloc, out, fault), disk)),
+        Err((disk, fault)) => Err((told_of(alloc, fault), disk)),
     }
 }
 
-/// Tells why the disk wasn't opened, and gives the status to end with.
-pub(crate) fn tell_fault<O: Sink>(alloc: Global, out: &mut O, fault: BookFault) -> Status
-    ensures { TellsFault fault (O.writing out.old) (O.writing out.new) result.0 }
+/// What is told of a disk that isn't opened, or fails once it is.
+pub(crate) fn told_of(alloc: Global, fault: BookFault) -> Outcome
+    ensures { IsToldOf fault (ending_of result) }
 {
     match fault {
-        BookFault::Disk => Status(5),
-        BookFault::Header => print(out, HEADER_LINE, Status(9)),
+        BookFault::Disk => Outcome::Silent(Cause::Disk),
+        BookFault::Header => Outcome::Line(Cause::Damaged, HEADER_LINE),
         BookFault::Damaged { entry } => match entry_line(alloc, entry) {
-            Ok(line) => print(out, &line, Status(9)),
-            Err(Memory) => Status(7),
+            Ok(line) => Outcome::Text(Cause::Damaged, line),
+            Err(Memory) => Outcome::Silent(Cause::Memory),
         },
-        BookFault::RulesDiffer => print(out, RULES_LINE, Status(3)),
-        BookFault::Memory => Status(7),
+        BookFault::RulesDiffer => Outcome::Line(Cause::Input, RULES_LINE),
+        BookFault::Memory => Outcome::Silent(Cause::Memory),
     }
 }
 
@@ -116,8 +105,6 @@ fn entry_line(alloc: Global, entry: u32) -> Result<Vec<u8>, Memory>
     ensures { IfOk result (λ line. line.items ≡ entry_line entry) }
 {
     let mut line = Vec::new(alloc);
-    line.extend_from_slice(b"damaged entry ")?;
-    line.extend_from_slice(Digits::new().format(entry).as_bytes())?;
-    line.extend_from_slice(b"\n")?;
+    add_count(b"damaged entry ", u64::from(entry), &mut line)?;
     Ok(line)
 }

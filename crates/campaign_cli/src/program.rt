@@ -1,23 +1,27 @@
 //! The program's top call: the words are read as a command, which is run over the shelf, the sink, the link, the disk,
 //! the door and the archive that it is given, and the status to end with is told.
 ghost use Rattle.campaign_server.specs.Doors.{IsShut};
-ghost use Rattle.campaign_cli.specs.Endings.{Ends};
-ghost use Rattle.campaign_cli.specs.Outside.{AreSame, outside_of, streams_behind, streams_of};
+ghost use Rattle.decimal_rank.specs.Writings.{Writing};
+ghost use Rattle.campaign_cli.specs.Causes.{ending_of};
+ghost use Rattle.campaign_cli.specs.Endings.{Ends, kind_of};
+ghost use Rattle.campaign_cli.specs.Kinds.{Ended};
+ghost use Rattle.campaign_cli.specs.Outside.{AreSame, outside_behind, outside_of};
 ghost use Rattle.campaign_cli.specs.Requests.{IsInRange, asked, meant};
 
 use crate::archives::archive_campaign;
 use crate::compactions::compact_campaign;
 use crate::devices::Devices;
-use crate::displays::{Display, show_campaign};
+use crate::displays::show_campaign;
 use crate::drills::run_drill;
+use crate::endings::{Cause, Outcome};
 use crate::evaluations::score_files;
+use crate::printing::{status_of, tell};
 use crate::reports::{compare_releases, export_releases, tell_history};
 use crate::servers::run_server;
 use crate::sessions::hold_session;
 use crate::shelves::Shelf;
 use crate::statuses::Status;
-use crate::usage::tell_usage;
-use crate::words::{Command, read_words};
+use crate::words::{Command, USAGE_LINE, read_words};
 use book::Disk;
 use campaign_server::{Door, Link};
 use decimal_rank::{Memory, Output as Sink};
@@ -51,70 +55,91 @@ pub fn campaign<
 ) -> (Status, D)
     requires { IsShut (R.seen door.old) }
     ensures { Ends D.seen (asked words.now)
-        (outside_of (streams_of (F.seen shelf.old) (O.writing out.old) (I.seen own.old)
-        (R.seen door.old) (K.seen keeper.old)) disk)
-        (outside_of (streams_of (F.seen shelf.new) (O.writing out.new) (I.seen own.new)
-        (R.seen door.new) (K.seen keeper.new)) result.1) result.0.0 }
+        (outside_of (F.seen shelf.old) (O.writing out.old) (I.seen own.old)
+        (R.seen door.old) (K.seen keeper.old) disk)
+        (outside_of (F.seen shelf.new) (O.writing out.new) (I.seen own.new)
+        (R.seen door.new) (K.seen keeper.new) result.1) result.0.0 }
 {
     match read_words(alloc, words) {
-        Ok(command) => run(
+        Ok(command) => run_and_tell(
             rt,
             alloc,
             command,
             &mut Devices {
                 shelf,
-                out,
                 own,
                 door,
                 keeper,
             },
+            out,
             disk,
         ),
-        Err(Memory) => (Status(7), disk),
+        Err(Memory) => (status_of(Cause::Memory), disk),
     }
 }
 
-/// Runs a command.
-fn run<W: Threads + Wait + Sync, F: Shelf, O: Sink, I: Link, D: Disk + Send, R: Door, K: Keeper>(
+/// Runs a command, and tells what it comes to.
+fn run_and_tell<
+    W: Threads + Wait + Sync,
+    F: Shelf,
+    O: Sink,
+    I: Link,
+    D: Disk + Send,
+    R: Door,
+    K: Keeper,
+>(
     rt: &W,
     alloc: Global,
     command: Command,
-    devices: &mut Devices<F, O, I, R, K>,
+    devices: &mut Devices<F, I, R, K>,
+    out: &mut O,
     disk: D,
 ) -> (Status, D)
     requires in_range { IsInRange command }
     requires shut { IsShut (R.seen devices.old.door.now) }
     ensures same { AreSame devices.old devices.new }
     ensures ends { Ends D.seen (meant command.entry)
-        (outside_of (streams_behind F.seen O.writing I.seen R.seen K.seen devices.old) disk)
-        (outside_of (streams_behind F.seen O.writing I.seen R.seen K.seen devices.new) result.1)
+        (outside_behind F.seen I.seen R.seen K.seen devices.old (O.writing out.old) disk)
+        (outside_behind F.seen I.seen R.seen K.seen devices.new (O.writing out.new) result.1)
         result.0.0 }
 {
+    let (outcome, disk) = run(rt, alloc, command, devices, disk);
+    (tell(out, outcome), disk)
+}
+
+/// Runs a command, and says what it comes to.
+fn run<W: Threads + Wait + Sync, F: Shelf, I: Link, D: Disk + Send, R: Door, K: Keeper>(
+    rt: &W,
+    alloc: Global,
+    command: Command,
+    devices: &mut Devices<F, I, R, K>,
+    disk: D,
+) -> (Outcome, D)
+    requires in_range { IsInRange command }
+    requires shut { IsShut (R.seen devices.old.door.now) }
+    ensures same { AreSame devices.old devices.new }
+    ensures ends { (before after : Writing) → Ended (kind_of D.seen (meant command.entry))
+        (outside_behind F.seen I.seen R.seen K.seen devices.old before disk)
+        (outside_behind F.seen I.seen R.seen K.seen devices.new after result.1)
+        (ending_of result.0) }
+{
     match command {
-        Command::Eval { run, qrels } => (score_files(alloc, run, qrels, devices), disk),
-        Command::Session => hold_session(rt, alloc, devices, disk),
-        Command::Serve(numbers) => run_server(rt, alloc, numbers, devices, disk),
-        Command::Drill(numbers) => (run_drill(rt, alloc, numbers, devices.out), disk),
-        Command::Check => show_campaign(alloc, Display::Check, devices, disk),
-        Command::Compact => compact_campaign(alloc, devices, disk),
-        Command::Archive { name } => archive_campaign(
-            alloc,
-            name,
-            devices.shelf,
-            devices.out,
-            devices.keeper,
-            disk,
-        ),
-        Command::RunHistory { run } => {
-            (tell_history(alloc, run, devices.out, devices.keeper), disk)
+        Command::Eval { run, qrels } => (score_files(alloc, run, qrels, devices.shelf), disk),
+        Command::Session => hold_session(rt, alloc, devices.shelf, devices.own, disk),
+        Command::Serve(numbers) => {
+            run_server(rt, alloc, numbers, devices.shelf, devices.door, disk)
         }
-        Command::Compare { first, second } => (
-            compare_releases(alloc, first, second, devices.out, devices.keeper),
-            disk,
-        ),
-        Command::Export => (export_releases(alloc, devices.out, devices.keeper), disk),
-        Command::Reuse => show_campaign(alloc, Display::Reuse, devices, disk),
-        Command::Agreement => show_campaign(alloc, Display::Agreement, devices, disk),
-        Command::Usage => (tell_usage(devices), disk),
+        Command::Drill(numbers) => (run_drill(rt, alloc, numbers), disk),
+        Command::Show(display) => show_campaign(alloc, display, devices.shelf, disk),
+        Command::Compact => compact_campaign(alloc, devices.shelf, disk),
+        Command::Archive { name } => {
+            archive_campaign(alloc, name, devices.shelf, devices.keeper, disk)
+        }
+        Command::RunHistory { run } => (tell_history(alloc, run, devices.keeper), disk),
+        Command::Compare { first, second } => {
+            (compare_releases(alloc, first, second, devices.keeper), disk)
+        }
+        Command::Export => (export_releases(alloc, devices.keeper), disk),
+        Command::Usage => (Outcome::Line(Cause::Usage, USAGE_LINE), disk),
     }
 }

@@ -1,107 +1,90 @@
 //! The reports on the archive: `history RUN`, `compare A B` and `export`.
-ghost use Rattle.std.specs.Prelude.{◌≡◌, ◌⊎◌, ◌++◌, IfOk, IsTrue, OnOk, OnErr};
+ghost use Rattle.std.specs.Prelude.{◌≡◌, ◌++◌, IfOk, IsTrue, OnOk};
 ghost use Rattle.std.specs.List.{flat_map, list_all};
 ghost use Rattle.archive_reports.specs.Comparisons.{pairs_of};
 ghost use Rattle.release_archive.specs.Releases.{is_sound};
 ghost use Rattle.rulebook.specs.Systems.{is_mean};
-ghost use Rattle.campaign_cli.specs.Outside.{Prints, Streams};
-ghost use Rattle.campaign_cli.specs.ReportEnds.{CompareWay, ListingWay, ReportEnds, compare_text, difference, export_text, history_line, history_text, keep_status, unknown_line};
+ghost use Rattle.campaign_cli.specs.declared.endings.Cause.TheVariants.{Unknown};
+ghost use Rattle.campaign_cli.specs.Causes.{SaysOrShort, ending_of};
+ghost use Rattle.campaign_cli.specs.ReportEnds.{CompareEnds, ListingEnds, cause_of_end as cause_by, compare_text, difference, export_text, history_line, history_text, unknown_line};
 
-use crate::printing::{add_count, name_line, print};
-use crate::statuses::Status;
+use crate::endings::{Cause, Outcome};
+use crate::printing::{add_count, add_number, name_line};
 use archive_reports::{HistoryRow, Pairs, compare, history, write_csv};
-use decimal_rank::{Memory, Output as Sink};
-use itoa::Buffer as Digits;
+use decimal_rank::Memory;
 use measures::write_four;
 use release_archive::{KeepEnd, Keeper, Kept};
 use std::alloc::Global;
 
 /// Tells a run in each release that has it, by the releases' names.
-pub(crate) fn tell_history<O: Sink, K: Keeper>(
-    alloc: Global,
-    run: &[u8],
-    out: &mut O,
-    keeper: &mut K,
-) -> Status
-    ensures { (other : Streams) → ReportEnds (ListingWay (history_text run.now))
-        (record other { out = O.writing out.old; keeper = K.seen keeper.old })
-        (record other { out = O.writing out.new; keeper = K.seen keeper.new }) result.0 }
+pub(crate) fn tell_history<K: Keeper>(alloc: Global, run: &[u8], keeper: &mut K) -> Outcome
+    ensures { ListingEnds (history_text run.now) (K.seen keeper.old) (K.seen keeper.new)
+        (ending_of result) }
 {
     match keeper.all(alloc) {
-        Ok(all) => tell(out, history_text(alloc, run, &all)),
-        Err(end) => status_of(end),
+        Ok(all) => match history_text(alloc, run, &all) {
+            Ok(text) => Outcome::Text(Cause::Done, text),
+            Err(Memory) => Outcome::Silent(Cause::Memory),
+        },
+        Err(end) => Outcome::Silent(cause_of(end)),
     }
 }
 
 /// Tells all systems of the archive as CSV.
-pub(crate) fn export_releases<O: Sink, K: Keeper>(
-    alloc: Global,
-    out: &mut O,
-    keeper: &mut K,
-) -> Status
-    ensures { (other : Streams) → ReportEnds (ListingWay export_text)
-        (record other { out = O.writing out.old; keeper = K.seen keeper.old })
-        (record other { out = O.writing out.new; keeper = K.seen keeper.new }) result.0 }
+pub(crate) fn export_releases<K: Keeper>(alloc: Global, keeper: &mut K) -> Outcome
+    ensures { ListingEnds export_text (K.seen keeper.old) (K.seen keeper.new)
+        (ending_of result) }
 {
     match keeper.all(alloc) {
-        Ok(all) => tell(out, export_text(alloc, &all)),
-        Err(end) => status_of(end),
+        Ok(all) => match export_text(alloc, &all) {
+            Ok(text) => Outcome::Text(Cause::Done, text),
+            Err(Memory) => Outcome::Silent(Cause::Memory),
+        },
+        Err(end) => Outcome::Silent(cause_of(end)),
     }
 }
 
 /// Tells how two releases agree, or which name the archive has no release of.
-pub(crate) fn compare_releases<O: Sink, K: Keeper>(
+pub(crate) fn compare_releases<K: Keeper>(
     alloc: Global,
     first: &[u8],
     second: &[u8],
-    out: &mut O,
     keeper: &mut K,
-) -> Status
-    ensures { (other : Streams) → ReportEnds (CompareWay first.now second.now)
-        (record other { out = O.writing out.old; keeper = K.seen keeper.old })
-        (record other { out = O.writing out.new; keeper = K.seen keeper.new }) result.0 }
+) -> Outcome
+    ensures { CompareEnds first.now second.now (K.seen keeper.old) (K.seen keeper.new)
+        (ending_of result) }
 {
     let kept = match keeper.find(alloc, first) {
         Ok(Some(kept)) => kept,
-        Ok(None) => return tell_unknown(alloc, first, out),
-        Err(end) => return status_of(end),
+        Ok(None) => return unknown(alloc, first),
+        Err(end) => return Outcome::Silent(cause_of(end)),
     };
     match keeper.find(alloc, second) {
-        Ok(Some(other)) => tell(out, compare_text(alloc, &kept, &other)),
-        Ok(None) => tell_unknown(alloc, second, out),
-        Err(end) => status_of(end),
+        Ok(Some(other)) => match compare_text(alloc, &kept, &other) {
+            Ok(text) => Outcome::Text(Cause::Done, text),
+            Err(Memory) => Outcome::Silent(Cause::Memory),
+        },
+        Ok(None) => unknown(alloc, second),
+        Err(end) => Outcome::Silent(cause_of(end)),
     }
 }
 
-fn status_of(end: KeepEnd) -> Status
-    ensures { result.0 ≡ keep_status end }
+fn cause_of(end: KeepEnd) -> Cause
+    ensures { result ≡ cause_by end }
 {
     match end {
-        KeepEnd::Failed => Status(12),
-        KeepEnd::Memory => Status(7),
+        KeepEnd::Failed => Cause::Keeper,
+        KeepEnd::Memory => Cause::Memory,
     }
 }
 
-// Prints a text, if there was memory for it.
-fn tell<O: Sink>(out: &mut O, text: Result<Vec<u8>, Memory>) -> Status
-    ensures told { IfOk text
-        (λ text. Prints (O.writing out.old) (O.writing out.new) text.items 0 result.0) }
-    ensures untold { OnErr text ((O.writing out.new ≡ O.writing out.old) × (result.0 ≡ 7)) }
-{
-    match text {
-        Ok(text) => print(out, &text, Status(0)),
-        Err(Memory) => Status(7),
-    }
-}
-
-// Tells that the archive has no release of a name.
-fn tell_unknown<O: Sink>(alloc: Global, name: &[u8], out: &mut O) -> Status
-    ensures { Prints (O.writing out.old) (O.writing out.new) (unknown_line name.now) 15 result.0
-        ⊎ ((O.writing out.new ≡ O.writing out.old) × (result.0 ≡ 7)) }
+// That the archive has no release of a name.
+fn unknown(alloc: Global, name: &[u8]) -> Outcome
+    ensures { SaysOrShort Unknown (unknown_line name.now) (ending_of result) }
 {
     match name_line(alloc, b"unknown ", name) {
-        Ok(line) => print(out, &line, Status(15)),
-        Err(Memory) => Status(7),
+        Ok(line) => Outcome::Text(Cause::Unknown, line),
+        Err(Memory) => Outcome::Silent(Cause::Memory),
     }
 }
 
@@ -130,8 +113,7 @@ fn add_row(row: &HistoryRow, text: &mut Vec<u8>) -> Result<(), Memory>
     ensures { OnOk result (text.new.items ≡ text.old.items ++ history_line row.now) }
 {
     text.extend_from_slice(row.name.bytes())?;
-    text.extend_from_slice(b"\t")?;
-    text.extend_from_slice(Digits::new().format(row.topics).as_bytes())?;
+    add_number(b"\t", u64::from(row.topics), text)?;
     text.extend_from_slice(b"\t")?;
     write_four(row.map, text)?;
     text.extend_from_slice(b"\n")?;
@@ -167,10 +149,8 @@ fn pairs_text(alloc: Global, pairs: Pairs) -> Result<Vec<u8>, Memory>
     add_count(b"tied ", u64::from(pairs.tied), &mut text)?;
     text.extend_from_slice(b"tau ")?;
     add_difference(pairs.concordant, pairs.discordant, &mut text)?;
-    text.extend_from_slice(b"/")?;
     let all = u64::from(pairs.concordant) + u64::from(pairs.discordant) + u64::from(pairs.tied);
-    text.extend_from_slice(Digits::new().format(all.max(1)).as_bytes())?;
-    text.extend_from_slice(b"\n")?;
+    add_count(b"/", all.max(1), &mut text)?;
     Ok(text)
 }
 
@@ -178,10 +158,8 @@ fn add_difference(a: u32, b: u32, text: &mut Vec<u8>) -> Result<(), Memory>
     ensures { OnOk result (text.new.items ≡ text.old.items ++ difference a b) }
 {
     if a < b {
-        text.extend_from_slice(b"-")?;
-        text.extend_from_slice(Digits::new().format(b - a).as_bytes())?;
+        add_number(b"-", u64::from(b - a), text)
     } else {
-        text.extend_from_slice(Digits::new().format(a - b).as_bytes())?;
+        add_number(b"", u64::from(a - b), text)
     }
-    Ok(())
 }

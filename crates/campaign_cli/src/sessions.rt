@@ -1,34 +1,32 @@
 //! `session`: answers the requests of the program's own link by the campaign that the disk keeps.
 ghost use Rattle.std.specs.Prelude.{◌≡◌};
-ghost use Rattle.campaign_cli.specs.Outside.{AreSame, outside_of, streams_behind};
-ghost use Rattle.campaign_cli.specs.SessionEnds.{Answers, SessionEnds, status_of as status_by};
+ghost use Rattle.campaign_cli.specs.Causes.{ending_of};
+ghost use Rattle.campaign_cli.specs.SessionEnds.{Answers, SessionEnds, cause_of as cause_by};
 
-use crate::devices::Devices;
+use crate::endings::{Cause, Outcome};
 use crate::openings::open_book;
 use crate::shelves::Shelf;
-use crate::statuses::Status;
 use book::{Book, Disk};
-use campaign_server::{Door, End, Link, session};
-use decimal_rank::Output as Sink;
-use release_archive::Keeper;
+use campaign_server::{End, Link, session};
 use routes::Keys;
 use std::alloc::Global;
 
 /// Reads the settings, opens their campaign from the disk and answers the requests of a link.
-pub(crate) fn hold_session<W, F: Shelf, O: Sink, I: Link, D: Disk, R: Door, K: Keeper>(
+pub(crate) fn hold_session<W, F: Shelf, I: Link, D: Disk>(
     rt: &W,
     alloc: Global,
-    devices: &mut Devices<F, O, I, R, K>,
+    shelf: &mut F,
+    own: &mut I,
     disk: D,
-) -> (Status, D)
-    ensures same { AreSame devices.old devices.new }
-    ensures ends { SessionEnds D.seen
-        (outside_of (streams_behind F.seen O.writing I.seen R.seen K.seen devices.old) disk)
-        (outside_of (streams_behind F.seen O.writing I.seen R.seen K.seen devices.new) result.1)
-        result.0.0 }
+) -> (Outcome, D)
+    ensures { SessionEnds D.seen (I.seen own.old) (I.seen own.new)
+        (F.seen shelf.old) (F.seen shelf.new) disk result.1 (ending_of result.0) }
 {
-    match open_book(alloc, devices.shelf, devices.out, disk) {
-        Ok((book, callers)) => answer_link(rt, alloc, book, &callers, devices.own),
+    match open_book(alloc, shelf, disk) {
+        Ok((book, callers)) => {
+            let (cause, disk) = answer_link(rt, alloc, book, &callers, own);
+            (Outcome::Silent(cause), disk)
+        }
         Err(given) => given,
     }
 }
@@ -40,23 +38,23 @@ fn answer_link<R, I: Link, D: Disk>(
     book: Book<D>,
     callers: &Keys,
     own: &mut I,
-) -> (Status, D)
+) -> (Cause, D)
     ensures { Answers D.seen callers.now book (I.seen own.old) (I.seen own.new)
-        result.1 result.0.0 }
+        result.1 result.0 }
 {
     let mut book = book;
     let end = session(rt, alloc, &mut book, own, callers);
-    (status_of(end), book.close())
+    (cause_of(end), book.close())
 }
 
-fn status_of(end: End) -> Status
-    ensures { result.0 ≡ status_by end }
+fn cause_of(end: End) -> Cause
+    ensures { result ≡ cause_by end }
 {
-    Status(match end {
-        End::Ended => 0,
-        End::Memory => 7,
-        End::WriteFault => 8,
-        End::ReadFault => 10,
-        End::Cut | End::Refused(_) | End::Worn => 11,
-    })
+    match end {
+        End::Ended => Cause::Done,
+        End::Memory => Cause::Memory,
+        End::WriteFault => Cause::Output,
+        End::ReadFault => Cause::Link,
+        End::Cut | End::Refused(_) | End::Worn => Cause::Cut,
+    }
 }

@@ -3,6 +3,7 @@ ghost use Rattle.std.specs.Prelude.{◌≡◌, ◌≤◌, IfOk, IfSome, map};
 ghost use Rattle.command_words.specs.Words.{view_of};
 ghost use Rattle.campaign_cli.specs.Requests.{IsInRange, all_three, archive_by, archive_of, asked, compare_by, compare_of, drill_at, drill_by, drill_of, eval_of, history_by, history_of, meant, request_at, serve_at, serve_of, three_numbers};
 
+use crate::displays::Display;
 use campaign_server::ServerNumbers;
 use command_words::{CommandForm, CommandWords, number_in, read_command};
 use decimal_rank::Memory;
@@ -26,27 +27,28 @@ static FORMS: [CommandForm<'static>; 12] = [
     ("agreement", &[], &[]),
 ];
 
+/// What is printed where the words are no command.
+pub const USAGE_LINE: &[u8] =
+    b"usage: campaign eval RUN QRELS | session | serve --port P --workers W --connections N | drill SEED RUNS TOPICS DOCS | check | compact | archive NAME | history RUN | compare A B | export | reuse | agreement\n";
+
 /// A command of the program. `Eval` scores the run in one file against the qrels in another, by the
 /// files' names. `Session` answers the messages of one connection. `Serve` answers those of so many
 /// connections to a port, by so many workers. `Drill` plays a campaign that is generated from numbers.
-/// `Check` opens the campaign of the folder, and tells what it is. `Compact` packs its journal. `Archive` puts its release into the archive under a
-/// name. `RunHistory` tells a run in each release of the archive, `Compare` how two of them agree, and `Export` all
-/// their systems. `Reuse` tells how the runs of the folder's campaign would score without what their own groups alone
-/// brought in, and `Agreement` how its assessors agree.
+/// `Show` opens the campaign of the folder, and tells a text of it. `Compact` packs its journal. `Archive` puts its
+/// release into the archive under a name. `RunHistory` tells a run in each release of the archive, `Compare` how two of
+/// them agree, and `Export` all their systems.
 #[derive(Clone, Copy, Debug, PartialEq, Eq)]
 pub enum Command<'a> {
     Eval { run: &'a [u8], qrels: &'a [u8] },
     Session,
     Serve(ServerNumbers),
     Drill(DrillNumbers),
-    Check,
+    Show(Display),
     Compact,
     Archive { name: &'a [u8] },
     RunHistory { run: &'a [u8] },
     Compare { first: &'a [u8], second: &'a [u8] },
     Export,
-    Reuse,
-    Agreement,
     Usage,
 }
 
@@ -75,7 +77,7 @@ fn command_of<'a>(found: &CommandWords<'a>) -> Command<'a>
     } else if found.name == "drill" {
         drill_of(found.values.as_slice())
     } else if found.name == "check" {
-        Command::Check
+        Command::Show(Display::Check)
     } else if found.name == "compact" {
         Command::Compact
     } else if found.name == "archive" {
@@ -87,9 +89,9 @@ fn command_of<'a>(found: &CommandWords<'a>) -> Command<'a>
     } else if found.name == "export" {
         Command::Export
     } else if found.name == "reuse" {
-        Command::Reuse
+        Command::Show(Display::Reuse)
     } else if found.name == "agreement" {
-        Command::Agreement
+        Command::Show(Display::Agreement)
     } else {
         Command::Usage
     }

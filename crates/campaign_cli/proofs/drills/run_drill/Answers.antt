@@ -1,7 +1,12 @@
-use Rattle.campaign_cli.proofs.Ways.{drill_played}
+-- A generated campaign was played.
+use Rattle.std.proofs.Common.{ap, refl}
+use Rattle.campaign_cli.specs.declared.endings.Cause.TheVariants as cause
+use Rattle.campaign_cli.specs.Causes.{says}
+use Rattle.campaign_cli.specs.DrillEnds.{played, short}
 use Rattle.campaign_cli.proofs.drills.run_drill.Goals as goal
 
 pub returns-in-Ok : goal.returns-in-Ok
-returns-in-Ok g c other =
-    drill_played c.args.numbers (record other { out = g.O.Output.writing c.args.out.now }) (g.O.Output.writing c.print.new.out)
-    c.in-Ok.ensures.0 c.in-Ok.text.items c.print.result.0 c.in-Ok.ensures.1 c.in-Ok.ensures.2 (rw c.deref.ensures.value at c.print.ensures)
+returns-in-Ok g c = record { way = played c.in-Ok.ensures.0 c.in-Ok.ensures.1; told = ap (says cause.Done) c.in-Ok.ensures.2 }
+
+pub returns-in-Err : goal.returns-in-Err
+returns-in-Err g c = record { way = short; told = refl }

@@ -1,11 +1,20 @@
--- The text of the releases is printed, if there was memory for it.
-use Rattle.campaign_cli.specs.Outside.{Streams}
-use Rattle.campaign_cli.specs.ReportEnds.{history_text}
-use Rattle.campaign_cli.proofs.ReportWays.{listed_text}
+-- The text of the releases is told, if there was memory for it; or the archive's keeper failed.
+use Rattle.std.proofs.Common.{ap, Err}
+use Rattle.campaign_cli.specs.declared.endings.Cause.TheVariants as cause
+use Rattle.campaign_cli.specs.Causes.{says}
+use Rattle.campaign_cli.specs.ReportEnds.{history_text, listed}
+use Rattle.campaign_cli.proofs.Ways.{not_listed}
 use Rattle.campaign_cli.proofs.reports.tell_history.Goals as goal
 
-pub returns-in-Ok : goal.returns-in-Ok
-returns-in-Ok g c other =
-    let old : Streams = record other { out = g.O.Output.writing c.args.out.now; keeper = g.K.Keeper.seen c.args.keeper.now } in
-    listed_text old (g.O.Output.writing c.tell.new.out) (g.K.Keeper.seen c.all.new.self) c.tell.result.0 c.in-Ok.ensures.same c.in-Ok.ensures.later
-    (history_text c.args.run.now) c.in-Ok.all.items c.history_text.result c.in-Ok.ensures.all (rw c.deref.ensures.value at c.history_text.ensures) c.tell.ensures.told c.tell.ensures.untold
+pub returns-in-Ok-history_text : goal.returns-in-Ok-history_text
+returns-in-Ok-history_text g c = record {
+  way = listed c.in-Ok.all.items c.in-Ok.ensures.all;
+  told = ap (says cause.Done) (rw c.deref.ensures.value at c.in-Ok-history_text.ensures);
+  archive = (c.in-Ok.ensures.later, c.in-Ok.ensures.same);
+}
+
+pub returns : goal.returns
+returns g c =
+    not_listed (history_text c.args.run.now) (g.K.Keeper.seen c.args.keeper.now) (g.K.Keeper.seen c.all.new.self) c.in-Err.end c.cause_of.result c.cause_of.ensures
+    c.in-Err.ensures.later c.in-Err.ensures.same
+    (λ is. c.in-Err.ensures.failed (ap Err is))

@@ -1,18 +1,35 @@
 -- A server of the campaign that was opened, or why there is none.
-use Rattle.std.proofs.Common.{refl}
-use Rattle.campaign_cli.specs.ServeEnds.{unserved}
-use Rattle.campaign_cli.specs.Outside.{streams_behind}
-use Rattle.campaign_cli.proofs.Ways.{served_links}
+use Rattle.std.proofs.Common.{refl, ap, subst, List}
+use Rattle.campaign_server.specs.Servers.{ServesBook}
+use Rattle.routes.specs.declared.keys.KeyRow.{KeyRow}
+use Rattle.campaign_cli.specs.BookEnds.{unopened, worked}
+use Rattle.campaign_cli.specs.Causes.{silent}
 use Rattle.campaign_cli.proofs.servers.run_server.Goals as goal
 
-pub returns-in-Ok-clause-ends : goal.returns-in-Ok-clause-ends
-returns-in-Ok-clause-ends g c =
-    let old = streams_behind g.F.Shelf.seen g.O.Output.writing g.I.Link.seen g.R.Door.seen g.K.Keeper.seen c.args.devices.now in
-    served_links g.D.Disk.seen old (g.F.Shelf.seen c.open_book.new.shelf) (g.O.Output.writing c.open_book.new.out)
-    c.args.disk c.serve_links.result.1 c.serve_links.result.0.0 c.in-Ok.ensures.follows c.in-Ok.book c.in-Ok.callers c.in-Ok.ensures.opened
-    c.args.numbers (g.R.Door.seen c.serve_links.new.door) c.in-Ok.ensures.out c.serve_links.ensures
+pub returns-in-Ok : goal.returns-in-Ok
+returns-in-Ok g c =
+    let opened = c.in-Ok.ensures.opened in
+    let closes = c.serve_links-cause.ensures in
+    record {
+      way = worked (
+        opened.text,
+        opened.settings,
+        opened.given,
+        opened.read,
+        record {
+          how = closes.how;
+          opened = c.in-Ok.book;
+          closed = closes.closed;
+          opens = opened.opened;
+          serves = subst (λ (callers : List KeyRow). ServesBook g.D.Disk.seen callers c.args.numbers c.in-Ok.book closes.closed (g.R.Door.seen c.args.door.now) (g.R.Door.seen c.serve_links-cause.new.door) closes.how)
+              opened.callers_are closes.serves;
+          sound = closes.sound;
+          closes = closes.closes;
+        },
+      );
+      told = ap silent closes.told_is;
+      follows = c.in-Ok.ensures.follows;
+    }
 
-pub returns-in-Err-clause-ends : goal.returns-in-Err-clause-ends
-returns-in-Err-clause-ends g c =
-    let old = streams_behind g.F.Shelf.seen g.O.Output.writing g.I.Link.seen g.R.Door.seen g.K.Keeper.seen c.args.devices.now in
-    record { way = unserved (c.in-Err.ensures.unopened old) refl; shelf = c.in-Err.ensures.follows; rest = refl }
+pub returns-in-Err : goal.returns-in-Err
+returns-in-Err g c = record { way = unopened c.in-Err.ensures.unopened.way refl; told = c.in-Err.ensures.unopened.told; follows = c.in-Err.ensures.follows }

@@ -1,18 +1,39 @@
 -- A session with the campaign that was opened, or why there is none.
-use Rattle.std.proofs.Common.{refl}
-use Rattle.campaign_cli.specs.SessionEnds.{unheld}
-use Rattle.campaign_cli.specs.Outside.{streams_behind}
-use Rattle.campaign_cli.proofs.Ways.{held_session}
+use Rattle.std.proofs.Common.{refl, ap, subst, List}
+use Rattle.campaign_server.specs.Connections.{Ends}
+use Rattle.campaign_server.specs.Sessions.{IsSession}
+use Rattle.routes.specs.declared.keys.KeyRow.{KeyRow}
+use Rattle.campaign_cli.specs.BookEnds.{unopened, worked}
+use Rattle.campaign_cli.specs.Causes.{silent}
 use Rattle.campaign_cli.proofs.sessions.hold_session.Goals as goal
 
-pub returns-in-Ok-clause-ends : goal.returns-in-Ok-clause-ends
-returns-in-Ok-clause-ends g c =
-    let old = streams_behind g.F.Shelf.seen g.O.Output.writing g.I.Link.seen g.R.Door.seen g.K.Keeper.seen c.args.devices.now in
-    held_session g.D.Disk.seen old (g.F.Shelf.seen c.open_book.new.shelf) (g.O.Output.writing c.open_book.new.out)
-    c.args.disk c.answer_link.result.1 c.answer_link.result.0.0 c.in-Ok.ensures.follows c.in-Ok.book c.in-Ok.callers c.in-Ok.ensures.opened
-    (g.I.Link.seen c.answer_link.new.own) c.in-Ok.ensures.out c.answer_link.ensures
+pub returns-in-Ok : goal.returns-in-Ok
+returns-in-Ok g c =
+    let opened = c.in-Ok.ensures.opened in
+    let answers = c.answer_link-cause.ensures in
+    let own = g.I.Link.seen c.args.own.now in
+    let later = g.I.Link.seen c.answer_link-cause.new.own in
+    record {
+      way = worked (
+        opened.text,
+        opened.settings,
+        opened.given,
+        opened.read,
+        record {
+          how = answers.how;
+          opened = c.in-Ok.book;
+          closed = answers.closed;
+          opens = opened.opened;
+          talk = subst (λ (callers : List KeyRow). Ends (IsSession g.D.Disk.seen callers c.in-Ok.book own.clock answers.closed later.clock) own later answers.how)
+              opened.callers_are answers.talk;
+          runs = answers.runs;
+          sound = answers.sound;
+          closes = answers.closes;
+        },
+      );
+      told = ap silent answers.told_is;
+      follows = c.in-Ok.ensures.follows;
+    }
 
-pub returns-in-Err-clause-ends : goal.returns-in-Err-clause-ends
-returns-in-Err-clause-ends g c =
-    let old = streams_behind g.F.Shelf.seen g.O.Output.writing g.I.Link.seen g.R.Door.seen g.K.Keeper.seen c.args.devices.now in
-    record { way = unheld (c.in-Err.ensures.unopened old) refl; shelf = c.in-Err.ensures.follows; rest = refl }
+pub returns-in-Err : goal.returns-in-Err
+returns-in-Err g c = record { way = unopened c.in-Err.ensures.unopened.way refl; told = c.in-Err.ensures.unopened.told; follows = c.in-Err.ensures.follows }
