@@ -1,26 +1,18 @@
 //! The program: the files of the system, standard input and output, the machine's clock, the file of the
-//! campaign's journal, a TCP door on 127.0.0.1 and the file of an archive, and the top call over them. Standard error is told what failed and
-//! what to do; what standard output has and the status are the top call's alone.
+//! campaign's journal, a TCP door on 127.0.0.1 and the file of an archive, and the top call over them. Standard error is
+//! told what failed and what to do (`diagnostics`); what standard output has and the status are the top call's alone.
 #![tactic(auto)]
 
-mod complaints;
-mod disk_reports;
 mod door_reports;
-mod second_looks;
-mod sentences;
-mod setting_faults;
-mod setting_lines;
 mod shelf_reports;
 
 use archive_file::SqliteKeeper;
-use campaign_cli::{FileShelf, OutputSink, Status, campaign};
+use campaign_cli::{FileShelf, OutputSink, Shelf, Status, campaign};
 use campaign_server::StreamLink;
 use decimal_rank::Secret;
+use diagnostics::{ReportingDisk, tell_journal, tell_settings, tell_status, tell_usage};
 use disk_model::FileDisk;
-use disk_reports::ReportingDisk;
 use door_reports::ReportingDoor;
-use second_looks::{tell_journal, tell_settings};
-use sentences::{tell_status, tell_usage};
 use shelf_reports::ReportingShelf;
 use std::alloc::{AllocError, Global};
 use std::io::ErrorKind;
@@ -30,6 +22,9 @@ use std::{env, fs};
 
 /// The file that keeps the campaign, in the folder that the program runs in.
 const JOURNAL: &str = "campaign.journal";
+
+/// The settings of the campaign, in the same folder.
+const SETTINGS: &str = "campaign.toml";
 
 /// The file that keeps the releases of campaigns, in the same folder.
 const ARCHIVE: &str = "campaign.archive";
@@ -57,10 +52,18 @@ fn words(rt: &HostRuntime, alloc: Global) -> Result<Vec<String>, AllocError> {
 fn tell(rt: &HostRuntime, alloc: Global, words: &[String], status: Status) {
     match status.0 {
         2 => tell_usage(rt, words),
-        3 if !is_evaluation(words) => tell_settings(rt, alloc),
+        3 if !is_evaluation(words) => look_at_settings(rt, alloc),
         5 => tell_journal(rt, JOURNAL),
         other => tell_status(rt, other),
     }
+}
+
+// Reads the settings again, and tells what is wrong with them.
+fn look_at_settings(rt: &HostRuntime, alloc: Global) {
+    let Ok(text) = FileShelf::new(rt).read_file(alloc, SETTINGS.as_bytes()) else {
+        return;
+    };
+    tell_settings(rt, alloc, SETTINGS, &text);
 }
 
 // Whether the words are those of `eval`, which has no settings.

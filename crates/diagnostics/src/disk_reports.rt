@@ -10,6 +10,7 @@ pub struct ReportingDisk<D: Disk, E: Eprint> {
 }
 
 impl<D: Disk, E: Eprint> ReportingDisk<D, E> {
+    /// No journal is begun on it yet.
     pub fn new(disk: D, errors: E) -> ReportingDisk<D, E> {
         ReportingDisk {
             disk,

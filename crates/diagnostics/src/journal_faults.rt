@@ -1,28 +1,9 @@
-//! What is looked at again where a file was refused or the journal couldn't be used, to tell why on standard error.
-use crate::complaints::complaint_of;
-use campaign_cli::{FileShelf, Shelf};
-use std::alloc::Global;
+//! Why the journal's file couldn't be used: it is looked at again.
 use std::fs::{self, File, OpenOptions, TryLockError};
 use std::os::unix::fs::OpenOptionsExt;
 use std::rt::Files;
 
-const SETTINGS: &str = "campaign.toml";
-
-/// Tells what is wrong with the settings, or that the journal is of others.
-pub fn tell_settings<R: Files<File = File> + Eprint>(rt: &R, alloc: Global) {
-    let Ok(text) = FileShelf::new(rt).read_file(alloc, SETTINGS.as_bytes()) else {
-        return;
-    };
-    let _ = match complaint_of(alloc, &text) {
-        Ok(Some(complaint)) => eprintln!(rt; "{SETTINGS}: {complaint}"),
-        Ok(None) => eprintln!(rt;
-            "{SETTINGS}: the journal was founded under other settings: set them back, callers aside, or take a new folder"
-        ),
-        Err(_) => eprintln!(rt; "{SETTINGS}: memory was short to look at it"),
-    };
-}
-
-/// Tells why the journal couldn't be used.
+/// Tells why the journal of this name couldn't be used.
 pub fn tell_journal<R: Files<File = File> + Eprint>(rt: &R, journal: &str) {
     let is_link = match fs::symlink_metadata(rt, journal) {
         Ok(found) => found.is_symlink(),

@@ -22,9 +22,20 @@ struct Finding<'a> {
     fault: Fault<'a>,
 }
 
-/// The sentence on the first fault of settings that are refused, with its line where that was found; none where they
-/// aren't refused.
-pub fn complaint_of(alloc: Global, text: &[u8]) -> Result<Option<String>, Memory>
+/// Tells what is wrong with the text of the settings, or that the journal is of others. `name` is that of their file.
+pub fn tell_settings(errors: &impl Eprint, alloc: Global, name: &str, text: &[u8]) {
+    let _ = match complaint_of(alloc, text) {
+        Ok(Some(complaint)) => eprintln!(errors; "{name}: {complaint}"),
+        Ok(None) => eprintln!(errors;
+            "{name}: the journal was founded under other settings: set them back, callers aside, or take a new folder"
+        ),
+        Err(_) => eprintln!(errors; "{name}: memory was short to look at it"),
+    };
+}
+
+// The sentence on the first fault of settings that are refused, with its line where that was found; none where they
+// aren't refused.
+fn complaint_of(alloc: Global, text: &[u8]) -> Result<Option<String>, Memory>
     ensures refused { IfOk result (λ complaint. IfSome complaint (λ _. settings_of text.now ≡ None)) }
     ensures accepted { result ≡ Ok None → settings_of text.now ≢ None }
 {
