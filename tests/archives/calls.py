@@ -4,7 +4,7 @@ import os
 import shutil
 import subprocess
 
-from tests.servers import FOLDER, PROGRAM, fail
+from tests.script import FOLDER, PROGRAM, fail
 
 ARCHIVE = "campaign.archive"
 CAMPAIGN = ["campaign.toml", "campaign.journal"]

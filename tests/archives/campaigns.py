@@ -5,7 +5,7 @@ import random
 import string
 
 from tests.archives.calls import same
-from tests.servers import ASSESSORS, GROUP, ORGANISER, check, fresh, message, session
+from tests.campaigns import ASSESSORS, GROUP, ORGANISER, check, fresh, message, session
 
 # the columns of a system, as `check` prints them: counts, and then measures in units of 10^-15
 COUNTS = ["num_q", "num_ret", "num_rel", "num_rel_ret"]

@@ -9,7 +9,7 @@ import time
 
 from tests.archives.calls import ARCHIVE, CAMPAIGN, began, copied, ends, linked, same
 from tests.archives.stock import has_tables, only_whole
-from tests.servers import FOLDER
+from tests.script import FOLDER
 
 
 def try_two(first, second):

@@ -7,13 +7,16 @@ import sqlite3
 
 from tests.archives.calls import ARCHIVE, copied, same
 from tests.archives.stock import fill
-from tests.servers import PROGRAM
+from tests.pages.player import Player
+from tests.script import FOLDER, PROGRAM
+
+PAGE = "docs/ARCHIVE.md"
 
 
 def try_page(path):
     """The archive that docs/ARCHIVE.md asks is made of the export that stands there, in a folder in which the page is
     played; and the page's questions are asked by Python's sqlite3 too: how many."""
-    with open("docs/ARCHIVE.md") as file:
+    with open(PAGE) as file:
         _, *parts = file.read().split("\n    $ ")
     commands = [part.split("\n\n")[0].rstrip("\n").split("\n    ") for part in parts]
     page = copied(path, "page", ARCHIVE)
@@ -31,3 +34,9 @@ def try_page(path):
         shown = ["|".join(map(str, row)) for row in rows]
         same(f"question by Python: {statements}", shown, [qrels] if behind else answer)
     return len(questions)
+
+
+def play_page():
+    """The page is played in that folder, from its questions on."""
+    with Player(os.path.join(FOLDER, "page")) as player:
+        player.play(PAGE, "Five questions", "no further heading")

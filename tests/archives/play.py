@@ -2,18 +2,17 @@
 
 import os
 import sqlite3
-import sys
 
 from tests.archives.calls import ARCHIVE, USAGE, copied, ends, linked, ran, same, tried
 from tests.archives.campaigns import NAMES, RUNS, play
 from tests.archives.cuts import try_kills, try_limits, try_two
-from tests.archives.page import try_page
+from tests.archives.page import play_page, try_page
 from tests.archives.reports import try_large, try_nothing, try_reports
 from tests.archives.stock import dump, holds, is_whole, names
 from tests.archives.writers import try_other_files, try_other_writers
-from tests.servers import fail, tell
+from tests.script import WORDS, fail, tell
 
-ROUNDS, SEED = int(sys.argv[5]), int(sys.argv[6])
+ROUNDS, SEED = int(WORDS[0]), int(WORDS[1])
 # more systems take longer to write, so that more calls are killed while they do
 KILLED_SYSTEMS = 60
 
@@ -90,3 +89,4 @@ def main():
 
 tell(f"the seed is {SEED}")
 main()
+play_page()

@@ -12,7 +12,7 @@ import time
 from tests.archives.calls import ARCHIVE, USAGE, copied, ends, ran, same
 from tests.archives.campaigns import BYTES
 from tests.archives.stock import ENV, fill, four_decimals, stock
-from tests.servers import FOLDER
+from tests.script import FOLDER
 
 HEADER = ["campaign", "run", "group", "topics", "map"]
 

@@ -6,7 +6,7 @@ import subprocess
 
 from tests.archives.calls import ARCHIVE, same
 from tests.archives.campaigns import COUNTS, MEASURES
-from tests.servers import FOLDER, fail
+from tests.script import FOLDER, fail
 
 ONE = 10**15
 ENV = {**os.environ, "HOME": FOLDER}

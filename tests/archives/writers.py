@@ -4,7 +4,7 @@ import os
 
 from tests.archives.calls import ARCHIVE, CAMPAIGN, copied, ends, linked, same
 from tests.archives.stock import ONE, files_of, is_whole, names, stock
-from tests.servers import FOLDER
+from tests.script import FOLDER
 
 # the calls that are refused where a row of the release `spring` isn't as it must be; and where the file isn't
 ROW = ["history X", "export", "compare spring 007", "archive spring"]

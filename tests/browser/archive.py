@@ -2,7 +2,7 @@
 
 import itertools
 
-from checks import has, holds, same
+from tests.browser.checks import has, holds, same
 
 # every byte of a name is in one of these; the maps of two runs are equal once
 LONG = ["ABCDEFGHIJKLMNOPQRSTUVWXYZ.abcde", "fghijklmnopqrstuvwxyz_0123456789", "-.-"]

@@ -10,7 +10,7 @@ from selenium.webdriver.common.by import By
 from selenium.webdriver.common.keys import Keys
 from selenium.webdriver.chrome.service import Service
 
-from served import PATIENCE
+from tests.browser.served import PATIENCE
 
 FLAGS = [
     "--headless=new",

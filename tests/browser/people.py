@@ -1,7 +1,7 @@
 """The callers of examples/trec at the page: what each does there, in the words of a person."""
 
-from checks import has, holds, same
-from page import Keys
+from tests.browser.checks import has, same
+from tests.browser.page import Keys
 
 
 # how much higher the frame is than its text

@@ -6,15 +6,14 @@ import os
 import re
 import shutil
 import subprocess
-import sys
 import time
 
-import archive
-import checks
-from checks import has, holds, same
-from page import Keys, Page
-from people import Assessor, Group, Organiser, sees_table
-from served import PATIENCE, REPOSITORY, Front, Server
+from tests.browser import archive, checks
+from tests.browser.checks import has, holds, same
+from tests.browser.page import Keys, Page
+from tests.browser.people import Assessor, Group, Organiser, sees_table
+from tests.browser.served import PATIENCE, REPOSITORY, Front, Server
+from tests.script import FOLDER, PROGRAM, WORDS, tell
 
 HERE = os.path.dirname(os.path.abspath(__file__))
 TREC = os.path.join(REPOSITORY, "examples", "trec")
@@ -594,8 +593,8 @@ def browser_is_content(campaign):
     same("keys in addresses", [one for one in page.addresses if any(key in one for key in KEYS.values())], [])
 
 
-def play(program, folder, pictures):
-    campaign = Campaign(program, folder, pictures)
+def play(pictures):
+    campaign = Campaign(PROGRAM, FOLDER, pictures)
     try:
         campaign.texts()
         settings_tell_no_key(campaign)
@@ -625,8 +624,8 @@ def play(program, folder, pictures):
     same("documents that were graded by one key each", by_keys, 13)
     same("screenshots", shots, 39)
     holds(f"enough was tried: {checks.tried} checks", checks.tried >= 345)
-    print(f"tests/web: {by_keys} documents were graded by as many keys, checks: {checks.tried}")
-    print(f"tests/web: {shots} screenshots are in {pictures}")
+    tell(f"{by_keys} documents were graded by as many keys, checks: {checks.tried}")
+    tell(f"{shots} screenshots are in {pictures}")
 
 
-play(*sys.argv[1:])
+play(*WORDS)

@@ -6,7 +6,8 @@ import shutil
 import socket
 import subprocess
 import threading
-import time
+
+from tests.servers.server import free_port, until_open
 
 # how long anything may take, in seconds
 PATIENCE = 20
@@ -45,24 +46,6 @@ LOSSES = """
         if (-f {folder}/never) {{ return 418; }}
         if (-f {folder}/lost) {{ return 419; }}
 """
-
-
-def free_port():
-    with socket.socket() as free:
-        free.bind(("127.0.0.1", 0))
-        return free.getsockname()[1]
-
-
-def until_open(port, process):
-    listening = f"0100007F:{port:04X} 00000000:0000 0A"
-    for _ in range(PATIENCE * 100):
-        with open("/proc/net/tcp") as table:
-            if listening in table.read():
-                return
-        if process.poll() is not None:
-            break
-        time.sleep(0.01)
-    raise AssertionError(f"port {port} wasn't opened (status {process.poll()})")
 
 
 class Server:

@@ -5,11 +5,12 @@ import os
 import subprocess
 from collections import Counter
 
+from tests.campaigns import check
 from tests.compactions.moves import STEPS, Move, campaign, told_again
+from tests.journals.shim import SHIM
 from tests.plain.journals import OPEN, ROLES, Entry, founding, journal, spelled, topics_given
-from tests.servers import FOLDER, PROGRAM, check, fail, tell
+from tests.script import PROGRAM, fail, tell
 
-SHIM = os.path.join(FOLDER, "failing_calls.so")
 # the calls of a compaction behind those of its opening, by the letters of the shim: the place, the area and a sync; the
 # turn; the move; the turn back; and the cut, each with its sync
 CALLS = "wwswswswsts"
@@ -106,7 +107,7 @@ class Faults:
             fail(f"a compaction to a longer file ends with {status}, prints {printed}, and its calls are {calls}")
 
 
-def main():
+def fail_compactions():
     faults = Faults(Move(4, campaign(3, 4, 10)))
     faults.each_call()
     faults.again_and_alone()
@@ -116,6 +117,3 @@ def main():
     tell("calls of a compaction: " + ", ".join(f"{count} {name}" for name, count in faults.tried.items())
          + f"; those that failed left a file {steps}; each has the same entries, and {faults.left['as before']} starts"
          f" found the records from before and {faults.left['compacted']} those of the compaction")
-
-
-main()

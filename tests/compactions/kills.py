@@ -3,14 +3,14 @@
 import os
 import random
 import subprocess
-import sys
 import time
 from collections import Counter
 
+from tests.campaigns import check
 from tests.compactions.moves import JOURNAL, STEPS, Move, campaign, told_again
-from tests.servers import PROGRAM, check, fail, tell
+from tests.script import PROGRAM, WORDS, fail, tell
 
-ROUNDS, SEED = int(sys.argv[5]), int(sys.argv[6])
+ROUNDS, SEED = 2 * int(WORDS[0]), int(WORDS[1])
 # 250 topics with long texts, and a run of 25,000 lines: so the file has 6 MB, and is opened in a moment
 TOPICS, DOCS, LEASES, TEXT = 250, 100, 3000, 8192
 # how many steps of a move have to be met, and of how many kills one has to meet a compaction under way
@@ -102,7 +102,7 @@ class Kills:
         self.left[self.move.hold_rest(what, self.path)] += 1
 
 
-def main():
+def kill_compactions():
     move = Move(DOCS, campaign(TOPICS, DOCS, LEASES, TEXT))
     kills = Kills(move)
     for number in range(1, ROUNDS + 1):
@@ -115,6 +115,3 @@ def main():
         fail(f"too little was tried: {told}")
     tell(f"{told}; each left the same {len(move.entries):,} entries, and the next start had the records from before "
          f"{kills.left['as before']} times and those of the compaction {kills.left['compacted']} times")
-
-
-main()

@@ -1,12 +1,12 @@
 """A campaign whose journal is compacted: the file before and afterwards, and how far a move has come in a file."""
 
 import os
-import re
 from collections import defaultdict
 
+from tests.campaigns import ASSESSORS, fresh, message, session
 from tests.plain.journals import AMEND, GRADE, LEASE, MOVING, OPEN, RELEASE, ROLES, RULE, WITHDRAW, Entry, Unread
 from tests.plain.journals import area, compacted, entries_of, founding, journal, spelled, submitted, topics_given
-from tests.servers import ASSESSORS, fail, fresh, message, session
+from tests.script import fail
 
 JOURNAL = "campaign.journal"
 # how far a move may have come, in order

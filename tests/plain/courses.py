@@ -6,9 +6,11 @@ import subprocess
 import sys
 
 from tests.plain.walk import DOCS, Topic, Walk
+from tests.script import tell
 
 NAMES = "abcdef"
 RANKINGS = ["abcdefgh", "hgfedcba", "cadbe", "bdfh", "eca", "g", "fbdhac", "dghe", "hab", "acegbdfh"]
+tried = collections.Counter()
 
 
 def thrown(dice, walk, moment):
@@ -115,14 +117,15 @@ def is_enough(count):
     return count < 100 or all(4 * tried[part] >= whole for part, whole in wanted.items())
 
 
-program, count = sys.argv[1], int(sys.argv[2])
-dice, tried = random.Random(7), collections.Counter()
-lines = most_runs()
-for _ in range(count):
-    lines += course(dice)
-asked = sum(" -> " in line for line in lines)
-ran = subprocess.run([program], input="".join(f"{line}\n" for line in lines), capture_output=True, text=True)
-print(f"tests/courses: {ran.stdout}", end="")
-print("tests/courses:", ", ".join(f"{name} {number}" for name, number in tried.items()))
-wanted = f"cases {count + 1}, lines {asked}, of which told something else 0\n"
-sys.exit(ran.returncode or ran.stdout != wanted or not is_enough(count))
+def play_courses(cases, count):
+    """The program of the cases is told what the plain walk tells; where it isn't, the script ends with its status."""
+    dice, lines = random.Random(7), most_runs()
+    for _ in range(count):
+        lines += course(dice)
+    asked = sum(" -> " in line for line in lines)
+    ran = subprocess.run([cases], input="".join(f"{line}\n" for line in lines), capture_output=True, text=True)
+    tell(ran.stdout.removesuffix("\n"))
+    tell(", ".join(f"{name} {number}" for name, number in tried.items()))
+    wanted = f"cases {count + 1}, lines {asked}, of which told something else 0\n"
+    if status := ran.returncode or ran.stdout != wanted or not is_enough(count):
+        sys.exit(status)

@@ -5,11 +5,11 @@ import collections
 import os
 import random
 import subprocess
-import sys
 
 from tests.plain.journals import AMEND, GRADE, LEASE, OPEN, PUBLISH, RELEASE, ROLES, RULE, WITHDRAW
 from tests.plain.journals import Entry, area, compacted, founding, journal, spelled, submitted, topics_given
 from tests.plain.walk import DOCS, TERM, TOP_GRADE, Topic, Walk, four_decimals
+from tests.script import FOLDER, PROGRAM, fail, tell
 
 IDS = ["1", "10", "2", "9", "B", "a"]
 ASSESSORS = "pqr"
@@ -280,11 +280,11 @@ def worked():
     yield row_of(same, {"a": [1], "b": [0]}), reuse_text, "X\t0\t1.0000\t1.0000\nY\t0\t1.0000\t1.0000\n"
 
 
-def hold_printed(program, folder, played, what):
+def hold_printed(played, what):
     """The program prints what the walk tells of a campaign, whose journal it opens, and compacts that as it should."""
-    path = os.path.join(folder, "campaign.journal")
+    path = os.path.join(FOLDER, "campaign.journal")
     image = journal([spelled(entry) for entry in played.entries])
-    with open(os.path.join(folder, "campaign.toml"), "w") as file:
+    with open(os.path.join(FOLDER, "campaign.toml"), "w") as file:
         file.write(played.settings())
     with open(path, "wb") as file:
         file.write(image)
@@ -296,37 +296,33 @@ def hold_printed(program, folder, played, what):
     sizes = f"entries {len(played.entries)}\nbefore {len(image)}\nafter {after}\n"
     reports = [("check", state), ("reuse", reuse_text(played.walk)), ("agreement", agreement_text(played.walk))]
     for word, text in [*reports, ("compact", sizes), *reports]:
-        ran = subprocess.run([program, word], cwd=folder, capture_output=True, text=True)
+        ran = subprocess.run([PROGRAM, word], cwd=FOLDER, capture_output=True, text=True)
         if (ran.returncode, ran.stdout, ran.stderr) != (0, text, ""):
             printed = f"ends with {ran.returncode} and prints\n{ran.stdout}{ran.stderr}"
-            sys.exit(f"tests/courses: {what}: {word} {printed}\nand not\n{text}")
+            fail(f"{what}: {word} {printed}\nand not\n{text}")
     with open(path, "rb") as file:
         left = file.read()
     if left[16:] != (bundled if 16 + len(bundled) <= len(image) else image[16:]):
-        sys.exit(f"tests/courses: {what}: compact leaves another journal")
+        fail(f"{what}: compact leaves another journal")
     tried["compacted journals"] += len(left) < len(image)
     tried["journals that would be longer"] += left == image
 
 
-def main(program, folder, count):
+def play_campaigns(count):
     rows = list(worked())
     for place, (played, text_of, wanted) in enumerate(rows, 1):
         if text_of(played.walk) != wanted:
             told = text_of(played.walk)
-            sys.exit(f"tests/courses: the walk tells of worked campaign {place}\n{told}\nand not\n{wanted}")
-        hold_printed(program, folder, played, f"worked campaign {place}")
+            fail(f"the walk tells of worked campaign {place}\n{told}\nand not\n{wanted}")
+        hold_printed(played, f"worked campaign {place}")
     dice = random.Random(11)
     for place in range(1, count + 1):
         played = campaign(dice)
         count_rows(played.walk)
         count_topics(played.walk)
-        hold_printed(program, folder, played, f"campaign {place}")
-    print(f"tests/courses: {len(rows)} worked campaigns and {count} random ones are told and compacted:",
-          ", ".join(f"{number} {name}" for name, number in tried.items()))
+        hold_printed(played, f"campaign {place}")
+    told = ", ".join(f"{number} {name}" for name, number in tried.items())
+    tell(f"{len(rows)} worked campaigns and {count} random ones are told and compacted: {told}")
     missing = [name for name, least in WANTED.items() if tried[name] * 100 < least * count]
     if count >= 100 and missing:
-        sys.exit(f"tests/courses: too few {', '.join(missing)}")
-
-
-if __name__ == "__main__":
-    main(sys.argv[1], sys.argv[2], int(sys.argv[3]))
+        fail(f"too few {', '.join(missing)}")
