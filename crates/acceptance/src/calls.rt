@@ -1,6 +1,7 @@
-//! Calls of the program, its words apart by blanks, over files, output, links, disks and doors in memory.
+//! Calls of the program, its words apart by blanks, over files, output, links, disks and doors in
+//! memory.
 ghost use Rattle.campaign_server.specs.Doors.{IsShut};
-ghost use Rattle.campaign_server.specs.MemoryDoors.{told_by};
+ghost use Rattle.campaign_server.specs.MemoryForms.MemoryDoors.{told_by};
 
 use crate::settings::{SETTINGS, settings_shelf};
 use campaign_cli::{MemoryShelf, MemorySink, campaign};
@@ -46,7 +47,8 @@ fn shut_door(alloc: Global) -> MemoryDoor<MemoryLink>
     MemoryDoor::new(Vec::new(alloc), Vec::new(alloc))
 }
 
-/// The status of the program under these settings over a disk and a link, what it prints, and the disk.
+/// The status of the program under these settings over a disk and a link, what it prints, and the
+/// disk.
 pub(crate) fn ended_under<W: Threads + Wait + Sync + AllocGlobal, I: Link>(
     rt: &W,
     words: &str,

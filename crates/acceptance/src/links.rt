@@ -1,8 +1,8 @@
 //! Links for the tests of this crate.
 ghost use Rattle.std.specs.Prelude.{◌≤◌, IfOk, IsTrue, None, length};
 ghost use Rattle.campaign_server.specs.Doors.{IsNew};
-ghost use Rattle.campaign_server.specs.MemoryLinks.{told_by};
-ghost use Rattle.campaign_server.specs.Pieces.{are_filled};
+ghost use Rattle.campaign_server.specs.MemoryForms.MemoryLinks.{told_by};
+ghost use Rattle.campaign_server.specs.ConnectionLoop.Pieces.{are_filled};
 
 use campaign_server::{Failed, Link, MemoryLink};
 use decimal_rank::{Memory, Text};
@@ -46,8 +46,8 @@ pub(crate) fn link_of(
     Ok(MemoryLink::new(pieces, Vec::new(alloc), read_fails, write_fails))
 }
 
-/// A link that gives two pieces. The second read fails unless something was written before it. It tells
-/// its counts alone.
+/// A link that gives two pieces. The second read fails unless something was written before it. It
+/// tells its counts alone.
 #[derive(Drop)]
 pub(crate) struct AnsweredFirst {
     first: &'static [u8],
@@ -113,5 +113,6 @@ impl Link for AnsweredFirst {
         0
     }
 
-    ghost tells_alike = { λ _ _. record { taken = refl; left = refl; last = refl; written = refl; moments = refl } };
+    ghost tells_alike = { λ _ _.
+        record { taken = refl; left = refl; last = refl; written = refl; moments = refl } };
 }

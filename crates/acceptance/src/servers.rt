@@ -1,7 +1,7 @@
 //! `serve` through the top call.
 ghost use Rattle.std.specs.Prelude.{◌≡◌, ◌≤◌, All, IfOk};
 ghost use Rattle.campaign_server.specs.Doors.{IsNew, IsShut};
-ghost use Rattle.campaign_server.specs.MemoryLinks.{told_by};
+ghost use Rattle.campaign_server.specs.MemoryForms.MemoryLinks.{told_by};
 
 use crate::calls::{empty_disk, ended_at, ended_under};
 use crate::links::{idle_link, link_of};
@@ -19,7 +19,8 @@ use std::sync::{Arc, Wait};
 use std::test::Fail;
 use std::thread::Threads;
 
-// The status of the program with these words over a door and an empty disk, and what the disk has then.
+// The status of the program with these words over a door and an empty disk, and what the disk has
+// then.
 fn served_at<W: Threads + Wait + Sync + AllocGlobal, R: Door>(
     rt: &W,
     words: &str,
@@ -49,7 +50,8 @@ fn page_of<W: Threads + Wait + Sync + AllocGlobal>(rt: &W, held: &[u8]) -> Resul
     Ok(Vec::from_slice(alloc, out.written())?)
 }
 
-// A link that gives these bytes. The read and the write at these places fail; none where a place is 0.
+// A link that gives these bytes. The read and the write at these places fail; none where a place is
+// 0.
 fn link_with(alloc: Global, bytes: &[u8], read: u64, write: u64) -> Result<MemoryLink, Fail>
     ensures { IfOk result (λ link. IsNew (told_by link)) }
 {
@@ -75,8 +77,8 @@ fn with_link<I: Link + Drop>(links: Vec<I>, link: I) -> Result<Vec<I>, Memory>
     Ok(links)
 }
 
-// Three links: one with these bytes, of which the read and the write at these places fail, and two that give a
-// submission and its page.
+// Three links: one with these bytes, of which the read and the write at these places fail, and two
+// that give a submission and its page.
 fn three_links(alloc: Global, bytes: &[u8], read: u64, write: u64) -> Result<Vec<MemoryLink>, Fail>
     ensures { IfOk result (λ links. All (λ link. IsNew (told_by link)) links.items) }
 {
@@ -126,7 +128,8 @@ fn a_failing_link_leaves_the_others_answered(rt: HostRuntime) -> Result<(), Fail
 #[test]
 fn a_server_ends_with_its_door_or_its_connections(rt: HostRuntime) -> Result<(), Fail> {
     let alloc = rt.alloc();
-    // the most connections, the call on the door that fails, the status, how many links were served, and the entries
+    // the most connections, the call on the door that fails, the status, how many links were
+    // served, and the entries
     let cases: [(&str, u64, u8, usize, &str); 5] = [
         ("9", 0, 0, 3, "entries 3\n"),
         ("3", 0, 0, 3, "entries 3\n"),
@@ -187,7 +190,8 @@ fn beginning_link(alloc: Global, answers: &Arc<AtomicU64, Global>) -> Result<Wai
 
 // Two links, of which the first waits for the second to be answered twice.
 fn two_waiting(alloc: Global) -> Result<Vec<WaitingLink>, Fail>
-    ensures { IfOk result (λ links. All (λ link. IsNew (⟦<WaitingLink as Link>⟧.seen link)) links.items) }
+    ensures { IfOk result
+        (λ links. All (λ link. IsNew (⟦<WaitingLink as Link>⟧.seen link)) links.items) }
 {
     let one = Arc::new(alloc, AtomicU64::new(0))?;
     let two = Arc::new(alloc, AtomicU64::new(0))?;
@@ -197,7 +201,8 @@ fn two_waiting(alloc: Global) -> Result<Vec<WaitingLink>, Fail>
 
 // Two links in front of these two, of which each waits for the next to be answered.
 fn four_waiting(alloc: Global) -> Result<Vec<WaitingLink>, Fail>
-    ensures { IfOk result (λ links. All (λ link. IsNew (⟦<WaitingLink as Link>⟧.seen link)) links.items) }
+    ensures { IfOk result
+        (λ links. All (λ link. IsNew (⟦<WaitingLink as Link>⟧.seen link)) links.items) }
 {
     let one = Arc::new(alloc, AtomicU64::new(0))?;
     let two = Arc::new(alloc, AtomicU64::new(0))?;

@@ -1,6 +1,6 @@
-//! Shelves and sinks: those in memory, whose calls fail as planned, a sink that takes one byte of each piece, and the
-//! files and the standard output of the system.
-ghost use Rattle.campaign_cli.specs.Sinks.{told_by};
+//! Shelves and sinks: those in memory, whose calls fail as planned, a sink that takes one byte of
+//! each piece, and the files and the standard output of the system.
+ghost use Rattle.campaign_cli.specs.Surroundings.Sinks.{told_by};
 
 use campaign_cli::{
     Failed, FileShelf, MemoryShelf, MemorySink, OutputSink, Shelf, ShelfFault, Sink, write_all,

@@ -1,4 +1,5 @@
-//! A link that waits for another one: its second piece is given once so many answers were written on the next link.
+//! A link that waits for another one: its second piece is given once so many answers were written
+//! on the next link.
 ghost use Rattle.std.specs.Prelude.{None};
 ghost use Rattle.campaign_server.specs.Doors.{IsNew};
 
@@ -11,8 +12,8 @@ use std::sync::atomic::{AtomicU64, Ordering};
 /// How often the next link is looked at before the read fails.
 const MOST_TRIES: u64 = 1_000_000_000;
 
-/// A link that gives two pieces. Before the second it waits until so many answers were written on the next
-/// link. It tells its counts alone.
+/// A link that gives two pieces. Before the second it waits until so many answers were written on
+/// the next link. It tells its counts alone.
 #[derive(Drop)]
 pub(crate) struct WaitingLink {
     first: Vec<u8>,
@@ -104,5 +105,6 @@ impl Link for WaitingLink {
         0
     }
 
-    ghost tells_alike = { λ _ _. record { taken = refl; left = refl; last = refl; written = refl; moments = refl } };
+    ghost tells_alike = { λ _ _.
+        record { taken = refl; left = refl; last = refl; written = refl; moments = refl } };
 }

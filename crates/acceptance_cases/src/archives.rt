@@ -1,7 +1,8 @@
 //! The archive of a case.
 //!
-//!     system autumn X grp 1 500000000000000     one system more of a release: the release's name, the run, its group, how
-//!                                               many topics counted, and its map in units of 10^-15
+//!     system autumn X grp 1 500000000000000     one system more of a release: the release's name,
+//!                                               the run, its group, how many topics counted, and
+//!                                               its map in units of 10^-15
 use crate::marks::cut;
 use crate::stages::Unplayed;
 use decimal_rank::{Memory, Rows, Text};

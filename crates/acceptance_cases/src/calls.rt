@@ -1,8 +1,8 @@
 //! A call of the program over files, an output, a link, a disk and an archive in memory.
 ghost use Rattle.std.specs.Prelude.{◌≡◌, IfOk, IsTrue};
 ghost use Rattle.campaign_server.specs.Doors.{IsShut};
-ghost use Rattle.campaign_server.specs.MemoryDoors.{told_by};
-ghost use Rattle.campaign_server.specs.Pieces.{are_filled};
+ghost use Rattle.campaign_server.specs.MemoryForms.MemoryDoors.{told_by};
+ghost use Rattle.campaign_server.specs.ConnectionLoop.Pieces.{are_filled};
 
 use crate::archives::keeper_of;
 use crate::messages::Exchange;
@@ -83,7 +83,8 @@ pub(crate) const ALL: Part = Part {
     without: usize::MAX,
 };
 
-/// Calls the program on the case's link, which gives the case's messages, each in a piece of its own.
+/// Calls the program on the case's link, which gives the case's messages, each in a piece of its
+/// own.
 pub(crate) fn called<W: Threads + Wait + Sync + AllocGlobal>(
     rt: &W,
     words: &str,
@@ -114,7 +115,8 @@ pub(crate) fn checked<W: Threads + Wait + Sync + AllocGlobal>(
     called_over(rt, "check", stage, Vec::new(rt.alloc()), held, NONE)
 }
 
-/// Calls `session` on all of the case's messages in one text, which comes in two pieces, the first of so many bytes.
+/// Calls `session` on all of the case's messages in one text, which comes in two pieces, the first
+/// of so many bytes.
 pub(crate) fn cut_session<W: Threads + Wait + Sync + AllocGlobal>(
     rt: &W,
     stage: &Stage,

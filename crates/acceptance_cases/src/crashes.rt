@@ -2,10 +2,10 @@
 //!
 //!     crash 8 -> write 1 2 1 2 1
 //!
-//! Behind the eighth call, a write: so many entries has the campaign of the disk whose torn bytes are the old ones, the
-//! new ones, all 00, all 01, all 4d. Torn are the bytes that were written since the last sync, and those past a length that
-//! changed. Where its length changed, these five are told of the least and then of the greatest length; where nothing is
-//! torn there is one.
+//! Behind the eighth call, a write: so many entries has the campaign of the disk whose torn bytes
+//! are the old ones, the new ones, all 00, all 01, all 4d. Torn are the bytes that were written
+//! since the last sync, and those past a length that changed. Where its length changed, these five
+//! are told of the least and then of the greatest length; where nothing is torn there is one.
 use crate::calls::{ALL, checked, held_session};
 use crate::outcomes::Outcome;
 use crate::stages::{Stage, Unplayed};
@@ -31,7 +31,8 @@ const FILLS: [Fill; 5] = [
     Fill::Byte(77),
 ];
 
-// The bytes at the last sync, the disk now, and what a crash may have torn: the bytes of a range, and the length.
+// The bytes at the last sync, the disk now, and what a crash may have torn: the bytes of a range,
+// and the length.
 struct Torn {
     old: Vec<u8>,
     now: MemoryDisk,

@@ -1,6 +1,7 @@
-//! Plays cases of the whole program: calls of its top call over files, an output, a link, a disk and an archive in memory,
-//! each with what it has to come to. It reads them from standard input and prints each line that comes to something else, the counts
-//! of each loop, and how many lines there were.
+//! Plays cases of the whole program: calls of its top call over files, an output, a link, a disk
+//! and an archive in memory, each with what it has to come to. It reads them from standard input
+//! and prints each line that comes to something else, the counts of each loop, and how many lines
+//! there were.
 //!
 //!     lines judging
 //!     org POST /topics <top>|<num> 1|<title> pooling|</top>| -> 201 {"topics":1}|
@@ -13,12 +14,14 @@
 //!     campaign session -> 0
 //!     campaign check -> 0 entries 3|phase judging|
 //!
-//! The lines before all others begin each case, and `begins` stands for the lines of this name. Another line may be
+//! The lines before all others begin each case, and `begins` stands for the lines of this name.
+//! Another line may be
 //!
 //!     org GET /table -> 200        a message of the link, and its answer (`messages`)
 //!     file q.txt 1 0 A 1|          what the next calls find (`stages`)
-//!     campaign session -> 0        a call by these words, its status and what it prints; all messages since the last call
-//!                                  are given, each in a piece of its own, and have to be answered so (`sessions`)
+//!     campaign session -> 0        a call by these words, its status and what it prints; all
+//!                                  messages since the last call are given, each in a piece of
+//!                                  its own, and have to be answered so (`sessions`)
 //!     holds POOLJRNL*              what the disk holds now; a star is any bytes behind
 //!     settings hold = 2 => .. ->   a `check` under other settings (`settings`)
 //!     each read fails              a loop over the session of the messages (`turns`)

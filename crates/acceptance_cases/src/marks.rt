@@ -1,6 +1,7 @@
-//! The texts of a line, with marks for what a line can't hold. `|` ends a line; `\r`, `\t`, `\v`, `\f` and `\0` are the
-//! bytes that are called so, `\x4d` is any byte, and `\|` is a bar. `(X all 1 3 ..)` are the score lines of a run on a
-//! topic, or on all, by their values. Behind `500 times` a text stands so often, with its number for each `%`.
+//! The texts of a line, with marks for what a line can't hold. `|` ends a line; `\r`, `\t`, `\v`,
+//! `\f` and `\0` are the bytes that are called so, `\x4d` is any byte, and `\|` is a bar. `(X all 1
+//! 3 ..)` are the score lines of a run on a topic, or on all, by their values. Behind `500 times` a
+//! text stands so often, with its number for each `%`.
 use decimal_rank::Memory;
 use std::alloc::Global;
 

@@ -6,8 +6,9 @@
 //!     raw GET /nope\r|\r| -> 400 close {"fault":"head"}|
 //!     org GET /table ->
 //!
-//! The caller's name stands for its key, and a minus for no key. A raw message has these bytes alone; raw lines without an
-//! arrow are its first bytes. An answer is its status, whether it closes, and its body; the last line has none.
+//! The caller's name stands for its key, and a minus for no key. A raw message has these bytes
+//! alone; raw lines without an arrow are its first bytes. An answer is its status, whether it
+//! closes, and its body; the last line has none.
 use crate::marks::{bytes_of, cut};
 use crate::stages::Unplayed;
 use decimal_rank::Memory;
@@ -106,7 +107,8 @@ fn add_field(alloc: Global, name: &str, value: &str, text: &mut Vec<u8>) -> Resu
     Ok(text.extend_from_slice(field.as_bytes())?)
 }
 
-/// The text of an answer by its status, whether it closes, and its body; no text where there is no status.
+/// The text of an answer by its status, whether it closes, and its body; no text where there is no
+/// status.
 pub(crate) fn answer_of(alloc: Global, words: &str) -> Result<Vec<u8>, Unplayed> {
     if words.is_empty() {
         return Ok(Vec::new(alloc));

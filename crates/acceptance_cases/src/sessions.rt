@@ -70,7 +70,8 @@ fn compare(
     Ok(Outcome::Right)
 }
 
-/// Whether a call ended with the status of these words, and printed their text. A star at its end is any text.
+/// Whether a call ended with the status of these words, and printed their text. A star at its end
+/// is any text.
 pub(crate) fn is_ended_so(alloc: Global, ended: &Ended, wanted: &str) -> Result<bool, Memory> {
     let (status, text) = cut(wanted);
     if status.parse::<u8>().ok() != Some(ended.status) {

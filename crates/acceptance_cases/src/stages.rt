@@ -7,9 +7,10 @@
 //!     end \x01\x05                 what it holds in place of its last byte
 //!     clock 1000                   what the link's clock tells
 //!     system autumn X grp 1 5      what the archive holds (`archives`)
-//!     fails read 2                 of the next call of the program the second read of its link: a `read` or a `write` of
-//!                                  the link, a call on the `disk`, a read of a `file`, a write to the `output`, a call on
-//!                                  the archive's `keeper`
+//!     fails read 2                 of the next call of the program the second read of its link: a
+//!                                  `read` or a `write` of the link, a call on the `disk`, a read
+//!                                  of a `file`, a write to the `output`, a call on the archive's
+//!                                  `keeper`
 use crate::archives::add_system;
 use crate::marks::{add_times, bytes_of, cut};
 use crate::messages::{Exchange, answer_of, request_of};

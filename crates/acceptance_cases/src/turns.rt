@@ -1,5 +1,6 @@
-//! A session in which each call fails in turn, until none does: a read or a write of its link, or a call on its disk; or
-//! whose text is cut at each byte. And a compaction in which each call on its disk fails in turn. What has to hold is said at the function of each kind.
+//! A session in which each call fails in turn, until none does: a read or a write of its link, or a
+//! call on its disk; or whose text is cut at each byte. And a compaction in which each call on its
+//! disk fails in turn. What has to hold is said at the function of each kind.
 use crate::calls::{ALL, Ended, Part, called, checked, cut_session, held_session};
 use crate::outcomes::Outcome;
 use crate::sessions::{answered_count, behind, holds, is_answered, is_held_alike};
@@ -152,8 +153,8 @@ fn are_first_answered(ended: &Ended, stage: &Stage, count: usize) -> bool {
     count <= stage.exchanges.len() && is_answered(ended.answered(), &stage.exchanges[..count])
 }
 
-// A read gives one message. Those before the one that fails are answered and kept, and the status is 10. The last read
-// finds the end.
+// A read gives one message. Those before the one that fails are answered and kept, and the status
+// is 10. The last read finds the end.
 fn fail_read<W: Threads + Wait + Sync + AllocGlobal>(
     rt: &W,
     stage: &Stage,
@@ -174,7 +175,8 @@ fn fail_read<W: Threads + Wait + Sync + AllocGlobal>(
     Ok(turn_if(holds(rt, stage, ended.held(), first(before))?, Turn::Holds))
 }
 
-// An answer is one write. Those before the one that fails are written, its own message is kept too, and the status is 8.
+// An answer is one write. Those before the one that fails are written, its own message is kept too,
+// and the status is 8.
 fn fail_write<W: Threads + Wait + Sync + AllocGlobal>(
     rt: &W,
     stage: &Stage,
@@ -194,7 +196,8 @@ fn fail_write<W: Threads + Wait + Sync + AllocGlobal>(
     Ok(turn_if(holds(rt, stage, ended.held(), first(place))?, Turn::Holds))
 }
 
-// In opening the status is 5, nothing is answered, and the campaign is as it was. Else the status is 0.
+// In opening the status is 5, nothing is answered, and the campaign is as it was. Else the status
+// is 0.
 fn fail_disk_call<W: Threads + Wait + Sync + AllocGlobal>(
     rt: &W,
     stage: &Stage,
@@ -238,8 +241,9 @@ fn fail_compaction<W: Threads + Wait + Sync + AllocGlobal>(
     Ok(turn_if(ended.status == 5 && same, Turn::Holds))
 }
 
-// One message, which is accepted otherwise, is answered by a fault; all other answers are those of the session without it.
-// The journal is that session's too; or it has the command at its end, where none was accepted since.
+// One message, which is accepted otherwise, is answered by a fault; all other answers are those of
+// the session without it. The journal is that session's too; or it has the command at its end,
+// where none was accepted since.
 fn fail_command<W: Threads + Wait + Sync + AllocGlobal>(
     rt: &W,
     stage: &Stage,
@@ -264,7 +268,8 @@ fn fail_command<W: Threads + Wait + Sync + AllocGlobal>(
     Ok(turn_if(holds(rt, stage, ended.held(), part)?, Turn::HoldsMore))
 }
 
-// The answers behind the fault that answers this message, where they are those of the session without it.
+// The answers behind the fault that answers this message, where they are those of the session
+// without it.
 fn later_answers<'x>(
     ended: &'x Ended,
     other: &Ended,

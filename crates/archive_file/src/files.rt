@@ -14,8 +14,8 @@ pub(crate) fn is_there(rt: &HostRuntime, path: &str) -> Result<bool, KeepEnd> {
     }
 }
 
-/// Opens the file, or makes it. One that has no table yet gets them; one of another format, or of another program, is
-/// refused and left as it is.
+/// Opens the file, or makes it. One that has no table yet gets them; one of another format, or of
+/// another program, is refused and left as it is.
 pub(crate) fn open(rt: &HostRuntime, path: &str) -> Result<Archive, KeepEnd> {
     let mut archive = match Connection::open(rt, path) {
         Ok(archive) => archive,

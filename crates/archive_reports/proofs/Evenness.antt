@@ -3,13 +3,14 @@ use Rattle.std.proofs.Common.{◌≡◌, ℕ, ◌+◌, Bool, true, false, cond, 
 use Rattle.std.specs.Prelude.{bytes_eq, find}
 use Rattle.std.specs.List.{cons_option}
 use Rattle.std.specs.Option.{option_map}
-use Rattle.std.proofs.lemmas.Bool.{and_parts, false≢true}
+use Rattle.std.proofs.lemmas.Bool.{and_parts, not-true}
 use Rattle.std.proofs.lemmas.Slice.Eq.{bytes_eq-Decides}
+use Rattle.decimal_rank.proofs.TruthValues.{bytes_eq-swap, first_of_neither, second_of_neither}
 use Rattle.rulebook.specs.Spelling.{differ}
 use Rattle.rulebook.specs.Words.{Text, contains_text}
 use Rattle.rulebook.specs.declared.systems.System.{System}
-use Rattle.rulebook.specs.Systems.{runs_of}
-use Rattle.archive_reports.specs.Comparisons.{Maps, common_runs, count, count_pairs, map_of}
+use Rattle.rulebook.specs.Reports.Systems.{runs_of}
+use Rattle.archive_reports.specs.Comparisons.{Maps, common_runs, count, count_pairs, map_in}
 
 -- Sums
 
@@ -40,27 +41,12 @@ count-total p (x ∷ xs) = ap (λ n. cond (p x) 1 0 + n) (count-total p xs)
 
 -- Names that differ
 
-same_names : (a b : Text) → bytes_eq a b ≡ bytes_eq b a
-same_names a b = step (bytes_eq a b) refl
-  where
-    step : (t : Bool) → bytes_eq a b ≡ t → bytes_eq a b ≡ bytes_eq b a
-    step true is = is ∙ sym ((bytes_eq-Decides b a).1 (sym ((bytes_eq-Decides a b).0 is)))
-    step false is = other (bytes_eq b a) refl
-      where
-        other : (t : Bool) → bytes_eq b a ≡ t → bytes_eq a b ≡ bytes_eq b a
-        other true back = absurd (false≢true (sym is ∙ (bytes_eq-Decides a b).1 (sym ((bytes_eq-Decides b a).0 back))))
-        other false back = is ∙ sym back
-
-not_back : (t : Bool) → not t ≡ true → t ≡ false
-not_back true e = cc e
-not_back false e = refl
-
 -- a name's term, looked for among names that differ
 single : (names : List Text) (name : Text) (w : ℕ) → differ names ≡ true → total (λ m. cond (bytes_eq name m) w 0) names ≡ cond (contains_text names name) w 0
 single [] name w differs = refl
 single (first ∷ names) name w differs =
     let parts = and_parts (not (contains_text names first)) (differ names) differs in
-    step (bytes_eq name first) refl (not_back (contains_text names first) parts.0) (single names name w parts.1)
+    step (bytes_eq name first) refl (not-true (contains_text names first) parts.0) (single names name w parts.1)
   where
     step : (t : Bool) → bytes_eq name first ≡ t → contains_text names first ≡ false
         → total (λ m. cond (bytes_eq name m) w 0) names ≡ cond (contains_text names name) w 0
@@ -79,7 +65,8 @@ over_names names others w first second out out_others =
     total-same w (λ n. total (λ m. cond (bytes_eq n m) (w n) 0) others) names (λ n. sym (single others n (w n) second ∙ counts others n out_others))
     ∙ exchange (λ n m. cond (bytes_eq n m) (w n) 0) names others
     ∙ total-same (λ m. total (λ n. cond (bytes_eq n m) (w n) 0) names) w others
-    (λ m. total-same (λ n. cond (bytes_eq n m) (w n) 0) (λ n. cond (bytes_eq m n) (w m) 0) names (λ n. turned n m) ∙ single names m (w m) first ∙ counts names m out)
+    (λ m. total-same (λ n. cond (bytes_eq n m) (w n) 0) (λ n. cond (bytes_eq m n) (w m) 0) names (λ n. turned n m)
+    ∙ single names m (w m) first ∙ counts names m out)
   where
     counts : (ns : List Text) (n : Text) → ((name : Text) → contains_text ns name ≡ false → w name ≡ 0) → cond (contains_text ns n) (w n) 0 ≡ w n
     counts ns n none = step (contains_text ns n) refl
@@ -92,8 +79,8 @@ over_names names others w first second out out_others =
     turned n m = step (bytes_eq n m) refl
       where
         step : (t : Bool) → bytes_eq n m ≡ t → cond t (w n) 0 ≡ cond (bytes_eq m n) (w m) 0
-        step true is = ap w ((bytes_eq-Decides n m).0 is) ∙ ap (λ t. let k : ℕ = cond t (w m) 0 in k) (sym (sym (same_names n m) ∙ is))
-        step false is = ap (λ t. let k : ℕ = cond t (w m) 0 in k) (sym (sym (same_names n m) ∙ is))
+        step true is = ap w ((bytes_eq-Decides n m).0 is) ∙ ap (λ t. let k : ℕ = cond t (w m) 0 in k) (sym (sym (bytes_eq-swap n m) ∙ is))
+        step false is = ap (λ t. let k : ℕ = cond t (w m) 0 in k) (sym (sym (bytes_eq-swap n m) ∙ is))
 
 -- The runs that both releases have
 
@@ -112,11 +99,11 @@ weigh-turned f (Some x) None = refl
 weigh-turned f None (Some y) = refl
 weigh-turned f None None = refl
 
-no-map : (systems : List System) (name : Text) → contains_text (runs_of systems) name ≡ false → map_of systems name ≡ None
+no-map : (systems : List System) (name : Text) → contains_text (runs_of systems) name ≡ false → map_in systems name ≡ None
 no-map [] name absent = refl
 no-map (system ∷ systems) name absent = step (λ e. no-map systems name e) (bytes_eq name system.run) absent
   where
-    step : (contains_text (runs_of systems) name ≡ false → map_of systems name ≡ None) → (t : Bool) → (t || contains_text (runs_of systems) name) ≡ false
+    step : (contains_text (runs_of systems) name ≡ false → map_in systems name ≡ None) → (t : Bool) → (t || contains_text (runs_of systems) name) ≡ false
         → option_map (λ (s : System). s.summary.map) (cond t (Some system) (find (λ s. bytes_eq name s.run) systems)) ≡ None
     step later true e = cc e
     step later false e = later e
@@ -124,56 +111,50 @@ no-map (system ∷ systems) name absent = step (λ e. no-map systems name e) (by
 -- each system of some has the map that a look-up by its run gives
 abbrev Own : List System → List System → Type 0
 Own systems [] = Unit {0}
-Own systems (system ∷ some) = (map_of systems system.run ≡ Some system.summary.map) × Own systems some
+Own systems (system ∷ some) = (map_in systems system.run ≡ Some system.summary.map) × Own systems some
 
 own-behind : (first : System) (systems some : List System) → contains_text (runs_of some) first.run ≡ false → Own systems some → Own (first ∷ systems) some
 own-behind first systems [] absent own = tt
 own-behind first systems (system ∷ some) absent own =
-    let apart : bytes_eq first.run system.run ≡ false = left (bytes_eq first.run system.run) (contains_text (runs_of some) first.run) absent in (
-      ap (λ t. option_map (λ (s : System). s.summary.map) (cond t (Some first) (find (λ s. bytes_eq system.run s.run) systems))) (sym (same_names first.run system.run) ∙ apart) ∙ own.0,
-      own-behind first systems some (right (bytes_eq first.run system.run) (contains_text (runs_of some) first.run) absent) own.1,
+    let apart : bytes_eq first.run system.run ≡ false = first_of_neither (bytes_eq first.run system.run) (contains_text (runs_of some) first.run) absent in (
+      ap (λ t. option_map (λ (s : System). s.summary.map) (cond t (Some first) (find (λ s. bytes_eq system.run s.run) systems)))
+          (sym (bytes_eq-swap first.run system.run) ∙ apart) ∙ own.0,
+      own-behind first systems some (second_of_neither (bytes_eq first.run system.run) (contains_text (runs_of some) first.run) absent) own.1,
     )
-  where
-    left : (a b : Bool) → (a || b) ≡ false → a ≡ false
-    left false b e = refl
-    left true b e = cc e
-
-    right : (a b : Bool) → (a || b) ≡ false → b ≡ false
-    right false b e = e
-    right true b e = cc e
 
 own-maps : (systems : List System) → differ (runs_of systems) ≡ true → Own systems systems
 own-maps [] differs = tt
 own-maps (system ∷ systems) differs =
     let parts = and_parts (not (contains_text (runs_of systems) system.run)) (differ (runs_of systems)) differs in (
-      ap (λ t. option_map (λ (s : System). s.summary.map) (cond t (Some system) (find (λ s. bytes_eq system.run s.run) systems))) ((bytes_eq-Decides system.run system.run).1 refl),
-      own-behind system systems systems (not_back (contains_text (runs_of systems) system.run) parts.0) (own-maps systems parts.1),
+      ap (λ t. option_map (λ (s : System). s.summary.map) (cond t (Some system) (find (λ s. bytes_eq system.run s.run) systems)))
+          ((bytes_eq-Decides system.run system.run).1 refl),
+      own-behind system systems systems (not-true (contains_text (runs_of systems) system.run) parts.0) (own-maps systems parts.1),
     )
 
 -- a sum over the runs that both have, as one over the names of the first
 by-names : (f : Maps → ℕ) (systems others some : List System) → Own systems some
-    → total f (common_runs some others) ≡ total (λ n. weigh f (map_of systems n) (map_of others n)) (runs_of some)
+    → total f (common_runs some others) ≡ total (λ n. weigh f (map_in systems n) (map_in others n)) (runs_of some)
 by-names f systems others [] own = refl
 by-names f systems others (system ∷ some) own =
-    step (map_of others system.run) (by-names f systems others some own.1)
-    ∙ ap (λ found. weigh f found (map_of others system.run) + total (λ n. weigh f (map_of systems n) (map_of others n)) (runs_of some)) (sym own.0)
+    step (map_in others system.run) (by-names f systems others some own.1)
+    ∙ ap (λ found. weigh f found (map_in others system.run) + total (λ n. weigh f (map_in systems n) (map_in others n)) (runs_of some)) (sym own.0)
   where
-    step : (found : Option ℕ) → total f (common_runs some others) ≡ total (λ n. weigh f (map_of systems n) (map_of others n)) (runs_of some)
+    step : (found : Option ℕ) → total f (common_runs some others) ≡ total (λ n. weigh f (map_in systems n) (map_in others n)) (runs_of some)
         → total f (cons_option (option_map (λ map. (system.summary.map, map)) found) (common_runs some others))
-        ≡ weigh f (Some system.summary.map) found + total (λ n. weigh f (map_of systems n) (map_of others n)) (runs_of some)
+        ≡ weigh f (Some system.summary.map) found + total (λ n. weigh f (map_in systems n) (map_in others n)) (runs_of some)
     step (Some found) rest = ap (λ n. f (system.summary.map, found) + n) rest
-    step None rest = rest ∙ sym (zero-add (total (λ n. weigh f (map_of systems n) (map_of others n)) (runs_of some)))
+    step None rest = rest ∙ sym (zero-add (total (λ n. weigh f (map_in systems n) (map_in others n)) (runs_of some)))
 
 module _ (a b : List System) (first : differ (runs_of a) ≡ true) (second : differ (runs_of b) ≡ true) where
   -- the runs that both have are the same, with their maps turned
   turned : (f : Maps → ℕ) → total f (common_runs a b) ≡ total (λ maps. f (turn maps)) (common_runs b a)
   turned f =
       by-names f a b a (own-maps a first)
-      ∙ over_names (runs_of a) (runs_of b) (λ n. weigh f (map_of a n) (map_of b n)) first second
-      (λ n absent. ap (λ found. weigh f found (map_of b n)) (no-map a n absent))
-      (λ n absent. ap (λ found. weigh f (map_of a n) found) (no-map b n absent) ∙ to_none (map_of a n))
-      ∙ total-same (λ n. weigh f (map_of a n) (map_of b n)) (λ n. weigh (λ maps. f (turn maps)) (map_of b n) (map_of a n)) (runs_of b)
-      (λ n. weigh-turned f (map_of a n) (map_of b n))
+      ∙ over_names (runs_of a) (runs_of b) (λ n. weigh f (map_in a n) (map_in b n)) first second
+      (λ n absent. ap (λ found. weigh f found (map_in b n)) (no-map a n absent))
+      (λ n absent. ap (λ found. weigh f (map_in a n) found) (no-map b n absent) ∙ to_none (map_in a n))
+      ∙ total-same (λ n. weigh f (map_in a n) (map_in b n)) (λ n. weigh (λ maps. f (turn maps)) (map_in b n) (map_in a n)) (runs_of b)
+      (λ n. weigh-turned f (map_in a n) (map_in b n))
       ∙ sym (by-names (λ maps. f (turn maps)) b a b (own-maps b second))
     where
       to_none : (found : Option ℕ) → weigh f found None ≡ 0

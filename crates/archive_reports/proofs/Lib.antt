@@ -1,5 +1,5 @@
 pub mod Evenness
-pub mod Growing
+pub mod WrittenRecords
 pub mod PairLaws
 pub mod ReadBack
 pub mod SortedReleases

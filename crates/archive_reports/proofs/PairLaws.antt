@@ -5,37 +5,26 @@ use Rattle.std.proofs.Math.Nat.{add-zero, mul-suc, suc-mul}
 use Rattle.std.proofs.lemmas.Bool.{eqb-false, eqb-true, le-ltb, ltb-false, ltb-true}
 use Rattle.std.proofs.lemmas.List.{length-take}
 use Rattle.std.specs.List.{cons_option}
+use Rattle.std.proofs.Math.Bool.{or_comm, and_comm}
 use Rattle.rulebook.specs.Spelling.{differ}
 use Rattle.rulebook.specs.declared.systems.System.{System}
-use Rattle.rulebook.specs.Systems.{runs_of}
+use Rattle.rulebook.specs.Reports.Systems.{runs_of}
 use Rattle.archive_reports.specs.Comparisons.{Maps, common_runs, count, count_pairs, is_concordant, is_discordant, is_tied, maps_of, pairs_among, pairs_of}
-use Rattle.archive_reports.specs.Counting.{HasRoom, joined, present}
+use Rattle.archive_reports.specs.PairCounts.{PairsMayGrow, joined_pairs, present}
 use Rattle.archive_reports.specs.declared.comparisons.Pairs.{Pairs}
 use Rattle.archive_reports.proofs.Evenness.{same-common, same-pairs}
-
-or-comm : (a b : Bool) → (a || b) ≡ (b || a)
-or-comm true true = refl
-or-comm true false = refl
-or-comm false true = refl
-or-comm false false = refl
-
-and-comm : (a b : Bool) → (a && b) ≡ (b && a)
-and-comm true true = refl
-and-comm true false = refl
-and-comm false true = refl
-and-comm false false = refl
 
 lt-itself : (n : ℕ) → nat_lt n n ≡ false
 lt-itself n = le-ltb n n (omega arith)
 
 both-comm : (p q r s : Bool) → ((p && q) || (r && s)) ≡ ((q && p) || (s && r))
-both-comm p q r s = ap (λ t. t || (r && s)) (and-comm p q) ∙ ap (λ t. (q && p) || t) (and-comm r s)
+both-comm p q r s = ap (λ t. t || (r && s)) (and_comm p q) ∙ ap (λ t. (q && p) || t) (and_comm r s)
 
 pub concordant-even : (a b : List System) → differ (runs_of a) ≡ true → differ (runs_of b) ≡ true
     → count_pairs is_concordant (common_runs a b) ≡ count_pairs is_concordant (common_runs b a)
 concordant-even a b first second =
     same-pairs a b first second is_concordant
-    (λ x y. or-comm (nat_lt x.0 y.0 && nat_lt x.1 y.1) (nat_lt y.0 x.0 && nat_lt y.1 x.1))
+    (λ x y. or_comm (nat_lt x.0 y.0 && nat_lt x.1 y.1) (nat_lt y.0 x.0 && nat_lt y.1 x.1))
     (λ x. ap (λ t. (t && nat_lt x.1 x.1) || (t && nat_lt x.1 x.1)) (lt-itself x.0))
     (λ x y. both-comm (nat_lt x.1 y.1) (nat_lt x.0 y.0) (nat_lt y.1 x.1) (nat_lt y.0 x.0))
 
@@ -43,9 +32,10 @@ pub discordant-even : (a b : List System) → differ (runs_of a) ≡ true → di
     → count_pairs is_discordant (common_runs a b) ≡ count_pairs is_discordant (common_runs b a)
 discordant-even a b first second =
     same-pairs a b first second is_discordant
-    (λ x y. or-comm (nat_lt x.0 y.0 && nat_lt y.1 x.1) (nat_lt y.0 x.0 && nat_lt x.1 y.1))
+    (λ x y. or_comm (nat_lt x.0 y.0 && nat_lt y.1 x.1) (nat_lt y.0 x.0 && nat_lt x.1 y.1))
     (λ x. ap (λ t. (t && nat_lt x.1 x.1) || (t && nat_lt x.1 x.1)) (lt-itself x.0))
-    (λ x y. or-comm (nat_lt x.1 y.1 && nat_lt y.0 x.0) (nat_lt y.1 x.1 && nat_lt x.0 y.0) ∙ both-comm (nat_lt y.1 x.1) (nat_lt x.0 y.0) (nat_lt x.1 y.1) (nat_lt y.0 x.0))
+    (λ x y. or_comm (nat_lt x.1 y.1 && nat_lt y.0 x.0) (nat_lt y.1 x.1 && nat_lt x.0 y.0)
+    ∙ both-comm (nat_lt y.1 x.1) (nat_lt x.0 y.0) (nat_lt x.1 y.1) (nat_lt y.0 x.0))
 
 -- of two numbers the one is less, or the other, or they are equal
 three : (a b : ℕ) (P : Bool → Bool → Bool → Type 0) → P true false false → P false true false → P false false true → P (nat_lt a b) (nat_lt b a) (a == b)
@@ -69,7 +59,9 @@ lower (suc m) =
 -- a pair is one of the three
 one-of : (x y : Maps) → cond (is_concordant x y) 1 0 + cond (is_discordant x y) 1 0 + cond (is_tied x y) 1 0 ≡ 1
 one-of x y =
-    three x.0 y.0 (λ l g e. cond ((l && nat_lt x.1 y.1) || (g && nat_lt y.1 x.1)) 1 0 + cond ((l && nat_lt y.1 x.1) || (g && nat_lt x.1 y.1)) 1 0 + cond (e || x.1 == y.1) 1 0 ≡ 1)
+    three x.0 y.0
+    (λ l g e. cond ((l && nat_lt x.1 y.1) || (g && nat_lt y.1 x.1)) 1 0 + cond ((l && nat_lt y.1 x.1) || (g && nat_lt x.1 y.1)) 1 0 + cond (e || x.1 == y.1) 1 0
+    ≡ 1)
     (three x.1 y.1 (λ l g e. cond ((true && l) || (false && g)) 1 0 + cond ((true && g) || (false && l)) 1 0 + cond (false || e) 1 0 ≡ 1) refl refl refl)
     (three x.1 y.1 (λ l g e. cond ((false && l) || (true && g)) 1 0 + cond ((false && g) || (true && l)) 1 0 + cond (false || e) 1 0 ≡ 1) refl refl refl)
     refl
@@ -84,7 +76,8 @@ pairs-sum (x ∷ xs) = let here = all-counted x xs in let rest = pairs-sum xs in
   where
     step : (n : ℕ) → count (is_concordant x) xs + count (is_discordant x) xs + count (is_tied x) xs ≡ n
         → 2 * (count_pairs is_concordant xs + count_pairs is_discordant xs + count_pairs is_tied xs) ≡ n * (n - 1)
-        → 2 * ((count (is_concordant x) xs + count_pairs is_concordant xs) + (count (is_discordant x) xs + count_pairs is_discordant xs) + (count (is_tied x) xs + count_pairs is_tied xs)) ≡ suc n * (suc n - 1)
+        → 2 * ((count (is_concordant x) xs + count_pairs is_concordant xs) + (count (is_discordant x) xs + count_pairs is_discordant xs)
+        + (count (is_tied x) xs + count_pairs is_tied xs)) ≡ suc n * (suc n - 1)
     step n here rest =
         let square : suc n * n ≡ n * n + n = suc-mul n n in
         let less : n * (n - 1) + n ≡ n * n = lower n in
@@ -133,7 +126,7 @@ present-le (Some maps ∷ found) = let rest = present-le found in omega (arith, 
 present-le (None ∷ found) = let rest = present-le found in omega (arith, rest)
 
 pub has-room : (pairs : Pairs) (left found : List (Option Maps)) (more : ℕ) → length found ≤ 256
-    → joined pairs (pairs_among (present left)) ≡ pairs_among (present found) → more ≤ 256 → HasRoom pairs more
+    → joined_pairs pairs (pairs_among (present left)) ≡ pairs_among (present found) → more ≤ 256 → PairsMayGrow pairs more
 has-room pairs left found more few is bound =
     let most = present-le found in
     let fits : length (present found) ≤ 256 = omega (arith, most, few) in
@@ -151,7 +144,7 @@ has-room pairs left found more few is bound =
     }
 
 pub has-common : (pairs : Pairs) (left found : List (Option Maps)) → length found ≤ 256
-    → joined pairs (pairs_among (present left)) ≡ pairs_among (present found) → pairs.common < 2 ^ 32 - 1
+    → joined_pairs pairs (pairs_among (present left)) ≡ pairs_among (present found) → pairs.common < 2 ^ 32 - 1
 has-common pairs left found few is =
     let most = present-le found in
     let c = ap (λ (p : Pairs). p.common) is in
@@ -166,12 +159,12 @@ part-le {X = X} n most [] few = let none = take-le {X = X} n [] in omega (arith,
 part-le n most (x ∷ xs) few = let less = take-le n xs in omega (arith, less, few)
 
 -- where no run is left, the counts are all
-pub at-end : (pairs : Pairs) (left found : List (Option Maps)) → length left < 1 → joined pairs (pairs_among (present left)) ≡ pairs_among (present found)
+pub at-end : (pairs : Pairs) (left found : List (Option Maps)) → length left < 1 → joined_pairs pairs (pairs_among (present left)) ≡ pairs_among (present found)
     → pairs ≡ pairs_among (present found)
 at-end pairs [] found none is = by (add-zero pairs.common) (add-zero pairs.concordant) (add-zero pairs.discordant) (add-zero pairs.tied) ∙ is
   where
     by : pairs.common + 0 ≡ pairs.common → pairs.concordant + 0 ≡ pairs.concordant → pairs.discordant + 0 ≡ pairs.discordant
-        → pairs.tied + 0 ≡ pairs.tied → pairs ≡ joined pairs (pairs_among (present []))
+        → pairs.tied + 0 ≡ pairs.tied → pairs ≡ joined_pairs pairs (pairs_among (present []))
     by a b c d = λ i. record { common = sym a i; concordant = sym b i; discordant = sym c i; tied = sym d i }
 at-end pairs (x ∷ xs) found some is = absurd (omega (arith, some))
 

@@ -8,20 +8,20 @@ use Rattle.csv.proofs.RoundTrip.{read-write}
 use Rattle.rulebook.specs.declared.systems.System.{System}
 use Rattle.release_archive.specs.declared.kept.Kept.{Kept}
 use Rattle.std.specs.List.{flat_map}
-use Rattle.archive_reports.specs.Exports.{ReadsAs, Row, csv_text, release_rows, rows_in, system_row}
+use Rattle.archive_reports.specs.Exports.{CsvRecord, ReadsAs, csv_text, release_rows, rows_in, system_row}
 
 -- each record has a field
-Filled : List Row → Type 0
+Filled : List CsvRecord → Type 0
 Filled [] = Unit {0}
 Filled (row ∷ rows) = (read_back row ≡ row) × Filled rows
 
-reached : (rows : List Row) → Filled rows → Reached default_config st.StartRecord (csv_text rows) rows st.StartRecord []
+reached : (rows : List CsvRecord) → Filled rows → Reached default_config st.StartRecord (csv_text rows) rows st.StartRecord []
 unfolding Reached Filled
 reached [] filled = (refl, refl)
 reached (row ∷ rows) filled =
     ((read_back row, st.StartRecord, csv_text rows), read-write row (csv_text rows), sym filled.0, reached rows filled.1)
 
-filled-systems : (name : List ℕ) (systems : List System) (rows : List Row) → Filled rows → Filled (map (system_row name) systems ++ rows)
+filled-systems : (name : List ℕ) (systems : List System) (rows : List CsvRecord) → Filled rows → Filled (map (system_row name) systems ++ rows)
 unfolding Filled
 filled-systems name [] rows filled = filled
 filled-systems name (system ∷ systems) rows filled = (refl, filled-systems name systems rows filled)

@@ -14,45 +14,45 @@ use Rattle.release_archive.specs.declared.kept.Kept.{Kept}
 use Rattle.archive_reports.specs.Orders.{by_name}
 
 -- a record by its fields
-abbrev pub Row : Type 0
-Row = List Text
+abbrev pub CsvRecord : Type 0
+CsvRecord = List Text
 
-abbrev pub header : Row
-header = codes "campaign" ∷ codes "run" ∷ codes "group" ∷ codes "topics" ∷ codes "map" ∷ []
+abbrev pub csv_header : CsvRecord
+csv_header = codes "campaign" ∷ codes "run" ∷ codes "group" ∷ codes "topics" ∷ codes "map" ∷ []
 
-abbrev pub system_row : Text → System → Row
+abbrev pub system_row : Text → System → CsvRecord
 system_row name system = name ∷ system.run ∷ system.group ∷ decimal system.summary.topics ∷ four_decimals system.summary.map ∷ []
 
-abbrev pub release_rows : Kept → List Row
+abbrev pub release_rows : Kept → List CsvRecord
 release_rows kept = map (system_row kept.name) kept.systems
 
 -- the names of the fields, and the systems of each of these releases
-abbrev pub rows_in : List Kept → List Row
-rows_in releases = header ∷ flat_map release_rows releases
+abbrev pub rows_in : List Kept → List CsvRecord
+rows_in releases = csv_header ∷ flat_map release_rows releases
 
 -- those of an archive, by name
-abbrev pub rows_of : List Kept → List Row
-rows_of all = rows_in (by_name all)
+abbrev pub csv_records : List Kept → List CsvRecord
+csv_records all = rows_in (by_name all)
 
 -- the text of records
-abbrev pub csv_text : List Row → Text
+abbrev pub csv_text : List CsvRecord → Text
 csv_text rows = flat_map (row_text default_writer) rows
 
 -- the bytes that a writer over bytes has written
-abbrev pub bytes_of : Vec ℕ Global → Option (List ℕ)
-bytes_of out = Some out.items
+abbrev pub written_bytes : Vec ℕ Global → Option (List ℕ)
+written_bytes out = Some out.items
 
 -- a writer of the crate's defaults stands between two records
-pub record IsBetween (writer : Writer (Vec ℕ Global)) : Type 0 where
+pub record IsBetweenRecords (writer : Writer (Vec ℕ Global)) : Type 0 where
   pub setup : writer_setup writer ≡ default_writer
   pub fields : fields_written writer ≡ 0
   pub wrote : has_written writer ≡ false
 
 -- and writes this text on
 pub record Writes (old new : Writer (Vec ℕ Global)) (text : Text) : Type 0 where
-  pub between : IsBetween new
-  pub bytes : (before : Text) → text_written bytes_of old ≡ Some before → text_written bytes_of new ≡ Some (before ++ text)
+  pub between : IsBetweenRecords new
+  pub bytes : (before : Text) → text_written written_bytes old ≡ Some before → text_written written_bytes new ≡ Some (before ++ text)
 
 -- a reader with the crate's defaults and no header row reads these records of the text, and no more
-abbrev pub ReadsAs : Text → List Row → Type 0
+abbrev pub ReadsAs : Text → List CsvRecord → Type 0
 ReadsAs text rows = AreRecords default_config st.StartRecord (strip_bom text) rows

@@ -1,5 +1,5 @@
 pub mod Comparisons
-pub mod Counting
+pub mod PairCounts
 pub mod Exports
 pub mod Histories
 pub mod Orders

@@ -21,5 +21,5 @@ abbrev pub by_name : List Kept → List Kept
 by_name all = fold with_kept [] all
 
 -- the releases that references lead to
-abbrev pub shown : List (Bor Kept) → List Kept
-shown releases = map (λ kept. kept.now) releases
+abbrev pub releases_behind : List (Bor Kept) → List Kept
+releases_behind releases = map (λ kept. kept.now) releases

@@ -1,9 +1,9 @@
 //! Two releases compared by the runs that both have.
 ghost use Rattle.std.specs.Prelude.{◌≡◌, ◌+◌, ◌*◌, ◌-◌, ◌≤◌, ◌<◌, ◌^◌, IsTrue, Some, length, map, take};
 ghost use Rattle.rulebook.specs.Spelling.{differ};
-ghost use Rattle.rulebook.specs.Systems.{runs_of};
-ghost use Rattle.archive_reports.specs.Comparisons.{is_concordant, is_discordant, is_tied, map_of, maps_of, pairs_among, pairs_of};
-ghost use Rattle.archive_reports.specs.Counting.{HasRoom, present, with_maps, with_pair};
+ghost use Rattle.rulebook.specs.Reports.Systems.{runs_of};
+ghost use Rattle.archive_reports.specs.Comparisons.{is_concordant, is_discordant, is_tied, map_in, maps_of, pairs_among, pairs_of};
+ghost use Rattle.archive_reports.specs.PairCounts.{PairsMayGrow, present, with_maps, with_pair};
 
 use release_archive::Kept;
 use rulebook::System;
@@ -38,8 +38,8 @@ pub fn compare(a: &Kept, b: &Kept) -> Pairs
     counted(&found[..systems.len()])
 }
 
-/// Each system's map and that of its run in the other release, where it is there, by the places of the
-/// systems.
+/// Each system's map and that of its run in the other release, where it is there, by the places of
+/// the systems.
 fn maps_in_both(systems: &[System], others: &[System]) -> [Option<(u64, u64)>; MOST_SYSTEMS]
     requires { length systems.now ≤ 256 }
     ensures { take (length systems.now) result ≡ map (maps_of others.now) systems.now }
@@ -72,7 +72,7 @@ fn counted(found: &[Option<(u64, u64)>]) -> Pairs
 
 /// The counts with a run, where it is there, and with its pairs with those behind it.
 fn with_run(pairs: Pairs, maps: Option<(u64, u64)>, rest: &[Option<(u64, u64)>]) -> Pairs
-    requires room { HasRoom pairs (length rest.now) }
+    requires room { PairsMayGrow pairs (length rest.now) }
     requires common { pairs.common < 2 ^ 32 - 1 }
     ensures { result ≡ with_maps pairs maps (present rest.now) }
 {
@@ -83,7 +83,7 @@ fn with_run(pairs: Pairs, maps: Option<(u64, u64)>, rest: &[Option<(u64, u64)>])
 }
 
 fn with_later(pairs: Pairs, maps: (u64, u64), rest: &[Option<(u64, u64)>]) -> Pairs
-    requires room { HasRoom pairs (length rest.now) }
+    requires room { PairsMayGrow pairs (length rest.now) }
     requires common { pairs.common < 2 ^ 32 - 1 }
     ensures { result ≡ with_maps pairs (Some maps) (present rest.now) }
 {
@@ -104,7 +104,7 @@ fn with_later(pairs: Pairs, maps: (u64, u64), rest: &[Option<(u64, u64)>]) -> Pa
 }
 
 fn with_pair(pairs: Pairs, x: (u64, u64), y: (u64, u64)) -> Pairs
-    requires { HasRoom pairs 1 }
+    requires { PairsMayGrow pairs 1 }
     ensures { result ≡ with_pair pairs x y }
 {
     Pairs {
@@ -144,7 +144,7 @@ fn maps_of(others: &[System], system: &System) -> Option<(u64, u64)>
 }
 
 fn map_of(systems: &[System], run: &[u8]) -> Option<u64>
-    ensures { result ≡ map_of systems.now run.now }
+    ensures { result ≡ map_in systems.now run.now }
 {
     match systems.iter().find(|system| run == system.run.bytes()) {
         Some(system) => Some(system.summary.map),

@@ -1,6 +1,6 @@
 //! A run through the releases of an archive.
 ghost use Rattle.std.specs.Prelude.{◌≡◌, ◌++◌, IfOk, OnOk, bytes_eq, find, option_copied};
-ghost use Rattle.archive_reports.specs.Histories.{history_of, row_of};
+ghost use Rattle.archive_reports.specs.Histories.{history_of, history_row};
 
 use crate::orders::by_name;
 use decimal_rank::{Memory, Text};
@@ -40,7 +40,7 @@ pub fn history(alloc: Global, run: &[u8], all: &[Kept]) -> Result<Vec<HistoryRow
 }
 
 fn add_row(run: &[u8], kept: &Kept, rows: &mut Vec<HistoryRow>) -> Result<(), Memory>
-    ensures { OnOk result (rows.new.items ≡ rows.old.items ++ row_of run.now kept.now) }
+    ensures { OnOk result (rows.new.items ≡ rows.old.items ++ history_row run.now kept.now) }
 {
     match system_of(kept.systems.items(), run) {
         Some(system) => {

@@ -1,7 +1,7 @@
 //! The releases of an archive by name.
 ghost use Rattle.std.specs.Prelude.{◌≡◌, ◌≤◌, IfOk, OnOk, length};
 ghost use Rattle.std.specs.List.{position_or_len};
-ghost use Rattle.archive_reports.specs.Orders.{by_name as in_order_of_name, is_before, shown, with_kept};
+ghost use Rattle.archive_reports.specs.Orders.{by_name as in_order_of_name, is_before, releases_behind, with_kept};
 
 use decimal_rank::Memory;
 use release_archive::Kept;
@@ -9,7 +9,7 @@ use std::alloc::Global;
 
 /// The releases by name, equal names in the order of the archive.
 pub(crate) fn by_name(alloc: Global, all: &[Kept]) -> Result<Vec<&Kept>, Memory>
-    ensures { IfOk result (λ sorted. shown sorted.items ≡ in_order_of_name all.now) }
+    ensures { IfOk result (λ sorted. releases_behind sorted.items ≡ in_order_of_name all.now) }
 {
     let mut sorted = Vec::with_capacity(alloc, all.len())?;
     for kept in all {
@@ -19,7 +19,8 @@ pub(crate) fn by_name(alloc: Global, all: &[Kept]) -> Result<Vec<&Kept>, Memory>
 }
 
 fn put_in<'a>(sorted: &mut Vec<&'a Kept>, kept: &'a Kept) -> Result<(), Memory>
-    ensures { OnOk result (shown sorted.new.items ≡ with_kept (shown sorted.old.items) kept.now) }
+    ensures { OnOk result
+        (releases_behind sorted.new.items ≡ with_kept (releases_behind sorted.old.items) kept.now) }
 {
     let place = place_in(sorted, kept.name.bytes());
     sorted.insert(place, kept)?;
@@ -28,7 +29,8 @@ fn put_in<'a>(sorted: &mut Vec<&'a Kept>, kept: &'a Kept) -> Result<(), Memory>
 
 /// The place of the first release that a name comes before, or that behind all.
 fn place_in(sorted: &[&Kept], name: &[u8]) -> usize
-    ensures place { result ≡ position_or_len (λ kept. is_before name.now kept.name) (shown sorted.now) }
+    ensures place { result
+        ≡ position_or_len (λ kept. is_before name.now kept.name) (releases_behind sorted.now) }
     ensures within { result ≤ length sorted.now }
 {
     for (place, kept) in sorted.iter().enumerate() {

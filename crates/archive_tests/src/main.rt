@@ -1,15 +1,20 @@
-//! Plays cases of an archive: releases that are put into it, and reports on it. It reads them from standard input and
-//! prints each line that is told something else, and how many there were.
+//! Plays cases of an archive: releases that are put into it, and reports on it. It reads them from
+//! standard input and prints each line that is told something else, and how many there were.
 //!
 //!     memory 2
 //!     # the second call on the keeper, which adds, fails
 //!     archive spring X=166666666666666 Y=555555555555555 -> failed
 //!     releases ->
 //!
-//! An empty line ends a case. `memory` has an archive in memory, whose calls at these places fail. `file` has one in a
-//! file, which begins as the file of this name in `data`, or isn't there; behind `again` it is closed and opened anew,
-//! and behind the arrow stands what is left of it. A release is a name and its runs, each with its map. `|` ends a line,
-//! and a line that can't be played is told `?`.
+//! An empty line ends a case. `memory` has an archive in memory, whose calls at these places fail.
+//! `file` has one in a file, which begins as the file of this name in `data`, or isn't there;
+//! behind `again` it is closed and opened anew, and behind the arrow stands what is left of it. A
+//! release is a name and its runs, each with its map. `|` ends a line, and a line that can't be
+//! played is told `?`.
+//!
+//! - The cases: `stdin`, over the files of `data`. `answers`: what an archive is told and tells, as
+//!   words.
+//! - `releases`: releases by the words of a line. `files`: the file of a case.
 #![tactic(auto)]
 
 mod answers;

@@ -6,8 +6,8 @@ use release_archive::Kept;
 use rulebook::System;
 use std::alloc::Global;
 
-/// The release of a name and its runs, as `spring X=166666666666666`. They are of the group `grp`, and what a run has
-/// beside its map is made of it.
+/// The release of a name and its runs, as `spring X=166666666666666`. They are of the group `grp`,
+/// and what a run has beside its map is made of it.
 pub(crate) fn release_of(alloc: Global, words: &str) -> Option<Kept> {
     let (name, runs) = words.split_once(' ').unwrap_or((words, ""));
     let mut systems = Vec::new(alloc);

@@ -1,12 +1,8 @@
 pub mod DoneDocs
 pub mod FrontSteps
-mod Entering
+mod RunChanges
 pub mod ListFacts
-mod Marking
-mod Queueing
-mod Regrading
+mod QueueTrails
+mod QueuedRuns
 mod RoomCounts
-mod RunSteps
-mod Standing
-mod WaitingChanges
-mod WaitingSteps
+mod TopicBoards

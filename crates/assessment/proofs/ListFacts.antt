@@ -1,45 +1,16 @@
--- Facts of lists.
+-- Facts of lists that are written in place, and of a filter over a list in another order.
 use Rattle.std.proofs.Common.{◌≡◌, ◌<◌, ℕ, zero, suc, Bool, true, false, cond, List, [], ◌∷◌, ◌++◌, length, map, set, get_or, refl, ap, subst, ◌∙◌, ◌+◌, arith}
-use Rattle.std.specs.Prelude.{All, Err, Ok, OnOk, Result, count_by, filter, slice_get, IsPermutation}
+use Rattle.std.specs.Prelude.{Err, Ok, OnOk, Result, filter, slice_get, IsPermutation}
 use Rattle.std.specs.List.{swap}
 use Rattle.std.specs.Option.{IsSomeAnd}
 use Rattle.std.proofs.lemmas.List.Edits.{swap_is}
-use Rattle.std.proofs.lemmas.List.Sums.{sum_by-cons}
 use Rattle.std.proofs.lemmas.List.Sorted.{IsPermutation-append_comm, IsPermutation-append_left, IsPermutation-append_right, IsPermutation-keeps, IsPermutation-refl, IsPermutation-trans}
-use Rattle.std.proofs.lemmas.List.{append_assoc}
+use Rattle.std.proofs.lemmas.List.{append_assoc, get_or_default}
 use Rattle.assessment.specs.TopicsFacts.{at_place}
 
-pub each_cons : {X : Type 0} (P : X → Type 0) (x : X) (xs : List X) → P x → All P xs → All P (x ∷ xs)
-each_cons P x xs head tail zero d within = head
-each_cons P x xs head tail (suc k) d within = tail k d (omega (arith, within))
-
-pub count_by-cons : {X : Type 0} (p : X → Bool) (x : X) (xs : List X) → count_by p (x ∷ xs) ≡ cond (p x) 1 0 + count_by p xs
-count_by-cons p x xs = sum_by-cons (λ y. cond (p y) 1 0) x xs
-
--- within a list no default is read
-pub get_or_default : {X : Type 0} (xs : List X) (i : ℕ) (d e : X) → i < length xs → get_or xs i d ≡ get_or xs i e
-get_or_default [] i d e within = absurd (omega (arith, within))
-get_or_default (x ∷ xs) zero d e within = refl
-get_or_default (x ∷ xs) (suc i) d e within = get_or_default xs i d e (omega (arith, within))
-
-pub get_or-map : {X Y : Type 0} (f : X → Y) (xs : List X) (i : ℕ) (d : X) (e : Y) → i < length xs → get_or (map f xs) i e ≡ f (get_or xs i d)
-get_or-map f [] i d e within = absurd (omega (arith, within))
-get_or-map f (x ∷ xs) zero d e within = refl
-get_or-map f (x ∷ xs) (suc i) d e within = get_or-map f xs i d e (omega (arith, within))
-
-pub map-set : {X Y : Type 0} (f : X → Y) (xs : List X) (i : ℕ) (y : X) → map f (set xs i y) ≡ set (map f xs) i (f y)
-map-set f [] i y = refl
-map-set f (x ∷ xs) zero y = refl
-map-set f (x ∷ xs) (suc i) y = ap (λ ys. f x ∷ ys) (map-set f xs i y)
-
--- an element written in place of another that f sees alike
-pub map-set_same : {X Y : Type 0} (f : X → Y) (xs : List X) (i : ℕ) (y d : X) → i < length xs → f y ≡ f (get_or xs i d) → map f (set xs i y) ≡ map f xs
-map-set_same f [] i y d within same = absurd (omega (arith, within))
-map-set_same f (x ∷ xs) zero y d within same = ap (λ z. z ∷ map f xs) same
-map-set_same f (x ∷ xs) (suc i) y d within same = ap (λ zs. f x ∷ zs) (map-set_same f xs i y d (omega (arith, within)) same)
-
 -- two lists that two functions see alike
-pub map_alike : {X Y Z : Type 0} (f : X → Z) (g : Y → Z) (xs : List X) (ys : List Y) → length xs ≡ length ys → ((k : ℕ) (d : X) (e : Y) → k < length xs → f (get_or xs k d) ≡ g (get_or ys k e)) → map f xs ≡ map g ys
+pub map_alike : {X Y Z : Type 0} (f : X → Z) (g : Y → Z) (xs : List X) (ys : List Y) → length xs ≡ length ys
+    → ((k : ℕ) (d : X) (e : Y) → k < length xs → f (get_or xs k d) ≡ g (get_or ys k e)) → map f xs ≡ map g ys
 map_alike f g [] [] long alike = refl
 map_alike f g [] (y ∷ ys) long alike = cc long
 map_alike f g (x ∷ xs) [] long alike = cc long
@@ -48,25 +19,10 @@ map_alike f g (x ∷ xs) (y ∷ ys) long alike =
     let rest : map f xs ≡ map g ys = map_alike f g xs ys (omega (arith, long)) (λ k d e within. alike (suc k) d e (omega (arith, within))) in
     ap (λ z. z ∷ map f xs) head ∙ ap (λ zs. g y ∷ zs) rest
 
-pub map-map : {X Y Z : Type 0} (g : Y → Z) (f : X → Y) (xs : List X) → map g (map f xs) ≡ map (λ x. g (f x)) xs
-map-map g f [] = refl
-map-map g f (x ∷ xs) = ap (λ zs. g (f x) ∷ zs) (map-map g f xs)
-
 -- what follows where a call answers Ok
 pub on-ok : {T E : Type 0} {P Q : Type 0} (r : Result T E) → (P → Q) → OnOk r P → OnOk r Q
 on-ok (Ok x) step holds = step holds
 on-ok (Err e) step holds = holds
-
--- an element that is there, and what holds of it
-pub some-at : {X : Type 0} (P : X → Type 0) (xs : List X) (i : ℕ) (d : X) → IsSomeAnd (slice_get xs i) P → (i < length xs) × P (get_or xs i d)
-some-at P [] i d there = absurd there
-some-at P (x ∷ xs) zero d there = (omega arith, there)
-some-at P (x ∷ xs) (suc i) d there = let rest = some-at P xs i d there in (omega (arith, rest.0), rest.1)
-
-pub at-some : {X : Type 0} (P : X → Type 0) (xs : List X) (i : ℕ) (d : X) → i < length xs → P (get_or xs i d) → IsSomeAnd (slice_get xs i) P
-at-some P [] i d within here = absurd (omega (arith, within))
-at-some P (x ∷ xs) zero d within here = here
-at-some P (x ∷ xs) (suc i) d within here = at-some P xs i d (omega (arith, within)) here
 
 pub at-each : {X : Type 0} (P : X → Type 0) (xs : List X) (i : ℕ) → i < length xs → ((d : X) → P (get_or xs i d)) → IsSomeAnd (slice_get xs i) P
 at-each P [] i within here = absurd (omega (arith, within))
@@ -83,10 +39,6 @@ set-at_place change (x ∷ xs) (suc i) d = ap (λ ys. x ∷ ys) (set-at_place ch
 pub get-behind : {X : Type 0} (xs : List X) (x : X) (ys : List X) (d : X) → get_or (xs ++ x ∷ ys) (length xs) d ≡ x
 get-behind [] x ys d = refl
 get-behind (y ∷ xs) x ys d = get-behind xs x ys d
-
-pub nothing-left : {X : Type 0} (xs : List X) → length xs ≡ 0 → xs ≡ []
-nothing-left [] none = refl
-nothing-left (x ∷ xs) none = absurd (omega (arith, none))
 
 -- ---- what a filter keeps of a list in another order
 
@@ -122,7 +74,8 @@ module _ {X : Type 0} (p : X → Bool) where
       (shuffled (kept b) (kept c) later)))
 
   -- an element in another's place, and that one in its own
-  exchanged : (xs : List X) (i j : ℕ) (d : X) → i < length xs → j < length xs → IsPermutation (filter p xs) (filter p (set (set xs i (get_or xs j d)) j (get_or xs i d)))
+  exchanged : (xs : List X) (i j : ℕ) (d : X) → i < length xs → j < length xs
+      → IsPermutation (filter p xs) (filter p (set (set xs i (get_or xs j d)) j (get_or xs i d)))
   exchanged [] i j d first second = absurd (omega (arith, first))
   exchanged (x ∷ xs) zero zero d first second = IsPermutation-refl (filter p (x ∷ xs))
   exchanged (x ∷ xs) zero (suc j) d first second =
@@ -135,12 +88,14 @@ module _ {X : Type 0} (p : X → Bool) where
       rw (← same, filter-first x xs, filter-first (get_or xs i x) (set xs i x)) (traded x xs i within)
   exchanged (x ∷ xs) (suc i) (suc j) d first second =
       rw (filter-first x xs, filter-first x (set (set xs i (get_or xs j d)) j (get_or xs i d)))
-      (IsPermutation-append_right (kept x) (filter p xs) (filter p (set (set xs i (get_or xs j d)) j (get_or xs i d))) (exchanged xs i j d (omega (arith, first)) (omega (arith, second))))
+      (IsPermutation-append_right (kept x) (filter p xs) (filter p (set (set xs i (get_or xs j d)) j (get_or xs i d)))
+      (exchanged xs i j d (omega (arith, first)) (omega (arith, second))))
 
   pub IsPermutation-filter : (xs ys : List X) → IsPermutation xs ys → IsPermutation (filter p xs) (filter p ys)
   IsPermutation-filter xs ys same = IsPermutation-keeps xs (λ l. IsPermutation (filter p xs) (filter p l)) (IsPermutation-refl (filter p xs)) step ys same
     where
-      step : (l : List X) (i j : ℕ) → i < length l → j < length l → IsPermutation (filter p xs) (filter p l) → IsPermutation (filter p xs) (filter p (swap l i j))
+      step : (l : List X) (i j : ℕ) → i < length l → j < length l → IsPermutation (filter p xs) (filter p l)
+          → IsPermutation (filter p xs) (filter p (swap l i j))
       step [] i j first second before = absurd (omega (arith, first))
       step (x ∷ l) i j first second before =
           IsPermutation-trans (filter p xs) (filter p (x ∷ l)) (filter p (swap (x ∷ l) i j)) before

@@ -4,8 +4,8 @@ use Rattle.std.specs.Prelude.{◌==◌, count_by, if◌then◌else◌}
 use Rattle.std.proofs.lemmas.List.{drop_more, take_more}
 use Rattle.std.proofs.lemmas.List.Sums.{sum_by-append}
 use Rattle.decimal_rank.specs.declared.naming.DocId.{DocId}
+use Rattle.decimal_rank.proofs.Lists.{count_by-cons}
 use Rattle.assessment.specs.RunLists.{has_length}
-use Rattle.assessment.proofs.ListFacts.{count_by-cons}
 
 pub own-length : (docs : List DocId) → 0 < length docs → has_length (length docs) docs ≡ true
 own-length [] filled = absurd (omega (arith, filled))
@@ -28,7 +28,8 @@ no-rooms (room ∷ rooms) none =
     absurd (omega (arith, none room, count_by-cons (λ (other : ℕ). other == room) room rooms, here))
 
 -- room for one list that is made and used
-pub used-room : (t : Bool) (before between after : ℕ) → between ≡ before + (if t then 1 else 0) → after ≡ between - (if t then 1 else 0) → before ≡ 0 → after ≡ 0
+pub used-room : (t : Bool) (before between after : ℕ) → between ≡ before + (if t then 1 else 0)
+    → after ≡ between - (if t then 1 else 0) → before ≡ 0 → after ≡ 0
 used-room true before between after made used none = omega (arith, made, used, none)
 used-room false before between after made used none = omega (arith, made, used, none)
 
@@ -48,14 +49,16 @@ module _ {X : Type 0} (p : X → Bool) where
       step true is room = omega (arith, room)
       step false is room = cc is
 
-  pub left-rooms : (xs : List X) (i : ℕ) (d : X) (rooms after : ℕ) → i < length xs → rooms ≡ count_by p (drop i xs) → after ≡ rooms - (if p (get_or xs i d) then 1 else 0) → after ≡ count_by p (drop (i + 1) xs)
+  pub left-rooms : (xs : List X) (i : ℕ) (d : X) (rooms after : ℕ) → i < length xs → rooms ≡ count_by p (drop i xs)
+      → after ≡ rooms - (if p (get_or xs i d) then 1 else 0) → after ≡ count_by p (drop (i + 1) xs)
   left-rooms xs i d rooms after within room is = taken (get_or xs i d) (drop (i + 1) xs) rooms after (room ∙ ap (count_by p) (drop_more xs i d within)) is
 
   pub some-left : (xs : List X) (i : ℕ) (d : X) (rooms : ℕ) → i < length xs → rooms ≡ count_by p (drop i xs) → p (get_or xs i d) ≡ true → 0 < rooms
   some-left xs i d rooms within room has = some-room (get_or xs i d) (drop (i + 1) xs) rooms (room ∙ ap (count_by p) (drop_more xs i d within)) has
 
   -- the room once there is room for one more
-  pub made-rooms : (xs : List X) (i : ℕ) (d : X) (rooms after : ℕ) → i < length xs → rooms ≡ count_by p (take i xs) → after ≡ rooms + (if p (get_or xs i d) then 1 else 0) → after ≡ count_by p (take (i + 1) xs)
+  pub made-rooms : (xs : List X) (i : ℕ) (d : X) (rooms after : ℕ) → i < length xs → rooms ≡ count_by p (take i xs)
+      → after ≡ rooms + (if p (get_or xs i d) then 1 else 0) → after ≡ count_by p (take (i + 1) xs)
   made-rooms xs i d rooms after within room is =
       let counts : count_by p (take (i + 1) xs) ≡ count_by p (take i xs) + count_by p (get_or xs i d ∷ []) =
       ap (count_by p) (take_more xs i d within) ∙ sum_by-append (λ x. cond (p x) 1 0) (take i xs) (get_or xs i d ∷ []) in

@@ -3,12 +3,12 @@ use Rattle.std.specs.Prelude.{◌≡◌, ◌-◌, ◌<◌, ◌≤◌, ◌^◌, �
 use Rattle.decimal_rank.specs.declared.naming.DocId.{DocId}
 use Rattle.std.specs.Option.{IsSomeAnd}
 use Rattle.lease_desk.specs.DeskView.{DeskView}
-use Rattle.lease_desk.specs.Leases.{granted, lease_numbered, with_end}
+use Rattle.lease_desk.specs.Leases.{desk_lease, with_end, with_grant}
 use Rattle.lease_desk.specs.declared.leases.Lease.{Lease}
 use Rattle.lease_desk.specs.declared.leases.LeaseEnd.TheVariants.{Graded, Released}
 use Rattle.assessment.specs.RunLists.{HasRooms, HavePlaces}
-use Rattle.assessment.specs.TopicFacts.{AwaitsMark, MayLabel, MayRule}
-use Rattle.assessment.specs.TopicsFacts.{IsEntered, IsNewRun, TopicsFacts, TopicsView, after_label, after_ruling, after_run, after_withdrawal, told}
+use Rattle.assessment.specs.TopicFacts.{AwaitsJudgement, MayLabel, MayRule}
+use Rattle.assessment.specs.TopicsFacts.{IsEntered, IsNewRun, TopicsFacts, TopicsView, after_label, after_ruling, after_run, after_withdrawal, topics_facts}
 use Rattle.assessment.specs.WaitingRuns.{AreWaiting, IsWaitingAs, RunLists, WaitingView, with_runs}
 use Rattle.assessment.specs.declared.change.Change.{Change}
 use Rattle.assessment.specs.declared.change.Change.TheVariants as change
@@ -32,25 +32,25 @@ pub record IsIdle (view : AssessmentView) : Type 0 where
   pub unreserved : view.topics.board.rooms ≡ []
 
 -- the lists are those of the board and those that wait
-abbrev pub listed : List RunLists → TopicsFacts → TopicsFacts
-listed runs all = record all { lists = with_runs runs all.lists }
+abbrev pub with_waiting_lists : List RunLists → TopicsFacts → TopicsFacts
+with_waiting_lists runs all = record all { lists = with_runs runs all.lists }
 
 abbrev pub facts_in : TopicsView → List Lease → WaitingView → Facts
-facts_in topics leases waiting = record { topics = listed waiting.runs (told topics); leases = leases; on_board = waiting.on_board }
+facts_in topics leases waiting = record { topics = with_waiting_lists waiting.runs (topics_facts topics); leases = leases; on_board = waiting.on_board }
 
 -- the runs that wait may come on the board
 abbrev pub MayCome : TopicsView → WaitingView → Type 0
-MayCome topics waiting = AreWaiting (length topics.topics) (told topics).lists waiting.runs
+MayCome topics waiting = AreWaiting (length topics.topics) (topics_facts topics).lists waiting.runs
 
 -- this is known, and nothing is left reserved on the board
-pub record IsLeft (known : Facts) (topics : TopicsView) (leases : List Lease) (waiting : WaitingView) : Type 0 where
+pub record IsLeftAtRest (known : Facts) (topics : TopicsView) (leases : List Lease) (waiting : WaitingView) : Type 0 where
   pub facts : facts_in topics leases waiting ≡ known
   pub unreserved : topics.board.rooms ≡ []
   pub may_come : MayCome topics waiting
 
 -- the topics, the lists, the leases and the runs that wait stay
 pub record AreUnchanged (topics topics_after : TopicsView) (leases leases_after : List Lease) (waiting waiting_after : WaitingView) : Type 0 where
-  pub told_is : told topics_after ≡ told topics
+  pub told_is : topics_facts topics_after ≡ topics_facts topics
   pub leases_are : leases_after ≡ leases
   pub waiting_is : IsWaitingAs waiting.runs waiting waiting_after
 
@@ -60,19 +60,19 @@ facts view = facts_in view.topics view.leases view.waiting
 
 -- a lease that has no end
 abbrev pub IsUnended : ℕ → List Lease → Type 0
-IsUnended number leases = IsSomeAnd (lease_numbered leases number) (λ lease. lease.end ≡ None)
+IsUnended number leases = IsSomeAnd (desk_lease leases number) (λ lease. lease.end ≡ None)
 
 -- what a change makes of what is known
-abbrev pub after : Change → Facts → Facts
-after change.Nothing facts = facts
-after (change.Topics given) facts = record facts { topics = told given }
-after (change.Run run lists) facts = record facts { topics = after_run run lists.items facts.topics }
-after (change.Withdraw run) facts = record facts { topics = after_withdrawal run facts.topics }
-after (change.Lease grant) facts = record facts { leases = granted facts.leases grant.assessor grant.topic grant.doc grant.until }
-after (change.Grade number label) facts = record facts { topics = after_label label facts.topics; leases = with_end facts.leases number Graded }
-after (change.Release number) facts = record facts { leases = with_end facts.leases number Released }
-after (change.Amend label) facts = record facts { topics = after_label label facts.topics }
-after (change.Rule ruling) facts = record facts { topics = after_ruling ruling facts.topics }
+abbrev pub after_change : Change → Facts → Facts
+after_change change.Nothing facts = facts
+after_change (change.Topics given) facts = record facts { topics = topics_facts given }
+after_change (change.Run run lists) facts = record facts { topics = after_run run lists.items facts.topics }
+after_change (change.Withdraw run) facts = record facts { topics = after_withdrawal run facts.topics }
+after_change (change.Lease grant) facts = record facts { leases = with_grant facts.leases grant.assessor grant.topic grant.doc grant.until }
+after_change (change.Grade number label) facts = record facts { topics = after_label label facts.topics; leases = with_end facts.leases number Graded }
+after_change (change.Release number) facts = record facts { leases = with_end facts.leases number Released }
+after_change (change.Amend label) facts = record facts { topics = after_label label facts.topics }
+after_change (change.Rule ruling) facts = record facts { topics = after_ruling ruling facts.topics }
 
 -- a change that may be made of what is known
 abbrev pub Fits : Change → Facts → Type 0
@@ -92,28 +92,28 @@ HasRunRoom true lists all waiting = HasRooms lists all.topics all.board
 HasRunRoom false lists all waiting = HavePlaces lists all.topics × (1 ≤ waiting.spare) × (all.board.rooms ≡ [])
 
 -- there is room for a change, and on the board for no other lists than its own
-abbrev pub HasRoom : Change → TopicsView → DeskView → WaitingView → Type 0
-HasRoom change.Nothing all desk waiting = all.board.rooms ≡ []
-HasRoom (change.Topics given) all desk waiting = all.board.rooms ≡ []
-HasRoom (change.Run run lists) all desk waiting = HasRunRoom waiting.on_board lists.items all waiting
-HasRoom (change.Withdraw run) all desk waiting = all.board.rooms ≡ []
-HasRoom (change.Lease grant) all desk waiting = (1 ≤ desk.spare) × (all.board.rooms ≡ [])
-HasRoom (change.Grade number label) all desk waiting = IsSomeAnd (slice_get all.topics label.topic) (AwaitsMark label.doc) × (all.board.rooms ≡ [])
-HasRoom (change.Release number) all desk waiting = all.board.rooms ≡ []
-HasRoom (change.Amend label) all desk waiting = IsSomeAnd (slice_get all.topics label.topic) (AwaitsMark label.doc) × (all.board.rooms ≡ [])
-HasRoom (change.Rule ruling) all desk waiting = IsSomeAnd (slice_get all.topics ruling.topic) (AwaitsMark ruling.doc) × (all.board.rooms ≡ [])
+abbrev pub ChangeHasRoom : Change → TopicsView → DeskView → WaitingView → Type 0
+ChangeHasRoom change.Nothing all desk waiting = all.board.rooms ≡ []
+ChangeHasRoom (change.Topics given) all desk waiting = all.board.rooms ≡ []
+ChangeHasRoom (change.Run run lists) all desk waiting = HasRunRoom waiting.on_board lists.items all waiting
+ChangeHasRoom (change.Withdraw run) all desk waiting = all.board.rooms ≡ []
+ChangeHasRoom (change.Lease grant) all desk waiting = (1 ≤ desk.spare) × (all.board.rooms ≡ [])
+ChangeHasRoom (change.Grade number label) all desk waiting = IsSomeAnd (slice_get all.topics label.topic) (AwaitsJudgement label.doc) × (all.board.rooms ≡ [])
+ChangeHasRoom (change.Release number) all desk waiting = all.board.rooms ≡ []
+ChangeHasRoom (change.Amend label) all desk waiting = IsSomeAnd (slice_get all.topics label.topic) (AwaitsJudgement label.doc) × (all.board.rooms ≡ [])
+ChangeHasRoom (change.Rule ruling) all desk waiting = IsSomeAnd (slice_get all.topics ruling.topic) (AwaitsJudgement ruling.doc) × (all.board.rooms ≡ [])
 
 -- a change that may be made, and for which there is room
-pub record IsReady (change : Change) (all : TopicsView) (desk : DeskView) (waiting : WaitingView) : Type 0 where
+pub record IsChangeReady (change : Change) (all : TopicsView) (desk : DeskView) (waiting : WaitingView) : Type 0 where
   pub fits : Fits change (facts_in all desk.leases waiting)
-  pub room : HasRoom change all desk waiting
+  pub room : ChangeHasRoom change all desk waiting
   pub may_come : MayCome all waiting
 
 -- there is room for the change that is pending, and on the board for no lists where none is
-abbrev pub IsReserved : Option Change → TopicsView → DeskView → WaitingView → Type 0
-IsReserved None all desk waiting = all.board.rooms ≡ []
-IsReserved (Some change) all desk waiting = IsReady change all desk waiting
+abbrev pub IsChangeReserved : Option Change → TopicsView → DeskView → WaitingView → Type 0
+IsChangeReserved None all desk waiting = all.board.rooms ≡ []
+IsChangeReserved (Some change) all desk waiting = IsChangeReady change all desk waiting
 
 pub record IsKept (pending : Option Change) (all : TopicsView) (desk : DeskView) (waiting : WaitingView) : Type 0 where
-  pub reserved : IsReserved pending all desk waiting
+  pub reserved : IsChangeReserved pending all desk waiting
   pub may_come : MayCome all waiting

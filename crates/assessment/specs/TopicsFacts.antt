@@ -4,14 +4,14 @@ use Rattle.std.specs.Option.{IsSomeAnd}
 use Rattle.decimal_rank.specs.declared.naming.DocId.{DocId}
 use Rattle.depth_pool.specs.declared.runs.RunId.{RunId}
 use Rattle.depth_pool.specs.Holdings.{has_run}
-use Rattle.score_index.specs.Scores.{Scores, docs_at, levels_of, rooms_for}
-use Rattle.score_index.specs.Standing.{StandsFor}
-use Rattle.assessment.specs.RunLists.{RankedLists, each_with_list, has_length, unless_empty, with_lists, without_lists}
-use Rattle.assessment.specs.TopicFacts.{AwaitsRun, TopicFacts, TopicView, facts_of, graded_of, new_topic, with_label, with_list, with_ruling, without_list}
+use Rattle.score_index.specs.Scores.{Scores, board_levels, rooms_for, run_docs_at}
+use Rattle.score_index.specs.BoardGrades.{StandsFor}
+use Rattle.assessment.specs.RunLists.{RankedLists, each_with_list, has_length, rankings_without, unless_empty, with_lists}
+use Rattle.assessment.specs.TopicFacts.{AwaitsRun, TopicFacts, TopicView, facts_of, new_topic, topic_with_label, topic_with_list, view_grades, with_ruling, without_list}
 use Rattle.assessment.specs.declared.topic.TopicRules.{TopicRules}
 use Rattle.assessment.specs.declared.change.Label.{Label}
-use Rattle.assessment.specs.declared.change.Mark.{Mark}
-use Rattle.assessment.specs.declared.change.Mark.TheVariants as mark
+use Rattle.assessment.specs.declared.change.Judgement.{Judgement}
+use Rattle.assessment.specs.declared.change.Judgement.TheVariants as mark
 use Rattle.assessment.specs.declared.change.Ruling.{Ruling}
 
 -- the topics and the board as contracts see them
@@ -26,11 +26,11 @@ pub record TopicsFacts : Type 0 where
   pub levels : List ℕ
 
 -- what topics and a board tell
-abbrev pub told_by : List TopicView → Scores → TopicsFacts
-told_by topics board = record { topics = map facts_of topics; lists = docs_at board; levels = levels_of board }
+abbrev pub facts_by : List TopicView → Scores → TopicsFacts
+facts_by topics board = record { topics = map facts_of topics; lists = run_docs_at board; levels = board_levels board }
 
-abbrev pub told : TopicsView → TopicsFacts
-told all = told_by all.topics all.board
+abbrev pub topics_facts : TopicsView → TopicsFacts
+topics_facts all = facts_by all.topics all.board
 
 -- the element at a place changed
 abbrev pub at_place : {X : Type 0} → ℕ → (X → X) → List X → List X
@@ -56,30 +56,34 @@ after_one_list number run docs all = record all { lists = λ other on. if (run.0
 
 -- without a run that is withdrawn
 abbrev pub after_withdrawal : RunId → TopicsFacts → TopicsFacts
-after_withdrawal run all = record all { topics = map (without_list run) all.topics; lists = without_lists run all.lists }
+after_withdrawal run all = record all { topics = map (without_list run) all.topics; lists = rankings_without run all.lists }
 
 -- after an assessor gives a document of a topic a grade
 abbrev pub after_label : Label → TopicsFacts → TopicsFacts
-after_label label all = record all { topics = at_place label.topic (with_label label.doc label.assessor label.grade) all.topics }
+after_label label all = record all { topics = at_place label.topic (topic_with_label label.doc label.assessor label.grade) all.topics }
 
 -- after a ruling on a document of a topic
 abbrev pub after_ruling : Ruling → TopicsFacts → TopicsFacts
 after_ruling ruling all = record all { topics = at_place ruling.topic (with_ruling ruling.doc ruling.grade) all.topics }
 
 -- the topic of a mark
-abbrev pub topic_of : Mark → ℕ
-topic_of (mark.Label label) = label.topic
-topic_of (mark.Ruling ruling) = ruling.topic
+abbrev pub judgement_topic : Judgement → ℕ
+judgement_topic (mark.Label label) = label.topic
+judgement_topic (mark.Ruling ruling) = ruling.topic
 
 -- after a document of a topic gets a mark
-abbrev pub after_mark : Mark → TopicsFacts → TopicsFacts
-after_mark (mark.Label label) all = after_label label all
-after_mark (mark.Ruling ruling) all = after_ruling ruling all
+abbrev pub after_judgement : Judgement → TopicsFacts → TopicsFacts
+after_judgement (mark.Label label) all = after_label label all
+after_judgement (mark.Ruling ruling) all = after_ruling ruling all
 
 -- with a run's list on one topic
 abbrev pub after_list : ℕ → RunId → List DocId → TopicsFacts → TopicsFacts
 after_list number run docs all =
-    record all { topics = at_place number (with_list run docs) all.topics; lists = λ other on. if (run.0 == other.0) && (number == on) then unless_empty docs else all.lists other on }
+    record all {
+      topics = at_place number (topic_with_list run docs) all.topics;
+      lists = λ other on. if (run.0 == other.0)
+          && (number == on) then unless_empty docs else all.lists other on;
+    }
 
 -- a run that is on no topic
 abbrev pub IsOnNone : RunId → TopicsFacts → Type 0
@@ -106,20 +110,20 @@ new_topics rules = record { topics = map new_topic rules; lists = λ run on. Non
 -- there are few topics, and the board stands for their grades
 pub record IsStanding (topics : List TopicView) (board : Scores) : Type 0 where
   pub few : length topics < 2 ^ 16
-  pub stands : StandsFor board (map graded_of topics)
+  pub stands : StandsFor board (map view_grades topics)
 
 -- the topics and the board tell this now, and the board has the room that it had
 pub record Becomes (all : TopicsFacts) (old new : TopicsView) : Type 0 where
-  pub facts : told new ≡ all
+  pub facts : topics_facts new ≡ all
   pub rooms : new.board.rooms ≡ old.board.rooms
 
 -- they tell what they told
 abbrev pub IsUnchanged : TopicsView → TopicsView → Type 0
-IsUnchanged old new = Becomes (told old) old new
+IsUnchanged old new = Becomes (topics_facts old) old new
 
 -- the topics and the board tell this, and the board has no room
-pub record IsAtRest (all : TopicsFacts) (new : TopicsView) : Type 0 where
-  pub facts : told new ≡ all
+pub record AreAtRest (all : TopicsFacts) (new : TopicsView) : Type 0 where
+  pub facts : topics_facts new ≡ all
   pub none : new.board.rooms ≡ []
 
 -- there is room for a run on a topic, and on the board for its list there

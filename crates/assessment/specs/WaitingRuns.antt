@@ -24,8 +24,8 @@ abbrev pub is_run : RunId → RunLists → Bool
 is_run run one = one.run.0 == run.0
 
 -- but for a run's
-abbrev pub without_run : RunId → List RunLists → List RunLists
-without_run run runs = filter (λ one. not (is_run run one)) runs
+abbrev pub waiting_without : RunId → List RunLists → List RunLists
+waiting_without run runs = filter (λ one. not (is_run run one)) runs
 
 -- these runs wait now, where others did
 pub record IsWaitingAs (runs : List RunLists) (old new : WaitingView) : Type 0 where

@@ -7,10 +7,11 @@
 //! cancel      the room of the pending change is given back; at rest again
 //! ```
 ghost use Rattle.std.specs.Prelude.{◌≡◌, ◌+◌, ◌<◌, ◌≤◌, [], List, IfOk, IfSome, IsSome, None, OnErr, OnOk, Some, false, length, true};
+ghost use Rattle.std.specs.Option.{option_copied};
 ghost use Rattle.depth_pool.specs.declared.runs.RunId.{RunId};
 ghost use Rattle.assessment.specs.Costs.{HaveLists, change_steps};
-ghost use Rattle.assessment.specs.Changes.{Fits, IsIdle, after, facts};
-ghost use Rattle.assessment.specs.TopicsFacts.{new_topics, told};
+ghost use Rattle.assessment.specs.Changes.{Fits, IsIdle, after_change, facts};
+ghost use Rattle.assessment.specs.TopicsFacts.{new_topics, topics_facts};
 
 use crate::change::Change;
 use crate::effects::{give_back, make, make_room};
@@ -38,7 +39,12 @@ impl Model for Assessment {
 
     ghost Value = { AssessmentView };
 
-    ghost view = { λ all. record { topics = all.topics; leases = all.desk.leases; waiting = all.waiting; pending = all.pending } };
+    ghost view = { λ all. record {
+      topics = all.topics;
+      leases = all.desk.leases;
+      waiting = all.waiting;
+      pending = all.pending;
+    } };
 
     ghost invariant = { λ all. IsKept all.pending all.topics all.desk all.waiting };
 }
@@ -58,16 +64,18 @@ impl Drop for Assessment {
 impl Assessment {
     /// No topic and no lease yet.
     pub fn new(alloc: Global) -> Result<Assessment, Memory>
-        ensures facts { IfOk result (λ all. facts all ≡ record { topics = new_topics []; leases = []; on_board = true }) }
+        ensures facts { IfOk result
+            (λ all. facts all ≡ record { topics = new_topics []; leases = []; on_board = true }) }
         ensures pending { IfOk result (λ all. all.pending ≡ None) }
     {
         begun(alloc, true)
     }
 
-    /// The same for a replay: the runs' lists wait until its end, so that no change meanwhile costs what the
-    /// board takes to follow it.
+    /// The same for a replay: the runs' lists wait until its end, so that no change meanwhile costs
+    /// what the board takes to follow it.
     pub fn replayed(alloc: Global) -> Result<Assessment, Memory>
-        ensures facts { IfOk result (λ all. facts all ≡ record { topics = new_topics []; leases = []; on_board = false }) }
+        ensures facts { IfOk result
+            (λ all. facts all ≡ record { topics = new_topics []; leases = []; on_board = false }) }
         ensures pending { IfOk result (λ all. all.pending ≡ None) }
     {
         begun(alloc, false)
@@ -119,9 +127,12 @@ impl Assessment {
     /// read, or a look into a pool.
     pub fn commit<L: Ledger>(&mut self, steps: &mut Steps<L>)
         requires { IsSome self.old.pending }
-        ensures facts { IfSome self.old.pending (λ change. facts self.new ≡ after change (facts self.old)) }
+        ensures facts { IfSome self.old.pending
+            (λ change. facts self.new ≡ after_change change (facts self.old)) }
         ensures idle { IsIdle self.new }
-        ensures cost { (runs : List RunId) → HaveLists runs (facts self.old).topics → IfSome self.old.pending (λ change. steps.new ≤ steps.old + change_steps runs change (facts self.old).topics) }
+        ensures cost { (runs : List RunId) → HaveLists runs (facts self.old).topics
+            → IfSome self.old.pending
+            (λ change. steps.new ≤ steps.old + change_steps runs change (facts self.old).topics) }
     {
         if let Some(change) = self.pending.take() {
             make(
@@ -145,8 +156,15 @@ impl Assessment {
         }
     }
 
-    /// Leads on, past documents that an assessor isn't given any more, where the next one is looked for.
-    /// That changes nothing that contracts see, so it may be done or left out.
+    /// The change that is pending.
+    pub fn pending(&self) -> Option<&Change>
+        ensures { option_copied result ≡ self.now.pending }
+    {
+        self.pending.as_ref()
+    }
+
+    /// Leads on, past documents that an assessor isn't given any more, where the next one is looked
+    /// for. That changes nothing that contracts see, so it may be done or left out.
     pub fn lead_fronts(&mut self, topic: usize, assessor: &[u8]) -> Result<(), Memory>
         requires { topic < length self.old.topics.topics }
         ensures { self.new ≡ self.old }
@@ -158,7 +176,8 @@ impl Assessment {
     pub fn topics(&self) -> &Topics
         ensures topics { result.now ≡ self.now.topics }
         ensures unreserved { self.now.pending ≡ None → (result.now.board.rooms ≡ []) }
-        ensures lists { (facts self.now).on_board ≡ true → ((facts self.now).topics ≡ told result.now) }
+        ensures lists { (facts self.now).on_board ≡ true
+            → ((facts self.now).topics ≡ topics_facts result.now) }
     {
         // no list waits where they are put on the board at once
         let _is_on_board = self.waiting.is_on_board();
@@ -174,7 +193,8 @@ impl Assessment {
 }
 
 fn begun(alloc: Global, is_on_board: bool) -> Result<Assessment, Memory>
-    ensures facts { IfOk result (λ all. facts all ≡ record { topics = new_topics []; leases = []; on_board = is_on_board }) }
+    ensures facts { IfOk result (λ all. facts all
+        ≡ record { topics = new_topics []; leases = []; on_board = is_on_board }) }
     ensures pending { IfOk result (λ all. all.pending ≡ None) }
 {
     let topics = Topics::new(alloc, Vec::new(alloc))?;

@@ -1,7 +1,7 @@
 //! What a command changes of an assessment, by numbers.
 ghost use Rattle.std.specs.Prelude.{◌≡◌};
-ghost use Rattle.assessment.specs.TopicFacts.{doc_of};
-ghost use Rattle.assessment.specs.TopicsFacts.{topic_of};
+ghost use Rattle.assessment.specs.TopicFacts.{judgement_doc};
+ghost use Rattle.assessment.specs.TopicsFacts.{judgement_topic};
 
 use crate::topics::Topics;
 use decimal_rank::{DocId, Ranking, Text};
@@ -58,19 +58,19 @@ pub enum Change {
 
 /// What a document of a topic gets: a label, or a ruling.
 #[derive(Drop)]
-pub(crate) enum Mark {
+pub(crate) enum Judgement {
     Label(Label),
     Ruling(Ruling),
 }
 
-impl Mark {
+impl Judgement {
     /// The topic and the document.
     pub(crate) fn place(&self) -> (u16, DocId)
-        ensures { result ≡ (topic_of self.now, doc_of self.now) }
+        ensures { result ≡ (judgement_topic self.now, judgement_doc self.now) }
     {
         match self {
-            Mark::Label(label) => (label.topic, label.doc),
-            Mark::Ruling(ruling) => (ruling.topic, ruling.doc),
+            Judgement::Label(label) => (label.topic, label.doc),
+            Judgement::Ruling(ruling) => (ruling.topic, ruling.doc),
         }
     }
 }

@@ -2,11 +2,11 @@
 ghost use Rattle.std.specs.Prelude.{◌≡◌, ◌+◌, ◌≤◌, [], List, OnErr, OnOk, length};
 ghost use Rattle.depth_pool.specs.declared.runs.RunId.{RunId};
 ghost use Rattle.assessment.specs.Costs.{HaveLists, change_steps};
-ghost use Rattle.assessment.specs.TopicsFacts.{IsAtRest, IsNewRun, after_run, told};
-ghost use Rattle.assessment.specs.Changes.{AreUnchanged, Fits, HasRoom, HasRunRoom, IsLeft, IsReady, MayCome, after, facts_in, listed};
+ghost use Rattle.assessment.specs.TopicsFacts.{AreAtRest, IsNewRun, after_run, topics_facts};
+ghost use Rattle.assessment.specs.Changes.{AreUnchanged, ChangeHasRoom, Fits, HasRunRoom, IsChangeReady, IsLeftAtRest, MayCome, after_change, facts_in, with_waiting_lists};
 ghost use Rattle.assessment.specs.WaitingRuns.{IsWaitingAs};
 
-use crate::change::{Change, Grant, Mark};
+use crate::change::{Change, Grant, Judgement};
 use crate::runs::enter_run;
 use crate::topics::Topics;
 use crate::waiting::Waiting;
@@ -24,9 +24,10 @@ pub(crate) fn make_room(
 ) -> Result<(), Memory>
     requires fits { Fits change.now (facts_in topics.old desk.old.leases waiting.old) }
     requires none { topics.old.board.rooms ≡ [] }
-    ensures ok { OnOk result (HasRoom change.now topics.new desk.new waiting.new) }
+    ensures ok { OnOk result (ChangeHasRoom change.now topics.new desk.new waiting.new) }
     ensures err { OnErr result ((topics.new.board.rooms ≡ [])) }
-    ensures same { AreUnchanged topics.old topics.new desk.old.leases desk.new.leases waiting.old waiting.new }
+    ensures same { AreUnchanged topics.old topics.new desk.old.leases desk.new.leases
+        waiting.old waiting.new }
 {
     match change {
         Change::Nothing => Ok(()),
@@ -51,7 +52,7 @@ fn make_run_room(
     requires none { topics.old.board.rooms ≡ [] }
     ensures ok { OnOk result (HasRunRoom waiting.new.on_board lists.now topics.new waiting.new) }
     ensures err { OnErr result ((topics.new.board.rooms ≡ [])) }
-    ensures facts { told topics.new ≡ told topics.old }
+    ensures facts { topics_facts topics.new ≡ topics_facts topics.old }
     ensures waiting { IsWaitingAs waiting.old.runs waiting.old waiting.new }
 {
     if waiting.is_on_board() {
@@ -63,8 +64,8 @@ fn make_run_room(
 
 /// Gives the room of a change back.
 pub(crate) fn give_back(topics: &mut Topics, desk: &Desk, waiting: &Waiting, change: &Change)
-    requires { HasRoom change.now topics.old desk.now waiting.now }
-    ensures { IsAtRest (told topics.old) topics.new }
+    requires { ChangeHasRoom change.now topics.old desk.now waiting.now }
+    ensures { AreAtRest (topics_facts topics.old) topics.new }
 {
     match change {
         Change::Run(_, lists) => give_run_room_back(topics, waiting, lists.as_slice()),
@@ -81,7 +82,7 @@ pub(crate) fn give_back(topics: &mut Topics, desk: &Desk, waiting: &Waiting, cha
 
 fn give_run_room_back(topics: &mut Topics, waiting: &Waiting, lists: &[Ranking])
     requires { HasRunRoom waiting.now.on_board lists.now topics.old waiting.now }
-    ensures { IsAtRest (told topics.old) topics.new }
+    ensures { AreAtRest (topics_facts topics.old) topics.new }
 {
     if waiting.is_on_board() {
         topics.cancel_run(lists);
@@ -96,9 +97,11 @@ pub(crate) fn make<L: Ledger>(
     change: Change,
     steps: &mut Steps<L>,
 )
-    requires { IsReady change topics.old desk.old waiting.old }
-    ensures effect { IsLeft (after change (facts_in topics.old desk.old.leases waiting.old)) topics.new desk.new.leases waiting.new }
-    ensures cost { (runs : List RunId) → HaveLists runs (told topics.old) → steps.new ≤ steps.old + change_steps runs change (told topics.old) }
+    requires { IsChangeReady change topics.old desk.old waiting.old }
+    ensures effect { IsLeftAtRest (after_change change
+        (facts_in topics.old desk.old.leases waiting.old)) topics.new desk.new.leases waiting.new }
+    ensures cost { (runs : List RunId) → HaveLists runs (topics_facts topics.old)
+        → steps.new ≤ steps.old + change_steps runs change (topics_facts topics.old) }
 {
     match change {
         Change::Nothing => {}
@@ -121,21 +124,23 @@ pub(crate) fn make<L: Ledger>(
             desk.grant(assessor, topic, doc, until);
         }
         Change::Grade(number, label) => {
-            topics.mark(Mark::Label(label), steps);
+            topics.mark(Judgement::Label(label), steps);
             desk.end(number, LeaseEnd::Graded);
         }
         Change::Release(number) => desk.end(number, LeaseEnd::Released),
-        Change::Amend(label) => topics.mark(Mark::Label(label), steps),
-        Change::Rule(ruling) => topics.mark(Mark::Ruling(ruling), steps),
+        Change::Amend(label) => topics.mark(Judgement::Label(label), steps),
+        Change::Rule(ruling) => topics.mark(Judgement::Ruling(ruling), steps),
     }
 }
 
 // Adds a run, for which there is room: its lists come on the board, or wait.
 fn enter(topics: &mut Topics, waiting: &mut Waiting, run: RunId, lists: Vec<Ranking>)
     requires room { HasRunRoom waiting.old.on_board lists.items topics.old waiting.old }
-    requires is_new { IsNewRun run (listed waiting.old.runs (told topics.old)) }
+    requires is_new { IsNewRun run (with_waiting_lists waiting.old.runs (topics_facts topics.old)) }
     requires may_come { MayCome topics.old waiting.old }
-    ensures facts { listed waiting.new.runs (told topics.new) ≡ after_run run lists.items (listed waiting.old.runs (told topics.old)) }
+    ensures facts { with_waiting_lists waiting.new.runs (topics_facts topics.new)
+        ≡ after_run run lists.items
+        (with_waiting_lists waiting.old.runs (topics_facts topics.old)) }
     ensures same_way { waiting.new.on_board ≡ waiting.old.on_board }
     ensures none { topics.new.board.rooms ≡ [] }
     ensures may_come { MayCome topics.new waiting.new }

@@ -1,21 +1,30 @@
-//! Of each run of a topic, how many of its first documents are done for an assessor: those that have a ruling,
-//! all their labels, or this assessor's. The next document to label is looked for behind them. A document that
-//! is done stays so, so a front is only led on.
+//! Of each run of a topic, how many of its first documents are done for an assessor: those that
+//! have a ruling, all their labels, or this assessor's. The next document to label is looked for
+//! behind them. A document that is done stays so, so a front is only led on.
 ghost use Rattle.std.specs.Prelude.{◌≡◌, ◌≢◌, ◌<◌, ℕ, List, IfOk, find, if◌then◌else◌, is_ok, map, option_map, position, slice_index_or, take};
 ghost use Rattle.std.specs.Str.{bytes_eq};
-ghost use Rattle.depth_pool.specs.Holdings.{Held, docs_of};
-ghost use Rattle.labels.specs.Marked.{Marked};
-ghost use Rattle.assessment.specs.Fronts.{AreDone, AreFronts, HasFronts, is_done, restarted, whose};
+ghost use Rattle.depth_pool.specs.Holdings.{Held, pool_docs};
+ghost use Rattle.labels.specs.LabelledDocuments.{LabelledDocument};
+ghost use Rattle.assessment.specs.Fronts.{AreDone, AreFronts, HasFronts, front_restarted, is_done, whose};
 
 use decimal_rank::{DocId, Memory, Steps, Text};
 use depth_pool::{Pool, RunId};
-use labels::Marks;
+use labels::TopicLabels;
 use std::alloc::Global;
 use std::marker::Model;
 use std::sync::ledger::{Blank, Ledger};
 
-/// The fronts of one assessor, by the runs' numbers. Runs of greater numbers have theirs at the first
-/// document.
+/// What tells whether a document of a topic is done: the runs with what they hold, the labels and
+/// rulings, and how many labels a document needs.
+#[derive(Clone, Copy)]
+pub(crate) struct LabelledPool<'a> {
+    pub(crate) pool: &'a Pool,
+    pub(crate) marks: &'a TopicLabels,
+    pub(crate) need: u32,
+}
+
+/// The fronts of one assessor, by the runs' numbers. Runs of greater numbers have theirs at the
+/// first document.
 #[derive(Drop)]
 pub(crate) struct OwnFronts {
     pub(crate) assessor: Text,
@@ -30,8 +39,8 @@ impl Model for OwnFronts {
     ghost view = { λ own. record { assessor = own.assessor; fronts = own.fronts.items } };
 }
 
-/// The fronts of each assessor who asked for a document. Where one label is enough they are everybody's, and
-/// stand at no name.
+/// The fronts of each assessor who asked for a document. Where one label is enough they are
+/// everybody's, and stand at no name.
 #[derive(Drop)]
 pub(crate) struct Fronts {
     all: Vec<OwnFronts>,
@@ -48,7 +57,8 @@ impl Model for Fronts {
 
 impl Fronts {
     pub(crate) fn new(alloc: Global) -> Fronts
-        ensures { (need : ℕ) (marked : List Marked) (runs : List Held) → AreFronts need marked runs result }
+        ensures { (need : ℕ) (marked : List LabelledDocument) (runs : List Held)
+            → AreFronts need marked runs result }
     {
         Fronts {
             all: Vec::new(alloc),
@@ -57,7 +67,8 @@ impl Fronts {
 
     /// Those of an assessor: none where the assessor never asked.
     pub(crate) fn of(&self, need: u32, assessor: &[u8]) -> &[usize]
-        ensures { (marked : List Marked) (runs : List Held) → AreFronts need marked runs self.now
+        ensures { (marked : List LabelledDocument) (runs : List Held)
+            → AreFronts need marked runs self.now
             → HasFronts need marked assessor.now runs result.now }
     {
         match own_of(self.all.as_slice(), whose(need, assessor)) {
@@ -68,43 +79,43 @@ impl Fronts {
 
     /// Puts the fronts of a run back to its first document.
     pub(crate) fn restart(&mut self, run: RunId)
-        ensures { self.new ≡ map (restarted run) self.old }
+        ensures { self.new ≡ map (front_restarted run) self.old }
     {
         for own in self.all.iter_mut() {
             restart(own, run);
         }
     }
 
-    /// Leads the fronts of an assessor on, run by run, up to the first run of the order that holds a document
-    /// which isn't done.
+    /// Leads the fronts of an assessor on, run by run, up to the first run of the order that holds
+    /// a document which isn't done.
     pub(crate) fn lead_on<L: Ledger>(
         &mut self,
         assessor: &[u8],
         order: &[RunId],
-        pool: &Pool,
-        marks: &Marks,
-        need: u32,
+        labelled: LabelledPool<'_>,
         blank: Blank,
     ) -> Result<(), Memory>
         requires name { blank.name ≡ L.name }
         requires parts { blank.parts ≡ L.parts }
         requires some { 0 < L.parts }
-        requires fronts { AreFronts need marks.now.marked pool.now.runs self.old }
-        ensures { AreFronts need marks.now.marked pool.now.runs self.new }
+        requires fronts { AreFronts labelled.need labelled.marks.now.marked
+            labelled.pool.now.runs self.old }
+        ensures { AreFronts labelled.entry.need labelled.entry.marks.now.marked
+            labelled.entry.pool.now.runs self.new }
     {
-        let name = whose(need, assessor);
+        let name = whose(labelled.need, assessor);
         let mut own = self.take(name)?;
         let mut steps: Steps<L> = Steps::new(blank);
-        advance(&mut own, order, pool, marks, need, &mut steps)?;
+        advance(&mut own, order, labelled, &mut steps)?;
         self.all.push(own)?;
         Ok(())
     }
 
     // Takes the fronts out that stand at a name, or makes new ones.
     fn take(&mut self, name: &[u8]) -> Result<OwnFronts, Memory>
-        ensures rest { (need : ℕ) (marked : List Marked) (runs : List Held)
+        ensures rest { (need : ℕ) (marked : List LabelledDocument) (runs : List Held)
             → AreFronts need marked runs self.old → AreFronts need marked runs self.new }
-        ensures own { (need : ℕ) (marked : List Marked) (runs : List Held)
+        ensures own { (need : ℕ) (marked : List LabelledDocument) (runs : List Held)
             → AreFronts need marked runs self.old
             → IfOk result (λ own. HasFronts need marked own.assessor runs own.fronts) }
     {
@@ -122,7 +133,8 @@ impl Fronts {
 
 // The fronts that stand at a name.
 fn own_of<'a>(all: &'a [OwnFronts], name: &[u8]) -> Option<&'a OwnFronts>
-    ensures { option_map (λ own. own.now) result ≡ find (λ own. bytes_eq own.assessor name.now) all.now }
+    ensures { option_map (λ own. own.now) result
+        ≡ find (λ own. bytes_eq own.assessor name.now) all.now }
 {
     all.iter().find(|own| own.assessor.bytes() == name)
 }
@@ -153,7 +165,7 @@ pub fn front_of(fronts: &[usize], run: RunId) -> usize
 
 // Puts the front of a run back to its first document.
 fn restart(own: &mut OwnFronts, run: RunId)
-    ensures { own.new ≡ restarted run own.old }
+    ensures { own.new ≡ front_restarted run own.old }
 {
     let place = usize::from(run.0);
     if place < own.fronts.len() {
@@ -175,23 +187,24 @@ fn put(fronts: &mut Vec<usize>, run: RunId, front: usize) -> Result<(), Memory>
     Ok(())
 }
 
-// Leads fronts on past documents that are done, up to the first run of the order that holds another one.
+// Leads fronts on past documents that are done, up to the first run of the order that holds another
+// one.
 fn advance<L: Ledger>(
     own: &mut OwnFronts,
     order: &[RunId],
-    pool: &Pool,
-    marks: &Marks,
-    need: u32,
+    labelled: LabelledPool<'_>,
     steps: &mut Steps<L>,
 ) -> Result<(), Memory>
-    requires { HasFronts need marks.now.marked own.old.assessor pool.now.runs own.old.fronts }
-    ensures { HasFronts need marks.now.marked own.new.assessor pool.now.runs own.new.fronts }
+    requires { HasFronts labelled.need labelled.marks.now.marked own.old.assessor
+        labelled.pool.now.runs own.old.fronts }
+    ensures { HasFronts labelled.entry.need labelled.entry.marks.now.marked own.new.assessor
+        labelled.entry.pool.now.runs own.new.fronts }
 {
     for run in order {
         let from = front_of(own.fronts.as_slice(), *run);
-        let front = front_from(own.assessor.bytes(), *run, from, pool, marks, need, steps);
+        let front = front_from(own.assessor.bytes(), *run, from, labelled, steps);
         put(&mut own.fronts, *run, front)?;
-        if front < pool.count_of(*run) {
+        if front < labelled.pool.count_of(*run) {
             return Ok(());
         }
     }
@@ -203,18 +216,18 @@ fn front_from<L: Ledger>(
     assessor: &[u8],
     run: RunId,
     from: usize,
-    pool: &Pool,
-    marks: &Marks,
-    need: u32,
+    labelled: LabelledPool<'_>,
     steps: &mut Steps<L>,
 ) -> usize
-    requires { AreDone need marks.now.marked assessor.now (take from (docs_of pool.now.runs run)) }
-    ensures { AreDone need marks.now.marked assessor.now (take result (docs_of pool.now.runs run)) }
+    requires { AreDone labelled.need labelled.marks.now.marked assessor.now
+        (take from (pool_docs labelled.pool.now.runs run)) }
+    ensures { AreDone labelled.entry.need labelled.entry.marks.now.marked assessor.now
+        (take result (pool_docs labelled.entry.pool.now.runs run)) }
 {
-    let count = pool.count_of(run);
+    let count = labelled.pool.count_of(run);
     for place in from..count {
-        let doc = pool.doc_at(run, place, steps);
-        if !is_done(marks, need, assessor, doc) {
+        let doc = labelled.pool.doc_at(run, place, steps);
+        if !is_done(labelled.marks, labelled.need, assessor, doc) {
             return place;
         }
     }
@@ -222,7 +235,7 @@ fn front_from<L: Ledger>(
 }
 
 // Whether a document is done for an assessor.
-fn is_done(marks: &Marks, need: u32, assessor: &[u8], doc: DocId) -> bool
+fn is_done(marks: &TopicLabels, need: u32, assessor: &[u8], doc: DocId) -> bool
     ensures { result ≡ is_done need marks.now.marked assessor.now doc }
 {
     need <= marks.count(doc)

@@ -2,16 +2,16 @@
 //! for the topics' grades.
 ghost use Rattle.std.specs.Prelude.{◌≡◌, ◌+◌, ◌<◌, ◌≤◌, ◌^◌, [], List, IfOk, None, OnErr, OnOk, length, map, slice_get, vec_len};
 ghost use Rattle.std.specs.Option.{IsSomeAnd};
-ghost use Rattle.score_index.specs.Standing.{StandsFor};
+ghost use Rattle.score_index.specs.BoardGrades.{StandsFor};
 ghost use Rattle.depth_pool.specs.declared.runs.RunId.{RunId};
 ghost use Rattle.assessment.specs.Costs.{HaveLists, grade_steps};
 ghost use Rattle.assessment.specs.RunLists.{HasRooms, HavePlaces, IsReservedFor};
-ghost use Rattle.assessment.specs.TopicFacts.{AwaitsMark, MayMark, doc_of, facts_of, graded_of, new_topic};
-ghost use Rattle.assessment.specs.TopicsFacts.{AwaitsList, Becomes, IsAtRest, IsEntered, IsNewOn, IsOnNone, IsUnchanged, UsesRoom, after_entry, after_list, after_mark, after_one_list, after_withdrawal, new_topics, told, topic_of};
+ghost use Rattle.assessment.specs.TopicFacts.{AwaitsJudgement, MayJudge, facts_of, judgement_doc, new_topic, view_grades};
+ghost use Rattle.assessment.specs.TopicsFacts.{AreAtRest, AwaitsList, Becomes, IsEntered, IsNewOn, IsOnNone, IsUnchanged, UsesRoom, after_entry, after_judgement, after_list, after_one_list, after_withdrawal, judgement_topic, new_topics, topics_facts};
 
-use crate::change::Mark;
+use crate::change::Judgement;
 use crate::runs::{drop_lists, enter_each, leave_each, reserve_lists, reserve_places};
-use crate::topic::{Topic, TopicRules};
+use crate::topic::{AssessedTopic, TopicRules};
 use decimal_rank::{DocId, Memory, Ranking, Steps};
 use depth_pool::RunId;
 use score_index::{Board, each_topic_stands};
@@ -22,7 +22,7 @@ use std::sync::ledger::Ledger;
 /// The topics, and the board of the runs' lists. Contracts see both.
 #[derive(Drop)]
 pub struct Topics {
-    topics: Vec<Topic>,
+    topics: Vec<AssessedTopic>,
     board: Board,
 }
 
@@ -40,7 +40,7 @@ impl Topics {
     /// These topics before any run, and a board of their levels.
     pub fn new(alloc: Global, rules: Vec<TopicRules>) -> Result<Topics, Memory>
         requires { vec_len rules < 2 ^ 16 }
-        ensures { IfOk result (IsAtRest (new_topics rules.items)) }
+        ensures { IfOk result (AreAtRest (new_topics rules.items)) }
     {
         let levels = levels_of(alloc, &rules)?;
         let board = Board::new(alloc, &levels)?;
@@ -49,7 +49,7 @@ impl Topics {
     }
 
     /// The topics by number.
-    pub fn items(&self) -> &[Topic]
+    pub fn items(&self) -> &[AssessedTopic]
         ensures topics { result.now ≡ self.now.topics }
         ensures few { length result.now < 2 ^ 16 }
     {
@@ -59,7 +59,7 @@ impl Topics {
     /// The board of the runs' lists, which stands for the topics' grades.
     pub fn board(&self) -> &Board
         ensures board { result.now ≡ self.now.board }
-        ensures stands { StandsFor result.now (map graded_of self.now.topics) }
+        ensures stands { StandsFor result.now (map view_grades self.now.topics) }
     {
         &self.board
     }
@@ -71,7 +71,7 @@ impl Topics {
         requires none { self.old.board.rooms ≡ [] }
         ensures ok { OnOk result (HasRooms lists.now self.new.topics self.new.board) }
         ensures err { OnErr result (self.new.board.rooms ≡ []) }
-        ensures facts { told self.new ≡ told self.old }
+        ensures facts { topics_facts self.new ≡ topics_facts self.old }
     {
         reserve_places(&mut self.topics, lists)?;
         reserve_lists(&mut self.board, lists)
@@ -80,7 +80,7 @@ impl Topics {
     /// Gives the room on the board for these lists back.
     pub(crate) fn cancel_run(&mut self, lists: &[Ranking])
         requires { IsReservedFor lists.now self.old.board }
-        ensures { IsAtRest (told self.old) self.new }
+        ensures { AreAtRest (topics_facts self.old) self.new }
     {
         drop_lists(&mut self.board, lists);
     }
@@ -88,8 +88,8 @@ impl Topics {
     /// Adds a run to a topic, and its list to the board where it has documents.
     pub(crate) fn enter_list(&mut self, number: usize, run: RunId, list: Ranking)
         requires room { AwaitsList number list self.old }
-        requires is_new { IsNewOn number run (told self.old) }
-        ensures facts { told self.new ≡ after_list number run list (told self.old) }
+        requires is_new { IsNewOn number run (topics_facts self.old) }
+        ensures facts { topics_facts self.new ≡ after_list number run list (topics_facts self.old) }
         ensures room { UsesRoom number list self.old self.new }
     {
         // a board that stands for grades does so on each topic
@@ -113,8 +113,8 @@ impl Topics {
     /// Adds a run, for which there is room, to each topic. Its lists don't come on the board.
     pub(crate) fn enter(&mut self, run: RunId, lists: &[Ranking])
         requires room { HavePlaces lists.now self.old.topics }
-        requires is_new { IsOnNone run (told self.old) }
-        ensures { Becomes (after_entry run lists.now (told self.old)) self.old self.new }
+        requires is_new { IsOnNone run (topics_facts self.old) }
+        ensures { Becomes (after_entry run lists.now (topics_facts self.old)) self.old self.new }
     {
         enter_each(&mut self.topics, run, lists);
     }
@@ -122,9 +122,10 @@ impl Topics {
     /// Puts the list of a run on a topic on the board, where it has documents.
     pub(crate) fn list(&mut self, number: usize, run: RunId, list: Ranking) -> Result<(), Memory>
         requires topic { number < length self.old.topics }
-        requires is_new { (told self.old).lists run number ≡ None }
+        requires is_new { (topics_facts self.old).lists run number ≡ None }
         requires none { self.old.board.rooms ≡ [] }
-        ensures { OnOk result (IsAtRest (after_one_list number run list (told self.old)) self.new) }
+        ensures { OnOk result
+            (AreAtRest (after_one_list number run list (topics_facts self.old)) self.new) }
     {
         // a board that stands for grades does so on each topic
         each_topic_stands();
@@ -138,8 +139,8 @@ impl Topics {
 
     /// Takes a run out of each topic, and its lists off the board.
     pub(crate) fn leave(&mut self, run: RunId)
-        requires { IsEntered run (told self.old) }
-        ensures { Becomes (after_withdrawal run (told self.old)) self.old self.new }
+        requires { IsEntered run (topics_facts self.old) }
+        ensures { Becomes (after_withdrawal run (topics_facts self.old)) self.old self.new }
     {
         leave_each(&mut self.topics, run);
         self.board.drop_run(run);
@@ -148,7 +149,8 @@ impl Topics {
     /// Makes room for a mark on a document of a topic.
     pub(crate) fn reserve_mark(&mut self, number: u16, doc: DocId) -> Result<(), Memory>
         requires { number < length self.old.topics }
-        ensures room { OnOk result (IsSomeAnd (slice_get self.new.topics number) (AwaitsMark doc)) }
+        ensures room { OnOk result
+            (IsSomeAnd (slice_get self.new.topics number) (AwaitsJudgement doc)) }
         ensures unchanged { IsUnchanged self.old self.new }
     {
         self.topics[number as usize].reserve_mark(doc)
@@ -163,20 +165,22 @@ impl Topics {
     }
 
     /// Gives a document of a topic a mark, and the board the grade that it has then.
-    pub(crate) fn mark<L: Ledger>(&mut self, mark: Mark, steps: &mut Steps<L>)
-        requires room { IsSomeAnd (slice_get self.old.topics (topic_of mark)) (AwaitsMark (doc_of mark)) }
-        requires may_mark { IsSomeAnd (slice_get (told self.old).topics (topic_of mark)) (MayMark mark) }
-        ensures facts { Becomes (after_mark mark (told self.old)) self.old self.new }
-        ensures cost { (runs : List RunId) → HaveLists runs (told self.old) → steps.new ≤ steps.old + grade_steps runs (topic_of mark) (told self.old) }
+    pub(crate) fn mark<L: Ledger>(&mut self, mark: Judgement, steps: &mut Steps<L>)
+        requires room { IsSomeAnd (slice_get self.old.topics (judgement_topic mark))
+            (AwaitsJudgement (judgement_doc mark)) }
+        requires may_mark { IsSomeAnd
+            (slice_get (topics_facts self.old).topics (judgement_topic mark)) (MayJudge mark) }
+        ensures facts { Becomes (after_judgement mark (topics_facts self.old)) self.old self.new }
+        ensures cost { (runs : List RunId) → HaveLists runs (topics_facts self.old) → steps.new
+            ≤ steps.old + grade_steps runs (judgement_topic mark) (topics_facts self.old) }
     {
         // a board that stands for grades does so on each topic
         each_topic_stands();
         let (number, doc) = mark.place();
         let topic = &mut self.topics[number as usize];
-        let old = topic.grades().effective(doc);
-        topic.mark(mark, steps);
-        let new = topic.grades().effective(doc);
-        self.board.regrade(number, doc, old, new, steps);
+        let grade = topic.mark(mark, steps);
+        self.board
+            .regrade(number, doc, grade.before, grade.after, steps);
     }
 }
 
@@ -192,12 +196,12 @@ fn levels_of(alloc: Global, rules: &[TopicRules]) -> Result<Vec<u8>, Memory>
 }
 
 // The topics before any run.
-fn each_new(alloc: Global, given: Vec<TopicRules>) -> Result<Vec<Topic>, Memory>
+fn each_new(alloc: Global, given: Vec<TopicRules>) -> Result<Vec<AssessedTopic>, Memory>
     ensures { IfOk result (λ topics. map facts_of topics.items ≡ map new_topic given.items) }
 {
     let mut topics = Vec::with_capacity(alloc, given.len())?;
     for rules in given {
-        topics.push(Topic::new(alloc, rules))?;
+        topics.push(AssessedTopic::new(alloc, rules))?;
     }
     Ok(topics)
 }

@@ -1,7 +1,7 @@
-//! Runs whose lists wait, as those of a replay do: each is in the pools and the queues, and its lists come on
-//! the board at the end, with the grades that their documents have then.
+//! Runs whose lists wait, as those of a replay do: each is in the pools and the queues, and its
+//! lists come on the board at the end, with the grades that their documents have then.
 ghost use Rattle.std.specs.Prelude.{◌≡◌, ◌-◌, ◌≤◌, ◌++◌, ◌∷◌, [], OnOk, false, map, true};
-ghost use Rattle.assessment.specs.WaitingRuns.{IsWaitingAs, is_run, lists_of, without_run};
+ghost use Rattle.assessment.specs.WaitingRuns.{IsWaitingAs, is_run, lists_of, waiting_without};
 
 use decimal_rank::{Memory, Ranking};
 use depth_pool::RunId;
@@ -15,8 +15,8 @@ pub(crate) struct WaitingRun {
     pub(crate) lists: Vec<Ranking>,
 }
 
-/// The runs whose lists wait. Contracts see them, whether the lists of new runs are put on the board at once,
-/// and for how many more runs there is room.
+/// The runs whose lists wait. Contracts see them, whether the lists of new runs are put on the
+/// board at once, and for how many more runs there is room.
 #[derive(Drop)]
 pub(crate) struct Waiting {
     runs: Vec<WaitingRun>,
@@ -71,14 +71,15 @@ impl Waiting {
     pub(crate) fn enter(&mut self, run: RunId, lists: Vec<Ranking>)
         requires off { self.old.on_board ≡ false }
         requires room { 1 ≤ self.old.spare }
-        ensures { IsWaitingAs (self.old.runs ++ record { run = run; lists = lists.items } ∷ []) self.old self.new }
+        ensures { IsWaitingAs
+            (self.old.runs ++ record { run = run; lists = lists.items } ∷ []) self.old self.new }
     {
         self.runs.push_reserved(WaitingRun { run, lists });
     }
 
     /// Takes a run out.
     pub(crate) fn leave(&mut self, run: RunId)
-        ensures { IsWaitingAs (without_run run self.old.runs) self.old self.new }
+        ensures { IsWaitingAs (waiting_without run self.old.runs) self.old self.new }
     {
         self.runs.retain(|one| !is_of(one, run));
     }

@@ -2,7 +2,8 @@
 use Rattle.std.proofs.Common.{◌≡◌, ◌≢◌, inl, inr, ◌+◌, ◌<◌, ◌≤◌, true, false, List, [], ◌∷◌, ◌++◌, length, refl, sym, ap, subst, ◌∙◌, arith, length-append}
 use Rattle.std.specs.Prelude.{◌&&◌, Err, IfErr, IfOk, Ok, Result}
 use Rattle.std.specs.List.{list_all}
-use Rattle.campaign_core.specs.Seen.{Seen as Campaign}
+use Rattle.decimal_rank.proofs.TruthValues.{first_of_both, second_of_both}
+use Rattle.campaign_core.specs.StateViews.{StateView}
 use Rattle.trec_formats.specs.Names.{is_between, is_name}
 use Rattle.record_codec.specs.Bundles.{are_rising, have_bundle, is_brief, is_packable}
 use Rattle.record_codec.specs.Payloads.{IsPayload}
@@ -11,17 +12,16 @@ use Rattle.rulebook.specs.declared.ask.Command.TheVariants as command
 use Rattle.rulebook.specs.declared.entry.Entry.{Entry}
 use Rattle.rulebook.specs.declared.entry.EntryCore.{EntryCore}
 use Rattle.rulebook.specs.Campaign.{History, rules_of}
-use Rattle.rulebook.specs.Legal.{IsLegal, founding}
+use Rattle.rulebook.specs.Histories.Legal.{IsLegal, founding}
 use Rattle.rulebook.specs.Spelling.{are_rules, entry_bytes, has_spelling}
 use Rattle.rulebook.specs.Words.{Text}
 use Rattle.book.specs.declared.faults.BookFault.{BookFault}
 use Rattle.book.specs.declared.faults.BookFault.TheVariants as fault
 use Rattle.book.specs.Laws.{Laws}
-use Rattle.book.specs.Openings.{DiffersFrom, OpensWith}
-use Rattle.book.specs.Replays.{Begins, BreaksOff, GoesOn, NeverBegins, Restores, Stops}
+use Rattle.book.specs.Opening.Openings.{DiffersFrom, OpensWith}
+use Rattle.book.specs.Opening.Replays.{BreaksOff, GoesOnWithRecords, IsFoundingRecord, NeverBegins, Restores, Stops}
 use Rattle.book.specs.Stories.{BreaksAt, HasHistory, IsOnlyStory, IsStory, Unfolds, cores_of}
-use Rattle.book.proofs.AcceptedEntries.{first_of_both, second_of_both}
-use Rattle.book.proofs.Unfolding.{breaks_first, broken as broken_at, only_story}
+use Rattle.book.proofs.Payloads.UnfoldedPayloads.{breaks_first, broken as broken_at, only_story}
 
 pub rules_spelled : (rules : Rules) → are_rules rules ≡ true → has_spelling (founding rules).core ≡ true
 unfolding is_name
@@ -44,7 +44,8 @@ founding_legal : (rules : Rules) → are_rules rules ≡ true → IsLegal (found
 founding_legal rules plain = ((rules, plain, refl), tt)
 
 -- which has it as its story
-pub founding_story : (rules : Rules) (H : History) (bytes : Text) → are_rules rules ≡ true → H ≡ founding rules ∷ [] → bytes ≡ entry_bytes (founding rules).core → IsStory (bytes ∷ []) H
+pub founding_story : (rules : Rules) (H : History) (bytes : Text) → are_rules rules ≡ true → H ≡ founding rules ∷ []
+    → bytes ≡ entry_bytes (founding rules).core → IsStory (bytes ∷ []) H
 founding_story rules H bytes plain is spells =
     let story : IsStory (entry_bytes (founding rules).core ∷ []) (founding rules ∷ [])
     = ((founding rules).core ∷ [], ((founding rules).core ∷ [], [], founding_payload rules plain, refl, refl), (founding_legal rules plain, refl)) in
@@ -53,7 +54,8 @@ founding_story rules H bytes plain is spells =
 -- no bundle has a founding entry
 first_packable : (core : EntryCore) (rest : List EntryCore) → have_bundle (core ∷ rest) ≡ true → is_brief core.command ≡ true
 first_packable core rest is =
-    let all = second_of_both (is_between 1 4096 (length (core ∷ rest))) (list_all is_packable (core ∷ rest)) (first_of_both (is_between 1 4096 (length (core ∷ rest)) && list_all is_packable (core ∷ rest)) (are_rising 0 (core ∷ rest)) is) in
+    let all = second_of_both (is_between 1 4096 (length (core ∷ rest))) (list_all is_packable (core ∷ rest))
+    (first_of_both (is_between 1 4096 (length (core ∷ rest)) && list_all is_packable (core ∷ rest)) (are_rising 0 (core ∷ rest)) is) in
     second_of_both (has_spelling core) (is_brief core.command) (first_of_both (is_packable core) (list_all is_packable rest) all)
 
 not_bundled : (rules : Rules) (core : EntryCore) → is_brief core.command ≡ true → core ≡ (founding rules).core → ⊥
@@ -62,13 +64,15 @@ not_bundled rules core brief is =
     cc wrong
 
 -- the payload of a founding entry is its spelling
-spelled_alone : (bytes : Text) (rules : Rules) → IsPayload bytes ((founding rules).core ∷ []) → (has_spelling (founding rules).core ≡ true) × (bytes ≡ entry_bytes (founding rules).core)
+spelled_alone : (bytes : Text) (rules : Rules) → IsPayload bytes ((founding rules).core ∷ [])
+    → (has_spelling (founding rules).core ≡ true) × (bytes ≡ entry_bytes (founding rules).core)
 spelled_alone bytes rules (inl bundle) = absurd (not_bundled rules (founding rules).core (first_packable (founding rules).core [] bundle.0) refl)
 spelled_alone bytes rules (inr (core, is, one)) =
     let same : core ≡ (founding rules).core = cc one in
     (subst (λ (c : EntryCore). has_spelling c ≡ true) same is.0, is.1 ∙ ap entry_bytes same)
 
-pub begins : (first : Text) (core : EntryCore) (rules : Rules) (cores : List EntryCore) → IsPayload first cores → cores ≡ core ∷ [] → core ≡ (founding rules).core → (are_rules rules ≡ true) × (first ≡ entry_bytes (founding rules).core)
+pub begins : (first : Text) (core : EntryCore) (rules : Rules) (cores : List EntryCore) → IsPayload first cores → cores ≡ core ∷ []
+    → core ≡ (founding rules).core → (are_rules rules ≡ true) × (first ≡ entry_bytes (founding rules).core)
 begins first core rules cores spells one is =
     let here : IsPayload first ((founding rules).core ∷ []) = subst (IsPayload first) (one ∙ ap (λ (c : EntryCore). c ∷ []) is) spells in
     let alone = spelled_alone first rules here in
@@ -114,7 +118,8 @@ module _ (laws : Laws) (first : Text) where
   never_bundled (core ∷ rest) (inr (single, is, one)) several others = absurd (omega (arith, several, ap length one))
 
   -- one entry, which founds nothing
-  pub never_founded : (core : EntryCore) (cores : List EntryCore) → IsPayload first cores → cores ≡ core ∷ [] → ((rules : Rules) → core ≡ (founding rules).core → ⊥) → NeverBegins first
+  pub never_founded : (core : EntryCore) (cores : List EntryCore) → IsPayload first cores → cores ≡ core ∷ []
+      → ((rules : Rules) → core ≡ (founding rules).core → ⊥) → NeverBegins first
   never_founded core cores spells one none others =
       breaks_first laws.one first others (inr (core, [], here)) none_of
     where
@@ -129,13 +134,14 @@ module _ (laws : Laws) (first : Text) where
           none rules (head ∙ is)
 
   -- all records were entered behind the first
-  module _ (others : List Text) (begun after : History) (begins : Begins first begun) (legal : IsLegal after) where
+  module _ (others : List Text) (begun after : History) (begins : IsFoundingRecord first begun) (legal : IsLegal after) where
     first_is : IsPayload first (cores_of begun)
     first_is =
-        let spells : IsPayload first ((founding begins.0).core ∷ []) = subst (λ (bytes : Text). IsPayload bytes ((founding begins.0).core ∷ [])) (sym begins.2) (founding_payload begins.0 begins.1) in
+        let spells : IsPayload first ((founding begins.0).core ∷ []) =
+        subst (λ (bytes : Text). IsPayload bytes ((founding begins.0).core ∷ [])) (sym begins.2) (founding_payload begins.0 begins.1) in
         subst (λ (H : History). IsPayload first (cores_of H)) (sym begins.3) spells
 
-    pub replayed : GoesOn begun others after → IsOnlyStory (first ∷ others) after
+    pub replayed : GoesOnWithRecords begun others after → IsOnlyStory (first ∷ others) after
     replayed (cores, unfolds, is) =
         let all : Unfolds (first ∷ others) (cores_of after) = (cores_of begun, cores, first_is, unfolds, is) in
         only_story laws.one first others after legal all
@@ -172,35 +178,44 @@ module _ (laws : Laws) (first : Text) where
         spells = spells_of these more rules spells founder;
       }
     where
-      spells_of : (core : EntryCore) (more : List EntryCore) (rules : Rules) → IsPayload first (core ∷ more) → core ≡ (founding rules).core → first ≡ entry_bytes (founding rules).core
+      spells_of : (core : EntryCore) (more : List EntryCore) (rules : Rules) → IsPayload first (core ∷ more)
+          → core ≡ (founding rules).core → first ≡ entry_bytes (founding rules).core
       spells_of core more rules (inl bundle) founder = absurd (not_bundled rules core (first_packable core more bundle.0) founder)
       spells_of core more rules (inr (single, is, one)) founder =
           let same : core ≡ single = cc one in
           is.1 ∙ ap entry_bytes (sym same ∙ founder)
 
-  founder_is : (others : List Text) (H : History) → IsStory (first ∷ others) H → IsLegal H → (rules : Rules) → are_rules rules ≡ true → first ≡ entry_bytes (founding rules).core → rules_of H ≡ rules
+  founder_is : (others : List Text) (H : History) → IsStory (first ∷ others) H → IsLegal H → (rules : Rules)
+      → are_rules rules ≡ true → first ≡ entry_bytes (founding rules).core → rules_of H ≡ rules
   founder_is others H story legal rules plain is =
       let w = first_of others H story legal in
-      let here : IsPayload first ((founding w.rules).core ∷ []) = subst (λ (bytes : Text). IsPayload bytes ((founding w.rules).core ∷ [])) (sym w.spells) (founding_payload w.rules w.plain) in
-      let there : IsPayload first ((founding rules).core ∷ []) = subst (λ (bytes : Text). IsPayload bytes ((founding rules).core ∷ [])) (sym is) (founding_payload rules plain) in
-      let both : (founding w.rules).core ∷ [] ≡ (founding rules).core ∷ [] = laws.one first ((founding w.rules).core ∷ []) ((founding rules).core ∷ []) here there in
+      let here : IsPayload first ((founding w.rules).core ∷ []) =
+      subst (λ (bytes : Text). IsPayload bytes ((founding w.rules).core ∷ [])) (sym w.spells) (founding_payload w.rules w.plain) in
+      let there : IsPayload first ((founding rules).core ∷ []) =
+      subst (λ (bytes : Text). IsPayload bytes ((founding rules).core ∷ [])) (sym is) (founding_payload rules plain) in
+      let both : (founding w.rules).core ∷ [] ≡ (founding rules).core ∷ [] =
+      laws.one first ((founding w.rules).core ∷ []) ((founding rules).core ∷ []) here there in
       let same : (founding w.rules).core ≡ (founding rules).core = cc both in
       ap rules_of w.is ∙ same_rules w.rules rules same
 
-  founder_spells : (others : List Text) (H : History) → IsStory (first ∷ others) H → IsLegal H → (rules : Rules) → rules_of H ≡ rules → first ≡ entry_bytes (founding rules).core
+  founder_spells : (others : List Text) (H : History) → IsStory (first ∷ others) H → IsLegal H → (rules : Rules)
+      → rules_of H ≡ rules → first ≡ entry_bytes (founding rules).core
   founder_spells others H story legal rules is =
       let w = first_of others H story legal in
       let same : w.rules ≡ rules = ap rules_of (sym w.is) ∙ is in
       w.spells ∙ ap (λ (r : Rules). entry_bytes (founding r).core) same
 
-  pub opens_with : (others : List Text) (H : History) (rules : Rules) → IsOnlyStory (first ∷ others) H → IsLegal H → are_rules rules ≡ true → first ≡ entry_bytes (founding rules).core → OpensWith rules (first ∷ others) H
+  pub opens_with : (others : List Text) (H : History) (rules : Rules) → IsOnlyStory (first ∷ others) H → IsLegal H
+      → are_rules rules ≡ true → first ≡ entry_bytes (founding rules).core → OpensWith rules (first ∷ others) H
   opens_with others H rules only legal plain is = (only, founder_is others H only.0 legal rules plain is)
 
-  pub differs_from : (others : List Text) (H : History) (rules : Rules) → IsOnlyStory (first ∷ others) H → IsLegal H → first ≢ entry_bytes (founding rules).core → DiffersFrom rules (first ∷ others)
+  pub differs_from : (others : List Text) (H : History) (rules : Rules) → IsOnlyStory (first ∷ others) H → IsLegal H
+      → first ≢ entry_bytes (founding rules).core → DiffersFrom rules (first ∷ others)
   differs_from others H rules only legal other = ((λ is. cc), (H, only, λ is. other (founder_spells others H only.0 legal rules is)))
 
 -- a replay that ends well, or finds no memory at its end
-pub finishes : (rules : Rules) (payloads : List Text) (H : History) (made : Result Campaign BookFault) → IfOk made (λ state. state.history ≡ H) → IfErr made (λ why. why ≡ fault.Memory)
+pub finishes : (rules : Rules) (payloads : List Text) (H : History) (made : Result StateView BookFault)
+    → IfOk made (λ state. state.history ≡ H) → IfErr made (λ why. why ≡ fault.Memory)
     → OpensWith rules payloads H → Restores rules payloads made
 finishes rules payloads H (Ok state) is none opens = subst (OpensWith rules payloads) (sym is) opens
 finishes rules payloads H (Err why) none is opens = subst (Stops rules payloads) (sym is) tt

@@ -1,12 +1,12 @@
 -- Entries that can come about, by their cores.
 use Rattle.std.proofs.Common.{◌≡◌, List, [], ◌∷◌, ◌++◌, refl, sym, ap, subst, ◌∙◌}
 use Rattle.std.proofs.lemmas.List.{append-nil, append_assoc, map-append}
-use Rattle.campaign_core.specs.Replays.{added_again}
+use Rattle.campaign_core.specs.Commands.Replays.{added_again}
 use Rattle.rulebook.specs.declared.entry.Entry.{Entry}
 use Rattle.rulebook.specs.declared.entry.EntryCore.{EntryCore}
 use Rattle.rulebook.specs.declared.reply.Reply.TheVariants.{Done}
 use Rattle.rulebook.specs.Campaign.{History}
-use Rattle.rulebook.specs.Legal.{AreAccepted, IsAccepted, IsFounding, IsLegal}
+use Rattle.rulebook.specs.Histories.Legal.{AreAccepted, IsAccepted, IsFounding, IsLegal}
 use Rattle.book.specs.Stories.{AreCores, HasHistory, cores_of}
 
 -- One entry more

@@ -1,13 +1,9 @@
-mod AcceptedEntries
+mod Payloads
 mod AddedEntries
-mod CompactedRecords
 mod CoreEntries
 mod Founders
 mod Histories
-mod Keeping
+mod JournalEntries
 mod OpenJournals
-mod PackedEntries
-mod PayloadEntries
 mod Requests
-pub mod Sending
-mod Unfolding
+pub mod MovableBooks

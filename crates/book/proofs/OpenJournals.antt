@@ -11,21 +11,21 @@ use Rattle.journal.specs.declared.opening.OpenFault.{OpenFault}
 use Rattle.journal.specs.declared.opening.OpenFault.TheVariants as open_fault
 use Rattle.journal.specs.Format.{decode}
 use Rattle.journal.specs.Journals.{JournalState}
-use Rattle.journal.specs.Kept.{StandsForOneOf, payloads as payloads_of}
+use Rattle.journal.specs.KeptRecords.{HoldsRecordsOfOne, payloads as payloads_of}
 use Rattle.journal.specs.Moments.{DecodesAs, Turned, Turns, joined, started, weaker}
 use Rattle.rulebook.specs.declared.rules.Rules.{Rules}
 use Rattle.rulebook.specs.Campaign.{History}
-use Rattle.rulebook.specs.Legal.{IsLegal, founding}
+use Rattle.rulebook.specs.Histories.Legal.{IsLegal, founding}
 use Rattle.rulebook.specs.Words.{Text}
 use Rattle.book.specs.declared.faults.BookFault.{BookFault}
 use Rattle.book.specs.declared.faults.BookFault.TheVariants as fault
-use Rattle.book.specs.Books.{IsSound, Seen}
-use Rattle.book.specs.Journaling.{IsKept, IsWithin}
-use Rattle.book.specs.Openings.{Causes, Establishes, Opened, OpensTo, OpensWith, Reads, Refused}
-use Rattle.book.specs.Replays.{Stops}
+use Rattle.book.specs.Books.{BookView, IsSound}
+use Rattle.book.specs.JournaledEntries.{EndsWithin, IsKept}
+use Rattle.book.specs.Opening.Openings.{Causes, Establishes, Opened, OpensTo, OpensWith, ReadsPayloads, Refused}
+use Rattle.book.specs.Opening.Replays.{Stops}
 use Rattle.book.specs.Stories.{IsStory}
-use Rattle.book.specs.OpenJournals.{GivenUp, KeepsStory, TakenUp, TakesUp, WhyNot, told_as}
-use Rattle.book.proofs.Keeping.{settled_keeps}
+use Rattle.book.specs.Opening.OpenJournals.{GivenUp, KeepsStory, TakenUp, TakesUp, WhyNot, book_fault_of}
+use Rattle.book.proofs.JournalEntries.{settled_keeps}
 
 -- the records by their first
 pub no_records : (records : List (Vec ℕ Global)) → length records < 1 → [] ≡ payloads_of records
@@ -46,7 +46,8 @@ first_removed [] first some is = absurd (omega (arith, some))
 first_removed (x ∷ records) first some is = ap (λ (p : Vec ℕ Global). p.items ∷ payloads_of records) is
 
 -- an image while the founding entry is added
-pub establishes : (rules : Rules) (frame : Text) (H : History) → IsStory (frame ∷ []) H → H ≡ founding rules ∷ [] → (image : List ℕ) → StandsForOneOf [] [] frame image → Establishes rules [] image
+pub establishes : (rules : Rules) (frame : Text) (H : History) → IsStory (frame ∷ []) H → H ≡ founding rules ∷ []
+    → (image : List ℕ) → HoldsRecordsOfOne [] [] frame image → Establishes rules [] image
 establishes rules frame H story is image (inl (inl none)) = inl none
 establishes rules frame H story is image (inl (inr none)) = inl none
 establishes rules frame H story is image (inr (inl none)) = inl none
@@ -54,7 +55,8 @@ establishes rules frame H story is image (inr (inr one)) = inr (refl, (frame ∷
 
 module _ {D : Type 0} (seen : D → DiskState) where
   -- a book of a journal and its entries
-  pub reopened : (journal : JournalState D) (H : History) (opening : ℕ) → IsLegal H → KeepsStory (seen journal.disk).images journal.place H → IsWithin journal.place H → journal.due ≡ Nothing → opening ≤ (seen journal.disk).faults
+  pub reopened : (journal : JournalState D) (H : History) (opening : ℕ) → IsLegal H → KeepsStory (seen journal.disk).images journal.place H
+      → EndsWithin journal.place H → journal.due ≡ Nothing → opening ≤ (seen journal.disk).faults
       → IsKept seen (record { journal = journal; history = H; pending = None }) opening
   reopened journal H opening legal settled within nothing later = record {
     keeps = settled_keeps seen journal settled.0 H legal settled.1 nothing settled.2;
@@ -79,18 +81,21 @@ module _ {D : Type 0} (seen : D → DiskState) where
     pub given_up : (why : BookFault) → Stops rules payloads why → GivenUp seen rules payloads opening disk disk why
     given_up why stops = record { causes = why_not why stops; later = omega arith; moments = records_stay }
 
-    pub taken_up : (book : Seen D) (H : History) → book ≡ record { disk = disk; history = H; pending = None; opening = opening } → IsSound seen book → OpensWith rules payloads H
+    pub taken_up : (book : BookView D) (H : History) → book ≡ record { disk = disk; history = H; pending = None; opening = opening }
+        → IsSound seen book → OpensWith rules payloads H
         → TakenUp seen rules payloads opening disk book
     taken_up book H is sound opens =
-        subst (λ (book : Seen D). TakenUp seen rules payloads opening disk book) (sym is)
+        subst (λ (book : BookView D). TakenUp seen rules payloads opening disk book) (sym is)
         (record { opens = opens; alone = refl; opening_is = refl; sound = subst (IsSound seen) is sound; later = omega arith; moments = records_stay })
 
   -- the founding entry was to be added
-  module _ (rules : Rules) (opening : ℕ) (old new : D) (moments : EachMoment seen old new (Establishes rules [])) (later : (seen old).faults ≤ (seen new).faults) where
-    pub established : (book : Seen D) (H : History) → book ≡ record { disk = new; history = H; pending = None; opening = opening } → IsSound seen book → H ≡ founding rules ∷ []
+  module _ (rules : Rules) (opening : ℕ) (old new : D) (moments : EachMoment seen old new (Establishes rules []))
+      (later : (seen old).faults ≤ (seen new).faults) where
+    pub established : (book : BookView D) (H : History) → book ≡ record { disk = new; history = H; pending = None; opening = opening }
+        → IsSound seen book → H ≡ founding rules ∷ []
         → TakenUp seen rules [] opening old book
     established book H is sound founded =
-        subst (λ (book : Seen D). TakenUp seen rules [] opening old book) (sym is)
+        subst (λ (book : BookView D). TakenUp seen rules [] opening old book) (sym is)
         (record { opens = founded; alone = refl; opening_is = refl; sound = subst (IsSound seen) is sound; later = later; moments = moments })
 
     pub not_established : (why : BookFault) → why ≡ fault.Disk → Rose (seen old).faults (seen new).faults → GivenUp seen rules [] opening old new why
@@ -100,10 +105,11 @@ module _ {D : Type 0} (seen : D → DiskState) where
 -- From the disk that is handed in to the open journal, and on to the book.
 module _ {D : Type 0} (seen : D → DiskState) (rules : Rules) (disk mid : D) where
   -- what the content gives
-  opens_to : (payloads : List Text) → Reads (seen disk).content payloads → (image : List ℕ) → Establishes rules payloads image → OpensTo (seen disk).content rules image
+  opens_to : (payloads : List Text) → ReadsPayloads (seen disk).content payloads → (image : List ℕ)
+      → Establishes rules payloads image → OpensTo (seen disk).content rules image
   opens_to payloads reads image here = by (seen disk).content reads here
     where
-      by : (told : Option (List ℕ)) → Reads told payloads → Establishes rules payloads image → OpensTo told rules image
+      by : (told : Option (List ℕ)) → ReadsPayloads told payloads → Establishes rules payloads image → OpensTo told rules image
       by None reads here = tt
       by (Some bytes) reads (inl same) = inl (same ∙ sym reads)
       by (Some bytes) reads (inr (none, founded)) = inr (reads ∙ ap Some none, founded)
@@ -115,7 +121,8 @@ module _ {D : Type 0} (seen : D → DiskState) (rules : Rules) (disk mid : D) wh
       by None here = tt
       by (Some bytes) here = inl here
 
-  pub turned_on : (payloads : List Text) (after : D) → Reads (seen disk).content payloads → Turned seen disk mid (DecodesAs (seen disk).content) → EachMoment seen mid after (Establishes rules payloads)
+  pub turned_on : (payloads : List Text) (after : D) → ReadsPayloads (seen disk).content payloads
+      → Turned seen disk mid (DecodesAs (seen disk).content) → EachMoment seen mid after (Establishes rules payloads)
       → Turned seen disk after (OpensTo (seen disk).content rules)
   turned_on payloads after reads turned moments = record {
     synced = turned.synced;
@@ -125,7 +132,8 @@ module _ {D : Type 0} (seen : D → DiskState) (rules : Rules) (disk mid : D) wh
         (weaker seen mid after (Establishes rules payloads) (OpensTo (seen disk).content rules) (opens_to payloads reads) moments);
   }
 
-  opened : (payloads : List Text) (opening : ℕ) (book : Seen D) → opening ≡ (seen disk).faults → (seen disk).faults ≤ (seen mid).faults → Reads (seen disk).content payloads → Turned seen disk mid (DecodesAs (seen disk).content)
+  opened : (payloads : List Text) (opening : ℕ) (book : BookView D) → opening ≡ (seen disk).faults → (seen disk).faults ≤ (seen mid).faults
+      → ReadsPayloads (seen disk).content payloads → Turned seen disk mid (DecodesAs (seen disk).content)
       → TakenUp seen rules payloads opening mid book → Opened seen rules disk book
   opened payloads opening book opening_is later reads turned taken = record {
     payloads = payloads;
@@ -138,7 +146,8 @@ module _ {D : Type 0} (seen : D → DiskState) (rules : Rules) (disk mid : D) wh
     moments = turned_on payloads book.disk reads turned taken.moments;
   }
 
-  causes : (payloads : List Text) (opening : ℕ) (after : D) (why : BookFault) → (seen disk).faults ≤ (seen mid).faults → Reads (seen disk).content payloads → WhyNot seen rules payloads opening mid after why
+  causes : (payloads : List Text) (opening : ℕ) (after : D) (why : BookFault) → (seen disk).faults ≤ (seen mid).faults
+      → ReadsPayloads (seen disk).content payloads → WhyNot seen rules payloads opening mid after why
       → Causes seen rules disk after why
   causes payloads opening after fault.Disk later reads why = omega (arith, later, why)
   causes payloads opening after fault.Header later reads why = absurd why
@@ -146,7 +155,8 @@ module _ {D : Type 0} (seen : D → DiskState) (rules : Rules) (disk mid : D) wh
   causes payloads opening after fault.RulesDiffer later reads why = (payloads, reads, why)
   causes payloads opening after fault.Memory later reads why = tt
 
-  pub refused : (payloads : List Text) (opening : ℕ) (after : D) (why : BookFault) → (seen disk).faults ≤ (seen mid).faults → Reads (seen disk).content payloads → Turned seen disk mid (DecodesAs (seen disk).content)
+  pub refused : (payloads : List Text) (opening : ℕ) (after : D) (why : BookFault) → (seen disk).faults ≤ (seen mid).faults
+      → ReadsPayloads (seen disk).content payloads → Turned seen disk mid (DecodesAs (seen disk).content)
       → GivenUp seen rules payloads opening mid after why → Refused seen rules disk after why
   refused payloads opening after why later reads turned given = record {
     causes = causes payloads opening after why later reads given.causes;
@@ -154,13 +164,16 @@ module _ {D : Type 0} (seen : D → DiskState) (rules : Rules) (disk mid : D) wh
     moments = inr (turned_on payloads after reads turned given.moments);
   }
 
-  pub opened_result : (payloads : List Text) (opening : ℕ) → opening ≡ (seen disk).faults → (seen disk).faults ≤ (seen mid).faults → Reads (seen disk).content payloads → Turned seen disk mid (DecodesAs (seen disk).content)
-      → (result : Result (Seen D) (D × BookFault)) → TakesUp seen rules payloads opening mid result → IfOk result (Opened seen rules disk)
+  pub opened_result : (payloads : List Text) (opening : ℕ) → opening ≡ (seen disk).faults → (seen disk).faults ≤ (seen mid).faults
+      → ReadsPayloads (seen disk).content payloads → Turned seen disk mid (DecodesAs (seen disk).content)
+      → (result : Result (BookView D) (D × BookFault)) → TakesUp seen rules payloads opening mid result → IfOk result (Opened seen rules disk)
   opened_result payloads opening opening_is later reads turned (Ok book) taken = opened payloads opening book opening_is later reads turned taken
   opened_result payloads opening opening_is later reads turned (Err given) taken = tt
 
-  pub refused_result : (payloads : List Text) (opening : ℕ) → (seen disk).faults ≤ (seen mid).faults → Reads (seen disk).content payloads → Turned seen disk mid (DecodesAs (seen disk).content)
-      → (result : Result (Seen D) (D × BookFault)) → TakesUp seen rules payloads opening mid result → IfErr result (λ given. Refused seen rules disk given.0 given.1)
+  pub refused_result : (payloads : List Text) (opening : ℕ) → (seen disk).faults ≤ (seen mid).faults
+      → ReadsPayloads (seen disk).content payloads → Turned seen disk mid (DecodesAs (seen disk).content)
+      → (result : Result (BookView D) (D × BookFault)) → TakesUp seen rules payloads opening mid result
+      → IfErr result (λ given. Refused seen rules disk given.0 given.1)
   refused_result payloads opening later reads turned (Ok book) taken = tt
   refused_result payloads opening later reads turned (Err given) taken = refused payloads opening given.0 given.1 later reads turned taken
 
@@ -171,18 +184,22 @@ module _ {D : Type 0} (seen : D → DiskState) (rules : Rules) (disk after : D) 
   turns_on (inr turned) = inr (record {
     synced = turned.synced;
     at_entry = turned.at_entry;
-    turned = weaker seen turned.synced after (DecodesAs (seen disk).content) (OpensTo (seen disk).content rules) (decodes_to seen rules disk after) turned.turned;
+    turned = weaker seen turned.synced after (DecodesAs (seen disk).content) (OpensTo (seen disk).content rules)
+        (decodes_to seen rules disk after) turned.turned;
   })
 
   pub not_opened : (why : OpenFault) → (why ≡ open_fault.Header → IfSome (seen disk).content (λ bytes. decode bytes ≡ None))
-      → (why ≢ open_fault.Disk → ((seen after).content ≡ (seen disk).content) × NoFurther (seen disk).images (seen after).images) → (why ≡ open_fault.Disk → Rose (seen disk).faults (seen after).faults)
-      → (seen disk).faults ≤ (seen after).faults → Turns seen disk after (DecodesAs (seen disk).content) → (told : BookFault) → told ≡ told_as why → Refused seen rules disk after told
+      → (why ≢ open_fault.Disk → ((seen after).content ≡ (seen disk).content) × NoFurther (seen disk).images (seen after).images)
+      → (why ≡ open_fault.Disk → Rose (seen disk).faults (seen after).faults)
+      → (seen disk).faults ≤ (seen after).faults → Turns seen disk after (DecodesAs (seen disk).content)
+      → (told : BookFault) → told ≡ book_fault_of why → Refused seen rules disk after told
   not_opened why header untouched rose later turns told is =
       subst (λ (told : BookFault). Refused seen rules disk after told) (sym is) (by why header untouched rose)
     where
       by : (why : OpenFault) → (why ≡ open_fault.Header → IfSome (seen disk).content (λ bytes. decode bytes ≡ None))
-          → (why ≢ open_fault.Disk → ((seen after).content ≡ (seen disk).content) × NoFurther (seen disk).images (seen after).images) → (why ≡ open_fault.Disk → Rose (seen disk).faults (seen after).faults)
-          → Refused seen rules disk after (told_as why)
+          → (why ≢ open_fault.Disk → ((seen after).content ≡ (seen disk).content) × NoFurther (seen disk).images (seen after).images)
+          → (why ≡ open_fault.Disk → Rose (seen disk).faults (seen after).faults)
+          → Refused seen rules disk after (book_fault_of why)
       by open_fault.Disk header untouched rose = record { causes = rose refl; later = later; moments = turns_on turns }
       by open_fault.Header header untouched rose =
           let same = untouched (λ is. cc) in

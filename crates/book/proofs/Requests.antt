@@ -12,19 +12,19 @@ use Rattle.rulebook.specs.declared.answer.Answer.TheVariants as answered
 use Rattle.rulebook.specs.declared.ask.Addressed.{Addressed}
 use Rattle.rulebook.specs.declared.entry.Entry.{Entry}
 use Rattle.rulebook.specs.declared.reply.Reply.{Reply}
-use Rattle.rulebook.specs.Additions.{IsAdded}
+use Rattle.rulebook.specs.Histories.Additions.{IsAdded}
 use Rattle.rulebook.specs.Campaign.{History}
-use Rattle.rulebook.specs.Legal.{IsAccepted, IsLegal}
+use Rattle.rulebook.specs.Histories.Legal.{IsAccepted, IsLegal}
 use Rattle.rulebook.specs.Spelling.{entry_bytes}
-use Rattle.rulebook.specs.Stories.{Leads, StartsWith, added_by, reply_by}
-use Rattle.book.specs.Books.{Acts, IsSound, Leaves, Seen, Settles, story_of}
-use Rattle.book.specs.Images.{HoldsOneOf, IsBetween, StandsFor}
-use Rattle.book.specs.Journaling.{Accepts, HasRoom, IsKept, IsWithin, KeepsBook, Parts}
+use Rattle.rulebook.specs.Histories.Stories.{Leads, StartsWith, added_by, reply_by}
+use Rattle.book.specs.Books.{Acts, BookView, IsSound, LeavesPending, Settles, story_of}
+use Rattle.book.specs.Images.{HoldsOneOf, ImagesHold, IsBetween}
+use Rattle.book.specs.JournaledEntries.{Accepts, BookParts, EndsWithin, EntryHasRoom, IsKept, KeepsBook}
 use Rattle.book.specs.Laws.{Laws}
 use Rattle.book.specs.RunLaws.{between_of, no_run}
 use Rattle.book.specs.Stories.{spellings}
-use Rattle.book.proofs.AcceptedEntries.{accepted_short, accepted_spells}
-use Rattle.book.proofs.Keeping.{within_push}
+use Rattle.book.proofs.Payloads.AcceptedEntries.{accepted_short, accepted_spells}
+use Rattle.book.proofs.JournalEntries.{within_push}
 
 sum_spellings : (H : History) → sum_by (λ (payload : List ℕ). length payload + 5) (spellings H) ≡ sum_by (λ (e : Entry). length (entry_bytes e.core) + 5) H
 sum_spellings [] = refl
@@ -33,7 +33,7 @@ sum_spellings (e ∷ H) =
     ∙ sym (sum_by-cons (λ (e : Entry). length (entry_bytes e.core) + 5) e H)
 
 -- there is room for the record of what is added
-pub room_for : Laws → (H : History) (e : Entry) → IsAccepted H e → IsLegal (H ++ e ∷ []) → HasRoom H e
+pub room_for : Laws → (H : History) (e : Entry) → IsAccepted H e → IsLegal (H ++ e ∷ []) → EntryHasRoom H e
 room_for laws H e accepted legal = record {
   accepted = accepted;
   spells = accepted_spells H e accepted;
@@ -43,21 +43,23 @@ room_for laws H e accepted legal = record {
 
 module _ {D : Type 0} (seen : D → DiskState) where
   -- the parts of a book, as contracts see it
-  abbrev pub seen_by : Parts D → ℕ → Seen D
+  abbrev pub seen_by : BookParts D → ℕ → BookView D
   seen_by parts opening = record { disk = parts.journal.disk; history = parts.history; pending = parts.pending; opening = opening }
 
-  pub sound_of : (parts : Parts D) (opening : ℕ) → IsKept seen parts opening → StandsFor (seen parts.journal.disk).images parts.history parts.pending
+  pub sound_of : (parts : BookParts D) (opening : ℕ) → IsKept seen parts opening → ImagesHold (seen parts.journal.disk).images parts.history parts.pending
       → IsSound seen (seen_by parts opening)
-  sound_of parts opening kept stands = record { legal = kept.keeps.legal; stands = stands; accepted = kept.keeps.accepted; rose = kept.rose; opened = kept.opened }
+  sound_of parts opening kept stands =
+      record { legal = kept.keeps.legal; stands = stands; accepted = kept.keeps.accepted; rose = kept.rose; opened = kept.opened }
 
   -- the journaling of an entry, by its exits
   pub accepts_memory : ((disk : D) → OnlyNow (seen disk)) → (journal : JournalState D) (H after : History) (pending : Option Entry) (e : Entry)
-      → after ≡ H → KeepsBook seen journal H pending → StandsFor (seen journal.disk).images H pending
-      → Accepts seen (record { journal = journal; history = H; pending = pending }) e answered.Memory (record { journal = journal; history = after; pending = pending })
+      → after ≡ H → KeepsBook seen journal H pending → ImagesHold (seen journal.disk).images H pending
+      → Accepts seen (record { journal = journal; history = H; pending = pending }) e answered.Memory
+      (record { journal = journal; history = after; pending = pending })
   accepts_memory only_now journal H after pending e same keeps stands = record {
     comes = (refl, same, refl);
     keeps = subst (λ (H : History). KeepsBook seen journal H pending) (sym same) keeps;
-    within = λ so. subst (λ (H : History). IsWithin journal.place H) (sym same) so;
+    within = λ so. subst (λ (H : History). EndsWithin journal.place H) (sym same) so;
     moments = started seen journal.disk (HoldsOneOf H pending (e ∷ [])) (λ image left. inl (stands image (only_now journal.disk image left)));
     later = omega arith;
   }
@@ -69,7 +71,7 @@ module _ {D : Type 0} (seen : D → DiskState) where
   accepts_reply old new H after pending left e r grown none reply keeps place moments later = record {
     comes = (reply, grown, none);
     keeps = subst (λ (H : History). KeepsBook seen new H left) (sym grown) (subst (λ (p : Option Entry). KeepsBook seen new (H ++ e ∷ []) p) (sym none) keeps);
-    within = λ so. subst (λ (H : History). IsWithin new.place H) (sym grown) (within_push old.place new.place H e place so);
+    within = λ so. subst (λ (H : History). EndsWithin new.place H) (sym grown) (within_push old.place new.place H e place so);
     moments = moments;
     later = later;
   }
@@ -81,21 +83,27 @@ module _ {D : Type 0} (seen : D → DiskState) where
   accepts_fault old new H after pending left e same either keeps place rose moments later = record {
     comes = (same, either, rose);
     keeps = subst (λ (H : History). KeepsBook seen new H left) (sym same) keeps;
-    within = λ so. subst (λ (H : History). IsWithin new.place H) (sym same) (subst (λ (p : ℕ). IsWithin p H) (sym place) so);
+    within = λ so. subst (λ (H : History). EndsWithin new.place H) (sym same) (subst (λ (p : ℕ). EndsWithin p H) (sym place) so);
     moments = moments;
     later = later;
   }
 
-  module _ (only_now : (disk : D) → OnlyNow (seen disk)) (old : Seen D) (sound : IsSound seen old) (asked : Addressed) where
+  module _ (only_now : (disk : D) → OnlyNow (seen disk)) (old : BookView D) (sound : IsSound seen old) (asked : Addressed) where
     no_moment : EachMoment seen old.disk old.disk (HoldsOneOf old.history old.pending (added_by old.history asked))
-    no_moment = started seen old.disk (HoldsOneOf old.history old.pending (added_by old.history asked)) (λ image left. inl (sound.stands image (only_now old.disk image left)))
+    no_moment = started seen old.disk (HoldsOneOf old.history old.pending (added_by old.history asked))
+        (λ image left. inl (sound.stands image (only_now old.disk image left)))
 
     -- a request that adds nothing
     pub quiet_acts : (r : Reply) → r ≡ reply_by old.history asked → added_by old.history asked ≡ [] → Acts seen old asked (answered.Reply r) old
     quiet_acts r reply none = record {
       before = sound;
       after = sound;
-      told = record { legal = sound.legal; leads = (reply, sym (append-nil old.history) ∙ ap (λ more. old.history ++ more) (sym none)); later = omega arith; opening = refl };
+      told = record {
+        legal = sound.legal;
+        leads = (reply, sym (append-nil old.history) ∙ ap (λ more. old.history ++ more) (sym none));
+        later = omega arith;
+        opening = refl;
+      };
       leaves = subst (λ (added : History). Settles seen old added old) (sym none) refl;
       moments = no_moment;
       runs = no_run seen only_now old sound;
@@ -114,7 +122,7 @@ module _ {D : Type 0} (seen : D → DiskState) where
 
   -- a request that adds an entry, once that was journaled or not
   module _ (only_now : (disk : D) → OnlyNow (seen disk))
-      (old new : Parts D) (opening : ℕ) (kept : IsKept seen old opening) (asked : Addressed) (e : Entry)
+      (old new : BookParts D) (opening : ℕ) (kept : IsKept seen old opening) (asked : Addressed) (e : Entry)
       (added : added_by old.history asked ≡ e ∷ []) (is : IsAdded old.history asked.who asked.number asked.ask asked.moment e) where
     next_accepted : (x : Entry) → added_by old.history asked ≡ x ∷ [] → IsAccepted old.history x
     next_accepted x is_x =
@@ -154,7 +162,7 @@ module _ {D : Type 0} (seen : D → DiskState) where
     leads answered.DiskFault w = ((λ none. let wrong : e ∷ [] ≡ [] = sym added ∙ none in cc), w.comes.0, w.comes.2)
     leads answered.Memory w = w.comes.1
 
-    leaves : (answer : Answer) → Accepts seen old e answer new → Leaves seen (seen_by old opening) asked answer (seen_by new opening)
+    leaves : (answer : Answer) → Accepts seen old e answer new → LeavesPending seen (seen_by old opening) asked answer (seen_by new opening)
     leaves (answered.Reply r) w = subst (λ (more : History). Settles seen (seen_by old opening) more (seen_by new opening)) (sym added) w.comes.2
     leaves answered.DiskFault w = (e, added, w.comes.1)
     leaves answered.Memory w = seen_same w.comes.0 w.comes.1 w.comes.2
@@ -165,7 +173,7 @@ module _ {D : Type 0} (seen : D → DiskState) where
     grown answered.Memory w = ([], w.comes.1 ∙ sym (append-nil old.history))
 
     pub ready_acts : (answer : Answer) → Accepts seen old e answer new
-        → StandsFor (seen old.journal.disk).images old.history old.pending → StandsFor (seen new.journal.disk).images new.history new.pending
+        → ImagesHold (seen old.journal.disk).images old.history old.pending → ImagesHold (seen new.journal.disk).images new.history new.pending
         → Acts seen (seen_by old opening) asked answer (seen_by new opening)
     ready_acts answer w stands stands_after =
         let moments : EachMoment seen old.journal.disk new.journal.disk (HoldsOneOf old.history old.pending (added_by old.history asked))
@@ -178,21 +186,26 @@ module _ {D : Type 0} (seen : D → DiskState) where
           moments = moments;
           runs = record {
             grown = grown answer w;
-            moments = weaker seen old.journal.disk new.journal.disk (HoldsOneOf old.history old.pending (added_by old.history asked)) (IsBetween old.history new.history)
-                (λ image. between_of old.history new.history old.pending (added_by old.history asked) image (grown answer w) kept.keeps.accepted next_accepted) moments;
+            moments = weaker seen old.journal.disk new.journal.disk (HoldsOneOf old.history old.pending (added_by old.history asked))
+                (IsBetween old.history new.history)
+                (λ image. between_of old.history new.history old.pending (added_by old.history asked) image (grown answer w) kept.keeps.accepted next_accepted)
+                moments;
             later = w.later;
             opening = refl;
           };
         }
 
   -- what contracts see of a book that is opened, and of one whose state alone changed
-  pub acts_before : (old : Seen D) (parts : Parts D) (opening : ℕ) (asked : Addressed) (answer : Answer) (new : Seen D) → seen_by parts opening ≡ old
+  pub acts_before : (old : BookView D) (parts : BookParts D) (opening : ℕ) (asked : Addressed) (answer : Answer) (new : BookView D)
+      → seen_by parts opening ≡ old
       → Acts seen (seen_by parts opening) asked answer new → Acts seen old asked answer new
-  acts_before old parts opening asked answer new is acts = subst (λ (old : Seen D). Acts seen old asked answer new) is acts
+  acts_before old parts opening asked answer new is acts = subst (λ (old : BookView D). Acts seen old asked answer new) is acts
 
-  pub acts_still : (old : Seen D) (parts : Parts D) (opening : ℕ) (asked : Addressed) (answer : Answer) (after : History) → seen_by parts opening ≡ old → after ≡ parts.history
+  pub acts_still : (old : BookView D) (parts : BookParts D) (opening : ℕ) (asked : Addressed) (answer : Answer) (after : History)
+      → seen_by parts opening ≡ old → after ≡ parts.history
       → Acts seen (seen_by parts opening) asked answer (seen_by parts opening)
       → Acts seen old asked answer (record { disk = parts.journal.disk; history = after; pending = parts.pending; opening = opening })
   acts_still old parts opening asked answer after is same acts =
       acts_before old parts opening asked answer (record { disk = parts.journal.disk; history = after; pending = parts.pending; opening = opening }) is
-      (subst (λ (H : History). Acts seen (seen_by parts opening) asked answer (record { disk = parts.journal.disk; history = H; pending = parts.pending; opening = opening })) (sym same) acts)
+      (subst (λ (H : History). Acts seen (seen_by parts opening) asked answer
+      (record { disk = parts.journal.disk; history = H; pending = parts.pending; opening = opening })) (sym same) acts)

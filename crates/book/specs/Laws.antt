@@ -1,6 +1,6 @@
 -- The laws of the rules and of the records on which a book rests.
 use Rattle.record_codec.specs.Laws.{BriefsFit, BundlesFit, OnePayload}
-use Rattle.rulebook.specs.Additions.{AddedAreAccepted, EntriesAreFew, EntriesAreSpelled, FoundingFits, LegalFit, MomentsRise}
+use Rattle.rulebook.specs.Histories.Additions.{AddedAreAccepted, EntriesAreFew, EntriesAreSpelled, FoundingFits, LegalFit, MomentsRise}
 
 pub record Laws : Type 0 where
   pub added : AddedAreAccepted

@@ -1,14 +1,9 @@
 pub mod Books
-pub mod CompactedJournals
-pub mod Compactings
+pub mod Compaction
 pub mod Halls
 pub mod Images
-pub mod Journaling
+pub mod JournaledEntries
 pub mod Laws
-pub mod OpenJournals
-pub mod OpeningLaws
-pub mod Openings
-pub mod Packings
-pub mod Replays
+pub mod Opening
 pub mod RunLaws
 pub mod Stories

@@ -3,7 +3,7 @@ use Rattle.std.specs.Prelude.{◌≡◌, ◌⊎◌, ℕ, ◌+◌, List, [], ◌�
 use Rattle.record_codec.specs.Payloads.{IsPayload}
 use Rattle.rulebook.specs.declared.entry.EntryCore.{EntryCore}
 use Rattle.rulebook.specs.Campaign.{History}
-use Rattle.rulebook.specs.Legal.{IsLegal}
+use Rattle.rulebook.specs.Histories.Legal.{IsLegal}
 use Rattle.rulebook.specs.Spelling.{entry_bytes}
 use Rattle.rulebook.specs.Words.{Text}
 
@@ -41,12 +41,13 @@ abbrev pub IsOnlyStory : List Text → History → Type 0
 IsOnlyStory payloads H = IsStory payloads H × ((other : History) → IsStory payloads other → other ≡ H)
 
 -- the payload spells no entries; or these are the first ones of those that it spells, and there are more
-abbrev pub BeginsWith : Text → List EntryCore → Type 0
-BeginsWith payload front =
+abbrev pub BeginsWithCores : Text → List EntryCore → Type 0
+BeginsWithCores payload front =
     (((cores : List EntryCore) → IsPayload payload cores → ⊥) × (front ≡ []))
     ⊎ ((core : EntryCore) × (rest : List EntryCore) × IsPayload payload (front ++ core ∷ rest))
 
--- So many of the unfolded entries have no story, and those before the last of them have one: those of the earlier payloads, and the first ones of the next. A payload that spells no entries counts as one.
+-- So many of the unfolded entries have no story, and those before the last of them have one: those of the earlier
+-- payloads, and the first ones of the next. A payload that spells no entries counts as one.
 pub record BreaksAt (payloads : List Text) (entry : ℕ) : Type 0 where
   pub before : List Text
   pub payload : Text
@@ -55,7 +56,7 @@ pub record BreaksAt (payloads : List Text) (entry : ℕ) : Type 0 where
   pub given : List EntryCore
   pub unfolds : Unfolds before given
   pub front : List EntryCore
-  pub begins : BeginsWith payload front
+  pub begins : BeginsWithCores payload front
   pub stands : HasHistory (given ++ front)
   pub entry_is : entry ≡ length (given ++ front) + 1
   pub none : (cores : List EntryCore) → Unfolds (before ++ payload ∷ []) cores → HasHistory (take entry cores) → ⊥

@@ -1,5 +1,5 @@
-//! A book: the accepted entries, and the journal that keeps them. A request is answered by the entries;
-//! the entry that it adds joins them once it is journaled.
+//! A book: the accepted entries, and the journal that keeps them. A request is answered by the
+//! entries; the entry that it adds joins them once it is journaled.
 //!
 //! # The way of a command to the disk
 //!
@@ -12,17 +12,17 @@
 //! away.
 ghost use Rattle.std.specs.Prelude.{◌≡◌, length, IfOk, IsSome, IsTrue, Some};
 ghost use Rattle.std.specs.Option.{option_map};
-ghost use Rattle.campaign_core.specs.Tallies.{IsTally, submitted_at};
+ghost use Rattle.campaign_core.specs.Views.Tallies.{IsTally, submitted_at};
 ghost use Rattle.rulebook.specs.Campaign.{phase as phase_of};
-ghost use Rattle.rulebook.specs.Stories.{IsAddressed};
-ghost use Rattle.rulebook.specs.Systems.{are_sound_systems, systems};
+ghost use Rattle.rulebook.specs.Histories.Stories.{IsAddressed};
+ghost use Rattle.rulebook.specs.Reports.Systems.{are_sound_systems, systems};
 ghost use Rattle.book.specs.Books.{Acts, IsSound};
-ghost use Rattle.book.specs.Journaling.{Accepts, HasRoom, IsWithin, KeepsBook};
+ghost use Rattle.book.specs.JournaledEntries.{Accepts, EndsWithin, EntryHasRoom, KeepsBook};
 
-use crate::commits::commit;
+use crate::journaling::commits::commit;
+use crate::journaling::pending::Pending;
 use crate::journaling::{frame_of, keep};
 use crate::laws::rule_laws;
-use crate::pending::Pending;
 use campaign_core::{Prepared, State, Tally, Verdict};
 use decimal_rank::{Memory, Rows};
 use depth_pool::RunId;
@@ -32,8 +32,8 @@ use std::alloc::Global;
 use std::marker::{Brand, Model};
 use std::sync::ledger::Blank;
 
-/// A campaign on a disk. Contracts see the disk, the accepted entries, the entry that may be on the disk
-/// though its journaling failed, and the count of the disk's faults when it was opened.
+/// A campaign on a disk. Contracts see the disk, the accepted entries, the entry that may be on the
+/// disk though its journaling failed, and the count of the disk's faults when it was opened.
 pub struct Book<D: Disk> {
     pub(crate) alloc: Global,
     pub(crate) state: State,
@@ -43,10 +43,10 @@ pub struct Book<D: Disk> {
 }
 
 impl<D: Disk> Model for Book<D> {
-    ghost use Rattle.book.specs.Books.{Seen};
-    ghost use Rattle.book.specs.Journaling.{IsKept};
+    ghost use Rattle.book.specs.Books.{BookView};
+    ghost use Rattle.book.specs.JournaledEntries.{IsKept};
 
-    ghost Value = { Seen D };
+    ghost Value = { BookView D };
 
     ghost view = { λ book. record {
       disk = book.journal.disk;
@@ -97,7 +97,8 @@ impl<D: Disk> Book<D> {
     /// The name of a submitted run, by its number of submission from 0.
     pub fn run_name(&self, run: RunId) -> &[u8]
         requires { IsSome (submitted_at self.now.history run) }
-        ensures { option_map (λ run. run.name) (submitted_at self.now.history run) ≡ Some result.now }
+        ensures { option_map (λ run. run.name) (submitted_at self.now.history run)
+            ≡ Some result.now }
     {
         self.state.run_name(run)
     }
@@ -124,8 +125,8 @@ impl<D: Disk> Book<D> {
         self.journal.stands();
     }
 
-    /// Answers a request. An entry is accepted once it is journaled; what a failed journaling left is
-    /// mended first. All memory is taken before the first call on the disk.
+    /// Answers a request. An entry is accepted once it is journaled; what a failed journaling left
+    /// is mended first. All memory is taken before the first call on the disk.
     pub fn act(&mut self, asked: Addressed) -> Answer
         requires { IsAddressed asked }
         ensures { Acts D.seen self.old asked result self.new }
@@ -181,8 +182,8 @@ fn accept<D: Disk>(
 ) -> Answer
     requires prepared { state.old.prepared ≡ Some prepared }
     requires keeps { KeepsBook D.seen journal.old state.old.history pending.old }
-    requires within { IsWithin journal.old.place state.old.history }
-    requires room { HasRoom state.old.history prepared }
+    requires within { EndsWithin journal.old.place state.old.history }
+    requires room { EntryHasRoom state.old.history prepared }
     ensures { Accepts D.seen
         (record { journal = journal.old; history = state.old.history; pending = pending.old })
         prepared result

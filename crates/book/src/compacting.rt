@@ -1,21 +1,21 @@
-//! Compaction: the records of a journal are replaced by bundles of entries, in place. At each moment each image
-//! has the same entries as its story.
+//! Compaction: the records of a journal are replaced by bundles of entries, in place. At each
+//! moment each image has the same entries as its story.
 ghost use Rattle.std.specs.Prelude.{◌≡◌, ◌+◌, ◌<◌, ◌≤◌, ◌^◌, [], IfOk, IsTrue, min};
 ghost use Rattle.journal.specs.declared.dues.Due.TheVariants.{Nothing};
-ghost use Rattle.journal.specs.Kept.{Settled, payloads as payloads_of};
+ghost use Rattle.journal.specs.KeptRecords.{Settled, payloads as payloads_of};
 ghost use Rattle.rulebook.specs.Campaign.{History};
-ghost use Rattle.rulebook.specs.Legal.{IsLegal};
+ghost use Rattle.rulebook.specs.Histories.Legal.{IsLegal};
 ghost use Rattle.rulebook.specs.Spelling.{are_rules};
-ghost use Rattle.book.specs.CompactedJournals.{CompactsOpen, PacksInto};
-ghost use Rattle.book.specs.Compactings.{CompactsTo, compacted};
+ghost use Rattle.book.specs.Compaction.CompactedJournals.{CompactsOpen, PacksInto};
+ghost use Rattle.book.specs.Compaction.Compactings.{CompactsTo, compacted_payloads};
 ghost use Rattle.book.specs.Laws.{Laws};
 ghost use Rattle.book.specs.Stories.{IsStory};
 
 use crate::faults::BookFault;
-use crate::founding::founding_frame;
 use crate::laws::rule_laws;
 use crate::opening::fault_of;
 use crate::packing::pack;
+use crate::replays::founding::founding_frame;
 use crate::replays::replayed;
 use decimal_rank::Memory;
 use journal::{Area, Disk, Failed, Frame, Journal, ReplaceEnd};
@@ -34,13 +34,14 @@ pub enum CompactEnd {
         before: u64,
         after: u64,
     },
-    /// Why it wasn't opened, or wasn't compacted: then memory was short, or a call on the disk failed.
+    /// Why it wasn't opened, or wasn't compacted: then memory was short, or a call on the disk
+    /// failed.
     Fault(BookFault),
 }
 
-/// Opens a disk as the journal of a campaign with these rules, as `Book::open` does, and replaces its records by
-/// bundles of entries. One that is no longer than its bundles is left as it is. All memory is taken before the
-/// first record is moved.
+/// Opens a disk as the journal of a campaign with these rules, as `Book::open` does, and replaces
+/// its records by bundles of entries. One that is no longer than its bundles is left as it is. All
+/// memory is taken before the first record is moved.
 pub fn compact<D: Disk>(alloc: Global, disk: D, rules: Rules) -> (D, CompactEnd)
     requires rules { IsTrue (are_rules rules) }
     ensures { CompactsTo D.seen rules disk result.0 result.1 }
@@ -158,7 +159,8 @@ fn compact_records<D: Disk>(
 fn packed_area(alloc: Global, records: &[Vec<u8>]) -> Result<Area, Memory>
     requires laws { Laws }
     requires story { (H : History) × IsStory (payloads_of records.now) H }
-    ensures { IfOk result (λ area. (H : History) → IsStory (payloads_of records.now) H → area ≡ compacted H) }
+    ensures { IfOk result (λ area. (H : History) → IsStory (payloads_of records.now) H
+        → area ≡ compacted_payloads H) }
 {
     let payloads = pack(alloc, records)?;
     Area::of(alloc, &payloads)

@@ -9,8 +9,8 @@ pub enum BookFault {
     Disk,
     /// The bytes are more than an empty journal's and begin otherwise.
     Header,
-    /// The first so many entries of the records, counted from 1, aren't a campaign's; those before the
-    /// last of them are. A record that has no entries counts as one.
+    /// The first so many entries of the records, counted from 1, aren't a campaign's; those before
+    /// the last of them are. A record that has no entries counts as one.
     Damaged { entry: u32 },
     /// The records are the entries of a campaign with other rules.
     RulesDiffer,

@@ -1,5 +1,5 @@
 //! A book in a hall, where many callers act on it, one at a time.
-ghost use Rattle.book.specs.Halls.{Fits, Tells, story_in};
+ghost use Rattle.book.specs.Halls.{BookTells, MayBeAnswered, story_in};
 
 use crate::books::Book;
 use hall::Storied;
@@ -15,9 +15,9 @@ impl<D: Disk> Storied for Book<D> {
 
     ghost story = { story_in D.seen };
 
-    ghost fits = { Fits };
+    ghost fits = { MayBeAnswered };
 
-    ghost tells = { Tells };
+    ghost tells = { BookTells };
 
     fn length(&self) -> u64 {
         self.entries() as u64

@@ -3,12 +3,15 @@ ghost use Rattle.std.specs.Prelude.{◌≡◌, ◌⊎◌, ◌+◌, ◌≤◌, �
 ghost use Rattle.decimal_rank.specs.Causes.{HasCause};
 ghost use Rattle.disk_model.specs.Disks.{EachMoment};
 ghost use Rattle.rulebook.specs.Campaign.{History};
-ghost use Rattle.rulebook.specs.Legal.{IsAccepted};
+ghost use Rattle.rulebook.specs.Histories.Legal.{IsAccepted};
 ghost use Rattle.rulebook.specs.Spelling.{entry_bytes, has_spelling};
 ghost use Rattle.book.specs.Images.{HoldsOneOf, HoldsWith};
-ghost use Rattle.book.specs.Journaling.{KeepsBook};
+ghost use Rattle.book.specs.JournaledEntries.{KeepsBook};
 
-use crate::pending::Pending;
+pub(crate) mod commits;
+pub(crate) mod pending;
+
+use crate::journaling::pending::Pending;
 use campaign_core::Prepared;
 use decimal_rank::Memory;
 use journal::{Disk, Failed, Frame, Journal};

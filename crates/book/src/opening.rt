@@ -1,5 +1,5 @@
-//! Opening a book. The journal is opened, and each of its records is entered; a journal without records
-//! gets the founding entry.
+//! Opening a book. The journal is opened, and each of its records is entered; a journal without
+//! records gets the founding entry.
 //!
 //! # The way of an opening
 //!
@@ -12,22 +12,22 @@
 //! it: the runs' lists wait.
 ghost use Rattle.std.specs.Prelude.{◌≡◌, ◌<◌, ◌≤◌, ◌^◌, [], ◌∷◌, List, None, IfErr, IfOk, IsTrue, length};
 ghost use Rattle.journal.specs.declared.dues.Due.TheVariants.{Nothing};
-ghost use Rattle.journal.specs.Kept.{Settled, payloads as payloads_of};
+ghost use Rattle.journal.specs.KeptRecords.{Settled, payloads as payloads_of};
 ghost use Rattle.rulebook.specs.declared.rules.Rules.{Rules as CampaignRules};
-ghost use Rattle.rulebook.specs.Legal.{founding};
+ghost use Rattle.rulebook.specs.Histories.Legal.{founding};
 ghost use Rattle.rulebook.specs.Spelling.{are_rules};
 ghost use Rattle.book.specs.Laws.{Laws};
 ghost use Rattle.book.specs.Books.{IsSound};
-ghost use Rattle.book.specs.Openings.{Opened, Refused};
-ghost use Rattle.book.specs.Journaling.{IsWithin};
+ghost use Rattle.book.specs.Opening.Openings.{Opened, Refused};
+ghost use Rattle.book.specs.JournaledEntries.{EndsWithin};
 ghost use Rattle.book.specs.Stories.{IsStory};
-ghost use Rattle.book.specs.OpenJournals.{KeepsStory, TakesUp, told_as};
+ghost use Rattle.book.specs.Opening.OpenJournals.{KeepsStory, TakesUp, book_fault_of};
 
 use crate::books::Book;
 use crate::faults::BookFault;
-use crate::founding::founded;
+use crate::journaling::pending::Pending;
 use crate::laws::rule_laws;
-use crate::pending::Pending;
+use crate::replays::founding::founded;
 use crate::replays::replay;
 use campaign_core::State;
 use decimal_rank::Memory;
@@ -36,9 +36,9 @@ use rulebook::Rules;
 use std::alloc::Global;
 
 impl<D: Disk> Book<D> {
-    /// Opens a disk as the book of a campaign with these rules. A disk without records gets the founding
-    /// entry. One that isn't a journal, or isn't a campaign's, is not opened; all its records are entries
-    /// or none is taken.
+    /// Opens a disk as the book of a campaign with these rules. A disk without records gets the
+    /// founding entry. One that isn't a journal, or isn't a campaign's, is not opened; all its
+    /// records are entries or none is taken.
     pub fn open(alloc: Global, disk: D, rules: Rules) -> Result<Book<D>, (D, BookFault)>
         requires rules { IsTrue (are_rules rules) }
         ensures opened { IfOk result (λ book. Opened D.seen rules disk book) }
@@ -55,7 +55,7 @@ impl<D: Disk> Book<D> {
 
 /// What the journal's fault is told as.
 pub(crate) fn fault_of(fault: OpenFault) -> BookFault
-    ensures { result ≡ told_as fault }
+    ensures { result ≡ book_fault_of fault }
 {
     match fault {
         OpenFault::Disk => BookFault::Disk,
@@ -64,7 +64,8 @@ pub(crate) fn fault_of(fault: OpenFault) -> BookFault
     }
 }
 
-// Makes a book of an open journal, whose records these are. Each is freed once its entries are there.
+// Makes a book of an open journal, whose records these are. Each is freed once its entries are
+// there.
 fn take_up<D: Disk>(
     alloc: Global,
     opening: u64,
@@ -141,10 +142,15 @@ fn establish<D: Disk>(
 // The book of a journal and of the entries that it keeps.
 fn reopen<D: Disk>(alloc: Global, opening: u64, journal: Journal<D>, state: State) -> Book<D>
     requires settled { KeepsStory (D.seen journal.disk).images journal.place state.history }
-    requires within { IsWithin journal.place state.history }
+    requires within { EndsWithin journal.place state.history }
     requires nothing_due { journal.due ≡ Nothing }
     requires later { opening ≤ (D.seen journal.disk).faults }
-    ensures view { result ≡ record { disk = journal.disk; history = state.history; pending = None; opening = opening } }
+    ensures view { result ≡ record {
+      disk = journal.disk;
+      history = state.history;
+      pending = None;
+      opening = opening;
+    } }
     ensures sound { IsSound D.seen result }
 {
     let _legal = state.entries();

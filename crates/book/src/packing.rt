@@ -1,42 +1,23 @@
-//! The payloads of a compacted journal, from the records of a journal. Their entries are read again, record by
-//! record, and gathered into bundles, so that those of one bundle alone are held at a time.
+//! The payloads of a compacted journal, from the records of a journal. Their entries are read
+//! again, record by record, and gathered into bundles, so that those of one bundle alone are held
+//! at a time.
 ghost use Rattle.std.specs.Prelude.{◌≡◌, ◌≤◌, ◌∷◌, ◌++◌, [], List, IfOk, IsTrue, OnOk, false, length, true};
-ghost use Rattle.journal.specs.Kept.{payloads as payloads_of};
-ghost use Rattle.record_codec.specs.Bundles.{is_brief as is_brief_one};
+ghost use Rattle.journal.specs.KeptRecords.{payloads as payloads_of};
+ghost use Rattle.record_codec.specs.Bundles.{is_brief as is_brief_one, most_bundled};
 ghost use Rattle.record_codec.specs.Payloads.{IsPayload};
 ghost use Rattle.rulebook.specs.Campaign.{History};
-ghost use Rattle.rulebook.specs.Limits.{max_entry_bytes};
+ghost use Rattle.rulebook.specs.Requests.Limits.{max_entry_bytes};
 ghost use Rattle.rulebook.specs.Spelling.{entry_bytes, has_spelling};
 ghost use Rattle.rulebook.specs.declared.entry.EntryCore.{EntryCore as Core};
-ghost use Rattle.book.specs.Compactings.{compacted, ended};
+ghost use Rattle.book.specs.Compaction.Compactings.{bundle_of_part, compacted_payloads};
 ghost use Rattle.book.specs.Laws.{Laws};
-ghost use Rattle.book.specs.Packings.{AreShort, CanPack, PacksTo};
+ghost use Rattle.book.specs.Compaction.Packings.{AreShort, CanPack, PacksTo};
 ghost use Rattle.book.specs.Stories.{IsStory};
 
 use decimal_rank::Memory;
-use record_codec::{CodecFault, read_payload, write_bundle, write_entry};
-use rulebook::{Command, EntryCore};
+use record_codec::{CodecFault, MOST_BUNDLED, is_brief, read_payload, write_bundle, write_entry};
+use rulebook::EntryCore;
 use std::alloc::Global;
-
-// the most entries of a bundle
-const MOST_BUNDLED: usize = 4096;
-
-// Whether a bundle may have a command.
-fn is_brief(command: &Command) -> bool
-    ensures { result ≡ is_brief_one command.now }
-{
-    match command {
-        Command::Found { .. } | Command::Topics { .. } | Command::Submit { .. } => false,
-        Command::Open
-        | Command::Lease { .. }
-        | Command::Grade { .. }
-        | Command::Release { .. }
-        | Command::Amend { .. }
-        | Command::Rule { .. }
-        | Command::Withdraw { .. }
-        | Command::Publish => true,
-    }
-}
 
 // Ends the bundle that has begun, where it has entries.
 fn end_part(
@@ -47,7 +28,8 @@ fn end_part(
     requires laws { Laws }
     requires can { (left : List Core) × CanPack part.old.items left }
     requires short { AreShort payloads.old.items }
-    ensures payloads { OnOk result (payloads_of payloads.new.items ≡ payloads_of payloads.old.items ++ ended part.old.items) }
+    ensures payloads { OnOk result (payloads_of payloads.new.items
+        ≡ payloads_of payloads.old.items ++ bundle_of_part part.old.items) }
     ensures short { OnOk result (AreShort payloads.new.items) }
     ensures part { OnOk result (part.new.items ≡ []) }
 {
@@ -66,7 +48,8 @@ fn put_single(alloc: Global, payloads: &mut Vec<Vec<u8>>, core: &EntryCore) -> R
     requires spelled { IsTrue (has_spelling core.now) }
     requires fits { length (entry_bytes core.now) ≤ max_entry_bytes }
     requires short { AreShort payloads.old.items }
-    ensures payloads { OnOk result (payloads_of payloads.new.items ≡ payloads_of payloads.old.items ++ entry_bytes core.now ∷ []) }
+    ensures payloads { OnOk result (payloads_of payloads.new.items
+        ≡ payloads_of payloads.old.items ++ entry_bytes core.now ∷ []) }
     ensures short { OnOk result (AreShort payloads.new.items) }
 {
     let mut bytes = Vec::new(alloc);
@@ -105,7 +88,7 @@ fn pack_first(
 ) -> Result<(), Memory>
     requires laws { Laws }
     requires brief { is_brief_one core.command ≡ true }
-    requires full { length part.old.items ≡ 4096 }
+    requires full { length part.old.items ≡ most_bundled }
     requires can { (left : List Core) × CanPack part.old.items (core ∷ left) }
     requires short { AreShort payloads.old.items }
     ensures packs { OnOk result ((left : List Core) → CanPack part.old.items (core ∷ left)
@@ -175,8 +158,8 @@ fn pack_record(
     requires spells { (cores : List Core) × IsPayload record_.now cores
         × ((left : List Core) × CanPack part.old.items (cores ++ left)) }
     requires short { AreShort payloads.old.items }
-    ensures packs { OnOk result ((cores : List Core) (left : List Core) → IsPayload record_.now cores
-        → CanPack part.old.items (cores ++ left)
+    ensures packs { OnOk result ((cores : List Core) (left : List Core)
+        → IsPayload record_.now cores → CanPack part.old.items (cores ++ left)
         → PacksTo (payloads_of payloads.old.items) part.old.items (cores ++ left)
         (payloads_of payloads.new.items) part.new.items left) }
     ensures short { OnOk result (AreShort payloads.new.items) }
@@ -196,7 +179,7 @@ pub(crate) fn pack(alloc: Global, records: &[Vec<u8>]) -> Result<Vec<Vec<u8>>, M
     requires laws { Laws }
     requires story { (H : History) × IsStory (payloads_of records.now) H }
     ensures packed { IfOk result (λ packed. (H : History) → IsStory (payloads_of records.now) H
-        → payloads_of packed.items ≡ compacted H) }
+        → payloads_of packed.items ≡ compacted_payloads H) }
     ensures short { IfOk result (λ packed. AreShort packed.items) }
 {
     let mut payloads = Vec::new(alloc);

@@ -2,17 +2,20 @@
 ghost use Rattle.std.specs.Prelude.{◌≡◌, ◌∷◌, IfErr, IfOk, IsTrue, List, MatchResult};
 ghost use Rattle.book.specs.declared.faults.BookFault.TheVariants as fault;
 ghost use Rattle.std.specs.Str.{bytes_eq};
-ghost use Rattle.journal.specs.Kept.{payloads as payloads_of};
+ghost use Rattle.journal.specs.KeptRecords.{payloads as payloads_of};
 ghost use Rattle.rulebook.specs.declared.rules.Rules.{Rules as CampaignRules};
 ghost use Rattle.rulebook.specs.Campaign.{History};
 ghost use Rattle.rulebook.specs.Spelling.{are_rules};
 ghost use Rattle.rulebook.specs.Words.{Text};
 ghost use Rattle.book.specs.Laws.{Laws};
-ghost use Rattle.book.specs.Replays.{EntersAll, HasBegun, Replays, Restores, Stops};
+ghost use Rattle.book.specs.Opening.Replays.{EntersAll, HasBegun, Replays, Restores, Stops};
+
+pub(crate) mod founding;
+mod record_entries;
 
 use crate::faults::BookFault;
-use crate::founding::{begin, founding_bytes};
-use crate::record_entries::{enter_all, enter_each};
+use crate::replays::founding::{begin, founding_bytes};
+use crate::replays::record_entries::{enter_all, enter_each};
 use campaign_core::{Replay, State};
 use decimal_rank::Memory;
 use rulebook::Rules;
@@ -24,8 +27,8 @@ fn are_equal(first: &[u8], second: &[u8]) -> bool
     first == second
 }
 
-// The campaign that a first record founds, and whether its rules are the wanted ones: whether the record
-// is the spelling of their founding entry.
+// The campaign that a first record founds, and whether its rules are the wanted ones: whether the
+// record is the spelling of their founding entry.
 fn begun(alloc: Global, first: &[u8], rules: Rules) -> Result<(Replay, bool), BookFault>
     requires laws { Laws }
     requires rules { IsTrue (are_rules rules) }
@@ -80,7 +83,8 @@ fn finished(alloc: Global, replay: Replay) -> Result<State, BookFault>
     }
 }
 
-/// The campaign of these rules whose entries the records are. Each of the others is freed once it is entered.
+/// The campaign of these rules whose entries the records are. Each of the others is freed once it
+/// is entered.
 pub(crate) fn replay(
     alloc: Global,
     first: &[u8],

@@ -1,4 +1,5 @@
-//! The door on the network, which tells on standard error where it listens, and which call of it failed.
+//! The door on the network, which tells on standard error where it listens, and which call of it
+//! failed.
 use campaign_server::{Door, End, Failed, TcpDoor};
 use decimal_rank::Memory;
 use std::marker::Send;

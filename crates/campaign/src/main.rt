@@ -1,6 +1,11 @@
-//! The program: the files of the system, standard input and output, the machine's clock, the file of the
-//! campaign's journal, a TCP door on 127.0.0.1 and the file of an archive, and the top call over them. Standard error is
-//! told what failed and what to do (`diagnostics`); what standard output has and the status are the top call's alone.
+//! The program: the files of the system, standard input and output, the machine's clock, the file
+//! of the campaign's journal, a TCP door on 127.0.0.1 and the file of an archive, and the top call
+//! over them. Standard error is told what failed and what to do (`diagnostics`); what standard
+//! output has and the status are the top call's alone.
+//!
+//! - Here: the adapters, and the call.
+//! - `shelf_reports`, `door_reports`: what a shelf and a door tell as they are used. A new ghost
+//!   member of these traits wants its line there.
 #![tactic(auto)]
 
 mod door_reports;

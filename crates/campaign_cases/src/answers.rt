@@ -3,7 +3,8 @@ use decimal_rank::Text;
 use rulebook::Reply;
 use std::alloc::Global;
 
-/// What a reply says, of whose entry this is the moment. The topic 1 and the title of the topics aren't said.
+/// What a reply says, of whose entry this is the moment. The topic 1 and the title of the topics
+/// aren't said.
 pub(crate) fn words_of(alloc: Global, reply: &Reply, moment: u64) -> Option<String> {
     match reply {
         Reply::Done => format!(in alloc; "done {moment}").ok(),

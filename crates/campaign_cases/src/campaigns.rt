@@ -10,8 +10,8 @@ use std::alloc::Global;
 use std::marker::Brand;
 use std::sync::ledger::{Blank, Ledger};
 
-/// A new campaign, by its depth, its hold, the labels that a document of the topic 1 needs, and the level of that topic
-/// where it has its own.
+/// A new campaign, by its depth, its hold, the labels that a document of the topic 1 needs, and the
+/// level of that topic where it has its own.
 pub(crate) fn founded(alloc: Global, words: &str) -> Option<State> {
     let (depth, rest) = cut(words);
     let (hold, rest) = cut(rest);
@@ -66,7 +66,8 @@ fn founded_by(
 
 // The topic 1 with this level, and none at 0.
 fn levels_by(alloc: Global, level: u8) -> Result<Rows<TopicLevel>, Memory>
-    ensures { IfOk result (λ levels. levels ≡ (if level == 0 then [] else record { topic = codes "1"; level = level } ∷ [])) }
+    ensures { IfOk result (λ levels. levels
+        ≡ (if level == 0 then [] else record { topic = codes "1"; level = level } ∷ [])) }
 {
     let mut levels = Vec::new(alloc);
     if level > 0 {
@@ -85,8 +86,8 @@ fn first_topic(alloc: Global) -> Result<Rows<Text>, Memory>
     Ok(Rows::new(topics))
 }
 
-/// What a line is told. The campaign itself tells how many entries it has, its phase, and the runs of its first topic in
-/// the judging order, each with its mean of precisions.
+/// What a line is told. The campaign itself tells how many entries it has, its phase, and the runs
+/// of its first topic in the judging order, each with its mean of precisions.
 pub(crate) fn answer(alloc: Global, door: &Door, state: &mut State, words: &str) -> Option<String> {
     if words == "entries" {
         return entries(alloc, state);

@@ -1,5 +1,6 @@
-//! Plays cases of a campaign: requests at moments of their own, each with what it has to be told. It reads them from
-//! standard input and prints each line that is told something else, and how many there were.
+//! Plays cases of a campaign: requests at moments of their own, each with what it has to be told.
+//! It reads them from standard input and prints each line that is told something else, and how many
+//! there were.
 //!
 //!     # a lease ends at its moment
 //!     campaign 3 2 1
@@ -10,9 +11,13 @@
 //!     p 1600 grade 1 0 -> refused Expired { until: 1600 }
 //!     entries -> 5
 //!
-//! `campaign` founds one of this depth, this hold, and so many labels that a document of the topic 1 needs; a fourth
-//! number is a level of that topic's own. Its other rules stand in `founded_by`. In a page `|` ends a line. A line that
-//! can't be played is told `?`.
+//! `campaign` founds one of this depth, this hold, and so many labels that a document of the topic
+//! 1 needs; a fourth number is a level of that topic's own. Its other rules stand in `founded_by`.
+//! In a page `|` ends a line. A line that can't be played is told `?`.
+//!
+//! - The cases: `stdin`; `tests/courses` plays random ones, beside a plain walk over what happened.
+//! - `campaigns`: the campaign of a case, and what it tells a line. `requests`: the request of a
+//!   verb. `answers`: what a reply says.
 #![tactic(auto)]
 
 mod answers;

@@ -4,10 +4,10 @@
 //!     p#7 1000 grade 1 0           under the number 7
 //!     p 1000 cancel lease 1        the entry is cancelled once it is prepared
 //!
-//! A request is made of its method, path and body, which `routes` reads. Its topic is 1, where it names no other: those
-//! with `-2` are of the topic 2.
+//! A request is made of its method, path and body, which `routes` reads. Its topic is 1, where it
+//! names no other: those with `-2` are of the topic 2.
 ghost use Rattle.std.specs.Prelude.{◌≤◌, ℕ, IfSome, IsTrue};
-ghost use Rattle.rulebook.specs.Legal.{is_well_addressed};
+ghost use Rattle.rulebook.specs.Histories.Legal.{is_well_addressed};
 ghost use Rattle.rulebook.specs.declared.limits.TheConstants.{MAX_MOMENT};
 
 use decimal_rank::{Memory, Rows, Text};
@@ -16,8 +16,9 @@ use routes::{AskReader, KeyRow, Keys, Paths, are_rows};
 use rulebook::{Ask, Caller, Role};
 use std::alloc::Global;
 
-// Each verb, and the method, the path and the body of its request: `$` is the first word behind the verb, `%` the second,
-// `@` the lines of a run of the second's letters by rank, and `|` ends a line. A stray run has a list of the topic 9.
+// Each verb, and the method, the path and the body of its request: `$` is the first word behind the
+// verb, `%` the second, `@` the lines of a run of the second's letters by rank, and `|` ends a
+// line. A stray run has a list of the topic 9.
 const FORMS: &str = r#"topics POST /topics <top>|<num> 1|<title> pooling|</top>|
 topics-2 POST /topics <top>|<num> 1|<title> pooling|</top>|<top>|<num> 2|<title> pooling|</top>|
 submit POST /runs/$ @
@@ -204,7 +205,8 @@ pub(crate) fn ask_of(
     door: &Door,
     asked: &Asked,
 ) -> Option<(Caller, Option<u64>, Ask)>
-    ensures { IfSome result (λ read. (moment : ℕ) → moment ≤ MAX_MOMENT → IsTrue (is_well_addressed read.0 read.1 read.2 moment)) }
+    ensures { IfSome result (λ read. (moment : ℕ) → moment ≤ MAX_MOMENT
+        → IsTrue (is_well_addressed read.0 read.1 read.2 moment)) }
 {
     let (method, rest) = cut(form_of(asked.verb)?);
     let (path, body) = cut(rest);
@@ -235,7 +237,8 @@ fn read(
     head: &HttpHead,
     body: &[u8],
 ) -> Option<(Caller, Option<u64>, Ask)>
-    ensures { IfSome result (λ read. (moment : ℕ) → moment ≤ MAX_MOMENT → IsTrue (is_well_addressed read.0 read.1 read.2 moment)) }
+    ensures { IfSome result (λ read. (moment : ℕ) → moment ≤ MAX_MOMENT
+        → IsTrue (is_well_addressed read.0 read.1 read.2 moment)) }
 {
     if body.len() > MOST_BODY {
         return None;

@@ -10,19 +10,19 @@ use Rattle.release_archive.specs.declared.ends.ArchiveEnd.TheVariants as archive
 use Rattle.release_archive.specs.declared.ends.Archived.{Archived}
 use Rattle.release_archive.specs.declared.ends.Archived.TheVariants.{New, Same}
 use Rattle.release_archive.specs.declared.kept.Kept.{Kept}
-use Rattle.release_archive.specs.Archiving.{Archives, IsAdded}
+use Rattle.release_archive.specs.ArchivedReleases.{Archives, IsReleaseAdded}
 use Rattle.release_archive.specs.Keepers.{KeeperState}
 use Rattle.release_archive.specs.Releases.{release_named}
 use Rattle.rulebook.specs.declared.rules.Phase.TheVariants as phase_name
 use Rattle.rulebook.specs.Campaign.{History, phase}
 use Rattle.campaign_cli.specs.declared.endings.Cause.{Cause}
 use Rattle.campaign_cli.specs.declared.endings.Cause.TheVariants as cause
-use Rattle.campaign_cli.specs.ArchiveEnds.{ArchiveWork, ArchivesAddOne, Archiving, ShowsCampaign, archive_cause, cause_of, cause_of_answer, kept_of, not_published, released, short}
-use Rattle.campaign_cli.specs.BookEnds.{BookWay, Unopened, cause_by_work, cause_of_fault, cause_of_none, missed, not_opened, not_told, refused, short as no_memory, unopened, unset, worked}
-use Rattle.campaign_cli.specs.Causes.{Ending, number_of}
+use Rattle.campaign_cli.specs.Ends.ArchiveEnds.{ArchiveWork, ArchivesAddOne, Archiving, ShowsCampaign, archive_cause, cause_of, cause_of_answer, not_published, release_of_history, released, short}
+use Rattle.campaign_cli.specs.Ends.BookEnds.{BookWay, Unopened, cause_by_work, cause_of_fault, cause_of_none, missed, not_opened, not_told, refused, short as no_memory, unopened, unset, worked}
+use Rattle.campaign_cli.specs.Causes.{Ending, status_number}
 use Rattle.campaign_cli.specs.Kinds.{ended, unread}
-use Rattle.campaign_cli.specs.Outside.{Outside}
-use Rattle.campaign_cli.proofs.Told.{cause_is}
+use Rattle.campaign_cli.specs.Surroundings.Outside.{Outside}
+use Rattle.campaign_cli.proofs.ToldCauses.{cause_is}
 
 -- a release that was added is found
 found_last : (name : List ℕ) (kept : Kept) (releases : List Kept) → release_named releases name ≡ None → bytes_eq name kept.name ≡ true
@@ -38,9 +38,10 @@ found_last name kept (first ∷ others) none is = by (bytes_eq name first.name) 
         cc there
     by false e later = rw e (later (rw e at none))
 
-found_added : (name : List ℕ) (kept : Kept) (old new : Option (List Kept)) → kept.name ≡ name → IsAdded old kept new
+found_added : (name : List ℕ) (kept : Kept) (old new : Option (List Kept)) → kept.name ≡ name → IsReleaseAdded old kept new
     → IfSome new (λ releases. release_named releases name ≡ Some kept)
-found_added name kept None new is added = subst (λ (held : Option (List Kept)). IfSome held (λ releases. release_named releases name ≡ Some kept)) (sym added.1) tt
+found_added name kept None new is added =
+    subst (λ (held : Option (List Kept)). IfSome held (λ releases. release_named releases name ≡ Some kept)) (sym added.1) tt
 found_added name kept (Some releases) new is added =
     let last = found_last name kept releases (subst (λ n. release_named releases n ≡ None) is added.0) ((bytes_eq-Decides name kept.name).1 (sym is)) in
     subst (λ (held : Option (List Kept)). IfSome held (λ releases. release_named releases name ≡ Some kept)) (sym added.1) last
@@ -76,7 +77,7 @@ module _ {D : Type 0} (seen : D → DiskState) (name : List ℕ) (old new : Outs
 
   -- the archive is as it was, or one release was added
   abbrev Adds : Type 0
-  Adds = ShowsCampaign seen name old new (λ H. (phase H ≡ phase_name.Published) × IsAdded old.keeper.held (kept_of name H) new.keeper.held)
+  Adds = ShowsCampaign seen name old new (λ H. (phase H ≡ phase_name.Published) × IsReleaseAdded old.keeper.held (release_of_history name H) new.keeper.held)
 
   same_list : new.keeper ≡ old.keeper → new.keeper.held ≡ old.keeper.held
   same_list same = ap (λ (k : KeeperState). k.held) same
@@ -86,11 +87,13 @@ module _ {D : Type 0} (seen : D → DiskState) (name : List ℕ) (old new : Outs
   what_came (unopened none same) = inl (same_list same)
   what_came (worked (text, settings, gives, is, w)) = by w.comes
     where
-      added : phase w.book.history ≡ phase_name.Published → IsAdded old.keeper.held (kept_of name w.book.history) new.keeper.held → Adds
+      added : phase w.book.history ≡ phase_name.Published → IsReleaseAdded old.keeper.held (release_of_history name w.book.history) new.keeper.held → Adds
       added published one = (text, settings, gives, is, (w.book, w.shows, (published, one)))
 
-      put : phase w.book.history ≡ phase_name.Published → (answer : Result Archived ArchiveEnd) → Archives old.keeper (kept_of name w.book.history) answer new.keeper
-          → (new.keeper.held ≡ old.keeper.held) ⊎ (Adds × (((cause_of_answer name answer).cause ≡ cause.Done) ⊎ ((cause_of_answer name answer).cause ≡ cause.Keeper)))
+      put : phase w.book.history ≡ phase_name.Published → (answer : Result Archived ArchiveEnd)
+          → Archives old.keeper (release_of_history name w.book.history) answer new.keeper
+          → (new.keeper.held ≡ old.keeper.held)
+          ⊎ (Adds × (((cause_of_answer name answer).cause ≡ cause.Done) ⊎ ((cause_of_answer name answer).cause ≡ cause.Keeper)))
       put published (Ok New) archives = inr (added published archives.held, inl refl)
       put published (Ok Same) archives = inl archives.held
       put published (Err archive_end.Differs) archives = inl archives.held
@@ -105,16 +108,17 @@ module _ {D : Type 0} (seen : D → DiskState) (name : List ℕ) (old new : Outs
 
   -- where the work is done the release is there
   is_there : (way : Way) → (told_by way).cause ≡ cause.Done
-      → ShowsCampaign seen name old new (λ H. IfSome new.keeper.held (λ releases. release_named releases name ≡ Some (kept_of name H)))
+      → ShowsCampaign seen name old new (λ H. IfSome new.keeper.held (λ releases. release_named releases name ≡ Some (release_of_history name H)))
   is_there (unopened none same) e = absurd (none_not_done none e)
   is_there (worked (text, settings, gives, is, w)) e = (text, settings, gives, is, (w.book, w.shows, by w.comes e))
     where
       There : Type 0
-      There = IfSome new.keeper.held (λ releases. release_named releases name ≡ Some (kept_of name w.book.history))
+      There = IfSome new.keeper.held (λ releases. release_named releases name ≡ Some (release_of_history name w.book.history))
 
-      put : (answer : Result Archived ArchiveEnd) → Archives old.keeper (kept_of name w.book.history) answer new.keeper → (cause_of_answer name answer).cause ≡ cause.Done → There
-      put (Ok New) archives e = found_added name (kept_of name w.book.history) old.keeper.held new.keeper.held refl archives.held
-      put (Ok Same) archives e = found_there name (kept_of name w.book.history) old.keeper.held new.keeper.held archives.held archives.found refl
+      put : (answer : Result Archived ArchiveEnd) → Archives old.keeper (release_of_history name w.book.history) answer new.keeper
+          → (cause_of_answer name answer).cause ≡ cause.Done → There
+      put (Ok New) archives e = found_added name (release_of_history name w.book.history) old.keeper.held new.keeper.held refl archives.held
+      put (Ok Same) archives e = found_there name (release_of_history name w.book.history) old.keeper.held new.keeper.held archives.held archives.found refl
       put (Err archive_end.Differs) archives e = cc e
       put (Err archive_end.Failed) archives e = cc e
       put (Err archive_end.Memory) archives e = cc e
@@ -135,9 +139,11 @@ archives_one seen name old new status (ended ending done tells) = record {
   differs = λ e. as_it_was cause.Differs (is_cause cause.Differs e (λ e. cc e)) (λ e. cc e) (λ e. cc e);
 }
   where
-    is_cause : (found : Cause) → status ≡ number_of found → number_of found ≢ 8 → (told_by seen name old new done.way).cause ≡ found
+    is_cause : (found : Cause) → status ≡ status_number found → status_number found ≢ 8 → (told_by seen name old new done.way).cause ≡ found
     is_cause found e other = ap (λ (t : Ending). t.cause) (sym done.told) ∙ cause_is ending old.out new.out status found tells e other
 
-    as_it_was : (found : Cause) → (told_by seen name old new done.way).cause ≡ found → found ≢ cause.Done → found ≢ cause.Keeper → new.keeper.held ≡ old.keeper.held
+    as_it_was : (found : Cause) → (told_by seen name old new done.way).cause ≡ found → found ≢ cause.Done
+        → found ≢ cause.Keeper → new.keeper.held ≡ old.keeper.held
     as_it_was found is done_not keeper_not =
-        elim (what_came seen name old new done.way) [ inl same ↦ same | inr adds ↦ absurd (elim adds.1 [ inl e ↦ done_not (sym is ∙ e) | inr e ↦ keeper_not (sym is ∙ e) ]) ]
+        elim (what_came seen name old new done.way)
+        [ inl same ↦ same | inr adds ↦ absurd (elim adds.1 [ inl e ↦ done_not (sym is ∙ e) | inr e ↦ keeper_not (sym is ∙ e) ]) ]

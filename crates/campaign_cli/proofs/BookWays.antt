@@ -4,21 +4,21 @@ use Rattle.std.specs.Prelude.{IfErr, IfOk, Result, Ok, Err}
 use Rattle.disk_model.specs.Disks.{DiskState}
 use Rattle.book.specs.declared.faults.BookFault.{BookFault}
 use Rattle.book.specs.declared.faults.BookFault.TheVariants as fault
-use Rattle.book.specs.Books.{Seen}
-use Rattle.book.specs.Openings.{Opened, Refused}
+use Rattle.book.specs.Books.{BookView}
+use Rattle.book.specs.Opening.Openings.{Opened, Refused}
 use Rattle.routes.specs.declared.keys.KeyRow.{KeyRow}
 use Rattle.campaign_settings.specs.declared.settings.Settings.{Settings}
 use Rattle.campaign_cli.specs.declared.endings.Cause.{Cause}
 use Rattle.campaign_cli.specs.declared.endings.Cause.TheVariants as cause
 use Rattle.campaign_cli.specs.declared.endings.Outcome.{Outcome}
-use Rattle.campaign_cli.specs.BookEnds.{BookEnds, BookWay, CanOpen, GivesSettings, IsGiven, IsOpened, IsToldOf, Unopened, book_kind, cause_by_work, cause_of_none, missed, not_opened, not_told, refused, short, unopened, unset, worked}
+use Rattle.campaign_cli.specs.Ends.BookEnds.{BookEnds, BookWay, CanOpen, GivesSettings, IsGiven, IsOpened, IsToldOf, Unopened, book_kind, cause_by_work, cause_of_none, missed, not_opened, not_told, refused, short, unopened, unset, worked}
 use Rattle.campaign_cli.specs.Causes.{Ending, IsWay, ending_of, says, silent}
 use Rattle.campaign_cli.specs.Kinds.{Needs}
-use Rattle.campaign_cli.specs.Outside.{Outside}
+use Rattle.campaign_cli.specs.Surroundings.Outside.{Outside}
 use Rattle.campaign_cli.specs.Requests.{Request}
-use Rattle.campaign_cli.specs.Shelves.{Follows, ShelfState}
+use Rattle.campaign_cli.specs.Surroundings.Shelves.{KeepsFiles, ShelfState}
 use Rattle.campaign_cli.specs.Statuses.{IsCalm}
-use Rattle.campaign_cli.proofs.Told.{Shown, Shows}
+use Rattle.campaign_cli.proofs.ToldCauses.{Shown, Shows}
 use Rattle.campaign_cli.proofs.ToldDisks.{OpensStory, damage_told, none_opened, others_told, settings_told}
 use Rattle.campaign_cli.proofs.ToldFiles.{missed_rose}
 
@@ -31,7 +31,8 @@ module _ {D : Type 0} (seen : D → DiskState) where
         Opens : Cause → Type 0
         Opens found = CanOpen seen old → IsCalm seen old new → found ≡ cause.Memory
 
-        by : (none : Unopened seen old.shelf new.shelf old.disk new.disk) → Opens (cause_of_none seen none).cause → Shown seen request (CanOpen seen) old new (cause_of_none seen none)
+        by : (none : Unopened seen old.shelf new.shelf old.disk new.disk) → Opens (cause_of_none seen none).cause
+            → Shown seen request (CanOpen seen) old new (cause_of_none seen none)
         by (unset (refused gives) same) opens = (refl, λ can calm. cc (opens can calm))
         by (unset (missed miss) same) opens = ((refl, missed_rose old.shelf new.shelf _ miss, same), λ can calm. cc (opens can calm))
         by (unset short same) opens = (refl, tt)
@@ -55,6 +56,7 @@ module _ {D : Type 0} (seen : D → DiskState) where
       differs = λ calm book told. others_told seen old new calm (Work old new) (Still old new) (cause_of old new) opens told;
     }
       where
-        by : (way : BookWay seen (Work old new) (Still old new) old.shelf new.shelf old.disk new.disk) → Shown seen request (CanOpen seen) old new (cause_by_work seen (cause_of old new) way)
+        by : (way : BookWay seen (Work old new) (Still old new) old.shelf new.shelf old.disk new.disk)
+            → Shown seen request (CanOpen seen) old new (cause_by_work seen (cause_of old new) way)
         by (worked w) = works w.1 w.4
         by (unopened none kept) = none_shown none

@@ -20,29 +20,29 @@ use Rattle.release_archive.specs.declared.ends.ArchiveEnd.TheVariants as archive
 use Rattle.release_archive.specs.declared.ends.Archived.{Archived}
 use Rattle.release_archive.specs.declared.ends.Archived.TheVariants.{New, Same}
 use Rattle.release_archive.specs.declared.kept.Kept.{Kept}
-use Rattle.release_archive.specs.Archiving.{Archives}
+use Rattle.release_archive.specs.ArchivedReleases.{Archives}
 use Rattle.rulebook.specs.Campaign.{History}
 use Rattle.campaign_settings.specs.declared.settings.Settings.{Settings}
 use Rattle.campaign_cli.specs.declared.endings.Cause.TheVariants as cause
-use Rattle.campaign_cli.specs.ArchiveEnds.{Archiving, archive_kind, cause_of as archive_cause, cause_of_answer, kept_of, not_published, released, short as unarchived}
-use Rattle.campaign_cli.specs.BookEnds.{CanOpen, cause_of_fault}
+use Rattle.campaign_cli.specs.Ends.ArchiveEnds.{Archiving, archive_kind, cause_of as archive_cause, cause_of_answer, not_published, release_of_history, released, short as unarchived}
+use Rattle.campaign_cli.specs.Ends.BookEnds.{CanOpen, cause_of_fault}
 use Rattle.campaign_cli.specs.Causes.{Ending, silent}
-use Rattle.campaign_cli.specs.CompactEnds.{CompactWork, cause_of as compact_cause, compact_kind, left, packed, short as untold}
-use Rattle.campaign_cli.specs.DrillEnds.{DrillWay, cause_of as drill_cause, drill_kind, played, short as unplayed}
+use Rattle.campaign_cli.specs.Ends.CompactEnds.{CompactWork, cause_of as compact_cause, compact_kind, left, packed, short as untold}
+use Rattle.campaign_cli.specs.Ends.DrillEnds.{DrillWay, cause_of as drill_cause, drill_kind, played, short as unplayed}
 use Rattle.campaign_cli.specs.Endings.{Ends, kind_of, usage_kind}
-use Rattle.campaign_cli.specs.EvalEnds.{EvalWay, TellsBoth, cause_of as eval_cause, eval_kind, refused, scored, short, unread}
-use Rattle.campaign_cli.specs.Kinds.{Leaves, nothing}
-use Rattle.campaign_cli.specs.Outside.{Outside}
-use Rattle.campaign_cli.specs.ReportEnds.{CompareWay, ListingWay, compare_cause, compare_kind, compared, export_text, first_unknown, history_text, listed, listing_cause, listing_kind, second_unknown, short as unreported, short_of, unfound, unlisted}
+use Rattle.campaign_cli.specs.Ends.EvalEnds.{EvalWay, TellsBoth, cause_of as eval_cause, eval_kind, refused, scored, short, unread}
+use Rattle.campaign_cli.specs.Kinds.{Leaves, needs_nothing}
+use Rattle.campaign_cli.specs.Surroundings.Outside.{Outside}
+use Rattle.campaign_cli.specs.Ends.ReportEnds.{CompareWay, ListingWay, compare_cause, compare_kind, compared, export_text, first_unknown, history_text, listed, listing_cause, listing_kind, second_unknown, short as unreported, short_of, unfound, unlisted}
 use Rattle.campaign_cli.specs.Requests.{Request, Eval, Session, Serve, Drill, Show, Compact, Archive, RunHistory, Compare, Export, Nothing}
-use Rattle.campaign_cli.specs.ServeEnds.{Served, cause_of as server_cause, serve_kind}
-use Rattle.campaign_cli.specs.SessionEnds.{Holds, cause_of as session_cause, session_kind}
-use Rattle.campaign_cli.specs.ShownEnds.{ShownWork, cause_of as shown_cause, short as unshown, shown, shown_kind}
+use Rattle.campaign_cli.specs.Ends.ServeEnds.{Served, cause_of as server_cause, serve_kind}
+use Rattle.campaign_cli.specs.Ends.SessionEnds.{HoldsSession, cause_of as session_cause, session_kind}
+use Rattle.campaign_cli.specs.Ends.ShownEnds.{ShownWork, cause_of as shown_cause, short as unshown, shown, shown_kind}
 use Rattle.campaign_cli.specs.ShownTexts.{text_by}
-use Rattle.campaign_cli.specs.Shelves.{Gives}
+use Rattle.campaign_cli.specs.Surroundings.Shelves.{GivesFile}
 use Rattle.campaign_cli.specs.Statuses.{IsCalm, Statuses}
 use Rattle.campaign_cli.proofs.BookWays.{shows_book}
-use Rattle.campaign_cli.proofs.Told.{Shown, Shows, IsOrShort, shows_ways, statuses}
+use Rattle.campaign_cli.proofs.ToldCauses.{Shown, Shows, IsOrShort, shows_ways, statuses}
 use Rattle.campaign_cli.proofs.ToldDisks.{OpensStory, book_opens}
 use Rattle.campaign_cli.proofs.ToldFiles.{missed_rose, not_both_missed, told_both}
 
@@ -56,13 +56,13 @@ module _ {D : Type 0} (seen : D → DiskState) (old new : Outside D) where
       differs = λ calm book told way. cc book;
     }
       where
-        able : (r q line : List ℕ) → Gives old.shelf run r → Gives old.shelf qrels q → IsInputFault run qrels r q line
+        able : (r q line : List ℕ) → GivesFile old.shelf run r → GivesFile old.shelf qrels q → IsInputFault run qrels r q line
             → TellsBoth old.shelf run qrels (λ r q. (text : List ℕ) × IsReport run r q text) → ⊥
         able r q line first second fault can =
             let report = told_both old.shelf run qrels r q (λ r q. (text : List ℕ) × IsReport run r q text) can first second in
             exclusive run qrels r q report.0 line report.1 fault
 
-        ways : Leaves (record nothing { files = true }) old new → (way : EvalWay run qrels old.shelf new.shelf)
+        ways : Leaves (record needs_nothing { files = true }) old new → (way : EvalWay run qrels old.shelf new.shelf)
             → Shown seen (Eval run qrels) (eval_kind run qrels).can_do old new (eval_cause run qrels way)
         ways leaves (scored r q text first second report) = (tt, tt)
         ways leaves (refused r q line first second fault) = (refl, λ can calm. able r q line first second fault can)
@@ -72,7 +72,8 @@ module _ {D : Type 0} (seen : D → DiskState) (old new : Outside D) where
         )
         ways leaves short = (refl, tt)
 
-        refuses : IsCalm seen old new → TellsBoth old.shelf run qrels (λ r q. (line : List ℕ) × IsInputFault run qrels r q line) → (way : EvalWay run qrels old.shelf new.shelf)
+        refuses : IsCalm seen old new → TellsBoth old.shelf run qrels (λ r q. (line : List ℕ) × IsInputFault run qrels r q line)
+            → (way : EvalWay run qrels old.shelf new.shelf)
             → IsOrShort cause.Input (eval_cause run qrels way)
         refuses calm has (scored r q text first second report) =
             let fault = told_both old.shelf run qrels r q (λ r q. (line : List ℕ) × IsInputFault run qrels r q line) has first second in
@@ -83,9 +84,10 @@ module _ {D : Type 0} (seen : D → DiskState) (old new : Outside D) where
         refuses calm has short = inr refl
 
   session_shows : Shows seen Session (session_kind seen) old new
-  session_shows = shows_book seen Session old new _ _ _ _ (λ settings w. book_opens seen settings.rules old.disk w.opened w.opens) (λ settings w. by settings w w.how w.talk.ends)
+  session_shows = shows_book seen Session old new _ _ _ _ (λ settings w. book_opens seen settings.rules old.disk w.opened w.opens)
+      (λ settings w. by settings w w.how w.talk.ends)
     where
-      by : (settings : Settings) (w : Holds seen old.own new.own old.disk new.disk settings) (how : End)
+      by : (settings : Settings) (w : HoldsSession seen old.own new.own old.disk new.disk settings) (how : End)
           → EndsOn (IsSession seen settings.callers w.opened old.own.clock w.closed new.own.clock) w.talk.bytes old.own new.own how
           → Shown seen Session (CanOpen seen) old new (silent (session_cause how))
       by settings w end.Ended ends = (tt, tt)
@@ -98,9 +100,11 @@ module _ {D : Type 0} (seen : D → DiskState) (old new : Outside D) where
 
   serve_shows : (numbers : ServerNumbers) → Shows seen (Serve numbers) (serve_kind seen numbers) old new
   serve_shows numbers =
-      shows_book seen (Serve numbers) old new _ _ _ _ (λ settings w. book_opens seen settings.rules old.disk w.opened w.opens) (λ settings w. by w.how w.serves.fault)
+      shows_book seen (Serve numbers) old new _ _ _ _ (λ settings w. book_opens seen settings.rules old.disk w.opened w.opens)
+      (λ settings w. by w.how w.serves.fault)
     where
-      by : (how : ServeEnd) → (how ≡ serve_end.DoorFault → Rose old.door.faults new.door.faults) → Shown seen (Serve numbers) (CanOpen seen) old new (silent (server_cause how))
+      by : (how : ServeEnd) → (how ≡ serve_end.DoorFault → Rose old.door.faults new.door.faults)
+          → Shown seen (Serve numbers) (CanOpen seen) old new (silent (server_cause how))
       by serve_end.Ended fault = (tt, tt)
       by serve_end.DoorFault fault = ((refl, (numbers, refl), fault refl), tt)
       by serve_end.Memory fault = (refl, tt)
@@ -112,7 +116,8 @@ module _ {D : Type 0} (seen : D → DiskState) (old new : Outside D) where
       opens settings (shown book shows) = book_opens seen settings.rules old.disk book shows.opens
       opens settings (unshown book shows) = book_opens seen settings.rules old.disk book shows.opens
 
-      works : (settings : Settings) (work : ShownWork seen text_of old.disk new.disk settings) → Shown seen request (CanOpen seen) old new (shown_cause seen text_of settings work)
+      works : (settings : Settings) (work : ShownWork seen text_of old.disk new.disk settings)
+          → Shown seen request (CanOpen seen) old new (shown_cause seen text_of settings work)
       works settings (shown book shows) = (tt, tt)
       works settings (unshown book shows) = (refl, tt)
 
@@ -129,13 +134,15 @@ module _ {D : Type 0} (seen : D → DiskState) (old new : Outside D) where
       fails why (inl is) = subst (λ (f : BookFault). Shown seen Compact (CanOpen seen) old new (cause_of_fault f)) (sym is) (refl, tt)
       fails why (inr (is, rose)) = subst (λ (f : BookFault). Shown seen Compact (CanOpen seen) old new (cause_of_fault f)) (sym is) ((refl, rose), tt)
 
-      works : (settings : Settings) (work : CompactWork seen old.disk new.disk settings) → Shown seen Compact (CanOpen seen) old new (compact_cause seen settings work)
+      works : (settings : Settings) (work : CompactWork seen old.disk new.disk settings)
+          → Shown seen Compact (CanOpen seen) old new (compact_cause seen settings work)
       works settings (packed entries before size w) = (tt, tt)
       works settings (untold entries before size w) = (refl, tt)
       works settings (left why w) = fails why w.cause
 
   archive_shows : (name : List ℕ) → Shows seen (Archive name) (archive_kind seen name) old new
-  archive_shows name = shows_book seen (Archive name) old new _ _ _ _ (λ settings w. book_opens seen settings.rules old.disk w.book w.shows.opens) (λ settings w. by w.comes)
+  archive_shows name =
+      shows_book seen (Archive name) old new _ _ _ _ (λ settings w. book_opens seen settings.rules old.disk w.book w.shows.opens) (λ settings w. by w.comes)
     where
       put : (kept : Kept) (answer : Result Archived ArchiveEnd) → Archives old.keeper kept answer new.keeper
           → Shown seen (Archive name) (CanOpen seen) old new (cause_of_answer name answer)
@@ -150,7 +157,8 @@ module _ {D : Type 0} (seen : D → DiskState) (old new : Outside D) where
       by (unarchived same) = (refl, tt)
       by (not_published other same) = ((refl, (name, refl)), tt)
 
-  listing_shows : (request : Request) (text_of : List Kept → List ℕ) → (kind_of seen request).needs.archive ≡ true → Shows seen request (listing_kind text_of) old new
+  listing_shows : (request : Request) (text_of : List Kept → List ℕ) → (kind_of seen request).needs.archive ≡ true
+      → Shows seen request (listing_kind text_of) old new
   listing_shows request text_of asks = shows_ways seen request (listing_kind text_of) old new (λ none. none) refl (λ leaves way. ways way)
     where
       ways : (way : ListingWay text_of old.keeper new.keeper) → Shown seen request (λ old. Unit {0}) old new (listing_cause way)
@@ -190,5 +198,6 @@ module _ {D : Type 0} (seen : D → DiskState) (old new : Outside D) where
   shows_of exclusive Nothing = shows_ways seen Nothing usage_kind old new (λ none. none) refl (λ leaves way. ((refl, refl), λ can calm. can))
 
 -- what each status says, by what was asked
-pub by_status : {D : Type 0} (seen : D → DiskState) → AreExclusive → (request : Request) (old new : Outside D) (status : ℕ) → Ends seen request old new status → Statuses seen request old new status
+pub by_status : {D : Type 0} (seen : D → DiskState) → AreExclusive → (request : Request) (old new : Outside D) (status : ℕ)
+    → Ends seen request old new status → Statuses seen request old new status
 by_status seen exclusive request old new status ends = statuses seen request old new status (shows_of seen old new exclusive request) ends

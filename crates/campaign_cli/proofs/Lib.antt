@@ -5,7 +5,7 @@ pub mod CalmTalks
 pub mod CodeForms
 pub mod MemoryForms
 pub mod SoundReleases
-pub mod Told
+pub mod ToldCauses
 pub mod ToldDisks
 pub mod ToldFiles
-pub mod Ways
+pub mod CommandWays

@@ -6,11 +6,11 @@ use Rattle.std.specs.declared.alloc.Global.{Global}
 use Rattle.std.specs.declared.vec.Vec.{Vec}
 use Rattle.decimal_rank.specs.Causes.{Rose, HasCause}
 use Rattle.decimal_rank.specs.declared.failures.Failed.{Failed}
-use Rattle.campaign_cli.specs.declared.faults.ShelfFault.{ShelfFault}
-use Rattle.campaign_cli.specs.declared.faults.ShelfFault.TheVariants as fault
-use Rattle.decimal_rank.specs.FailurePlans.{count_more}
-use Rattle.campaign_cli.specs.Shelves.{Follows, MemoryShelfState, after_read, told_by as shelf_told}
-use Rattle.campaign_server.specs.MemoryWritten.{Written, after_write}
+use Rattle.campaign_cli.specs.declared.surroundings.faults.ShelfFault.{ShelfFault}
+use Rattle.campaign_cli.specs.declared.surroundings.faults.ShelfFault.TheVariants as fault
+use Rattle.decimal_rank.specs.Outputs.FailurePlans.{count_more}
+use Rattle.campaign_cli.specs.Surroundings.Shelves.{KeepsFiles, MemoryShelfState, after_file_read, told_by as shelf_told}
+use Rattle.campaign_server.specs.MemoryForms.MemoryWritten.{Written, after_write}
 
 pub count_more_rose : (n : ℕ) → Rose n (count_more n)
 count_more_rose n = grind arith
@@ -18,7 +18,7 @@ count_more_rose n = grind arith
 pub count_more_later : (n : ℕ) → n ≤ count_more n
 count_more_later n = grind arith
 
-pub follows_read : (old : MemoryShelfState) (result : Result (Vec ℕ Global) ShelfFault) → Follows (shelf_told old) (shelf_told (after_read old result))
+pub follows_read : (old : MemoryShelfState) (result : Result (Vec ℕ Global) ShelfFault) → KeepsFiles (shelf_told old) (shelf_told (after_file_read old result))
 follows_read old (Ok bytes) = record { files = refl; faults = omega arith; misses = omega arith }
 follows_read old (Err fault.Absent) = record { files = refl; faults = omega arith; misses = count_more_later old.misses }
 follows_read old (Err fault.Failed) = record { files = refl; faults = count_more_later old.faults; misses = omega arith }

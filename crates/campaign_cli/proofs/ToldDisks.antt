@@ -8,23 +8,23 @@ use Rattle.rulebook.specs.Campaign.{History, rules_of}
 use Rattle.rulebook.specs.Words.{Text}
 use Rattle.book.specs.declared.faults.BookFault.{BookFault}
 use Rattle.book.specs.declared.faults.BookFault.TheVariants as fault
-use Rattle.book.specs.Books.{Seen}
-use Rattle.book.specs.Openings.{DiffersFrom, Opened, OpensWith, Reads, Refused}
-use Rattle.book.specs.OpeningLaws.{opens_or_memory, opens_unbroken, story_unbroken}
+use Rattle.book.specs.Books.{BookView}
+use Rattle.book.specs.Opening.Openings.{DiffersFrom, Opened, OpensWith, ReadsPayloads, Refused}
+use Rattle.book.specs.Opening.OpeningLaws.{opens_or_memory, opens_unbroken, story_unbroken}
 use Rattle.book.specs.Stories.{BreaksAt}
 use Rattle.campaign_settings.specs.declared.settings.Settings.{Settings}
 use Rattle.campaign_settings.specs.Settings.{settings_of}
 use Rattle.campaign_cli.specs.declared.endings.Cause.TheVariants as cause
-use Rattle.campaign_cli.specs.BookEnds.{BookWay, CanOpen, TellsSettings, Unopened, cause_by_work, cause_of_fault, cause_of_none, missed, not_opened, not_told, refused, settings_file, short as no_memory, unopened, unset, worked}
+use Rattle.campaign_cli.specs.Ends.BookEnds.{BookWay, CanOpen, TellsSettings, Unopened, cause_by_work, cause_of_fault, cause_of_none, missed, not_opened, not_told, refused, settings_file, short as no_memory, unopened, unset, worked}
 use Rattle.campaign_cli.specs.Causes.{Ending, silent}
-use Rattle.campaign_cli.specs.Outside.{Outside}
-use Rattle.campaign_cli.specs.Shelves.{Gives}
+use Rattle.campaign_cli.specs.Surroundings.Outside.{Outside}
+use Rattle.campaign_cli.specs.Surroundings.Shelves.{GivesFile}
 use Rattle.campaign_cli.specs.Statuses.{IsCalm, IsDamaged, IsOfOthers, TellsDisk}
-use Rattle.campaign_cli.proofs.Told.{IsOrShort, TellsOthers}
+use Rattle.campaign_cli.proofs.ToldCauses.{IsOrShort, TellsOthers}
 use Rattle.campaign_cli.proofs.ToldFiles.{not_missed, told_settings}
 
 -- what was read of bytes that are told
-read_of : (told : Option (List ℕ)) (bytes : List ℕ) (payloads : List Text) → told ≡ Some bytes → Reads told payloads → decode bytes ≡ Some payloads
+read_of : (told : Option (List ℕ)) (bytes : List ℕ) (payloads : List Text) → told ≡ Some bytes → ReadsPayloads told payloads → decode bytes ≡ Some payloads
 read_of told bytes payloads tells reads = subst (λ (told : Option (List ℕ)). IfSome told (λ bytes. decode bytes ≡ Some payloads)) tells reads
 
 no_records : (told : Option (List ℕ)) (bytes : List ℕ) → told ≡ Some bytes → IfSome told (λ bytes. decode bytes ≡ None) → decode bytes ≡ None
@@ -36,7 +36,8 @@ same_records bytes first second one other =
     cc both
 
 -- bytes that give records whose entries don't break aren't damaged
-not_damaged : (rules : Rules) (bytes : List ℕ) (payloads : List Text) → decode bytes ≡ Some payloads → ((entry : ℕ) → BreaksAt payloads entry → ⊥) → IsDamaged rules bytes → ⊥
+not_damaged : (rules : Rules) (bytes : List ℕ) (payloads : List Text) → decode bytes ≡ Some payloads
+    → ((entry : ℕ) → BreaksAt payloads entry → ⊥) → IsDamaged rules bytes → ⊥
 not_damaged rules bytes payloads decodes whole (inl none) =
     let both : Some payloads ≡ None = sym decodes ∙ none in
     cc both
@@ -51,16 +52,16 @@ not_of_others rules (first ∷ others) K (some, (H, only, other)) opens = other 
 module _ {D : Type 0} (seen : D → DiskState) where
   -- the disk told records, and these entries are those of a campaign of the rules
   abbrev pub OpensStory : Rules → D → Type 0
-  OpensStory rules disk = (payloads : List Text) × (H : History) × Reads (seen disk).content payloads × OpensWith rules payloads H
+  OpensStory rules disk = (payloads : List Text) × (H : History) × ReadsPayloads (seen disk).content payloads × OpensWith rules payloads H
 
   -- so it is with an opened book
-  pub book_opens : (rules : Rules) (disk : D) (book : Seen D) → Opened seen rules disk book → OpensStory rules disk
+  pub book_opens : (rules : Rules) (disk : D) (book : BookView D) → Opened seen rules disk book → OpensStory rules disk
   book_opens rules disk book opens = (opens.payloads, book.history, opens.reads, opens.opens)
 
   module _ (old new : Outside D) (calm : IsCalm seen old new) where
     -- with settings that are told and accepted there is no campaign for want of memory, or since the disk isn't opened under them
     module _ (settings : Settings) (told : TellsSettings old.shelf (λ text. settings_of text ≡ Some settings)) where
-      one : (text : List ℕ) (found : Settings) → Gives old.shelf settings_file text → settings_of text ≡ Some found → found ≡ settings
+      one : (text : List ℕ) (found : Settings) → GivesFile old.shelf settings_file text → settings_of text ≡ Some found → found ≡ settings
       one text found gives is =
           let here = told_settings old.shelf text (λ bytes. settings_of bytes ≡ Some settings) told gives in
           cc (here, is)
@@ -93,7 +94,7 @@ module _ {D : Type 0} (seen : D → DiskState) where
       pub settings_told : TellsSettings old.shelf (λ bytes. settings_of bytes ≡ None) → (way : Way) → IsOrShort cause.Input (cause_by_work seen cause_of way)
       settings_told has way = by way
         where
-          not_read : (text : List ℕ) (settings : Settings) → Gives old.shelf settings_file text → settings_of text ≡ Some settings → ⊥
+          not_read : (text : List ℕ) (settings : Settings) → GivesFile old.shelf settings_file text → settings_of text ≡ Some settings → ⊥
           not_read text settings gives is =
               let both : None ≡ Some settings = sym (told_settings old.shelf text (λ bytes. settings_of bytes ≡ None) has gives) ∙ is in
               cc both

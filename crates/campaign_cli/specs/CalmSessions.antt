@@ -1,22 +1,22 @@
 -- What a session comes to in which no call on the outside failed.
 use Rattle.std.specs.Prelude.{◌≡◌, ◌≢◌, ◌⊎◌, ℕ, List, [], ◌∷◌, Some}
 use Rattle.disk_model.specs.Disks.{DiskState}
-use Rattle.book.specs.Books.{Seen}
-use Rattle.book.specs.Openings.{Opened}
+use Rattle.book.specs.Books.{BookView}
+use Rattle.book.specs.Opening.Openings.{Opened}
 use Rattle.routes.specs.declared.answers.Answered.TheVariants as answered
 use Rattle.campaign_server.specs.declared.ends.End.{End}
 use Rattle.campaign_server.specs.declared.ends.End.TheVariants as end
-use Rattle.campaign_server.specs.Chains.{Said}
-use Rattle.campaign_server.specs.Connections.{Ends}
+use Rattle.campaign_server.specs.Conversations.Chains.{Said}
+use Rattle.campaign_server.specs.Connections.{ConnectionEnds}
 use Rattle.campaign_server.specs.Sessions.{IsSession}
 use Rattle.campaign_settings.specs.declared.settings.Settings.{Settings}
 use Rattle.campaign_settings.specs.Settings.{settings_of}
-use Rattle.campaign_cli.specs.BookEnds.{CanOpen, settings_file}
-use Rattle.campaign_cli.specs.Causes.{number_of}
+use Rattle.campaign_cli.specs.Ends.BookEnds.{CanOpen, settings_file}
+use Rattle.campaign_cli.specs.Causes.{status_number}
 use Rattle.campaign_cli.specs.Kinds.{Finishes}
-use Rattle.campaign_cli.specs.Outside.{Outside}
-use Rattle.campaign_cli.specs.SessionEnds.{cause_of, session_kind}
-use Rattle.campaign_cli.specs.Shelves.{Gives}
+use Rattle.campaign_cli.specs.Surroundings.Outside.{Outside}
+use Rattle.campaign_cli.specs.Ends.SessionEnds.{cause_of, session_kind}
+use Rattle.campaign_cli.specs.Surroundings.Shelves.{GivesFile}
 use Rattle.campaign_cli.specs.Statuses.{IsCalm}
 
 -- no answer tells a fault of the disk
@@ -35,22 +35,24 @@ IsCalmEnd end.Memory = Unit {0}
 IsCalmEnd end.Worn = Unit {0}
 
 module _ {D : Type 0} (seen : D → DiskState) where
-  -- The campaign of the settings was opened, and each whole request up to the end was answered by the rules, by its own fault or by want of memory: by no fault of the disk.
-  pub record IsAnswered (old new : Outside D) (status : ℕ) : Type 0 where
+  -- The campaign of the settings was opened, and each whole request up to the end was answered by the rules, by its own
+  -- fault or by want of memory: by no fault of the disk.
+  pub record IsCalmlyAnswered (old new : Outside D) (status : ℕ) : Type 0 where
     pub text : List ℕ
     pub settings : Settings
-    pub given : Gives old.shelf settings_file text
+    pub given : GivesFile old.shelf settings_file text
     pub read : settings_of text ≡ Some settings
-    pub opened : Seen D
-    pub closed : Seen D
+    pub opened : BookView D
+    pub closed : BookView D
     pub opens : Opened seen settings.rules old.disk opened
     pub how : End
     pub calm : IsCalmEnd how
-    pub status_is : status ≡ number_of (cause_of how)
-    pub talk : Ends (λ said. IsSession seen settings.callers opened old.own.clock closed new.own.clock said × HasNoDiskFault said) old.own new.own how
+    pub status_is : status ≡ status_number (cause_of how)
+    pub talk : ConnectionEnds (λ said. IsSession seen settings.callers opened old.own.clock closed new.own.clock said × HasNoDiskFault said) old.own new.own how
 
-  -- With its files and its disk told and within their grammars, and no count risen, the requests of a session are answered, or memory was short before the first one was read.
+  -- With its files and its disk told and within their grammars, and no count risen, the requests of a session are
+  -- answered, or memory was short before the first one was read.
   abbrev pub CalmSessionsAreAnswered : Type 0
   CalmSessionsAreAnswered = (old new : Outside D) (status : ℕ) → Finishes (session_kind seen) old new status
       → CanOpen seen old → IsCalm seen old new
-      → ((status ≡ 7) × (new.own ≡ old.own)) ⊎ IsAnswered old new status
+      → ((status ≡ 7) × (new.own ≡ old.own)) ⊎ IsCalmlyAnswered old new status

@@ -2,32 +2,32 @@
 use Rattle.std.specs.Prelude.{◌≡◌, ◌≤◌, ◌⊎◌, ℕ, List, Option, Some, None}
 use Rattle.std.specs.Io.KnownBytes.{Appends}
 use Rattle.decimal_rank.specs.Causes.{Rose}
-use Rattle.decimal_rank.specs.KnownBytes.{AppendsPart}
-use Rattle.decimal_rank.specs.Writings.{Writing}
+use Rattle.decimal_rank.specs.Outputs.KnownBytes.{AppendsPart}
+use Rattle.decimal_rank.specs.Outputs.Writings.{Writing}
 use Rattle.campaign_cli.specs.declared.endings.Cause.{Cause}
 use Rattle.campaign_cli.specs.declared.endings.Cause.TheVariants.{Done, Usage, Input, File, Disk, Door, Memory, Output, Damaged, Link, Cut, Keeper, Unpublished, Differs, Unknown}
 use Rattle.campaign_cli.specs.declared.endings.Outcome.{Outcome}
 use Rattle.campaign_cli.specs.declared.endings.Outcome.TheVariants as outcome
-use Rattle.campaign_cli.specs.Outside.{Misses}
-use Rattle.campaign_cli.specs.Shelves.{ShelfState}
+use Rattle.campaign_cli.specs.Surroundings.Outside.{MissesFile}
+use Rattle.campaign_cli.specs.Surroundings.Shelves.{ShelfState}
 
 -- the status of each cause
-abbrev pub number_of : Cause → ℕ
-number_of Done = 0
-number_of Usage = 2
-number_of Input = 3
-number_of File = 4
-number_of Disk = 5
-number_of Door = 6
-number_of Memory = 7
-number_of Output = 8
-number_of Damaged = 9
-number_of Link = 10
-number_of Cut = 11
-number_of Keeper = 12
-number_of Unpublished = 13
-number_of Differs = 14
-number_of Unknown = 15
+abbrev pub status_number : Cause → ℕ
+status_number Done = 0
+status_number Usage = 2
+status_number Input = 3
+status_number File = 4
+status_number Disk = 5
+status_number Door = 6
+status_number Memory = 7
+status_number Output = 8
+status_number Damaged = 9
+status_number Link = 10
+status_number Cut = 11
+status_number Keeper = 12
+status_number Unpublished = 13
+status_number Differs = 14
+status_number Unknown = 15
 
 -- what a command comes to: a cause, and the text that is printed for it, where there is one
 pub record Ending : Type 0 where
@@ -57,7 +57,7 @@ SaysOrShort cause text ending = (ending ≡ says cause text) ⊎ (ending ≡ sil
 
 -- the file wasn't read, or there was no memory for its bytes
 abbrev pub IsUnread : ShelfState → ShelfState → List ℕ → Cause → Type 0
-IsUnread old new name cause = ((cause ≡ File) × Misses old new name) ⊎ (cause ≡ Memory)
+IsUnread old new name cause = ((cause ≡ File) × MissesFile old new name) ⊎ (cause ≡ Memory)
 
 -- The text was written whole and the program ends with the status, or a write failed, a part of it was written, and the program ends with 8.
 pub record Prints (old new : Writing) (text : List ℕ) (status ended : ℕ) : Type 0 where
@@ -70,5 +70,5 @@ abbrev pub PrintsIf : Option (List ℕ) → Writing → Writing → ℕ → ℕ 
 PrintsIf None old new status ended = (new ≡ old) × (ended ≡ status)
 PrintsIf (Some text) old new status ended = Prints old new text status ended
 
-abbrev pub Tells : Ending → Writing → Writing → ℕ → Type 0
-Tells ending old new ended = PrintsIf ending.text old new (number_of ending.cause) ended
+abbrev pub TellsEnding : Ending → Writing → Writing → ℕ → Type 0
+TellsEnding ending old new ended = PrintsIf ending.text old new (status_number ending.cause) ended

@@ -2,18 +2,18 @@
 use Rattle.std.specs.Prelude.{ℕ}
 use Rattle.disk_model.specs.Disks.{DiskState}
 use Rattle.campaign_cli.specs.declared.endings.Cause.TheVariants.{Usage}
-use Rattle.campaign_cli.specs.ArchiveEnds.{archive_kind}
+use Rattle.campaign_cli.specs.Ends.ArchiveEnds.{archive_kind}
 use Rattle.campaign_cli.specs.Causes.{says}
-use Rattle.campaign_cli.specs.CompactEnds.{compact_kind}
-use Rattle.campaign_cli.specs.DrillEnds.{drill_kind}
-use Rattle.campaign_cli.specs.EvalEnds.{eval_kind}
-use Rattle.campaign_cli.specs.Kinds.{Finishes, Kind, nothing}
-use Rattle.campaign_cli.specs.Outside.{Outside}
-use Rattle.campaign_cli.specs.ReportEnds.{compare_kind, export_text, history_text, listing_kind}
+use Rattle.campaign_cli.specs.Ends.CompactEnds.{compact_kind}
+use Rattle.campaign_cli.specs.Ends.DrillEnds.{drill_kind}
+use Rattle.campaign_cli.specs.Ends.EvalEnds.{eval_kind}
+use Rattle.campaign_cli.specs.Kinds.{Finishes, Kind, needs_nothing}
+use Rattle.campaign_cli.specs.Surroundings.Outside.{Outside}
+use Rattle.campaign_cli.specs.Ends.ReportEnds.{compare_kind, export_text, history_text, listing_kind}
 use Rattle.campaign_cli.specs.Requests.{Request, Eval, Session, Serve, Drill, Show, Compact, Archive, RunHistory, Compare, Export, Nothing, usage_line}
-use Rattle.campaign_cli.specs.ServeEnds.{serve_kind}
-use Rattle.campaign_cli.specs.SessionEnds.{session_kind}
-use Rattle.campaign_cli.specs.ShownEnds.{shown_kind}
+use Rattle.campaign_cli.specs.Ends.ServeEnds.{serve_kind}
+use Rattle.campaign_cli.specs.Ends.SessionEnds.{session_kind}
+use Rattle.campaign_cli.specs.Ends.ShownEnds.{shown_kind}
 use Rattle.campaign_cli.specs.ShownTexts.{text_by}
 
 -- where the words are no command the usage line is printed
@@ -21,7 +21,7 @@ abbrev pub usage_kind : {D : Type 0} → Kind D
 usage_kind = record {
   Way = λ old new. Unit {0};
   cause_of = λ old new way. says Usage usage_line;
-  needs = nothing;
+  needs = needs_nothing;
   can_do = λ old. ⊥;
   has_to_refuse = λ old. ⊥;
 }

@@ -2,9 +2,9 @@
 use Rattle.std.specs.Prelude.{◌≡◌, ◌≤◌, ℕ, Bool, true, false}
 use Rattle.release_archive.specs.Keepers.{KeeperState}
 use Rattle.campaign_cli.specs.declared.endings.Cause.TheVariants.{Memory}
-use Rattle.campaign_cli.specs.Causes.{Ending, Tells, number_of}
-use Rattle.campaign_cli.specs.Outside.{Outside}
-use Rattle.campaign_cli.specs.Shelves.{Follows, ShelfState}
+use Rattle.campaign_cli.specs.Causes.{Ending, TellsEnding, status_number}
+use Rattle.campaign_cli.specs.Surroundings.Outside.{Outside}
+use Rattle.campaign_cli.specs.Surroundings.Shelves.{KeepsFiles, ShelfState}
 
 -- what a command uses beside the output: files, the own link, the links of a door, the archive of releases, which it may ask or add one to, and the disk
 pub record Needs : Type 0 where
@@ -15,21 +15,21 @@ pub record Needs : Type 0 where
   pub adding : Bool
   pub book : Bool
 
-abbrev pub nothing : Needs
-nothing = record { files = false; own = false; door = false; archive = false; adding = false; book = false }
+abbrev pub needs_nothing : Needs
+needs_nothing = record { files = false; own = false; door = false; archive = false; adding = false; book = false }
 
 -- a command that keeps a campaign uses the file of its settings and the disk
 abbrev pub a_book : Needs
-a_book = record nothing { files = true; book = true }
+a_book = record needs_nothing { files = true; book = true }
 
 -- what isn't needed is as it was
-abbrev pub Stays : {T : Type 0} → Bool → T → T → Type 0
-Stays true old new = Unit {0}
-Stays false old new = new ≡ old
+abbrev pub StaysUnlessNeeded : {T : Type 0} → Bool → T → T → Type 0
+StaysUnlessNeeded true old new = Unit {0}
+StaysUnlessNeeded false old new = new ≡ old
 
 -- the files stay, and no count of the shelf falls
 abbrev pub LeavesFiles : Bool → ShelfState → ShelfState → Type 0
-LeavesFiles true old new = Follows old new
+LeavesFiles true old new = KeepsFiles old new
 LeavesFiles false old new = new ≡ old
 
 -- who asks the archive, and doesn't add to it, leaves its releases; no count of its keeper falls
@@ -40,10 +40,10 @@ LeavesArchive false adding old new = new ≡ old
 
 pub record Leaves {D : Type 0} (needs : Needs) (old new : Outside D) : Type 0 where
   pub files : LeavesFiles needs.files old.shelf new.shelf
-  pub own : Stays needs.own old.own new.own
-  pub door : Stays needs.door old.door new.door
+  pub own : StaysUnlessNeeded needs.own old.own new.own
+  pub door : StaysUnlessNeeded needs.door old.door new.door
   pub archive : LeavesArchive needs.archive needs.adding old.keeper new.keeper
-  pub disk : Stays needs.book old.disk new.disk
+  pub disk : StaysUnlessNeeded needs.book old.disk new.disk
 
 pub record Kind (D : Type 0) : Type 1 where
   -- the ways in which it ends; the outside was as the first, and is as the second
@@ -58,7 +58,7 @@ pub record Kind (D : Type 0) : Type 1 where
 
 module _ {D : Type 0} (kind : Kind D) (old new : Outside D) where
   -- A command ended in one of its ways, and left what it doesn't need.
-  pub record Ended (ending : Ending) : Type 0 where
+  pub record CommandEnded (ending : Ending) : Type 0 where
     pub way : kind.Way old new
     pub told : ending ≡ kind.cause_of old new way
     pub leaves : Leaves kind.needs old new
@@ -66,6 +66,6 @@ module _ {D : Type 0} (kind : Kind D) (old new : Outside D) where
   -- how the program ends
   pub data Finishes (status : ℕ) : Type 0 where
     -- there was no memory to read the words: all is as it was
-    unread : new ≡ old → status ≡ number_of Memory → Finishes status
+    unread : new ≡ old → status ≡ status_number Memory → Finishes status
     -- the command ended, and what that has to tell is printed
-    ended : (ending : Ending) → Ended ending → Tells ending old.out new.out status → Finishes status
+    ended : (ending : Ending) → CommandEnded ending → TellsEnding ending old.out new.out status → Finishes status

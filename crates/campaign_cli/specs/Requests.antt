@@ -2,14 +2,14 @@
 use Rattle.std.specs.Prelude.{ℕ, ◌≤◌, List, [], ◌∷◌, Option, Some, None, String, string_bytes, map, codes, bytes_eq, IsTrue, ◌&&◌, if◌then◌else◌}
 use Rattle.std.specs.Option.{option_map_or}
 use Rattle.std.specs.declared.alloc.Global.{Global}
-use Rattle.command_words.specs.Numbers.{number_in}
+use Rattle.command_words.specs.Numbers.{number_in_word}
 use Rattle.command_words.specs.Words.{Form, given_by}
 use Rattle.campaign_server.specs.declared.numbers.ServerNumbers.{ServerNumbers}
 use Rattle.drill.specs.Figures.{are_numbers}
 use Rattle.trec_formats.specs.Names.{is_name}
 use Rattle.drill.specs.declared.numbers.DrillNumbers.{DrillNumbers}
-use Rattle.campaign_cli.specs.declared.displays.Display.{Display}
-use Rattle.campaign_cli.specs.declared.displays.Display.TheVariants.{Check, Reuse, Agreement}
+use Rattle.campaign_cli.specs.declared.commands.displays.Display.{Display}
+use Rattle.campaign_cli.specs.declared.commands.displays.Display.TheVariants.{Check, Reuse, Agreement}
 use Rattle.campaign_cli.specs.declared.words.Command.{Command}
 use Rattle.campaign_cli.specs.declared.words.Command.TheVariants as command
 
@@ -58,7 +58,7 @@ serve_at (Some port) None connections = Nothing
 serve_at None workers connections = Nothing
 
 abbrev pub serve_of : List (List ℕ) → Request
-serve_of (port ∷ workers ∷ connections ∷ []) = serve_at (number_in 1 65535 port) (number_in 1 16 workers) (number_in 1 4294967295 connections)
+serve_of (port ∷ workers ∷ connections ∷ []) = serve_at (number_in_word 1 65535 port) (number_in_word 1 16 workers) (number_in_word 1 4294967295 connections)
 serve_of values = Nothing
 
 -- a campaign is generated from numbers within their ranges
@@ -66,7 +66,7 @@ abbrev pub drill_by : DrillNumbers → Request
 drill_by numbers = if are_numbers numbers then Drill numbers else Nothing
 
 abbrev pub any_number : List ℕ → Option ℕ
-any_number word = number_in 0 4294967295 word
+any_number word = number_in_word 0 4294967295 word
 
 -- how many runs, topics and documents
 abbrev pub Sizes : Type 0
@@ -103,9 +103,9 @@ archive_of values = Nothing
 abbrev pub history_by : List ℕ → Request
 history_by run = if is_name run then RunHistory run else Nothing
 
-abbrev pub history_of : List (List ℕ) → Request
-history_of (run ∷ []) = history_by run
-history_of values = Nothing
+abbrev pub history_request : List (List ℕ) → Request
+history_request (run ∷ []) = history_by run
+history_request values = Nothing
 
 abbrev pub compare_by : List ℕ → List ℕ → Request
 compare_by first second = if is_name first && is_name second then Compare first second else Nothing
@@ -115,15 +115,15 @@ compare_of (first ∷ second ∷ []) = compare_by first second
 compare_of values = Nothing
 
 -- the request of a command, by its name and its values in the order of its form
-abbrev pub request_at : List ℕ × List (List ℕ) → Request
-request_at found = if bytes_eq found.0 (codes "eval") then eval_of found.1
+abbrev pub request_by_name : List ℕ × List (List ℕ) → Request
+request_by_name found = if bytes_eq found.0 (codes "eval") then eval_of found.1
     else (if bytes_eq found.0 (codes "session") then Session
     else (if bytes_eq found.0 (codes "serve") then serve_of found.1
     else (if bytes_eq found.0 (codes "drill") then drill_of found.1
     else (if bytes_eq found.0 (codes "check") then Show Check
     else (if bytes_eq found.0 (codes "compact") then Compact
     else (if bytes_eq found.0 (codes "archive") then archive_of found.1
-    else (if bytes_eq found.0 (codes "history") then history_of found.1
+    else (if bytes_eq found.0 (codes "history") then history_request found.1
     else (if bytes_eq found.0 (codes "compare") then compare_of found.1
     else (if bytes_eq found.0 (codes "export") then Export
     else (if bytes_eq found.0 (codes "reuse") then Show Reuse
@@ -131,11 +131,11 @@ request_at found = if bytes_eq found.0 (codes "eval") then eval_of found.1
 
 -- the request that words give by the forms
 abbrev pub request_of : List (List ℕ) → Request
-request_of words = option_map_or request_at (given_by forms words) Nothing
+request_of words = option_map_or request_by_name (given_by forms words) Nothing
 
 -- the request that the words after the program's name are
-abbrev pub asked : List (String Global) → Request
-asked words = request_of (map string_bytes words)
+abbrev pub request_of_words : List (String Global) → Request
+request_of_words words = request_of (map string_bytes words)
 
 -- what a command of the program stands for
 abbrev pub meant : Command → Request
@@ -168,4 +168,5 @@ IsInRange command.Usage = Unit {0}
 -- what is printed where the words are no command
 abbrev pub usage_line : List ℕ
 usage_line =
-    codes "usage: campaign eval RUN QRELS | session | serve --port P --workers W --connections N | drill SEED RUNS TOPICS DOCS | check | compact | archive NAME | history RUN | compare A B | export | reuse | agreement\n"
+    codes
+    "usage: campaign eval RUN QRELS | session | serve --port P --workers W --connections N | drill SEED RUNS TOPICS DOCS | check | compact | archive NAME | history RUN | compare A B | export | reuse | agreement\n"

@@ -9,9 +9,9 @@ use Rattle.measures.specs.ScoreLines.{four_decimals}
 use Rattle.rulebook.specs.declared.rules.Phase.{Phase}
 use Rattle.rulebook.specs.declared.rules.Phase.TheVariants.{Collecting, Judging, Published}
 use Rattle.rulebook.specs.Campaign.{History, phase}
-use Rattle.rulebook.specs.Scores.{table_page}
-use Rattle.campaign_cli.specs.declared.displays.Display.{Display}
-use Rattle.campaign_cli.specs.declared.displays.Display.TheVariants as display
+use Rattle.rulebook.specs.Reports.Scores.{table_page}
+use Rattle.campaign_cli.specs.declared.commands.displays.Display.{Display}
+use Rattle.campaign_cli.specs.declared.commands.displays.Display.TheVariants as display
 
 abbrev pub phase_word : Phase → List ℕ
 phase_word Collecting = codes "collecting"
@@ -34,7 +34,8 @@ reuse_text H = flat_map reuse_line (reuse H)
 -- a topic: how many documents have two labels, how many of these are equal, and of how many both are relevant, or at least one
 abbrev pub agreed_line : Agreed → List ℕ
 agreed_line row =
-    row.topic ++ codes " " ++ decimal row.pairs ++ codes " " ++ decimal row.equal ++ codes " " ++ decimal row.both ++ codes " " ++ decimal row.either ++ codes "\n"
+    row.topic ++ codes " " ++ decimal row.pairs ++ codes " " ++ decimal row.equal ++ codes " "
+    ++ decimal row.both ++ codes " " ++ decimal row.either ++ codes "\n"
 
 -- the topics whose documents need two labels, by id
 abbrev pub agreement_text : History → List ℕ

@@ -2,10 +2,10 @@
 use Rattle.std.specs.Prelude.{◌≡◌, ◌≤◌, ◌⊎◌, ℕ, true, List, Option, Some, None, IsTrue, is_some}
 use Rattle.std.specs.Io.KnownBytes.{Appends}
 use Rattle.decimal_rank.specs.Causes.{Rose}
-use Rattle.decimal_rank.specs.KnownBytes.{AppendsPart}
-use Rattle.decimal_rank.specs.Writings.{Writing}
+use Rattle.decimal_rank.specs.Outputs.KnownBytes.{AppendsPart}
+use Rattle.decimal_rank.specs.Outputs.Writings.{Writing}
 use Rattle.disk_model.specs.Disks.{DiskState}
-use Rattle.book.specs.Openings.{DiffersFrom}
+use Rattle.book.specs.Opening.Openings.{DiffersFrom}
 use Rattle.book.specs.Stories.{BreaksAt}
 use Rattle.journal.specs.Format.{decode}
 use Rattle.rulebook.specs.declared.rules.Rules.{Rules}
@@ -15,15 +15,15 @@ use Rattle.campaign_settings.specs.declared.settings.Settings.{Settings}
 use Rattle.campaign_settings.specs.Settings.{settings_of}
 use Rattle.campaign_cli.specs.declared.endings.Cause.{Cause}
 use Rattle.campaign_cli.specs.declared.endings.Cause.TheVariants.{Done, Usage, Input, File, Disk, Door, Memory, Output, Damaged, Link, Cut, Keeper, Unpublished, Differs, Unknown}
-use Rattle.campaign_cli.specs.ArchiveEnds.{differs_line, unpublished_line}
-use Rattle.campaign_cli.specs.BookEnds.{TellsSettings, entry_line, header_line, rules_line}
-use Rattle.campaign_cli.specs.Causes.{Ending, number_of}
+use Rattle.campaign_cli.specs.Ends.ArchiveEnds.{differs_line, unpublished_line}
+use Rattle.campaign_cli.specs.Ends.BookEnds.{TellsSettings, entry_line, header_line, rules_line}
+use Rattle.campaign_cli.specs.Causes.{Ending, status_number}
 use Rattle.campaign_cli.specs.Endings.{kind_of}
 use Rattle.campaign_cli.specs.Kinds.{Leaves}
-use Rattle.campaign_cli.specs.Outside.{Outside}
-use Rattle.campaign_cli.specs.ReportEnds.{unknown_line}
+use Rattle.campaign_cli.specs.Surroundings.Outside.{Outside}
+use Rattle.campaign_cli.specs.Ends.ReportEnds.{no_release_line}
 use Rattle.campaign_cli.specs.Requests.{Request, Archive, Compare, Serve, Session, Nothing, usage_line}
-use Rattle.campaign_cli.specs.Shelves.{Follows}
+use Rattle.campaign_cli.specs.Surroundings.Shelves.{KeepsFiles}
 
 -- the text, if there is one, was written whole
 abbrev pub PrintsAll : Option (List ℕ) → Writing → Writing → Type 0
@@ -47,7 +47,8 @@ IsDamaged rules bytes = (decode bytes ≡ None) ⊎ ((payloads : List Text) × (
 abbrev pub IsOfOthers : Rules → List ℕ → Type 0
 IsOfOthers rules bytes = (payloads : List Text) × (decode bytes ≡ Some payloads) × DiffersFrom rules payloads
 
--- with these causes a command ends that could do its work, where no call failed: that is done, or memory was short; a session may be cut, and a command on the archive may find something else
+-- with these causes a command ends that could do its work, where no call failed: that is done, or memory was short; a
+-- session may be cut, and a command on the archive may find something else
 abbrev pub IsComplete : Cause → Type 0
 IsComplete Done = Unit {0}
 IsComplete Usage = ⊥
@@ -83,7 +84,7 @@ module _ {D : Type 0} (seen : D → DiskState) where
   Means Unpublished text request old new = (text ≡ Some unpublished_line) × ((name : List ℕ) × (request ≡ Archive name))
   Means Differs text request old new = (text ≡ Some differs_line) × ((name : List ℕ) × (request ≡ Archive name))
   Means Unknown text request old new =
-      (first : List ℕ) × (second : List ℕ) × (request ≡ Compare first second) × ((text ≡ Some (unknown_line first)) ⊎ (text ≡ Some (unknown_line second)))
+      (first : List ℕ) × (second : List ℕ) × (request ≡ Compare first second) × ((text ≡ Some (no_release_line first)) ⊎ (text ≡ Some (no_release_line second)))
 
   -- The command ended in one of its ways, whose cause is so. It is the cause, and its text was printed whole; or a write of that failed.
   pub record Says (cause : Cause) (request : Request) (old new : Outside D) : Type 0 where
@@ -118,18 +119,18 @@ module _ {D : Type 0} (seen : D → DiskState) where
   -- what a status says of what was asked
   pub record Statuses (request : Request) (old new : Outside D) (status : ℕ) : Type 0 where
     -- the status is that of a cause
-    pub known : (cause : Cause) × (status ≡ number_of cause)
+    pub known : (cause : Cause) × (status ≡ status_number cause)
     -- the cause by its number is so; or there was no memory to read the words, and all is as it was
-    pub says : (cause : Cause) → status ≡ number_of cause → Says cause request old new ⊎ ((cause ≡ Memory) × (new ≡ old))
+    pub says : (cause : Cause) → status ≡ status_number cause → Says cause request old new ⊎ ((cause ≡ Memory) × (new ≡ old))
     -- with its files there and within their grammars, so with its disk, and no count risen, the work is done or memory is short; a session may be cut
-    pub complete : (kind_of seen request).can_do old → IsCalm old new → (cause : Cause) × (status ≡ number_of cause) × IsComplete cause
+    pub complete : (kind_of seen request).can_do old → IsCalm old new → (cause : Cause) × (status ≡ status_number cause) × IsComplete cause
     -- with its files there, one outside its grammar, and no count risen, that is told or memory is short
     pub refused : (kind_of seen request).has_to_refuse old → IsCalm old new → (status ≡ 3) ⊎ (status ≡ 7)
     -- with its settings told and accepted, a damaged disk, and no count risen, that is told or memory is short; and so with another campaign's
     pub damaged : HasDamage request old → IsCalm old new → (status ≡ 9) ⊎ (status ≡ 7)
     pub differs : HasOtherRules request old → IsCalm old new → ((status ≡ 3) × Appends old.out.written new.out.written rules_line) ⊎ (status ≡ 7)
     -- the files stay, and no count of the shelf, the output or the archive's keeper falls
-    pub shelf : Follows old.shelf new.shelf
+    pub shelf : KeepsFiles old.shelf new.shelf
     pub write_faults : old.out.faults ≤ new.out.faults
     pub keeper_faults : old.keeper.faults ≤ new.keeper.faults
     -- what the words don't need is as it was

@@ -20,7 +20,8 @@ pub(crate) enum Cause {
     Unknown,
 }
 
-/// What a command comes to: its cause, and what is printed for it, a line of the program's or a text that was made.
+/// What a command comes to: its cause, and what is printed for it, a line of the program's or a
+/// text that was made.
 #[derive(Drop)]
 pub(crate) enum Outcome {
     Silent(Cause),

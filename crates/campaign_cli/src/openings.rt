@@ -1,15 +1,15 @@
 //! The campaign of the settings, as the disk holds it.
 ghost use Rattle.std.specs.Prelude.{◌≡◌, IfErr, IfOk, IsTrue};
-ghost use Rattle.book.specs.Openings.{Opened, Refused};
+ghost use Rattle.book.specs.Opening.Openings.{Opened, Refused};
 ghost use Rattle.rulebook.specs.Spelling.{are_rules};
-ghost use Rattle.campaign_cli.specs.BookEnds.{IsGiven, IsOpened, IsToldOf, NoSettings, Unopened, cause_of_none, cause_without_settings, entry_line};
+ghost use Rattle.campaign_cli.specs.Ends.BookEnds.{IsGiven, IsOpened, IsToldOf, NoSettings, Unopened, cause_of_none, cause_without_settings, entry_line};
 ghost use Rattle.campaign_cli.specs.Causes.{IsWay, ending_of};
-ghost use Rattle.campaign_cli.specs.Shelves.{Follows};
+ghost use Rattle.campaign_cli.specs.Surroundings.Shelves.{KeepsFiles};
 
 use crate::endings::{Cause, Outcome};
 use crate::printing::add_count;
 use crate::readings::read;
-use crate::shelves::Shelf;
+use crate::surroundings::shelves::Shelf;
 use book::{Book, BookFault, Disk};
 use campaign_settings::{Settings, SettingsEnd, read_settings};
 use decimal_rank::Memory;
@@ -38,7 +38,7 @@ pub(crate) fn open_book<F: Shelf, D: Disk>(
     ensures unopened { IfErr result (λ given.
         IsWay (Unopened D.seen (F.seen shelf.old) (F.seen shelf.new) disk given.1)
         (cause_of_none D.seen) (ending_of given.0)) }
-    ensures follows { Follows (F.seen shelf.old) (F.seen shelf.new) }
+    ensures follows { KeepsFiles (F.seen shelf.old) (F.seen shelf.new) }
 {
     match own_settings(alloc, shelf) {
         Ok(settings) => open_settings(alloc, settings, disk),
@@ -53,7 +53,7 @@ pub(crate) fn own_settings<F: Shelf>(alloc: Global, shelf: &mut F) -> Result<Set
     ensures none { IfErr result (λ outcome.
         IsWay (NoSettings (F.seen shelf.old) (F.seen shelf.new))
         cause_without_settings (ending_of outcome)) }
-    ensures follows { Follows (F.seen shelf.old) (F.seen shelf.new) }
+    ensures follows { KeepsFiles (F.seen shelf.old) (F.seen shelf.new) }
 {
     let text = match read(alloc, shelf, SETTINGS_FILE) {
         Ok(text) => text,

@@ -2,10 +2,10 @@
 ghost use Rattle.std.specs.Prelude.{◌≡◌, ◌&&◌, IfOk, IsTrue};
 ghost use Rattle.rulebook.specs.declared.reply.Reply.TheVariants.{Page as PageReply};
 ghost use Rattle.rulebook.specs.declared.rules.Role.TheVariants.{Organiser};
-ghost use Rattle.rulebook.specs.Legal.{is_named};
-ghost use Rattle.rulebook.specs.Roles.{may_see};
+ghost use Rattle.rulebook.specs.Histories.Legal.{is_named};
+ghost use Rattle.rulebook.specs.Requests.Roles.{may_see};
 ghost use Rattle.rulebook.specs.Words.{Text as PageText};
-ghost use Rattle.campaign_cli.specs.Pages.{IsPage};
+ghost use Rattle.campaign_cli.specs.Pages.{IsPageOf};
 
 use book::{Book, Disk};
 use decimal_rank::{Memory, Text};
@@ -22,10 +22,10 @@ pub(crate) fn page_of<D: Disk>(
     query: Query,
 ) -> Result<Text, Memory>
     requires asked { IsTrue (may_see Organiser query && is_named query) }
-    requires paged { (page : PageText) × IsPage book.old.history query page }
+    requires paged { (page : PageText) × IsPageOf book.old.history query page }
     ensures same { book.new ≡ book.old }
     ensures page { IfOk result
-        (λ text. (page : PageText) → IsPage book.old.history query page → text ≡ page) }
+        (λ text. (page : PageText) → IsPageOf book.old.history query page → text ≡ page) }
 {
     let name = Text::from_slice(alloc, ASKER)?;
     let who = Caller {

@@ -1,7 +1,7 @@
 //! What is printed: what a command comes to, with the status behind it, and lines.
 ghost use Rattle.std.specs.Prelude.{◌≡◌, ◌++◌, IfOk, OnOk, decimal};
-ghost use Rattle.campaign_cli.specs.Causes.{Prints, Tells, ending_of, number_of};
-ghost use Rattle.campaign_cli.specs.Outside.{count_line, name_line};
+ghost use Rattle.campaign_cli.specs.Causes.{Prints, TellsEnding, ending_of, status_number};
+ghost use Rattle.campaign_cli.specs.Surroundings.Outside.{name_line, word_line};
 
 use crate::endings::{Cause, Outcome};
 use crate::statuses::Status;
@@ -11,7 +11,7 @@ use std::alloc::Global;
 
 /// Prints what a command comes to, and gives the status behind it, or 8 where a write fails.
 pub(crate) fn tell<O: Sink>(out: &mut O, outcome: Outcome) -> Status
-    ensures { Tells (ending_of outcome) (O.writing out.old) (O.writing out.new) result.0 }
+    ensures { TellsEnding (ending_of outcome) (O.writing out.old) (O.writing out.new) result.0 }
 {
     match outcome {
         Outcome::Silent(cause) => status_of(cause),
@@ -31,7 +31,7 @@ fn print<O: Sink>(out: &mut O, text: &[u8], status: Status) -> Status
 
 /// The status of a cause.
 pub(crate) fn status_of(cause: Cause) -> Status
-    ensures { result.0 ≡ number_of cause }
+    ensures { result.0 ≡ status_number cause }
 {
     Status(match cause {
         Cause::Done => 0,
@@ -65,7 +65,7 @@ pub(crate) fn name_line(alloc: Global, word: &[u8], name: &[u8]) -> Result<Vec<u
 
 /// Adds a line with a number behind a word.
 pub(crate) fn add_count(word: &[u8], count: u64, text: &mut Vec<u8>) -> Result<(), Memory>
-    ensures { OnOk result (text.new.items ≡ text.old.items ++ count_line word.now count) }
+    ensures { OnOk result (text.new.items ≡ text.old.items ++ word_line word.now count) }
 {
     add_number(word, count, text)?;
     text.extend_from_slice(b"\n")?;

@@ -1,26 +1,27 @@
-//! The program's top call: the words are read as a command, which is run over the shelf, the sink, the link, the disk,
-//! the door and the archive that it is given, and the status to end with is told.
+//! The program's top call: the words are read as a command, which is run over the shelf, the sink,
+//! the link, the disk, the door and the archive that it is given, and the status to end with is
+//! told.
 ghost use Rattle.campaign_server.specs.Doors.{IsShut};
-ghost use Rattle.decimal_rank.specs.Writings.{Writing};
+ghost use Rattle.decimal_rank.specs.Outputs.Writings.{Writing};
 ghost use Rattle.campaign_cli.specs.Causes.{ending_of};
 ghost use Rattle.campaign_cli.specs.Endings.{Ends, kind_of};
-ghost use Rattle.campaign_cli.specs.Kinds.{Ended};
-ghost use Rattle.campaign_cli.specs.Outside.{AreSame, outside_behind, outside_of};
-ghost use Rattle.campaign_cli.specs.Requests.{IsInRange, asked, meant};
+ghost use Rattle.campaign_cli.specs.Kinds.{CommandEnded};
+ghost use Rattle.campaign_cli.specs.Surroundings.Outside.{AreSame, outside_behind, outside_of};
+ghost use Rattle.campaign_cli.specs.Requests.{IsInRange, meant, request_of_words};
 
-use crate::archives::archive_campaign;
-use crate::compactions::compact_campaign;
-use crate::devices::Devices;
-use crate::displays::show_campaign;
-use crate::drills::run_drill;
+use crate::commands::archives::archive_campaign;
+use crate::commands::compactions::compact_campaign;
+use crate::commands::displays::show_campaign;
+use crate::commands::drills::run_drill;
+use crate::commands::evaluations::score_files;
+use crate::commands::reports::{compare_releases, export_releases, tell_history};
+use crate::commands::servers::run_server;
+use crate::commands::sessions::hold_session;
 use crate::endings::{Cause, Outcome};
-use crate::evaluations::score_files;
 use crate::printing::{status_of, tell};
-use crate::reports::{compare_releases, export_releases, tell_history};
-use crate::servers::run_server;
-use crate::sessions::hold_session;
-use crate::shelves::Shelf;
 use crate::statuses::Status;
+use crate::surroundings::devices::Devices;
+use crate::surroundings::shelves::Shelf;
 use crate::words::{Command, USAGE_LINE, read_words};
 use book::Disk;
 use campaign_server::{Door, Link};
@@ -31,9 +32,10 @@ use std::sync::Wait;
 use std::thread::Threads;
 
 /// Runs the program with the words after its name: reads files from the shelf, writes to the sink,
-/// answers its own link or the links of a door that isn't open yet, keeps a campaign on the disk, which it
-/// gives back, puts its release into the archive of the keeper or reports on that, and tells the status to end with.
-/// What each status says is the law `each_status_says`. It may wait for `serve` alone.
+/// answers its own link or the links of a door that isn't open yet, keeps a campaign on the disk,
+/// which it gives back, puts its release into the archive of the keeper or reports on that, and
+/// tells the status to end with. What each status says is the law `each_status_says`. It may wait
+/// for `serve` alone.
 pub fn campaign<
     W: Threads + Wait + Sync,
     F: Shelf,
@@ -54,7 +56,7 @@ pub fn campaign<
     keeper: &mut K,
 ) -> (Status, D)
     requires { IsShut (R.seen door.old) }
-    ensures { Ends D.seen (asked words.now)
+    ensures { Ends D.seen (request_of_words words.now)
         (outside_of (F.seen shelf.old) (O.writing out.old) (I.seen own.old)
         (R.seen door.old) (K.seen keeper.old) disk)
         (outside_of (F.seen shelf.new) (O.writing out.new) (I.seen own.new)
@@ -118,7 +120,7 @@ fn run<W: Threads + Wait + Sync, F: Shelf, I: Link, D: Disk + Send, R: Door, K: 
     requires in_range { IsInRange command }
     requires shut { IsShut (R.seen devices.old.door.now) }
     ensures same { AreSame devices.old devices.new }
-    ensures ends { (before after : Writing) → Ended (kind_of D.seen (meant command.entry))
+    ensures ends { (before after : Writing) → CommandEnded (kind_of D.seen (meant command.entry))
         (outside_behind F.seen I.seen R.seen K.seen devices.old before disk)
         (outside_behind F.seen I.seen R.seen K.seen devices.new after result.1)
         (ending_of result.0) }

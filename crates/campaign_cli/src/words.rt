@@ -1,9 +1,9 @@
 //! The commands of the program, and the words of a call as one of them.
 ghost use Rattle.std.specs.Prelude.{◌≡◌, ◌≤◌, IfOk, IfSome, map};
 ghost use Rattle.command_words.specs.Words.{view_of};
-ghost use Rattle.campaign_cli.specs.Requests.{IsInRange, all_three, archive_by, archive_of, asked, compare_by, compare_of, drill_at, drill_by, drill_of, eval_of, history_by, history_of, meant, request_at, serve_at, serve_of, three_numbers};
+ghost use Rattle.campaign_cli.specs.Requests.{IsInRange, all_three, archive_by, archive_of, compare_by, compare_of, drill_at, drill_by, drill_of, eval_of, history_by, history_request, meant, request_by_name, request_of_words, serve_at, serve_of, three_numbers};
 
-use crate::displays::Display;
+use crate::commands::displays::Display;
 use campaign_server::ServerNumbers;
 use command_words::{CommandForm, CommandWords, number_in, read_command};
 use decimal_rank::Memory;
@@ -33,10 +33,10 @@ pub const USAGE_LINE: &[u8] =
 
 /// A command of the program. `Eval` scores the run in one file against the qrels in another, by the
 /// files' names. `Session` answers the messages of one connection. `Serve` answers those of so many
-/// connections to a port, by so many workers. `Drill` plays a campaign that is generated from numbers.
-/// `Show` opens the campaign of the folder, and tells a text of it. `Compact` packs its journal. `Archive` puts its
-/// release into the archive under a name. `RunHistory` tells a run in each release of the archive, `Compare` how two of
-/// them agree, and `Export` all their systems.
+/// connections to a port, by so many workers. `Drill` plays a campaign that is generated from
+/// numbers. `Show` opens the campaign of the folder, and tells a text of it. `Compact` packs its
+/// journal. `Archive` puts its release into the archive under a name. `RunHistory` tells a run in
+/// each release of the archive, `Compare` how two of them agree, and `Export` all their systems.
 #[derive(Clone, Copy, Debug, PartialEq, Eq)]
 pub enum Command<'a> {
     Eval { run: &'a [u8], qrels: &'a [u8] },
@@ -54,7 +54,7 @@ pub enum Command<'a> {
 
 /// The command that the words after the program's name are.
 pub fn read_words<'a>(alloc: Global, words: &'a [String]) -> Result<Command<'a>, Memory>
-    ensures asked { IfOk result (λ command. asked words.now ≡ meant command) }
+    ensures asked { IfOk result (λ command. request_of_words words.now ≡ meant command) }
     ensures in_range { IfOk result (λ command. IsInRange command) }
 {
     match read_command(alloc, &FORMS, words)? {
@@ -65,7 +65,7 @@ pub fn read_words<'a>(alloc: Global, words: &'a [String]) -> Result<Command<'a>,
 
 /// The command of a name and its values, which stand in the order of its form.
 fn command_of<'a>(found: &CommandWords<'a>) -> Command<'a>
-    ensures meant { meant result ≡ request_at (view_of found.now) }
+    ensures meant { meant result ≡ request_by_name (view_of found.now) }
     ensures in_range { IsInRange result }
 {
     if found.name == "eval" {
@@ -228,7 +228,7 @@ fn archive_by<'a>(name: &'a [u8]) -> Command<'a>
 }
 
 fn history_of<'a>(values: &[&'a str]) -> Command<'a>
-    ensures meant { meant result ≡ history_of (map (λ value. value.now) values.now) }
+    ensures meant { meant result ≡ history_request (map (λ value. value.now) values.now) }
     ensures in_range { IsInRange result }
 {
     match values {

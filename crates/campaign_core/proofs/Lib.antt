@@ -1,6 +1,6 @@
 pub mod Entries
-pub mod Judging
+pub mod NamedDocuments
 pub mod Lists
 pub mod Numbers
-pub mod Printed
+pub mod PageTexts
 pub mod Rulings

@@ -2,6 +2,8 @@
 pub mod AcceptedCommands
 pub mod AcceptedEntries
 pub mod CollectingRulings
+pub mod KeptTopics
 pub mod LabelRulings
 pub mod LeaseRulings
 pub mod RunRulings
+pub mod TestOrder

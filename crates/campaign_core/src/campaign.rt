@@ -1,25 +1,31 @@
-//! A campaign: its history, and what is known of it by numbers. An accepted entry has room made for its
-//! change first, and joins the history with its change then.
-ghost use Rattle.std.specs.Prelude.{◌≡◌, ◌+◌, ◌≤◌, ◌++◌, ◌∷◌, [], IfOk, IsTrue, List, None, OnErr, OnOk, is_some, map, true, ℕ};
-ghost use Rattle.std.specs.List.{list_any, position};
+//! A campaign: its history, and what is known of it by numbers. An accepted entry has room made for
+//! its change first, and joins the history with its change then.
+ghost use Rattle.std.specs.Prelude.{◌≡◌, ◌+◌, ◌≤◌, ◌++◌, ◌∷◌, ◌↔◌, [], IfOk, IsTrue, List, None, OnErr, OnOk, Some, map, true, ℕ};
+ghost use Rattle.std.specs.List.{list_any};
 ghost use Rattle.std.specs.Str.{bytes_eq};
 ghost use Rattle.assessment.specs.Changes.{Fits, facts};
-ghost use Rattle.assessment.specs.TopicFacts.{facts_of};
 ghost use Rattle.assessment.specs.TopicsFacts.{new_topics};
+ghost use Rattle.depth_pool.specs.declared.runs.RunId.{RunId};
+ghost use Rattle.rulebook.specs.declared.entry.Entry.{Entry};
 ghost use Rattle.rulebook.specs.Answers.{moment_after, unknown_line};
-ghost use Rattle.rulebook.specs.Campaign.{has_topics, opens, publishes, rules_of, title, topics as topics_of, topics_in};
-ghost use Rattle.rulebook.specs.Legal.{founding};
+ghost use Rattle.rulebook.specs.Campaign.{has_topics, opens, publishes, rules_of, title, topics as topics_of};
+ghost use Rattle.rulebook.specs.Histories.Legal.{founding};
 ghost use Rattle.rulebook.specs.Spelling.{are_rules};
-ghost use Rattle.campaign_core.specs.Changes.{phase_after};
-ghost use Rattle.campaign_core.specs.Costs.{commit_steps};
-ghost use Rattle.campaign_core.specs.Decisions.{IsNumberFor};
-ghost use Rattle.campaign_core.specs.Kept.{AwaitsChange, IsKnown, IsReady, IsUnchanged};
-ghost use Rattle.campaign_core.specs.Leasing.{topic_in};
-ghost use Rattle.campaign_core.specs.Topics.{topic_ids};
+ghost use Rattle.campaign_core.specs.Commands.Changes.{phase_after};
+ghost use Rattle.campaign_core.specs.Commands.Costs.{commit_steps};
+ghost use Rattle.campaign_core.specs.Commands.Decisions.{IsNumberFor};
+ghost use Rattle.campaign_core.specs.CampaignStates.{AwaitsChange, IsKnown, IsReady, IsUnchanged};
+ghost use Rattle.campaign_core.specs.Assessments.DeskLeases.{topic_in};
+ghost use Rattle.campaign_core.specs.Numbering.Submissions.{IsWithdrawnBy};
+ghost use Rattle.campaign_core.specs.Assessments.Topics.{topic_ids};
 
-use crate::submissions::{Submission, line_count, lists_of, note_live, note_run};
-use crate::topics::topic_number;
-use assessment::{Assessment, Change, Topic};
+pub(crate) mod docnos;
+pub(crate) mod submissions;
+pub(crate) mod topics;
+
+use crate::campaign::submissions::{Submission, line_count, lists_of, note_run};
+use crate::campaign::topics::topic_number;
+use assessment::{AssessedTopic, Assessment, Change};
 use decimal_rank::{Memory, Steps};
 use depth_pool::{RunId, greatest_run_goes_last};
 use labels::{marks_follow_labels, marks_follow_rulings};
@@ -155,14 +161,15 @@ impl Campaign {
     }
 
     /// The topics by number, from 0.
-    pub(crate) fn topics(&self) -> &[Topic]
+    pub(crate) fn topics(&self) -> &[AssessedTopic]
         ensures { result.now ≡ self.now.assessment.topics.topics }
     {
         self.assessment.topics().items()
     }
 
-    /// Where a lease is asked for: leads on, past documents that the assessor isn't given any more, where the
-    /// next one is looked for, and gives the number of its topic, from 0. Nothing that is known changes.
+    /// Where a lease is asked for: leads on, past documents that the assessor isn't given any more,
+    /// where the next one is looked for, and gives the number of its topic, from 0. Nothing that is
+    /// known changes.
     pub(crate) fn lead_fronts(&mut self, core: &EntryCore) -> Result<Option<usize>, Memory>
         ensures unchanged { self.new ≡ self.old }
         ensures number { IfOk result (IsNumberFor self.old core.now.command) }
@@ -178,7 +185,8 @@ impl Campaign {
         Ok(Some(number))
     }
 
-    /// Makes room for a change, for the entry that it carries out, and for a run. The change is then pending.
+    /// Makes room for a change, for the entry that it carries out, and for a run. The change is
+    /// then pending.
     pub(crate) fn reserve(&mut self, change: Change) -> Result<(), Memory>
         requires fits { Fits change (facts self.old.assessment) }
         requires idle { self.old.assessment.pending ≡ None }
@@ -192,21 +200,29 @@ impl Campaign {
         self.assessment.reserve(change)
     }
 
-    /// Adds an entry for which there is room, and makes its change. A step is a node of a tree, an entry of a ranked
-    /// list that is read, or a look into a pool.
+    /// Adds an entry for which there is room, and makes its change. A step is a node of a tree, an
+    /// entry of a ranked list that is read, or a look into a pool.
     pub(crate) fn commit<L: Ledger>(&mut self, entry: Entry, steps: &mut Steps<L>)
         requires known { IsKnown self.old }
         requires ready { IsReady self.old entry }
         ensures history { self.new.history.items ≡ self.old.history.items ++ entry ∷ [] }
         ensures known { IsKnown self.new }
         ensures idle { self.new.assessment.pending ≡ None }
-        ensures on_board { (facts self.new.assessment).on_board ≡ (facts self.old.assessment).on_board }
-        ensures cost { steps.new ≤ steps.old + commit_steps self.old.history.items entry.core.command }
+        ensures on_board { (facts self.new.assessment).on_board
+            ≡ (facts self.old.assessment).on_board }
+        ensures cost { steps.new
+            ≤ steps.old + commit_steps self.old.history.items entry.core.command }
     {
+        let withdrawn = self.withdrawn();
         self.phase = phase_after(&entry.core.command, self.phase);
         self.lines += line_count(lists_of(&entry.core.command));
-        note_live(&self.history, &self.submissions, &mut self.live, &entry);
-        note_run(&self.history, &mut self.submissions, &entry);
+        note_run(
+            &self.history,
+            &mut self.submissions,
+            &mut self.live,
+            &entry,
+            withdrawn,
+        );
         self.history.push_reserved(entry);
         // a run of the greatest number stands last in a pool, an entry changes the grades of one
         // document at most, and a lease has its place's number, and an end where an entry ended it
@@ -220,6 +236,26 @@ impl Campaign {
         ends_are_there();
         self.assessment.commit(steps);
     }
+
+    /// The run that is withdrawn by the entry whose change is pending.
+    fn withdrawn(&self) -> Option<RunId>
+        ensures { (e : Entry) → IsReady self.now e → IsWithdrawnBy self.now.history.items e result }
+    {
+        match self.assessment.pending() {
+            Some(change) => withdrawn_by(change),
+            None => None,
+        }
+    }
+}
+
+/// The run that a change withdraws.
+fn withdrawn_by(change: &Change) -> Option<RunId>
+    ensures { (run : RunId) → (result ≡ Some run) ↔ (change.now ≡ Change.Withdraw run) }
+{
+    let Change::Withdraw(run) = change else {
+        return None;
+    };
+    Some(*run)
 }
 
 /// The campaign's topics as they were given: none before it has them.
@@ -245,17 +281,23 @@ fn has_topic(topics: &[GivenTopic], id: &[u8]) -> bool
 fn phase_after(command: &Command, phase: Phase) -> Phase
     ensures { result ≡ phase_after command.now phase }
 {
-    match command {
-        Command::Open => Phase::Judging,
-        Command::Publish => Phase::Published,
-        Command::Found { .. }
-        | Command::Topics { .. }
-        | Command::Submit { .. }
-        | Command::Lease { .. }
-        | Command::Grade { .. }
-        | Command::Release { .. }
-        | Command::Amend { .. }
-        | Command::Rule { .. }
-        | Command::Withdraw { .. } => phase,
+    if publishes(command) {
+        return Phase::Published;
     }
+    if opens(command) {
+        return Phase::Judging;
+    }
+    phase
+}
+
+fn publishes(command: &Command) -> bool
+    ensures { result ≡ publishes command.now }
+{
+    matches!(command, Command::Publish)
+}
+
+fn opens(command: &Command) -> bool
+    ensures { result ≡ opens command.now }
+{
+    matches!(command, Command::Open)
 }

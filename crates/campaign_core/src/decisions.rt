@@ -1,5 +1,5 @@
-//! What a command comes to, decided once, by reading alone: the first refusal that holds, or the reply with the
-//! change that carries the entry out. A file a command.
+//! What a command comes to, decided once, by reading alone: the first refusal that holds, or the
+//! reply with the change that carries the entry out. A file a command.
 //!
 //! # A lease, and its grade
 //!
@@ -13,8 +13,8 @@
 //! is `Change::Grade`, for which the topic's labels, grades and queue have room, and the commit
 //! `Topics::mark` and `Desk::end`.
 ghost use Rattle.std.specs.Prelude.{◌≡◌, IfOk};
-ghost use Rattle.rulebook.specs.Refusals.{is_phase};
-ghost use Rattle.campaign_core.specs.Decisions.{IsAskedWith, IsDecision, IsNumberFor, KeepsLimits};
+ghost use Rattle.rulebook.specs.Requests.Refusals.{is_phase};
+ghost use Rattle.campaign_core.specs.Commands.Decisions.{IsAskedWith, IsDecision, IsNumberFor, KeepsLimits};
 ghost use Rattle.campaign_core.specs.Growth.{BeginsWith};
 
 mod amend;
@@ -53,8 +53,9 @@ pub(crate) enum Decision {
     Accepted(Reply, Change),
 }
 
-/// What a command comes to, by the number of the topic on which a lease is asked for. The docnos of a run that is
-/// accepted are added to those of the history; others may be added where it is refused.
+/// What a command comes to, by the number of the topic on which a lease is asked for. The docnos of
+/// a run that is accepted are added to those of the history; others may be added where it is
+/// refused.
 pub(crate) fn decide(
     alloc: Global,
     campaign: &Campaign,
@@ -65,7 +66,8 @@ pub(crate) fn decide(
     requires asked { IsAskedWith campaign.now docnos.old core.now core.now.command }
     requires topic { IsNumberFor campaign.now core.now.command topic }
     ensures decision { IfOk result (IsDecision campaign.now docnos.new core.now) }
-    ensures limits { IfOk result (KeepsLimits campaign.now.history.items docnos.new core.now.command) }
+    ensures limits { IfOk result
+        (KeepsLimits campaign.now.history.items docnos.new core.now.command) }
     ensures grown { BeginsWith docnos.old docnos.new }
 {
     match &core.command {

@@ -1,30 +1,56 @@
 //! The state of a campaign: the list of accepted entries, from which each request is answered.
 //!
+//! - `state`: what `prepare` and `commit` promise (`specs/State.antt`). `state::preparations`: the
+//!   kept reply, or the entry that is prepared; `state::verdict`: what comes of it.
+//! - `decisions`: what a command comes to, with its refusals, a file a command in `src/decisions`;
+//!   what that has to be: `specs/Commands/Decisions.antt`. `selection`: the named document.
+//! - `campaign`: what is kept, and how an entry joins it (`IsKnown` in
+//!   `specs/CampaignStates.antt`). Which change carries an entry out:
+//!   `specs/Commands/Changes.antt`; the steps of a commit: `specs/Commands/Costs.antt`.
+//! - What the assessment has to do with the history: `IsAssessmentOf` in
+//!   `specs/CampaignStates.antt`; of topics `specs/Assessments/Topics.antt`, of leases
+//!   `specs/Assessments/DeskLeases.antt`, of labels `specs/Assessments/TopicLabelling.antt`, of the
+//!   runs' lists `specs/Assessments/RunScores.antt`.
+//! - `queries`: what is told to a question. Its pages: `pages` (topic by topic), `pages::pools`,
+//!   `pages::score_pages`; `tallies`: how the judgements and the runs stand
+//!   (`specs/Views/Tallies.antt`).
+//! - By number: `campaign::topics`; `campaign::docnos`, the documents of a run;
+//!   `campaign::submissions`, the runs by the places of their entries, and which were withdrawn
+//!   (`specs/Numbering/Submissions.antt`); `state::request_numbers`
+//!   (`specs/Numbering/NumberedRequests.antt`).
+//! - `replays`: the entries of a journal, entered again (`specs/Commands/Replays.antt`).
+//! - `systems`: the live runs as a release has them. `lendings`: what a state lends of its topics
+//!   and runs (`specs/Views/Lendings.antt`), in the words of the rules by `laws`.
+//! - Proofs by idea: `proofs/Rulings` (the tests of the rules), `proofs/Entries` (what one more
+//!   entry makes of all this, `Commits.antt` first), `proofs/NamedDocuments`, `proofs/Numbers`,
+//!   `proofs/PageTexts`, `proofs/Lists`.
+//!
 //! # The way of a command
 //!
-//!     decide    decisions.rt   an arm a command                       reads only; Submit alone adds docnos
+//!     decide    decisions.rt   an arm a command; reads only, but that Submit adds docnos
 //!                 decisions/lease.rt, grade.rt, ..
-//!                   Refused(refusal)          the first refusal that holds: told, and nothing below is done
+//!                   Refused(refusal)          the first refusal that holds; nothing below is done
 //!                   Accepted(reply, change)   the reply, and what the entry changes
-//!     reserve   campaign.rt    room for the entry and its change      nothing that is known changes
-//!     commit    campaign.rt    the entry joins, the change is made    no memory, no refusal
+//!     reserve   campaign.rt    room for the entry and its change; nothing that is known changes
+//!     commit    campaign.rt    the entry joins, the change is made; no memory, no refusal
 //!     cancel    state.rt       the change is dropped, its room given back
 //!
 //! Each command is decided once, in a file of its own: what is looked up for its refusals (the
 //! topic's number, the lease, the document) is what its change is made of. The decision promises
-//! that it is what the rules say, `ruled` in `rulebook/specs/Answers.antt`, and that the change
-//! carries the entry out (`CarriesOut` in `campaign_core/specs/Changes.antt`). `Campaign::reserve`
-//! makes room, and `Campaign::commit` adds the entry and has the assessment make the change. Docnos
-//! and numbers that a refused or dropped request added are cut off before the next request.
+//! that it is what the rules say, `command_outcome` in `rulebook/specs/Answers.antt`, and that the
+//! change carries the entry out (`CarriesOut` in `campaign_core/specs/Commands/Changes.antt`).
+//! `Campaign::reserve` makes room, and `Campaign::commit` adds the entry and has the assessment
+//! make the change. Docnos and numbers that a refused or dropped request added are cut off before
+//! the next request.
 //!
 //! A `Campaign` is the history, the phase, one `Assessment`, the places of the entries that submit
 //! runs, the count of their lines, and the numbers of the live runs. One relation, `IsKnown` in
-//! `campaign_core/specs/Kept.antt`, says that all of it is what the history says; the state
-//! (`state.rt`) keeps it, with the docnos by number and the numbers of requests. `carried-out` in
-//! `campaign_core/proofs/Entries/Commits.antt` proves for each change that what the assessment
-//! knows is again what the history says, whichever command brought it. A question is answered from
-//! what is kept (`queries.rt`): a pool by `pools.rt`, a page topic by topic by `pages.rt`, scores
-//! by `score_pages.rt`.
+//! `campaign_core/specs/CampaignStates.antt`, says that all of it is what the history says; the
+//! state (`state.rt`) keeps it, with the docnos by number and the numbers of requests.
+//! `carried-out` in `campaign_core/proofs/Entries/Commits.antt` proves for each change that what
+//! the assessment knows is again what the history says, whichever command brought it. A question is
+//! answered from what is kept (`queries.rt`): a pool by `pools.rt`, a page topic by topic by
+//! `pages.rt`, scores by `score_pages.rt`.
 //!
 //! # What a lease costs
 //!
@@ -68,34 +94,26 @@
 //! need two, and sorts those whose labels differ. Progress takes a few look-ups for each topic: the
 //! pool and the view keep their counts, and the desk walks the live leases on the topic. The ids of
 //! at most 250 topics are sorted for each page. Scores and Table find the runs by the places of
-//! their entries, at most 256, and never go through the history; what each cell costs `score_index` says.
+//! their entries, at most 256, and never go through the history; what each cell costs `score_index`
+//! says.
 #![tactic(auto)]
 
 mod campaign;
 mod decisions;
-mod docnos;
 mod laws;
 mod lendings;
 mod pages;
-mod pools;
-mod preparations;
 mod queries;
 mod replays;
-mod request_numbers;
-mod score_pages;
 mod selection;
 mod state;
-mod submissions;
 mod systems;
 mod tallies;
-mod texts;
-mod topics;
-mod verdict;
 
 pub use laws::{
     boards_score_by_the_rules, cells_by_numbers, holders_by_numbers, queues_are_in_the_rules_order,
 };
 pub use replays::Replay;
 pub use state::State;
+pub use state::verdict::{Prepared, Verdict};
 pub use tallies::Tally;
-pub use verdict::{Prepared, Verdict};

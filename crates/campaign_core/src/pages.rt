@@ -1,17 +1,21 @@
 //! Pages that are printed topic by topic.
-ghost use Rattle.std.specs.Prelude.{◌≡◌, ◌≤◌, ◌++◌, ℕ, List, IfOk, IsTrue, OnOk, codes, decimal, length, map};
+ghost use Rattle.std.specs.Prelude.{◌≡◌, ◌<◌, ◌≤◌, ◌++◌, [], ℕ, List, IfOk, OnOk, codes, decimal, get_or, length, map};
 ghost use Rattle.assessment.specs.TopicFacts.{facts_of};
 ghost use Rattle.rulebook.specs.Campaign.{History};
 ghost use Rattle.rulebook.specs.declared.reply.Reply.TheVariants as reply;
-ghost use Rattle.rulebook.specs.Words.{contains_text};
-ghost use Rattle.rulebook.specs.Pages.{counts_line, disagreement_line, disagreement_lines, live_count, progress_line};
-ghost use Rattle.campaign_core.specs.Kept.{KnowsAll};
-ghost use Rattle.campaign_core.specs.Numbers.{names_of};
-ghost use Rattle.campaign_core.specs.Printed.{IsTopicOf, page_text, part_of};
+ghost use Rattle.rulebook.specs.Reports.Pages.{counts_line, disagreement_line, disagreement_lines, live_count, progress_line};
+ghost use Rattle.campaign_core.specs.CampaignStates.{KnowsAll};
+ghost use Rattle.campaign_core.specs.Numbering.Numbers.{names_of};
+ghost use Rattle.campaign_core.specs.Views.PrintedPages.{IsTopicOf, page_text, part_of};
+ghost use Rattle.campaign_core.specs.Assessments.Topics.{topic_ids};
 
-use crate::texts::{docnos_of, ids_of, in_order};
-use crate::topics::topic_number;
-use assessment::Topic;
+pub(crate) mod pools;
+pub(crate) mod score_pages;
+mod texts;
+
+use crate::campaign::topics::numbers_by_id;
+use crate::pages::texts::{docnos_of, in_order};
+use assessment::AssessedTopic;
 use decimal_rank::{Memory, Names, Text};
 use itoa::Buffer;
 use lease_desk::Desk;
@@ -30,55 +34,65 @@ pub(crate) enum Page {
     Progress,
 }
 
-/// A page at a moment: the topics stand by id. The orders, by the numbers of the topics, are those in which the last
-/// pages left the documents with a grade.
+/// What pages are printed from: the topics with their documents, and the leases at a moment.
+#[derive(Drop)]
+pub(crate) struct PageSource<'a> {
+    pub(crate) topics: &'a [AssessedTopic],
+    pub(crate) docnos: &'a Names,
+    pub(crate) desk: &'a Desk,
+    pub(crate) moment: u64,
+}
+
+/// A page: the topics stand by id. The orders, by the numbers of the topics, are those in which the
+/// last pages left the documents with a grade.
 pub(crate) fn page_reply(
     alloc: Global,
     page: Page,
-    topics: &[Topic],
-    docnos: &Names,
-    desk: &Desk,
-    now: u64,
+    source: &PageSource,
     orders: &mut Vec<DocnoOrder>,
 ) -> Result<Reply, Memory>
-    requires knows { (H : History) × KnowsAll H (map facts_of topics.now) desk.now.leases × (docnos.now ≡ names_of H) }
-    ensures { (H : History) → KnowsAll H (map facts_of topics.now) desk.now.leases → docnos.now ≡ names_of H
-        → IfOk result (λ told. told ≡ reply.Page (page_text page H now)) }
+    requires knows { let from = source.now in
+        (H : History) × KnowsAll H (map facts_of from.topics.now) from.desk.now.leases
+        × (from.docnos.now ≡ names_of H) }
+    ensures { let from = source.now in
+        (H : History) → KnowsAll H (map facts_of from.topics.now) from.desk.now.leases
+        → from.docnos.now ≡ names_of H
+        → IfOk result (λ told. told ≡ reply.Page (page_text page H from.moment)) }
 {
     let mut out = Vec::new(alloc);
-    for id in &in_order(ids_of(alloc, topics)?) {
-        write_topic(alloc, page, topics, docnos, desk, now, id, orders, &mut out)?;
+    for number in &numbers_by_id(alloc, source.topics)? {
+        write_topic(page, source, *number, orders, &mut out)?;
     }
     Ok(Reply::Page {
         text: Text::new(out),
     })
 }
 
-/// Appends what a page shows of the topic of this id.
+/// Appends what a page shows of the topic of this number.
 fn write_topic(
-    alloc: Global,
     page: Page,
-    topics: &[Topic],
-    docnos: &Names,
-    desk: &Desk,
-    now: u64,
-    id: &[u8],
+    source: &PageSource,
+    number: usize,
     orders: &mut Vec<DocnoOrder>,
     out: &mut Vec<u8>,
 ) -> Result<(), Memory>
-    requires knows { (H : History) × KnowsAll H (map facts_of topics.now) desk.now.leases × (docnos.now ≡ names_of H) }
-    requires listed { IsTrue (contains_text (map (λ topic. topic.id) (map facts_of topics.now)) id.now) }
-    ensures { (H : History) → KnowsAll H (map facts_of topics.now) desk.now.leases → docnos.now ≡ names_of H
-        → OnOk result (out.new.items ≡ out.old.items ++ part_of page H now id.now) }
+    requires knows { let from = source.now in
+        (H : History) × KnowsAll H (map facts_of from.topics.now) from.desk.now.leases
+        × (from.docnos.now ≡ names_of H) }
+    requires within { number < length source.now.topics.now }
+    ensures { let from = source.now in
+        (H : History) → KnowsAll H (map facts_of from.topics.now) from.desk.now.leases
+        → from.docnos.now ≡ names_of H
+        → OnOk result (out.new.items
+        ≡ out.old.items ++ part_of page H from.moment (get_or (topic_ids H) number [])) }
 {
-    let number = topic_number(topics, id).unwrap();
-    let live = desk.live_on_topic(number as u16, now);
+    let topics = source.topics;
+    let live = source.desk.live_on_topic(number as u16, source.moment);
     reach(orders, topics.len())?;
     write_part(
-        alloc,
         page,
         &topics[number],
-        docnos,
+        source.docnos,
         live,
         &mut orders[number],
         out,
@@ -98,31 +112,30 @@ fn reach(orders: &mut Vec<DocnoOrder>, topics: usize) -> Result<(), Memory>
 
 /// Appends what a page shows of a topic, on which so many leases are live.
 fn write_part(
-    alloc: Global,
     page: Page,
-    topic: &Topic,
+    topic: &AssessedTopic,
     docnos: &Names,
     live: u32,
     order: &mut DocnoOrder,
     out: &mut Vec<u8>,
 ) -> Result<(), Memory>
     requires knows { (H : History) × IsTopicOf H docnos.now topic.now.facts }
-    ensures { (H : History) (now : ℕ) → IsTopicOf H docnos.now topic.now.facts → live ≡ live_count H now topic.now.facts.id
+    ensures { (H : History) (now : ℕ) → IsTopicOf H docnos.now topic.now.facts
+        → live ≡ live_count H now topic.now.facts.id
         → OnOk result (out.new.items ≡ out.old.items ++ part_of page H now topic.now.facts.id) }
 {
     // the documents with a grade are those of the trail that have one
     graded_are_on_trail();
     match page {
         Page::Qrels => topic.grades().write_by(topic.id(), docnos, order, out),
-        Page::Disagreements => write_disagreements(alloc, topic, docnos, out),
+        Page::Disagreements => write_disagreements(topic, docnos, out),
         Page::Progress => write_progress(topic, live, out),
     }
 }
 
 /// Appends the lines of a topic's documents whose labels differ.
 fn write_disagreements(
-    alloc: Global,
-    topic: &Topic,
+    topic: &AssessedTopic,
     docnos: &Names,
     out: &mut Vec<u8>,
 ) -> Result<(), Memory>
@@ -134,6 +147,7 @@ fn write_disagreements(
     if need != 2 {
         return Ok(());
     }
+    let alloc = *out.allocator();
     let docs = topic.marks().disagreements(alloc, need)?;
     // the documents whose labels differ are among those with a label
     labelled_are_listed();
@@ -154,8 +168,9 @@ fn write_disagreement(topic: &[u8], docno: &[u8], out: &mut Vec<u8>) -> Result<(
 }
 
 /// Appends the line of a topic, on which so many leases are live.
-fn write_progress(topic: &Topic, live: u32, out: &mut Vec<u8>) -> Result<(), Memory>
-    ensures { (H : History) (names : List (List ℕ)) (now : ℕ) → IsTopicOf H names topic.now.facts → live ≡ live_count H now topic.now.facts.id
+fn write_progress(topic: &AssessedTopic, live: u32, out: &mut Vec<u8>) -> Result<(), Memory>
+    ensures { (H : History) (names : List (List ℕ)) (now : ℕ)
+        → IsTopicOf H names topic.now.facts → live ≡ live_count H now topic.now.facts.id
         → OnOk result (out.new.items ≡ out.old.items ++ progress_line H now topic.now.facts.id) }
 {
     // the documents with a grade are those of the trail that have one
@@ -175,7 +190,8 @@ fn write_counts(
     live: u32,
     out: &mut Vec<u8>,
 ) -> Result<(), Memory>
-    ensures { OnOk result (out.new.items ≡ out.old.items ++ counts_line topic.now documents relevant non_relevant live) }
+    ensures { OnOk result (out.new.items
+        ≡ out.old.items ++ counts_line topic.now documents relevant non_relevant live) }
 {
     out.extend_from_slice(topic)?;
     write_count(documents, out)?;

@@ -1,18 +1,19 @@
-//! A replay: the entries of a journal, entered again one after another. Each is decided as a request would
-//! be. The board doesn't follow meanwhile, since no command looks at it: the runs' lists come on it at the end.
+//! A replay: the entries of a journal, entered again one after another. Each is decided as a
+//! request would be. The board doesn't follow meanwhile, since no command looks at it: the runs'
+//! lists come on it at the end.
 ghost use Rattle.std.specs.Prelude.{◌≡◌, ◌<◌, ◌∷◌, ◌++◌, [], IfOk, IsTrue, None, is_some, length};
 ghost use Rattle.rulebook.specs.declared.ask.Ask.TheVariants.{Act};
-ghost use Rattle.rulebook.specs.Legal.{IsLegal, founding, is_well_addressed};
+ghost use Rattle.rulebook.specs.Histories.Legal.{IsLegal, founding, is_well_addressed};
 ghost use Rattle.rulebook.specs.Spelling.{are_rules};
-ghost use Rattle.rulebook.specs.Numbers.{used};
-ghost use Rattle.campaign_core.specs.Kept.{IsKnown, IsReady, IsReplayed};
-ghost use Rattle.campaign_core.specs.NumberedRequests.{numbers_of};
-ghost use Rattle.campaign_core.specs.Replays.{EntersCore, IsNext, MayFollow};
+ghost use Rattle.rulebook.specs.Requests.Numbers.{entry_of_number};
+ghost use Rattle.campaign_core.specs.CampaignStates.{IsKnown, IsReady, IsReplayed};
+ghost use Rattle.campaign_core.specs.Numbering.NumberedRequests.{numbers_of};
+ghost use Rattle.campaign_core.specs.Commands.Replays.{EntersCore, IsNext, MayFollow};
 
 use crate::campaign::Campaign;
-use crate::preparations::prepared;
-use crate::request_numbers::RequestNumbers;
 use crate::state::State;
+use crate::state::preparations::prepared;
+use crate::state::request_numbers::RequestNumbers;
 use assessment::Assessment;
 use decimal_rank::{Memory, Names, Steps};
 use rulebook::{Entry, EntryCore, MAX_ENTRIES, Rules};
@@ -34,7 +35,7 @@ impl Model for Replay {
 
     ghost Value = { History };
 
-    ghost use Rattle.campaign_core.specs.Kept.{IsReplayed};
+    ghost use Rattle.campaign_core.specs.CampaignStates.{IsReplayed};
 
     ghost view = { λ replay. replay.campaign.history.items };
 
@@ -77,7 +78,8 @@ impl Replay {
 
     /// Adds the entry of this core, where the rules add it. False is that they don't.
     pub fn enter(&mut self, core: EntryCore) -> Result<bool, Memory>
-        requires { IsTrue (is_well_addressed core.caller core.number (Act core.command) core.moment) }
+        requires { IsTrue
+            (is_well_addressed core.caller core.number (Act core.command) core.moment) }
         ensures { IfOk result (λ entered. EntersCore self.old core entered self.new) }
     {
         let next = is_next(&self.campaign, &self.numbers, &core)?;
@@ -115,10 +117,12 @@ fn enter_next(
     core: EntryCore,
 ) -> Result<bool, Memory>
     requires replayed { IsReplayed campaign.old docnos.old numbers.old }
-    requires addressed { IsTrue (is_well_addressed core.caller core.number (Act core.command) core.moment) }
+    requires addressed { IsTrue
+        (is_well_addressed core.caller core.number (Act core.command) core.moment) }
     requires next { MayFollow campaign.old.history.items core }
     ensures replayed { IsReplayed campaign.new docnos.new numbers.new }
-    ensures entered { IfOk result (λ entered. EntersCore campaign.old.history.items core entered campaign.new.history.items) }
+    ensures entered { IfOk result
+        (λ entered. EntersCore campaign.old.history.items core entered campaign.new.history.items) }
 {
     let docnos_kept = docnos.len();
     let numbers_kept = numbers.len();
@@ -159,7 +163,8 @@ fn is_next(campaign: &Campaign, numbers: &RequestNumbers, core: &EntryCore) -> R
 // Whether a caller used its number before.
 fn is_used(history: &[Entry], numbers: &RequestNumbers, core: &EntryCore) -> Result<bool, Memory>
     requires { numbers.now ≡ numbers_of history.now }
-    ensures { IfOk result (λ is. is ≡ is_some (used history.now core.now.caller.name core.now.number)) }
+    ensures { IfOk result
+        (λ is. is ≡ is_some (entry_of_number history.now core.now.caller.name core.now.number)) }
 {
     let Some(number) = core.number else {
         return Ok(false);

@@ -1,29 +1,33 @@
-//! The state of a campaign. A request is answered first; the change of an accepted one is given room then, and
-//! made when its entry joins the history.
-ghost use Rattle.std.specs.Prelude.{◌≡◌, ◌+◌, ◌<◌, ◌≤◌, ◌∷◌, [], ◌++◌, ℕ, length, IfOk, IsSome, OnOk, OnErr, IsTrue, None, Some, true};
+//! The state of a campaign. A request is answered first; the change of an accepted one is given
+//! room then, and made when its entry joins the history.
+ghost use Rattle.std.specs.Prelude.{◌≡◌, ◌+◌, ◌<◌, ◌≤◌, ◌∷◌, [], ◌++◌, length, IfOk, IsSome, OnErr, IsTrue, None, Some, true};
 ghost use Rattle.std.specs.Option.{option_map};
 ghost use Rattle.rulebook.specs.declared.ask.Ask.TheVariants.{Act};
 ghost use Rattle.rulebook.specs.Spelling.{are_rules};
 ghost use Rattle.rulebook.specs.Campaign.{phase as phase_of};
-ghost use Rattle.rulebook.specs.Answers.{answer, moment_after, reply_of, told as told_of};
-ghost use Rattle.rulebook.specs.Legal.{is_well_addressed, founding, IsLegal};
-ghost use Rattle.campaign_core.specs.Costs.{commit_steps};
+ghost use Rattle.rulebook.specs.Answers.{answer, moment_after, query_outcome as told_of, reply_of};
+ghost use Rattle.rulebook.specs.Histories.Legal.{is_well_addressed, founding, IsLegal};
+ghost use Rattle.campaign_core.specs.Commands.Costs.{commit_steps};
 ghost use Rattle.assessment.specs.Changes.{facts};
-ghost use Rattle.campaign_core.specs.Kept.{IsKnown};
-ghost use Rattle.campaign_core.specs.Numbers.{names_of};
-ghost use Rattle.campaign_core.specs.NumberedRequests.{numbers_of, repeated_reply};
-ghost use Rattle.campaign_core.specs.Lendings.{IsBoardOf, IsQueueOf};
+ghost use Rattle.campaign_core.specs.CampaignStates.{IsKnown};
+ghost use Rattle.campaign_core.specs.Numbering.Numbers.{names_of};
+ghost use Rattle.campaign_core.specs.Numbering.NumberedRequests.{numbers_of, repeated_reply};
+ghost use Rattle.campaign_core.specs.Views.Lendings.{IsBoardOf, IsQueueOf};
 ghost use Rattle.campaign_core.specs.State.{IsAtRest, IsFirst, IsVerdict};
-ghost use Rattle.campaign_core.specs.Tallies.{IsTally, submitted_at};
-ghost use Rattle.campaign_core.specs.Topics.{topic_ids};
+ghost use Rattle.campaign_core.specs.Views.Tallies.{IsTally, submitted_at};
+ghost use Rattle.campaign_core.specs.Assessments.Topics.{topic_ids};
+
+pub(crate) mod preparations;
+pub(crate) mod request_numbers;
+pub(crate) mod verdict;
 
 use crate::campaign::Campaign;
-use crate::preparations::{kept_reply, prepared};
-use crate::queries::told;
-use crate::request_numbers::RequestNumbers;
-use crate::submissions::name_of;
+use crate::campaign::submissions::name_of;
+use crate::queries::{Inquiry, told};
+use crate::state::preparations::{kept_reply, prepared};
+use crate::state::request_numbers::RequestNumbers;
+use crate::state::verdict::{Prepared, Verdict};
 use crate::tallies::{Tally, tally_of};
-use crate::verdict::{Prepared, Verdict};
 use assessment::Assessment;
 use decimal_rank::{Memory, Names, Steps};
 use depth_pool::RunId;
@@ -52,17 +56,18 @@ pub struct State {
     /// How many numbers the history has.
     numbers_kept: usize,
     prepared: Option<Snapshot<Entry>>,
-    /// By the numbers of the topics, the orders in which the last pages left their documents with a grade.
+    /// By the numbers of the topics, the orders in which the last pages left their documents with a
+    /// grade.
     orders: Vec<DocnoOrder>,
 }
 
 impl Model for State {
     ghost use Rattle.std.specs.Option.{option_map};
-    ghost use Rattle.campaign_core.specs.Seen.{Seen};
+    ghost use Rattle.campaign_core.specs.StateViews.{StateView};
 
-    ghost Value = { Seen };
+    ghost Value = { StateView };
 
-    ghost use Rattle.campaign_core.specs.Kept.{IsKept};
+    ghost use Rattle.campaign_core.specs.CampaignStates.{IsKept};
 
     ghost view = { λ s. record {
       history = s.campaign.history.items;
@@ -148,8 +153,8 @@ impl State {
         self.campaign.phase
     }
 
-    /// How the judgements and the runs stand. It takes a few steps for each topic, and looks at each live run
-    /// once.
+    /// How the judgements and the runs stand. It takes a few steps for each topic, and looks at
+    /// each live run once.
     pub fn tally(&self) -> Tally
         ensures { IsTally self.now.history result }
     {
@@ -159,7 +164,8 @@ impl State {
     /// The name of a submitted run, by its number of submission from 0.
     pub fn run_name(&self, run: RunId) -> &[u8]
         requires { IsSome (submitted_at self.now.history run) }
-        ensures { option_map (λ run. run.name) (submitted_at self.now.history run) ≡ Some result.now }
+        ensures { option_map (λ run. run.name) (submitted_at self.now.history run)
+            ≡ Some result.now }
     {
         let place = self.campaign.submissions[usize::from(run.0)].place;
         name_of(&self.campaign.history[place as usize])
@@ -204,8 +210,8 @@ impl State {
         }
     }
 
-    /// Adds the prepared entry, and gives its reply. A step is a node of a tree, an entry of a ranked list that is read,
-    /// or a look into a pool.
+    /// Adds the prepared entry, and gives its reply. A step is a node of a tree, an entry of a
+    /// ranked list that is read, or a look into a pool.
     pub fn commit<L: Ledger>(&mut self, p: Prepared, steps: &mut Steps<L>) -> Reply
         requires { self.old.prepared ≡ Some p }
         ensures history { self.new.history ≡ self.old.history ++ p ∷ [] }
@@ -242,21 +248,20 @@ impl State {
     fn tell(&mut self, who: &Caller, query: Query, moment: u64) -> Result<Reply, Memory>
         ensures rest { IsAtRest self.old self.new }
         ensures reply { let H = self.old.history in
-            IfOk result (λ reply. reply ≡ reply_of (told_of H who.now (moment_after H moment) query)) }
+            IfOk result
+            (λ reply. reply ≡ reply_of (told_of H who.now (moment_after H moment) query)) }
     {
         self.forget();
         let alloc = *self.campaign.history.allocator();
-        let now = self.campaign.moment_after(moment);
+        let moment = self.campaign.moment_after(moment);
         self.docnos.cut(self.docnos_kept);
-        told(
-            alloc,
-            &self.campaign,
-            &self.docnos,
+        let inquiry = Inquiry {
+            campaign: &self.campaign,
+            docnos: &self.docnos,
             who,
-            now,
-            query,
-            &mut self.orders,
-        )
+            moment,
+        };
+        told(alloc, &inquiry, query, &mut self.orders)
     }
 
     /// The reply to a command whose caller used its number before. What was prepared is dropped.
@@ -267,7 +272,8 @@ impl State {
         command: &Command,
     ) -> Result<Option<Reply>, Memory>
         ensures rest { IsAtRest self.old self.new }
-        ensures reply { IfOk result (λ told. told ≡ repeated_reply self.old.history who.now.name number command.now) }
+        ensures reply { IfOk result
+            (λ told. told ≡ repeated_reply self.old.history who.now.name number command.now) }
     {
         self.forget();
         let alloc = *self.campaign.history.allocator();
@@ -292,7 +298,8 @@ impl State {
     ) -> Result<Verdict, Memory>
         requires { IsFirst self.old who.now number command moment }
         ensures history { self.new.history ≡ self.old.history }
-        ensures verdict { let answer = answer self.old.history who.now number (Act command) moment in
+        ensures verdict { let answer = answer self.old.history who.now number
+            (Act command) moment in
             IfOk result (λ verdict. IsVerdict answer verdict self.new.prepared) }
         ensures err { OnErr result (self.new.prepared ≡ None) }
     {

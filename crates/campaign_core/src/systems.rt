@@ -2,14 +2,14 @@
 ghost use Rattle.std.specs.Prelude.{◌≡◌, ◌≤◌, IfOk, IsTrue, List, Some, length};
 ghost use Rattle.assessment.specs.TopicFacts.{TopicFacts};
 ghost use Rattle.rulebook.specs.Campaign.{History, Run, run_in, runs};
-ghost use Rattle.rulebook.specs.Legal.{IsLegal};
-ghost use Rattle.rulebook.specs.Systems.{are_means, are_sound_systems, system_of, systems};
-ghost use Rattle.campaign_core.specs.Kept.{KnowsRun};
-ghost use Rattle.campaign_core.specs.Lendings.{IsBoardOf};
-ghost use Rattle.campaign_core.specs.Submissions.{AreSubmissions, RunsAreKnown};
+ghost use Rattle.rulebook.specs.Histories.Legal.{IsLegal};
+ghost use Rattle.rulebook.specs.Reports.Systems.{are_means, are_sound_systems, system_of, systems};
+ghost use Rattle.campaign_core.specs.CampaignStates.{KnowsRun};
+ghost use Rattle.campaign_core.specs.Views.Lendings.{IsBoardOf};
+ghost use Rattle.campaign_core.specs.Numbering.Submissions.{AreSubmissions, RunsAreKnown};
 
+use crate::campaign::submissions::{Submission, name_of};
 use crate::state::State;
-use crate::submissions::{Submission, name_of};
 use decimal_rank::{Memory, Rows, Text};
 use depth_pool::RunId;
 use rulebook::{Entry, MAX_RUNS, System, graded_are_on_trail, graded_are_there};

@@ -4,21 +4,21 @@ ghost use Rattle.assessment.specs.Changes.{facts};
 ghost use Rattle.assessment.specs.TopicFacts.{facts_of};
 ghost use Rattle.lease_desk.specs.declared.leases.Lease.{Lease};
 ghost use Rattle.rulebook.specs.Campaign.{History, Run};
-ghost use Rattle.rulebook.specs.Grades.{non_relevant_count, relevant_count};
-ghost use Rattle.campaign_core.specs.Kept.{IsKnown, KnowsAll, KnowsRun};
-ghost use Rattle.campaign_core.specs.Printed.{IsTopicOf};
-ghost use Rattle.campaign_core.specs.Tallies.{IsBest, IsTally, judged_in, map_of, relevant_in};
+ghost use Rattle.rulebook.specs.Judgements.Grades.{non_relevant_count, relevant_count};
+ghost use Rattle.campaign_core.specs.CampaignStates.{IsKnown, KnowsAll, KnowsRun};
+ghost use Rattle.campaign_core.specs.Views.PrintedPages.{IsTopicOf};
+ghost use Rattle.campaign_core.specs.Views.Tallies.{IsBest, IsTally, judged_in, map_of, relevant_in_all};
 
 use crate::campaign::Campaign;
-use assessment::Topic;
+use assessment::AssessedTopic;
 use depth_pool::RunId;
 use rulebook::{graded_are_on_trail, graded_are_there};
 use score_index::Board;
 
-/// How the judgements and the runs stand. `judged` is how many documents have an effective grade, and
-/// `relevant` how many are relevant, over all topics. `best` is the live run with the greatest mean average
-/// precision, the earliest submitted of several, and `map` is that mean in units of 10^-15, or 0 where no run is
-/// live.
+/// How the judgements and the runs stand. `judged` is how many documents have an effective grade,
+/// and `relevant` how many are relevant, over all topics. `best` is the live run with the greatest
+/// mean average precision, the earliest submitted of several, and `map` is that mean in units of
+/// 10^-15, or 0 where no run is live.
 #[derive(Clone, Copy, Debug, PartialEq, Eq)]
 pub struct Tally {
     pub judged: u64,
@@ -44,10 +44,10 @@ pub(crate) fn tally_of(campaign: &Campaign) -> Tally
 }
 
 /// How many documents of all topics are relevant, and how many have an effective grade.
-fn judgements(topics: &[Topic]) -> (u64, u64)
+fn judgements(topics: &[AssessedTopic]) -> (u64, u64)
     requires { length topics.now ≤ 250 }
     ensures { (H : History) (desk : List Lease) → KnowsAll H (map facts_of topics.now) desk
-        → (result.0 ≡ relevant_in H) × (result.1 ≡ judged_in H) }
+        → (result.0 ≡ relevant_in_all H) × (result.1 ≡ judged_in H) }
 {
     let mut relevant = 0;
     let mut judged = 0;
@@ -60,9 +60,10 @@ fn judgements(topics: &[Topic]) -> (u64, u64)
 }
 
 /// How many documents of a topic are relevant, and how many have a lower effective grade.
-fn counts_of(topic: &Topic) -> (u32, u32)
+fn counts_of(topic: &AssessedTopic) -> (u32, u32)
     ensures { (H : History) (names : List (List ℕ)) → IsTopicOf H names topic.now.facts
-        → (result.0 ≡ relevant_count H topic.now.facts.id) × (result.1 ≡ non_relevant_count H topic.now.facts.id) }
+        → (result.0 ≡ relevant_count H topic.now.facts.id)
+        × (result.1 ≡ non_relevant_count H topic.now.facts.id) }
 {
     // the documents with a grade are those of the trail that have one
     graded_are_on_trail();
@@ -70,7 +71,8 @@ fn counts_of(topic: &Topic) -> (u32, u32)
     (grades.relevant(), grades.non_relevant())
 }
 
-/// The live run with the greatest mean average precision, the earliest submitted of several, and that mean.
+/// The live run with the greatest mean average precision, the earliest submitted of several, and
+/// that mean.
 fn best_of(campaign: &Campaign) -> (Option<RunId>, u64)
     requires known { IsKnown campaign.now }
     requires on_board { (facts campaign.now.assessment).on_board ≡ true }
@@ -105,8 +107,9 @@ fn is_better(best: Option<RunId>, greatest: u64, value: u64) -> bool
 }
 
 /// The mean average precision of a run.
-fn map_of(topics: &[Topic], board: &Board, run: RunId) -> u64
-    ensures map { (H : History) (r : Run) → KnowsRun H (map facts_of topics.now) board.now run r → result ≡ map_of H r }
+fn map_of(topics: &[AssessedTopic], board: &Board, run: RunId) -> u64
+    ensures map { (H : History) (r : Run) → KnowsRun H (map facts_of topics.now) board.now run r
+        → result ≡ map_of H r }
     ensures fits { result ≤ 10 ^ 15 }
 {
     // a document with a grade is on the trail

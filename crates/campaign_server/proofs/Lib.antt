@@ -1,5 +1,5 @@
 pub mod BookTalks
 pub mod ReadPieces
 pub mod ServerEnds
-mod Sharing
+mod SharedTables
 pub mod TalkSteps

@@ -1,4 +1,4 @@
 -- The pieces of a connection, as they are read and made into asks.
-pub mod Hearing
-pub mod PieceLemmas
+pub mod ConnectionBytes
+pub mod PiecePlaces
 pub mod StreamSteps

@@ -1,5 +1,5 @@
 -- What a server, its workers and their records leave at the end.
-pub mod PlaceLemmas
-pub mod RecordLemmas
-pub mod ServerLemmas
-pub mod WorkerLemmas
+pub mod WorkerPlaces
+pub mod HandedRecords
+pub mod DoorLeavings
+pub mod JoinedWorkers

@@ -1,7 +1,7 @@
 -- What is said on a connection, request by request.
-pub mod Chaining
+pub mod TalkChains
 pub mod FaultCounts
-pub mod TalkFacts
-pub mod Speaking
-pub mod TalkLemmas
-pub mod Turning
+pub mod KnownTalks
+pub mod SpokenRequests
+pub mod LongerTalks
+pub mod AnsweredRequests

@@ -11,7 +11,7 @@ use Rattle.rulebook.specs.declared.ask.Addressed.{Addressed}
 use Rattle.campaign_server.specs.declared.ends.End.{End}
 use Rattle.campaign_server.specs.declared.ends.End.TheVariants as end
 use Rattle.campaign_server.specs.Links.{LinkState}
-use Rattle.campaign_server.specs.Chains.{Chain, Said, requests_of, text_said, texts_of, last_text}
+use Rattle.campaign_server.specs.Conversations.Chains.{Chain, Said, requests_of, text_said, answer_texts, last_text}
 
 -- these bytes were read
 pub record Hears (old new : LinkState) (bytes : List ℕ) : Type 0 where
@@ -44,7 +44,7 @@ module _ (talks : List Said → Type 0) where
     pub said : List Said
     pub split : Behind bytes (requests_of said) rest
     pub talk : talks said
-    pub written : Appends old.writing.written new.writing.written (texts_of said)
+    pub written : Appends old.writing.written new.writing.written (answer_texts said)
     pub later : old.writing.faults ≤ new.writing.faults
 
   -- all requests of the bytes were answered, and then the end that the bytes have
@@ -52,7 +52,7 @@ module _ (talks : List Said → Type 0) where
     pub said : List Said
     pub are_messages : Messages bytes (requests_of said) ending
     pub talk : talks said
-    pub written : Appends old.writing.written new.writing.written (texts_of said ++ last_text ending)
+    pub written : Appends old.writing.written new.writing.written (answer_texts said ++ last_text ending)
 
   -- The requests up to the last one were answered, but a write failed in the answer of the last, of which so many bytes were written. No later one was asked.
   pub record SpokePart (old : LinkState) (bytes : List ℕ) (new : LinkState) : Type 0 where
@@ -65,7 +65,7 @@ module _ (talks : List Said → Type 0) where
     pub front : IsFront rest (Whole last.request next)
     pub talk : talks (said ++ last ∷ [])
     pub few : count ≤ length (text_said last)
-    pub written : Appends old.writing.written new.writing.written (texts_of said ++ take count (text_said last))
+    pub written : Appends old.writing.written new.writing.written (answer_texts said ++ take count (text_said last))
     pub fault : Rose old.writing.faults new.writing.faults
 
   -- all requests were answered, but a write failed in the answer of the refused message behind them
@@ -76,7 +76,7 @@ module _ (talks : List Said → Type 0) where
     pub are_messages : Messages bytes (requests_of said) (Refused cause)
     pub talk : talks said
     pub few : count ≤ length (last_text (Refused cause))
-    pub written : Appends old.writing.written new.writing.written (texts_of said ++ take count (last_text (Refused cause)))
+    pub written : Appends old.writing.written new.writing.written (answer_texts said ++ take count (last_text (Refused cause)))
     pub fault : Rose old.writing.faults new.writing.faults
 
   -- What the bytes that were read come to, by the end of the connection. Where as many were taken as may be, it is Worn in place of Ended, Cut and Refused.
@@ -90,7 +90,7 @@ module _ (talks : List Said → Type 0) where
   EndsOn bytes old new end.Worn = (length bytes ≡ 2 ^ 40) × ((ending : Ending) × SpokeAll old bytes new ending)
 
   -- what a connection comes to: the bytes that were read, what they come to, and that no more were read
-  pub record Ends (old new : LinkState) (e : End) : Type 0 where
+  pub record ConnectionEnds (old new : LinkState) (e : End) : Type 0 where
     pub bytes : List ℕ
     pub heard : Hears old new bytes
     pub ends : EndsOn bytes old new e
@@ -98,4 +98,4 @@ module _ (talks : List Said → Type 0) where
 
 -- What a connection to a teller comes to: each of its states leads to the next by one request of the bytes, at one moment of the clock.
 abbrev pub Converses : {S : Type 0} → (S → Addressed → Answer → S → Type 0) → List KeyRow → S → LinkState → S → LinkState → End → Type 0
-Converses tells keys old was new is how = Ends (Chain tells keys old was.clock new is.clock) was is how
+Converses tells keys old was new is how = ConnectionEnds (Chain tells keys old was.clock new is.clock) was is how

@@ -4,14 +4,14 @@ use Rattle.campaign_server.specs.declared.ends.End.{End}
 use Rattle.campaign_server.specs.Links.{LinkState}
 
 -- what a link told at its end, where it tells that, and how the connection ended
-abbrev pub Ended : Type 0
-Ended = Option LinkState × End
+abbrev pub EndedLink : Type 0
+EndedLink = Option LinkState × End
 
 pub record Told : Type 0 where
   pub port : Option ℕ
   pub left : List LinkState
   pub accepted : ℕ
-  pub served : List Ended
+  pub served : List EndedLink
 
 -- what it tells, where it does, and how many of its calls failed
 pub record DoorState : Type 0 where
@@ -46,13 +46,13 @@ abbrev pub Opens : Option Told → ℕ → Option Told → Type 0
 Opens old port new = TellsOn (λ was is. is ≡ record was { port = Some port }) old new
 
 -- it gave the first of the links that were left, or none was left
-abbrev pub Gives : Option LinkState → Told → Told → Type 0
-Gives (Some link) was is = (was.left ≡ link ∷ is.left) × (is ≡ record was { left = is.left; accepted = was.accepted + 1 })
-Gives None was is = (was.left ≡ []) × (is ≡ was)
+abbrev pub GivesLink : Option LinkState → Told → Told → Type 0
+GivesLink (Some link) was is = (was.left ≡ link ∷ is.left) × (is ≡ record was { left = is.left; accepted = was.accepted + 1 })
+GivesLink None was is = (was.left ≡ []) × (is ≡ was)
 
 abbrev pub Takes : Option Told → Option LinkState → Option Told → Type 0
-Takes old link new = TellsOn (Gives link) old new
+Takes old link new = TellsOn (GivesLink link) old new
 
 -- it was handed these records
-abbrev pub HandsOver : Option Told → List Ended → Option Told → Type 0
+abbrev pub HandsOver : Option Told → List EndedLink → Option Told → Type 0
 HandsOver old records new = TellsOn (λ was is. is ≡ record was { served = was.served ++ records }) old new

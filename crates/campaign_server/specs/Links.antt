@@ -2,11 +2,11 @@
 use Rattle.std.specs.Prelude.{◌≡◌, ℕ, ◌-◌, ◌≤◌, List, None, Option, Result, IfSome, MatchResult, is_some, length, min, slice_index}
 use Rattle.std.specs.Io.KnownBytes.{WriteAppends}
 use Rattle.rulebook.specs.declared.limits.TheConstants.{MAX_MOMENT}
-use Rattle.decimal_rank.specs.FailurePlans.{count_more}
-use Rattle.decimal_rank.specs.Writings.{Writing}
+use Rattle.decimal_rank.specs.Outputs.FailurePlans.{count_more}
+use Rattle.decimal_rank.specs.Outputs.Writings.{Writing}
 
 -- the bytes taken, the bytes left and how many the last read gave, where the link tells them, and how many reads failed
-pub record Reading : Type 0 where
+pub record LinkReading : Type 0 where
   pub taken : Option (List ℕ)
   pub left : Option (List ℕ)
   pub last : Option ℕ
@@ -18,7 +18,7 @@ pub record Clock : Type 0 where
   pub asked : ℕ
 
 pub record LinkState : Type 0 where
-  pub reading : Reading
+  pub reading : LinkReading
   pub writing : Writing
   pub clock : Clock
 

@@ -1,16 +1,23 @@
-//! The loop of a connection: a piece is read, every whole request of the bytes so far is answered in
-//! order, and then more is read.
+//! The loop of a connection: a piece is read, every whole request of the bytes so far is answered
+//! in order, and then more is read.
 ghost use Rattle.std.specs.Prelude.{◌≡◌, ◌<◌, ◌≤◌, ◌^◌, IfOk, IfErr};
-ghost use Rattle.campaign_server.specs.Asking.{fresh};
+ghost use Rattle.campaign_server.specs.ConnectionLoop.FedRequests.{fresh};
 ghost use Rattle.campaign_server.specs.Connections.{Converses};
-ghost use Rattle.campaign_server.specs.LoopParts.{EndsFrom, Pauses, ReadsPiece, at_end, last_end};
+ghost use Rattle.campaign_server.specs.ConnectionLoop.LoopParts.{EndsFrom, Pauses, ReadsPiece, at_end, last_end};
 
-use crate::answers::{answer, refuse};
-use crate::asks::{AskStep, AskStream};
-use crate::buffers::Buffer;
+mod answers;
+mod asks;
+mod book_tellers;
+mod buffers;
+pub(crate) mod hall_connections;
+pub(crate) mod tellers;
+
+use crate::connections::answers::{answer, refuse};
+use crate::connections::asks::{AskStep, AskStream};
+use crate::connections::buffers::Buffer;
+use crate::connections::tellers::Teller;
 use crate::ends::End;
 use crate::links::Link;
-use crate::tellers::Teller;
 use decimal_rank::{Failed, Memory};
 use http_wire::{fronts_are_messages, pieces_go_on, readings_go_on};
 use routes::{Keys, Paths};
@@ -70,7 +77,8 @@ enum ReadFault {
     Memory,
 }
 
-// Reads a piece into the stream, by way of the chunk, and returns how many bytes it has: none at the end.
+// Reads a piece into the stream, by way of the chunk, and returns how many bytes it has: none at
+// the end.
 fn read_piece<I: Link>(
     link: &mut I,
     stream: &mut AskStream,
@@ -94,7 +102,8 @@ fn read_piece<I: Link>(
     }
 }
 
-// The end where so many bytes were taken: at as many as may be, Worn stands for Ended, Cut and Refused.
+// The end where so many bytes were taken: at as many as may be, Worn stands for Ended, Cut and
+// Refused.
 fn last_end(end: End, taken: usize) -> End
     ensures { result ≡ last_end end taken }
 {
@@ -149,7 +158,7 @@ fn converse_by<T: Teller, I: Link>(
 }
 
 /// Answers the requests of a link as they come. An answer is written before more is read.
-#[tactic(auto, using(crate::proofs::ReadPieces::Hearing::ends_before))]
+#[tactic(auto, using(crate::proofs::ReadPieces::ConnectionBytes::ends_before))]
 pub fn converse<T: Teller, I: Link>(alloc: Global, teller: &mut T, link: &mut I, keys: &Keys) -> End
     ensures { Converses T.tells keys.now teller.old (I.seen link.old) teller.new (I.seen link.new)
         result }
@@ -161,7 +170,7 @@ pub fn converse<T: Teller, I: Link>(alloc: Global, teller: &mut T, link: &mut I,
 }
 
 /// The same by a table of the paths that was made before.
-#[tactic(auto, using(crate::proofs::ReadPieces::Hearing::ends_before))]
+#[tactic(auto, using(crate::proofs::ReadPieces::ConnectionBytes::ends_before))]
 pub(crate) fn converse_with<T: Teller, I: Link>(
     alloc: Global,
     teller: &mut T,

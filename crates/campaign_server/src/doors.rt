@@ -1,4 +1,5 @@
-//! The door of a server: links come through it one after another, and their records are handed back.
+//! The door of a server: links come through it one after another, and their records are handed
+//! back.
 ghost use Rattle.std.specs.Prelude.{◌≡◌, ◌∷◌, [], IfOk, IfSome, OnErr, OnOk, Option};
 ghost use Rattle.std.specs.Option.{option_map};
 ghost use Rattle.decimal_rank.specs.Causes.{HasCause};
@@ -10,8 +11,8 @@ use crate::links::Link;
 use decimal_rank::{Failed, Memory};
 use std::marker::Send;
 
-/// Gives the links of a server. A call that fails changes nothing that is told, and raises the count of
-/// faults.
+/// Gives the links of a server. A call that fails changes nothing that is told, and raises the
+/// count of faults.
 pub trait Door: Send {
     type Line: Link + Send;
 

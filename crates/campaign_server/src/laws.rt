@@ -2,8 +2,8 @@
 ghost use Rattle.std.specs.Prelude.{ℕ, List};
 ghost use Rattle.routes.specs.declared.keys.KeyRow.{KeyRow};
 ghost use Rattle.rulebook.specs.Campaign.{History};
-ghost use Rattle.campaign_server.specs.Chains.{Said};
-ghost use Rattle.campaign_server.specs.Talks.{TalkLaws};
+ghost use Rattle.campaign_server.specs.Conversations.Chains.{Said};
+ghost use Rattle.campaign_server.specs.Conversations.Talks.{TalkLaws};
 
 /// A talk stays one over a longer list of entries, and from an earlier start.
 pub fn talks_go_on()

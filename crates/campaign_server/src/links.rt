@@ -3,7 +3,7 @@ ghost use Rattle.std.specs.Prelude.{◌≡◌, ◌<◌, ◌≤◌, length, IfOk,
 ghost use Rattle.std.specs.Io.{ReadsAtMost};
 ghost use Rattle.std.specs.Io.KnownBytes.{Appends, ReadConsumes, WriteAppends};
 ghost use Rattle.decimal_rank.specs.Causes.{HasCause};
-ghost use Rattle.decimal_rank.specs.KnownBytes.{AppendsPart};
+ghost use Rattle.decimal_rank.specs.Outputs.KnownBytes.{AppendsPart};
 ghost use Rattle.campaign_server.specs.Links.{Alike, LinkState, ReadGives, ReadTakes, Ticks};
 ghost use Rattle.std.proofs.Common.{◌∙◌, refl};
 
@@ -14,8 +14,8 @@ pub trait Link {
     /// What the link tells.
     ghost seen: { Self → LinkState };
 
-    /// Reads the next bytes into the front of `out`, and returns how many. None is the end for good.
-    /// A failed read takes none.
+    /// Reads the next bytes into the front of `out`, and returns how many. None is the end for
+    /// good. A failed read takes none.
     fn read(&mut self, out: &mut [u8]) -> Result<usize, Failed>
         requires { 0 < length out.old }
         ensures bound { ReadsAtMost result out.new }

@@ -1,10 +1,13 @@
-//! A server: a campaign in a hall, a door behind a lock, and a team of workers. Once the workers have returned,
-//! the records of their links are handed to the door.
+//! A server: a campaign in a hall, a door behind a lock, and a team of workers. Once the workers
+//! have returned, the records of their links are handed to the door.
 //!
 //! ```text
-//! opening     room for the team and its records, the table of the paths, the hall, and then the door; a ledger for the links
-//! workers     each with its own pass and share: the next link of the acceptor, its connection, its record
-//! joining     the passes are joined, the shares merged; so the number of records is that of the links
+//! opening     room for the team and its records, the table of the paths, the hall, and then the
+//!             door; a ledger for the links
+//! workers     each with its own pass and share: the next link of the acceptor, its connection, its
+//!             record
+//! joining     the passes are joined, the shares merged; so the number of records is that of the
+//!             links
 //! settling    each record is handed to the door, and the book is taken out of the hall
 //! ```
 //!
@@ -52,19 +55,23 @@
 //! `docs/PERFORMANCE.md` has small GETs beside nginx.
 ghost use Rattle.std.specs.Prelude.{◌≡◌, ◌<◌, ◌≤◌, ◌++◌, [], All, OnOk, vec_len};
 ghost use Rattle.std.specs.Thread.{IsSync};
-ghost use Rattle.rulebook.specs.Legal.{IsLegal};
+ghost use Rattle.rulebook.specs.Histories.Legal.{IsLegal};
 ghost use Rattle.book.specs.Halls.{seen_as};
 ghost use Rattle.campaign_server.specs.Doors.{HandsOver, IsShut};
-ghost use Rattle.campaign_server.specs.Records.{HandsPart, ended_all, ended_of};
-ghost use Rattle.campaign_server.specs.Servers.{ServesBook, Settles};
-ghost use Rattle.campaign_server.specs.Workers.{IsEmpty, IsFresh, Works};
+ghost use Rattle.campaign_server.specs.Crews.Records.{HandsPart, ended_all, ended_of};
+ghost use Rattle.campaign_server.specs.Servers.{ServesBook, SettlesRecords};
+ghost use Rattle.campaign_server.specs.Crews.Workers.{HasGatheredNothing, IsFreshWorker, Works};
 
-use crate::acceptors::{Acceptor, Opening};
+mod acceptors;
+mod teams;
+mod workers;
+
 use crate::doors::Door;
 use crate::ends::{End, ServeEnd};
 use crate::numbers::ServerNumbers;
-use crate::teams::{Gathered, fill_team, take_in};
-use crate::workers::{Crew, Work, serve_by};
+use crate::servers::acceptors::{Acceptor, DoorOpening};
+use crate::servers::teams::{Gathered, fill_team, take_in};
+use crate::servers::workers::{Crew, Work, serve_by};
 use book::Book;
 use core::mem::replace_with;
 use decimal_rank::{Failed, Memory};
@@ -77,7 +84,8 @@ use std::sync::ledger::Blank;
 use std::sync::{Mutex, Wait};
 use std::thread::Threads;
 
-/// Hands the records of one worker to the door, in order. Where memory is short the later ones are lost.
+/// Hands the records of one worker to the door, in order. Where memory is short the later ones are
+/// lost.
 fn hand_over<R: Door>(door: &mut R, records: Vec<(R::Record, End)>) -> Result<(), Memory>
     ensures all { OnOk result (HandsOver (R.seen door.old).told (ended_of R.kept records.items)
         (R.seen door.new).told) }
@@ -106,16 +114,16 @@ fn hand_all<R: Door>(door: &mut R, all: Vec<Vec<(R::Record, End)>>) -> Result<()
 }
 
 /// The workers serve, and are taken apart again. What they had is gathered then.
-fn work_together<D: Disk + Send, R: Door, J: Opening + Send + Sync, W: Threads + Wait + Sync>(
+fn work_together<D: Disk + Send, R: Door, J: DoorOpening + Send + Sync, W: Threads + Wait + Sync>(
     rt: &W,
     alloc: Global,
     crew: &Crew<D, R, J>,
     team: Vec<Work<D, R, J>>,
     all: &mut Gathered<D, R, J>,
 )
-    requires none { IsEmpty crew.now.hall all.old.done }
+    requires none { HasGatheredNothing crew.now.hall all.old.done }
     requires team { (0 < vec_len team) × (vec_len team ≤ all.old.room) }
-    requires fresh { All (IsFresh crew.now.hall (seen_as all.old.done.pass.seen)) team.items }
+    requires fresh { All (IsFreshWorker crew.now.hall (seen_as all.old.done.pass.seen)) team.items }
     ensures hall { all.new.done.pass.hall ≡ crew.now.hall }
     ensures parts { all.new.done.parts ≡ vec_len team }
     ensures worked { Works crew.now.keys.now (seen_as all.old.done.pass.seen) (vec_len team)
@@ -128,16 +136,16 @@ fn work_together<D: Disk + Send, R: Door, J: Opening + Send + Sync, W: Threads +
     }
 }
 
-/// Hands all records to the door that was closed with this end. Where a record is lost, or memory was short for a
-/// worker, the server ends with Memory.
+/// Hands all records to the door that was closed with this end. Where a record is lost, or memory
+/// was short for a worker, the server ends with Memory.
 fn settle<R: Door>(
     door: R,
     all: Vec<Vec<(R::Record, End)>>,
     short: bool,
     end: ServeEnd,
 ) -> (R, ServeEnd)
-    ensures settled { Settles (R.seen door).told (ended_all (λ v. v.items) R.kept all.items) short
-        end (R.seen result.0).told result.1 }
+    ensures settled { SettlesRecords (R.seen door).told
+        (ended_all (λ v. v.items) R.kept all.items) short end (R.seen result.0).told result.1 }
     ensures faults { (R.seen result.0).faults ≡ (R.seen door).faults }
 {
     let mut door = door;
@@ -153,7 +161,7 @@ fn settle<R: Door>(
 }
 
 /// Serves with a ledger for the links and what was settled at the opening.
-fn serve_owned<D: Disk + Send, R: Door, J: Opening + Send + Sync, W: Threads + Wait + Sync>(
+fn serve_owned<D: Disk + Send, R: Door, J: DoorOpening + Send + Sync, W: Threads + Wait + Sync>(
     rt: &W,
     alloc: Global,
     keys: &Keys,
@@ -248,9 +256,9 @@ fn serve_named<D: Disk + Send, R: Door, W: Threads + Wait + Sync>(
     serve_owned::<D, R, Brand, W>(rt, alloc, keys, numbers, blank, door, book)
 }
 
-/// Serves a campaign through a door, by so many workers at the same time, until the door gives no further link or
-/// so many connections were taken. The records of the links are handed to the door at the end. A connection that
-/// fails ends alone.
+/// Serves a campaign through a door, by so many workers at the same time, until the door gives no
+/// further link or so many connections were taken. The records of the links are handed to the door
+/// at the end. A connection that fails ends alone.
 pub fn serve<D: Disk + Send, R: Door, W: Threads + Wait + Sync>(
     rt: &W,
     alloc: Global,

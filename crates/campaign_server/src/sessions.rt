@@ -10,7 +10,7 @@
 //! answer (`book_tellers.rt` for a book), puts the answer's text into the buffer
 //! (`routes::render`), and writes it.
 ghost use Rattle.book.specs.Books.{IsSound, Runs};
-ghost use Rattle.campaign_server.specs.Connections.{Ends};
+ghost use Rattle.campaign_server.specs.Connections.{ConnectionEnds};
 ghost use Rattle.campaign_server.specs.Sessions.{AreNumberedOnce, IsSession};
 
 use crate::connections::converse;
@@ -21,8 +21,9 @@ use routes::Keys;
 use rulebook::numbers_are_used_once;
 use std::alloc::Global;
 
-/// Answers the requests of a link as they come, to its end, by a campaign on a disk. Nobody else adds an
-/// entry meanwhile. At each moment a crash leaves the entries so far, or these and one more.
+/// Answers the requests of a link as they come, to its end, by a campaign on a disk. Nobody else
+/// adds an entry meanwhile. At each moment a crash leaves the entries so far, or these and one
+/// more.
 pub fn session<R, D: Disk, I: Link>(
     _rt: &R,
     alloc: Global,
@@ -31,7 +32,8 @@ pub fn session<R, D: Disk, I: Link>(
     keys: &Keys,
 ) -> End
     ensures ends { let was = I.seen link.old in let is = I.seen link.new in
-        Ends (IsSession D.seen keys.now book.old was.clock book.new is.clock) was is result }
+        ConnectionEnds
+        (IsSession D.seen keys.now book.old was.clock book.new is.clock) was is result }
     ensures runs { Runs D.seen book.old book.new }
     ensures sound { IsSound D.seen book.new }
     ensures numbered { AreNumberedOnce book.new.history }

@@ -1,6 +1,6 @@
-pub mod Ascending
+pub mod AscendingNeighbours
 pub mod Documents
-pub mod Each
+pub mod DataPrefixes
 pub mod Lists
 pub mod Sound
 pub mod TableKeys

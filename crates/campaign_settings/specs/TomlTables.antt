@@ -16,32 +16,32 @@ natural (pos n) = Some n
 natural (negsuc n) = None
 
 -- a number that is within these bounds, both included
-abbrev pub within : ℕ → ℕ → ℕ → Option ℕ
-within low high n = if nat_le low n && nat_le n high then Some n else None
+abbrev pub number_within : ℕ → ℕ → ℕ → Option ℕ
+number_within low high n = if nat_le low n && nat_le n high then Some n else None
 
 -- the whole number at a key, within these bounds
-abbrev pub number_at : List ℕ → ℕ → ℕ → Data → Option ℕ
-number_at key low high d = option_and_then (within low high) (option_and_then natural (option_and_then as_integer (get key d)))
+abbrev pub whole_number_at : List ℕ → ℕ → ℕ → Data → Option ℕ
+whole_number_at key low high d = option_and_then (number_within low high) (option_and_then natural (option_and_then as_integer (get key d)))
 
 -- the text at a key
 abbrev pub text_at : List ℕ → Data → Option (List ℕ)
 text_at key d = option_and_then as_str (get key d)
 
-abbrev pub list_of : Items → List Data
-list_of no_items = []
-list_of (item d items) = d ∷ list_of items
+abbrev pub array_items : Items → List Data
+array_items no_items = []
+array_items (item d items) = d ∷ array_items items
 
 -- the items of the array at a key; where the key is absent there are none
-abbrev pub items_at : List ℕ → Data → Option (List Data)
-items_at key d = option_map_or (λ v. option_map list_of (as_array v)) (get key d) (Some [])
+abbrev pub array_at : List ℕ → Data → Option (List Data)
+array_at key d = option_map_or (λ v. option_map array_items (as_array v)) (get key d) (Some [])
 
-abbrev pub member_count : Members → ℕ
-member_count no_members = 0
-member_count (member key value members) = suc (member_count members)
+abbrev pub key_count : Members → ℕ
+key_count no_members = 0
+key_count (member key value members) = suc (key_count members)
 
 -- a table with so many keys
-abbrev pub has_members : ℕ → Data → Bool
-has_members count d = option_map_or (λ members. member_count members == count) (as_table d) false
+abbrev pub has_keys : ℕ → Data → Bool
+has_keys count d = option_map_or (λ members. key_count members == count) (as_table d) false
 
 abbrev pub are_known : List (List ℕ) → Members → Bool
 are_known known no_members = true

@@ -1,5 +1,9 @@
-//! The settings of a campaign, as the bytes of `campaign.toml` give them: what its tables have at their keys
-//! (`toml_tables`), and the rules and the callers that are read there (`settings`).
+//! The settings of a campaign, its rules and its callers, as the bytes of `campaign.toml` give
+//! them.
+//!
+//! - `settings`: the settings that the bytes give (`specs/Settings.antt`).
+//! - `toml_tables`: what a table has at its keys (`specs/TomlTables.antt`).
+//! - `limits`: bounds. `faults`: why settings weren't read.
 #![tactic(auto)]
 
 mod faults;

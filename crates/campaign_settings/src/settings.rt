@@ -5,8 +5,8 @@ ghost use Rattle.std.specs.List.{list_all};
 ghost use Rattle.std.specs.Ordering.{is_lt, nat_cmp};
 ghost use Rattle.toml.specs.View.{view};
 ghost use Rattle.rulebook.specs.Spelling.{are_rules, is_ascending};
-ghost use Rattle.campaign_settings.specs.Settings.{Gives, is_key, is_key_byte, name_at, name_of, key_in, role_in, doubles_at, level_of, levels_at, rules_in, role_of, caller_of, callers_at, settings_in, settings_of};
-ghost use Rattle.campaign_settings.specs.TomlTables.{number_at, each_of};
+ghost use Rattle.campaign_settings.specs.Settings.{GivesSetting, is_key, is_key_byte, name_setting, name_of, key_in, role_in, doubles_setting, level_setting, levels_setting, rules_setting, role_setting, caller_setting, callers_at, settings_in, settings_of};
+ghost use Rattle.campaign_settings.specs.TomlTables.{whole_number_at, each_of};
 
 use crate::faults::SettingsEnd;
 use crate::limits::{MOST_CALLERS, NAMES};
@@ -27,7 +27,7 @@ pub struct Settings {
 
 /// Reads the settings that the bytes of `campaign.toml` give.
 pub fn read_settings(alloc: Global, text: &[u8]) -> Result<Settings, SettingsEnd>
-    ensures settings { Gives (λ settings. settings) result (settings_of text.now) }
+    ensures settings { GivesSetting (λ settings. settings) result (settings_of text.now) }
     ensures rules { IfOk result (λ settings. IsTrue (are_rules settings.rules)) }
 {
     match read_data(alloc, text)? {
@@ -38,7 +38,7 @@ pub fn read_settings(alloc: Global, text: &[u8]) -> Result<Settings, SettingsEnd
 
 #[tactic(auto, unfolding(crate::specs::Settings::settings_in))]
 fn settings_in(alloc: Global, tree: &Value) -> Result<Settings, SettingsEnd>
-    ensures { Gives (λ settings. settings) result (settings_in (view tree.now)) }
+    ensures { GivesSetting (λ settings. settings) result (settings_in (view tree.now)) }
 {
     let rules = rules_in(alloc, tree)?;
     let callers = callers_at(alloc, tree)?;
@@ -51,7 +51,8 @@ fn settings_in(alloc: Global, tree: &Value) -> Result<Settings, SettingsEnd>
 
 /// The number at a key, within these bounds.
 fn number_in(tree: &Value, key: &str, low: u64, high: u64) -> Result<u64, SettingsEnd>
-    ensures number { Gives (λ n. n) result (number_at key.now low high (view tree.now)) }
+    ensures number { GivesSetting (λ n. n) result
+        (whole_number_at key.now low high (view tree.now)) }
     ensures bounds { IfOk result (λ found. (low ≤ found) × (found ≤ high)) }
 {
     match number_at(tree, key, low, high) {
@@ -60,9 +61,9 @@ fn number_in(tree: &Value, key: &str, low: u64, high: u64) -> Result<u64, Settin
     }
 }
 
-#[tactic(auto, unfolding(crate::specs::Settings::rules_in))]
+#[tactic(auto, unfolding(crate::specs::Settings::rules_setting))]
 fn rules_in(alloc: Global, tree: &Value) -> Result<Rules, SettingsEnd>
-    ensures { Gives (λ rules. rules) result (rules_in (view tree.now)) }
+    ensures { GivesSetting (λ rules. rules) result (rules_setting (view tree.now)) }
 {
     let depth = number_in(tree, "depth", 1, u64::from(MAX_DEPTH))?;
     let term = number_in(tree, "term", 1, MAX_TERM)?;
@@ -84,7 +85,7 @@ fn rules_in(alloc: Global, tree: &Value) -> Result<Rules, SettingsEnd>
 
 /// The names of the topics whose documents need two labels.
 fn doubles_at(alloc: Global, tree: &Value) -> Result<Rows<Text>, SettingsEnd>
-    ensures { Gives (λ names. names) result (doubles_at (view tree.now)) }
+    ensures { GivesSetting (λ names. names) result (doubles_setting (view tree.now)) }
 {
     let Some(items) = items_at(tree, "doubles") else {
         return Err(SettingsEnd::Refused);
@@ -98,9 +99,9 @@ fn doubles_at(alloc: Global, tree: &Value) -> Result<Rows<Text>, SettingsEnd>
 }
 
 /// The name that each of these is.
-#[tactic(auto, using(crate::proofs::Each::begun, crate::proofs::Each::more, crate::proofs::Each::failed, crate::proofs::Each::whole))]
+#[tactic(auto, using(crate::proofs::DataPrefixes::begun, crate::proofs::DataPrefixes::more, crate::proofs::DataPrefixes::failed, crate::proofs::DataPrefixes::whole))]
 fn names_of(alloc: Global, items: &[Value]) -> Result<Vec<Text>, SettingsEnd>
-    ensures { Gives (λ names. names.items) result (each_of name_of (map view items.now)) }
+    ensures { GivesSetting (λ names. names.items) result (each_of name_of (map view items.now)) }
 {
     let mut names = Vec::new(alloc);
     let mut left = items;
@@ -112,7 +113,7 @@ fn names_of(alloc: Global, items: &[Value]) -> Result<Vec<Text>, SettingsEnd>
 }
 
 fn name_of(alloc: Global, value: &Value) -> Result<Text, SettingsEnd>
-    ensures { Gives (λ name. name) result (name_of (view value.now)) }
+    ensures { GivesSetting (λ name. name) result (name_of (view value.now)) }
 {
     match value.as_str() {
         Some(text) if is_name(text.as_bytes()) => Ok(Text::from_slice(alloc, text.as_bytes())?),
@@ -136,7 +137,7 @@ fn is_before(name: &Text, next: &Text) -> bool
 /// The levels of topics, at most the greatest grade.
 fn levels_at(alloc: Global, tree: &Value, top: u64) -> Result<Rows<TopicLevel>, SettingsEnd>
     requires { top ≤ 255 }
-    ensures { Gives (λ levels. levels) result (levels_at top (view tree.now)) }
+    ensures { GivesSetting (λ levels. levels) result (levels_setting top (view tree.now)) }
 {
     let Some(items) = items_at(tree, "levels") else {
         return Err(SettingsEnd::Refused);
@@ -150,10 +151,11 @@ fn levels_at(alloc: Global, tree: &Value, top: u64) -> Result<Rows<TopicLevel>, 
 }
 
 /// The level that each of these is.
-#[tactic(auto, using(crate::proofs::Each::begun, crate::proofs::Each::more, crate::proofs::Each::failed, crate::proofs::Each::whole))]
+#[tactic(auto, using(crate::proofs::DataPrefixes::begun, crate::proofs::DataPrefixes::more, crate::proofs::DataPrefixes::failed, crate::proofs::DataPrefixes::whole))]
 fn levels_of(alloc: Global, items: &[Value], top: u64) -> Result<Vec<TopicLevel>, SettingsEnd>
     requires { top ≤ 255 }
-    ensures { Gives (λ levels. levels.items) result (each_of (level_of top) (map view items.now)) }
+    ensures { GivesSetting (λ levels. levels.items) result
+        (each_of (level_setting top) (map view items.now)) }
 {
     let mut levels = Vec::new(alloc);
     let mut left = items;
@@ -164,10 +166,10 @@ fn levels_of(alloc: Global, items: &[Value], top: u64) -> Result<Vec<TopicLevel>
     Ok(levels)
 }
 
-#[tactic(auto, unfolding(crate::specs::Settings::level_of))]
+#[tactic(auto, unfolding(crate::specs::Settings::level_setting))]
 fn level_of(alloc: Global, value: &Value, top: u64) -> Result<TopicLevel, SettingsEnd>
     requires { top ≤ 255 }
-    ensures { Gives (λ level. level) result (level_of top (view value.now)) }
+    ensures { GivesSetting (λ level. level) result (level_setting top (view value.now)) }
 {
     let topic = name_at(value, "topic")?;
     let level = number_in(value, "level", 1, top)?;
@@ -189,7 +191,7 @@ fn topics_ascend(levels: &[TopicLevel]) -> bool
 
 /// The callers, and their keys.
 fn callers_at(alloc: Global, tree: &Value) -> Result<Keys, SettingsEnd>
-    ensures { Gives (λ rows. rows) result (callers_at (view tree.now)) }
+    ensures { GivesSetting (λ rows. rows) result (callers_at (view tree.now)) }
 {
     let Some(items) = items_at(tree, "caller") else {
         return Err(SettingsEnd::Refused);
@@ -203,9 +205,10 @@ fn callers_at(alloc: Global, tree: &Value) -> Result<Keys, SettingsEnd>
 }
 
 /// The caller that each of these is.
-#[tactic(auto, using(crate::proofs::Each::begun, crate::proofs::Each::more, crate::proofs::Each::failed, crate::proofs::Each::whole))]
+#[tactic(auto, using(crate::proofs::DataPrefixes::begun, crate::proofs::DataPrefixes::more, crate::proofs::DataPrefixes::failed, crate::proofs::DataPrefixes::whole))]
 fn rows_of(alloc: Global, items: &[Value]) -> Result<Vec<KeyRow>, SettingsEnd>
-    ensures { Gives (λ rows. rows.items) result (each_of caller_of (map view items.now)) }
+    ensures { GivesSetting (λ rows. rows.items) result
+        (each_of caller_setting (map view items.now)) }
 {
     let mut rows = Vec::new(alloc);
     let mut left = items;
@@ -216,9 +219,9 @@ fn rows_of(alloc: Global, items: &[Value]) -> Result<Vec<KeyRow>, SettingsEnd>
     Ok(rows)
 }
 
-#[tactic(auto, unfolding(crate::specs::Settings::caller_of))]
+#[tactic(auto, unfolding(crate::specs::Settings::caller_setting))]
 fn caller_of(alloc: Global, value: &Value) -> Result<KeyRow, SettingsEnd>
-    ensures { Gives (λ row. row) result (caller_of (view value.now)) }
+    ensures { GivesSetting (λ row. row) result (caller_setting (view value.now)) }
 {
     let name = name_at(value, "name")?;
     let role = role_in(value)?;
@@ -235,7 +238,7 @@ fn caller_of(alloc: Global, value: &Value) -> Result<KeyRow, SettingsEnd>
 
 /// The name at a key.
 fn name_at<'a>(table: &'a Value, key: &str) -> Result<&'a [u8], SettingsEnd>
-    ensures { Gives (λ name. name.now) result (name_at key.now (view table.now)) }
+    ensures { GivesSetting (λ name. name.now) result (name_setting key.now (view table.now)) }
 {
     match text_at(table, key) {
         Some(name) if is_name(name) => Ok(name),
@@ -244,7 +247,7 @@ fn name_at<'a>(table: &'a Value, key: &str) -> Result<&'a [u8], SettingsEnd>
 }
 
 fn role_in(caller: &Value) -> Result<Role, SettingsEnd>
-    ensures { Gives (λ role. role) result (role_in (view caller.now)) }
+    ensures { GivesSetting (λ role. role) result (role_in (view caller.now)) }
 {
     let Some(text) = text_at(caller, "role") else {
         return Err(SettingsEnd::Refused);
@@ -256,7 +259,7 @@ fn role_in(caller: &Value) -> Result<Role, SettingsEnd>
 }
 
 fn role_of(text: &[u8]) -> Option<Role>
-    ensures { result ≡ role_of text.now }
+    ensures { result ≡ role_setting text.now }
 {
     if text == b"organiser".as_slice() {
         Some(Role::Organiser)
@@ -270,7 +273,7 @@ fn role_of(text: &[u8]) -> Option<Role>
 }
 
 fn key_in(caller: &Value) -> Result<&[u8], SettingsEnd>
-    ensures { Gives (λ key. key.now) result (key_in (view caller.now)) }
+    ensures { GivesSetting (λ key. key.now) result (key_in (view caller.now)) }
 {
     match text_at(caller, "key") {
         Some(key) if is_key(key) => Ok(key),

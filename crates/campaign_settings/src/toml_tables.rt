@@ -3,7 +3,7 @@ ghost use Rattle.std.specs.Prelude.{◌≡◌, ◌≤◌, IfOk, IfSome, map, opt
 ghost use Rattle.std.specs.BTreeMap.{keys};
 ghost use Rattle.std.specs.List.{list_all, list_any};
 ghost use Rattle.toml.specs.View.{view};
-ghost use Rattle.campaign_settings.specs.TomlTables.{data_of, natural, within, number_at, text_at, items_at, has_members, has_known_keys};
+ghost use Rattle.campaign_settings.specs.TomlTables.{data_of, natural, number_within, whole_number_at, text_at, array_at, has_keys, has_known_keys};
 
 use decimal_rank::Memory;
 use std::alloc::Global;
@@ -35,7 +35,7 @@ fn natural(number: i64) -> Option<u64>
 }
 
 fn within(low: u64, high: u64, number: u64) -> Option<u64>
-    ensures number { result ≡ within low high number }
+    ensures number { result ≡ number_within low high number }
     ensures bounds { IfSome result (λ found. (low ≤ found) × (found ≤ high)) }
 {
     if low <= number && number <= high {
@@ -47,7 +47,7 @@ fn within(low: u64, high: u64, number: u64) -> Option<u64>
 
 /// The whole number at a key, within these bounds.
 pub(crate) fn number_at(tree: &Value, key: &str, low: u64, high: u64) -> Option<u64>
-    ensures number { result ≡ number_at key.now low high (view tree.now) }
+    ensures number { result ≡ whole_number_at key.now low high (view tree.now) }
     ensures bounds { IfSome result (λ found. (low ≤ found) × (found ≤ high)) }
 {
     let Some(value) = tree.get(key) else {
@@ -78,7 +78,7 @@ pub(crate) fn text_at<'a>(tree: &'a Value, key: &str) -> Option<&'a [u8]>
 /// The items of the array at a key; where the key is absent there are none.
 #[tactic(auto, using(crate::proofs::Lists::listed))]
 pub(crate) fn items_at<'a>(tree: &'a Value, key: &str) -> Option<&'a [Value]>
-    ensures { option_map (λ items. map view items.now) result ≡ items_at key.now (view tree.now) }
+    ensures { option_map (λ items. map view items.now) result ≡ array_at key.now (view tree.now) }
 {
     match tree.get(key) {
         Some(value) => match value.as_array() {
@@ -92,7 +92,7 @@ pub(crate) fn items_at<'a>(tree: &'a Value, key: &str) -> Option<&'a [Value]>
 /// Whether it is a table with so many keys.
 #[tactic(auto, using(crate::proofs::TableKeys::counted, crate::proofs::TableKeys::uncounted))]
 pub(crate) fn has_members(tree: &Value, count: usize) -> bool
-    ensures { result ≡ has_members count (view tree.now) }
+    ensures { result ≡ has_keys count (view tree.now) }
 {
     match tree.as_table() {
         Some(table) => table.len() == count,
@@ -107,7 +107,8 @@ fn is_known(known: &[&str], key: &str) -> bool
 }
 
 fn are_known(known: &[&str], table: &Table) -> bool
-    ensures { result ≡ list_all (λ key. list_any (λ k. bytes_eq k.now (string_bytes key)) known.now) (keys table.now) }
+    ensures { result ≡ list_all (λ key. list_any (λ k. bytes_eq k.now (string_bytes key)) known.now)
+        (keys table.now) }
 {
     table.keys().all(|key| is_known(known, key.as_str()))
 }

@@ -3,9 +3,9 @@ pub mod Flags
 pub mod MatchedRows
 pub mod Programs
 pub mod Refusals
-pub mod Slots
-pub mod Stands
+pub mod NameRules
+pub mod WalkStates
 pub mod Subcommands
-pub mod Turns
-pub mod Uses
+pub mod SingleWords
+pub mod SingleValues
 pub mod ValueLists

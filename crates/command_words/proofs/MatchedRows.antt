@@ -21,7 +21,9 @@ bad_kinds (k ∷ kinds) e has other = refl
 -- an error that isn't want of memory is a refusal
 pub refused : (forms : List Form) (a : App) (words : List Text) (e : Error) → a ≡ program forms → (is_simple_and_free a ≡ true → HasKind (fault_of a words) e)
     → ¬ (kind_of e ≡ OutOfMemory) → is_clear (fault_of (program forms) words) ≡ false
-refused forms a words e is = subst (λ a. (is_simple_and_free a ≡ true → HasKind (fault_of a words) e) → ¬ (kind_of e ≡ OutOfMemory) → is_clear (fault_of (program forms) words) ≡ false) (sym is)
+refused forms a words e is =
+    subst (λ a. (is_simple_and_free a ≡ true → HasKind (fault_of a words) e) → ¬ (kind_of e ≡ OutOfMemory) → is_clear (fault_of (program forms) words) ≡ false)
+    (sym is)
     (λ has other. bad_kinds (fault_of (program forms) words) e (has (simple_and_free forms)) other)
 
 -- matches are what `clap` makes of words that it takes

@@ -6,8 +6,8 @@ use Rattle.clap.specs.Faults.{has_free_rules, is_free_app, is_simple_and_free}
 use Rattle.clap.specs.Simple.{built_leaf, has_simple_rules, inherited, is_ready, is_ready_leaf, is_simple_leaf, new_shape}
 use Rattle.command_words.specs.CommandLines.{form_line, option_rule, place_rule, program, with_form, with_option, with_place}
 use Rattle.command_words.specs.Words.{Form, Text}
-use Rattle.command_words.proofs.Slots.{all_free, all_simple, filled_is, none_early, slots}
-use Rattle.command_words.proofs.Turns.{rules, shape}
+use Rattle.command_words.proofs.NameRules.{all_free, all_simple, filled_is, none_early, slots}
+use Rattle.command_words.proofs.SingleWords.{rules, shape}
 
 -- a command line with these rules and subcommands
 abbrev line_of : Shape → List Rule → App
@@ -15,11 +15,13 @@ line_of top rules = record { top = record top { rules = rules }; subs = [] }
 
 places_line : (top : Shape) (done : List Rule) (names : List Text) → fold with_place (line_of top done) names ≡ line_of top (done ++ map place_rule names)
 places_line top done [] = ap (line_of top) (sym (append-nil done))
-places_line top done (name ∷ names) = places_line top (done ++ place_rule name ∷ []) names ∙ ap (line_of top) (append_assoc done (place_rule name ∷ []) (map place_rule names))
+places_line top done (name ∷ names) =
+    places_line top (done ++ place_rule name ∷ []) names ∙ ap (line_of top) (append_assoc done (place_rule name ∷ []) (map place_rule names))
 
 options_line : (top : Shape) (done : List Rule) (names : List Text) → fold with_option (line_of top done) names ≡ line_of top (done ++ map option_rule names)
 options_line top done [] = ap (line_of top) (sym (append-nil done))
-options_line top done (name ∷ names) = options_line top (done ++ option_rule name ∷ []) names ∙ ap (line_of top) (append_assoc done (option_rule name ∷ []) (map option_rule names))
+options_line top done (name ∷ names) =
+    options_line top (done ++ option_rule name ∷ []) names ∙ ap (line_of top) (append_assoc done (option_rule name ∷ []) (map option_rule names))
 
 abbrev pub form_rules : Form → List Rule
 form_rules form = map place_rule form.positionals ++ map option_rule form.options
@@ -39,7 +41,8 @@ abbrev pub is_empty : List Form → Bool
 is_empty [] = true
 is_empty (form ∷ forms) = false
 
-forms_line : (done : List Shape) (forms : List Form) → fold with_form (record { top = top_of false; subs = done }) forms ≡ record { top = top_of false; subs = done ++ map form_shape forms }
+forms_line : (done : List Shape) (forms : List Form)
+    → fold with_form (record { top = top_of false; subs = done }) forms ≡ record { top = top_of false; subs = done ++ map form_shape forms }
 forms_line done [] = ap (λ (ss : List Shape). let a : App = record { top = top_of false; subs = ss } in a) (sym (append-nil done))
 forms_line done (form ∷ forms) = ap (λ (s : Shape). fold with_form (record { top = top_of false; subs = done ++ s ∷ [] }) forms) (line_is form)
     ∙ forms_line (done ++ form_shape form ∷ []) forms
@@ -47,7 +50,8 @@ forms_line done (form ∷ forms) = ap (λ (s : Shape). fold with_form (record { 
 
 pub program_is : (forms : List Form) → program forms ≡ record { top = top_of (is_empty forms); subs = map form_shape forms }
 program_is [] = refl
-program_is (form ∷ forms) = ap (λ (s : Shape). fold with_form (record { top = top_of false; subs = s ∷ [] }) forms) (line_is form) ∙ forms_line (form_shape form ∷ []) forms
+program_is (form ∷ forms) =
+    ap (λ (s : Shape). fold with_form (record { top = top_of false; subs = s ∷ [] }) forms) (line_is form) ∙ forms_line (form_shape form ∷ []) forms
 
 -- the top of the built command line
 abbrev pub built_top : Bool → Shape
@@ -94,7 +98,8 @@ leaves_free [] = refl
 leaves_free (form ∷ forms) = ap₂ ◌&&◌ (all_free (slots 1 form.positionals form.options)) (leaves_free forms)
 
 pub simple : (forms : List Form) → is_simple (program forms) ≡ true
-simple forms = ap₂ (λ (a b : App). has_simple_rules a.top && list_all is_simple_leaf a.subs && (is_ready b.top && list_all is_ready_leaf b.subs)) (program_is forms) (built_is forms)
+simple forms = ap₂ (λ (a b : App). has_simple_rules a.top && list_all is_simple_leaf a.subs && (is_ready b.top && list_all is_ready_leaf b.subs))
+    (program_is forms) (built_is forms)
     ∙ ap₂ ◌&&◌ (leaves_simple forms) (leaves_ready forms)
 
 pub simple_and_free : (forms : List Form) → is_simple_and_free (program forms) ≡ true

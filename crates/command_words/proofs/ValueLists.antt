@@ -18,7 +18,8 @@ each_append value [] others = by (each_by value others)
 each_append value (name ∷ names) others = ap (λ o. option_and_then (λ first. option_map (λ rest. first ∷ rest) o) (value name)) (each_append value names others)
     ∙ by (value name) (each_by value names) (each_by value others)
   where
-    by : (v : Option Text) (o p : Option (List Text)) → option_and_then (λ first. option_map (λ rest. first ∷ rest) (both o p)) v ≡ both (option_and_then (λ first. option_map (λ rest. first ∷ rest) o) v) p
+    by : (v : Option Text) (o p : Option (List Text))
+        → option_and_then (λ first. option_map (λ rest. first ∷ rest) (both o p)) v ≡ both (option_and_then (λ first. option_map (λ rest. first ∷ rest) o) v) p
     by None o p = refl
     by (Some first) None p = refl
     by (Some first) (Some done) None = refl

@@ -4,7 +4,7 @@ use Rattle.clap.specs.Words.{App, Kinds, Row, Rule, first_of, new_app, new_rule,
 use Rattle.clap.specs.Simple.{on_top}
 use Rattle.clap.specs.declared.builder.command.Command.{Command}
 use Rattle.clap.specs.declared.builder.command.Command.TheViews.{out-Command}
-use Rattle.command_words.specs.Words.{Form, Text, each_by, form_named, names_of, with_name}
+use Rattle.command_words.specs.Words.{Form, Text, each_by, form_named, form_names, values_with_name}
 
 -- a positional word, which has to be there
 abbrev pub place_rule : Text → Rule
@@ -44,7 +44,7 @@ values_at rows names = each_by (λ name. first_of name rows) names
 
 -- what the matches of a command give
 abbrev pub found_at : List Form → Text × List Row → Option (Text × List Text)
-found_at forms found = option_and_then (λ form. with_name form (values_at found.1 (names_of form))) (form_named found.0 forms)
+found_at forms found = option_and_then (λ form. values_with_name form (values_at found.1 (form_names form))) (form_named found.0 forms)
 
 abbrev pub found_by : List Form → Option (Text × List Row) → Option (Text × List Text)
 found_by forms found = option_and_then (found_at forms) found

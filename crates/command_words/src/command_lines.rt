@@ -16,9 +16,11 @@ pub(crate) fn find_matches<'a>(
     forms: &'a [CommandForm<'a>],
     words: &'a [String],
 ) -> Result<Option<ArgMatches<'a>>, Memory>
-    ensures { IfOk result (λ found. MatchOption found (is_clear (fault_of (program (map form_of forms.now)) (map string_bytes words.now)) ≡ false)
-        (λ matches. (is_clear (fault_of (program (map form_of forms.now)) (map string_bytes words.now)) ≡ true)
-        × (subcommand_rows_of matches ≡ subcommand_of (program (map form_of forms.now)) (map string_bytes words.now)))) }
+    ensures { IfOk result (λ found. MatchOption found (is_clear (fault_of
+        (program (map form_of forms.now)) (map string_bytes words.now)) ≡ false) (λ matches.
+        (is_clear (fault_of (program (map form_of forms.now)) (map string_bytes words.now)) ≡ true)
+        × (subcommand_rows_of matches
+        ≡ subcommand_of (program (map form_of forms.now)) (map string_bytes words.now)))) }
 {
     let line = command_line(alloc, forms)?;
     match line.try_get_matches_from(words) {
@@ -44,7 +46,8 @@ fn with_forms<'a>(
     mut line: Command<'a>,
     forms: &'a [CommandForm<'a>],
 ) -> Result<Command<'a>, AllocError>
-    ensures { IfOk result (λ whole. app_of whole ≡ fold with_form (app_of line.entry) (map form_of forms.now)) }
+    ensures { IfOk result
+        (λ whole. app_of whole ≡ fold with_form (app_of line.entry) (map form_of forms.now)) }
 {
     let mut left = forms;
     while let [form, rest @ ..] = left {
@@ -59,7 +62,8 @@ fn with_form<'a>(
     line: Command<'a>,
     form: &CommandForm<'a>,
 ) -> Result<Command<'a>, AllocError>
-    ensures { IfOk result (λ whole. app_of whole ≡ with_form (app_of line.entry) (form_of form.now)) }
+    ensures { IfOk result
+        (λ whole. app_of whole ≡ with_form (app_of line.entry) (form_of form.now)) }
 {
     let command = form_line(alloc, form)?;
     let whole = line.subcommand(command)?;
@@ -81,7 +85,8 @@ fn with_places<'a>(
     names: &'a [&'a str],
 ) -> Result<Command<'a>, AllocError>
     requires { IsLocal line }
-    ensures app { IfOk result (λ whole. app_of whole ≡ fold with_place (app_of line.entry) (map (λ name. name.now) names.now)) }
+    ensures app { IfOk result (λ whole. app_of whole
+        ≡ fold with_place (app_of line.entry) (map (λ name. name.now) names.now)) }
     ensures local { IfOk result IsLocal }
 {
     let mut left = names;
@@ -99,7 +104,8 @@ fn with_options<'a>(
     names: &'a [&'a str],
 ) -> Result<Command<'a>, AllocError>
     requires { IsLocal line }
-    ensures app { IfOk result (λ whole. app_of whole ≡ fold with_option (app_of line.entry) (map (λ name. name.now) names.now)) }
+    ensures app { IfOk result (λ whole. app_of whole
+        ≡ fold with_option (app_of line.entry) (map (λ name. name.now) names.now)) }
     ensures local { IfOk result IsLocal }
 {
     let mut left = names;

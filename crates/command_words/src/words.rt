@@ -2,7 +2,7 @@
 ghost use Rattle.std.specs.Prelude.{◌≡◌, false, true, IfOk, IsTrue, map, option_map, string_bytes};
 ghost use Rattle.std.specs.List.{list_all, list_any};
 ghost use Rattle.std.specs.Option.{option_map_or};
-ghost use Rattle.command_words.specs.Words.{begins_with_minus, behind_minus, form_of, given_by, is_form, is_stray, named, value_behind, view_of};
+ghost use Rattle.command_words.specs.Words.{begins_with_minus, behind_minus, form_of, given_by, is_form, is_stray, option_named, value_behind, view_of};
 
 use crate::command_lines::find_matches;
 use crate::forms::{CommandForm, CommandWords};
@@ -22,7 +22,8 @@ pub fn read_command<'a>(
     words: &'a [String],
 ) -> Result<Option<CommandWords<'a>>, Memory>
     requires { IsTrue (list_all is_form (map form_of forms.now)) }
-    ensures { IfOk result (λ found. option_map view_of found ≡ given_by (map form_of forms.now) (map string_bytes words.now)) }
+    ensures { IfOk result (λ found. option_map view_of found
+        ≡ given_by (map form_of forms.now) (map string_bytes words.now)) }
 {
     if has_stray(words) {
         return Ok(None);
@@ -61,7 +62,8 @@ fn is_stray(word: &[u8]) -> bool
 
 /// Whether what is behind two minuses is no option, or has a value that begins with a minus.
 fn is_stray_option(option: &[u8]) -> bool
-    ensures { result ≡ option_map_or (λ found. option_map_or begins_with_minus found.1 false) (named option.now) true }
+    ensures { result ≡ option_map_or (λ found. option_map_or begins_with_minus found.1 false)
+        (option_named option.now) true }
 {
     if option.is_empty() {
         return true;

@@ -1,5 +1,5 @@
-//! Tries words against two forms, a copy and a server, for the command and the values that they give, and numbers in
-//! ranges.
+//! Tries words against two forms, a copy and a server, for the command and the values that they
+//! give, and numbers in ranges.
 use command_words::{CommandForm, number_in, read_command};
 use std::alloc::Global;
 use std::test::Fail;

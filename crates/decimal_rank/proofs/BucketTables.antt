@@ -1,4 +1,4 @@
 -- Items in the buckets of a table: one more item, and a walk through a bucket.
-pub mod Bucketed
-pub mod Chained
+pub mod AddedItems
+pub mod LinkedItems
 pub mod Walks

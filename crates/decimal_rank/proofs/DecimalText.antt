@@ -2,7 +2,7 @@
 pub mod Canonical
 pub mod Cuts
 pub mod Digits
-pub mod Reading
+pub mod ReadDigits
 pub mod ScoreTexts
 pub mod Scores
 pub mod Shifts

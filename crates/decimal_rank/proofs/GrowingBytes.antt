@@ -1,3 +1,3 @@
 -- Bytes that grow by one part after another.
-pub mod Growing
+pub mod ByteParts
 pub mod Growth

@@ -1,4 +1,6 @@
 pub mod BucketTables
 pub mod DecimalText
 pub mod GrowingBytes
+pub mod Lists
 pub mod Standings
+pub mod TruthValues

@@ -1,6 +1,7 @@
 -- The order of decimal values, and the lists of documents in it.
 pub mod Docnos
-pub mod Listing
+pub mod Keys
+pub mod ListPlaces
 pub mod Search
-pub mod Standing
+pub mod StandingOrder
 pub mod Values

@@ -1,10 +1,16 @@
 //! The exact values of scores, read from their texts, compared, and written as canonical texts.
-ghost use Rattle.std.specs.Prelude.{IfOk, ◌≡◌, ◌≢◌, ◌-◌, ◌*◌, ◌/◌, ◌%◌, ◌^◌, ◌<◌, ◌≤◌, pos, negsuc, ◌≤ℤ◌, ◌+ℤ◌, ◌-ℤ◌};
-ghost use Rattle.decimal_rank.specs.DecimalText.{canonical, decimal_of, scaled};
-ghost use Rattle.decimal_rank.specs.Decimal.{DecimalValue, decimal_cmp, size_of};
+ghost use Rattle.std.specs.Prelude.{IfOk, ◌≡◌, ◌≢◌, ◌+◌, ◌-◌, ◌*◌, ◌/◌, ◌%◌, ◌^◌, ◌<◌, ◌≤◌, pos, negsuc, ◌≤ℤ◌, ◌+ℤ◌, ◌-ℤ◌};
+ghost use Rattle.std.specs.Int.{int_gap};
+ghost use Rattle.decimal_rank.specs.Decimals.DecimalText.{canonical, decimal_of, scaled_value};
+ghost use Rattle.decimal_rank.specs.Decimals.AlignedDigits.{aligned_value, size_key, IsAligned, IsKeyed};
+ghost use Rattle.decimal_rank.specs.Decimals.Decimal.{DecimalValue, decimal_cmp, magnitude_of, signed_number};
 
-use crate::score_parts::{exponent_of, parts_of};
-use crate::significands::{MOST_DIGITS, significand_of};
+pub(crate) mod decimal_laws;
+mod score_parts;
+mod significands;
+
+use crate::decimals::score_parts::{exponent_of, parts_of};
+use crate::decimals::significands::{MOST_DIGITS, significand_of};
 use crate::storage::Memory;
 use crate::texts::Text;
 use std::alloc::Global;
@@ -54,6 +60,12 @@ const POWERS: [u128; 39] = [
     100_000_000_000_000_000_000_000_000_000_000_000_000,
 ];
 
+/// What one more of the exponent adds to a key: more than the digits do.
+const EXPONENT_STEP: u64 = 2_251_799_813_685_248;
+
+/// The 38 digits are divided by this in a key, which leaves the first 15 or 16.
+const KEYED_DIGITS: u128 = 75_557_863_725_914_323_419_136;
+
 /// Why a text is no score.
 #[derive(Clone, Copy, Debug, PartialEq, Eq)]
 pub enum DecimalFault {
@@ -66,27 +78,31 @@ pub enum DecimalFault {
 }
 
 /// The exact value of a score. The digits are kept left-aligned, so that comparing multiplies
-/// nothing. Contracts see the sign, the whole number without zeros at its end, and the exponent.
+/// nothing, beside a key that mostly tells the order alone. Contracts see the sign, the whole
+/// number without zeros at its end, and the exponent.
 #[derive(Debug, Drop)]
 pub struct Decimal {
-    negative: bool,
     // 38 digits, or 0
     leading: u128,
-    // how many of them are zeros that fill up the end
-    padding: u8,
+    // orders as the values do, where keys differ
+    key: i64,
     // the exponent of the last of the 38
     last: i16,
+    // how many of the 38 are zeros that fill up the end
+    padding: u8,
+    negative: bool,
 }
 
 impl Model for Decimal {
-    ghost use Rattle.decimal_rank.specs.Decimal.{DecimalValue};
-    ghost use Rattle.decimal_rank.specs.Aligned.{aligned_value, IsAligned};
+    ghost use Rattle.decimal_rank.specs.Decimals.Decimal.{DecimalValue};
+    ghost use Rattle.decimal_rank.specs.Decimals.AlignedDigits.{aligned_value, IsAligned, IsKeyed};
 
     ghost Value = { DecimalValue };
 
     ghost view = { λ d. aligned_value d.negative d.leading d.padding d.last };
 
-    ghost invariant = { λ d. IsAligned d.negative d.leading d.padding d.last };
+    ghost invariant = { λ d. IsAligned d.negative d.leading d.padding d.last
+        × IsKeyed d.negative d.leading d.last d.key };
 }
 
 impl Decimal {
@@ -119,7 +135,8 @@ impl Decimal {
     /// exponent only where it isn't 0.
     pub fn write(&self, alloc: Global) -> Result<Text, Memory>
         ensures text { IfOk result (λ text. text ≡ canonical self.now) }
-        ensures read_back { negsuc 399 ≤ℤ self.now.exponent → self.now.exponent ≤ℤ pos 400 → IfOk result (λ text. decimal_of text ≡ Ok self.now) }
+        ensures read_back { negsuc 399 ≤ℤ self.now.exponent → self.now.exponent ≤ℤ pos 400
+            → IfOk result (λ text. decimal_of text ≡ Ok self.now) }
     {
         let digits = self.leading / power(self.padding);
         let exponent = self.last + i16::from(self.padding);
@@ -131,15 +148,27 @@ impl Decimal {
         ensures { result ≡ self.now }
     {
         Decimal {
-            negative: self.negative,
             leading: self.leading,
-            padding: self.padding,
+            key: self.key,
             last: self.last,
+            padding: self.padding,
+            negative: self.negative,
         }
     }
 
     /// The order of the values.
     pub fn compare(&self, other: &Decimal) -> Ordering
+        ensures { result ≡ decimal_cmp self.now other.now }
+    {
+        match self.key.cmp(&other.key) {
+            Ordering::Equal => self.compare_whole(other),
+            unequal => unequal,
+        }
+    }
+
+    // The order of the values, by all their digits.
+    #[inline(never)]
+    fn compare_whole(&self, other: &Decimal) -> Ordering
         ensures { result ≡ decimal_cmp self.now other.now }
     {
         match (self.negative, other.negative) {
@@ -152,7 +181,7 @@ impl Decimal {
 
     // The order of the values without their signs.
     fn compare_size(&self, other: &Decimal) -> Ordering
-        ensures { result ≡ decimal_cmp (size_of self.now) (size_of other.now) }
+        ensures { result ≡ decimal_cmp (magnitude_of self.now) (magnitude_of other.now) }
     {
         if self.leading == 0 || other.leading == 0 {
             return self.leading.cmp(&other.leading);
@@ -165,7 +194,8 @@ impl Decimal {
 
 // The canonical text of a sign, digits and an exponent.
 fn write_parts(alloc: Global, negative: bool, digits: u128, exponent: i16) -> Result<Text, Memory>
-    ensures { IfOk result (λ text. text ≡ canonical (record { negative = negative; digits = digits; exponent = exponent })) }
+    ensures { IfOk result (λ text. text
+        ≡ canonical (record { negative = negative; digits = digits; exponent = exponent })) }
 {
     let sign = if negative { "-" } else { "" };
     if exponent == 0 {
@@ -208,22 +238,80 @@ fn scaled(negative: bool, digits: u128, count: u8, zeros: u8, exponent: i16) -> 
     requires trimmed { digits ≢ 0 → digits / 10 ^ zeros % 10 ≢ 0 }
     requires low { negsuc 999 ≤ℤ exponent }
     requires high { exponent ≤ℤ pos 1000 }
-    ensures { result ≡ scaled negative (digits / 10 ^ zeros) exponent }
+    ensures { result ≡ scaled_value negative (digits / 10 ^ zeros) exponent }
 {
     if digits == 0 {
         return Decimal {
-            negative: false,
             leading: 0,
-            padding: 0,
+            key: 0,
             last: 0,
+            padding: 0,
+            negative: false,
         };
     }
     let short = 38 - count;
     let padding = zeros + short;
+    let leading = digits * power(short);
+    let last = exponent - i16::from(padding);
+    keyed(negative, leading, padding, last)
+}
+
+// The decimal of a sign, 38 digits with this padding, and the exponent of the last.
+fn keyed(negative: bool, leading: u128, padding: u8, last: i16) -> Decimal
+    requires some { leading ≢ 0 }
+    requires aligned { IsAligned negative leading padding last }
+    ensures { result ≡ aligned_value negative leading padding last }
+{
     Decimal {
-        negative,
-        leading: digits * power(short),
+        leading,
+        key: key(negative, leading, last),
+        last,
         padding,
-        last: exponent - i16::from(padding),
+        negative,
     }
+}
+
+// The key of a sign, 38 digits and the exponent of the last.
+fn key(negative: bool, leading: u128, last: i16) -> i64
+    requires some { leading ≢ 0 }
+    requires below { leading < 10 ^ 38 }
+    requires low { negsuc 1999 ≤ℤ last }
+    requires high { last ≤ℤ pos 1999 }
+    ensures { IsKeyed negative leading last result }
+{
+    signed(negative, size_key(leading, last))
+}
+
+// A number with a sign.
+fn signed(negative: bool, size: u64) -> i64
+    requires { size < 2 ^ 63 }
+    ensures { result ≡ signed_number negative size }
+{
+    if negative {
+        -(size as i64)
+    } else {
+        size as i64
+    }
+}
+
+// The key without a sign: the exponent, and behind it the first digits.
+fn size_key(leading: u128, last: i16) -> u64
+    requires some { leading ≢ 0 }
+    requires below { leading < 10 ^ 38 }
+    requires low { negsuc 1999 ≤ℤ last }
+    requires high { last ≤ℤ pos 1999 }
+    ensures key { result ≡ size_key leading last }
+    ensures within { result < 2 ^ 63 }
+{
+    raised(last) * EXPONENT_STEP + (leading / KEYED_DIGITS) as u64
+}
+
+// An exponent, from -2000.
+fn raised(exponent: i16) -> u64
+    requires low { negsuc 1999 ≤ℤ exponent }
+    requires high { exponent ≤ℤ pos 1999 }
+    ensures value { result ≡ int_gap (negsuc 1999) exponent }
+    ensures few { result < 4000 }
+{
+    (exponent + 2000) as u64
 }

@@ -1,7 +1,7 @@
-//! Faults of the outside: the answer of a call that failed, and the failing calls of a memory form, by
-//! which tests try each fault at its place.
+//! Faults of the outside: the answer of a call that failed, and the failing calls of a memory form,
+//! by which tests try each fault at its place.
 ghost use Rattle.std.specs.Prelude.{◌≡◌};
-ghost use Rattle.decimal_rank.specs.FailurePlans.{count_more as one_more, fails_next, after_call};
+ghost use Rattle.decimal_rank.specs.Outputs.FailurePlans.{count_more as one_more, fails_next, after_call};
 
 use std::marker::Model;
 
@@ -9,8 +9,8 @@ use std::marker::Model;
 #[derive(Clone, Copy, Debug, PartialEq, Eq)]
 pub struct Failed;
 
-/// Which calls of a memory form are to fail, by their places from 1. Contracts see these places and the
-/// number of calls so far.
+/// Which calls of a memory form are to fail, by their places from 1. Contracts see these places and
+/// the number of calls so far.
 #[derive(Debug, Drop)]
 pub struct FailurePlan {
     fails: Vec<u64>,
@@ -18,7 +18,7 @@ pub struct FailurePlan {
 }
 
 impl Model for FailurePlan {
-    ghost use Rattle.decimal_rank.specs.FailurePlans.{PlanState};
+    ghost use Rattle.decimal_rank.specs.Outputs.FailurePlans.{PlanState};
 
     ghost Value = { PlanState };
 

@@ -5,8 +5,8 @@ ghost use Rattle.std.specs.List.{IsDistinct};
 ghost use Rattle.std.specs.Option.{option_map};
 ghost use Rattle.std.specs.Str.{bytes_eq};
 
-use crate::secrets::Secret;
 use crate::storage::Memory;
+use crate::tables::secrets::Secret;
 use crate::texts::{Text, Wanted};
 use indexmap::IndexSet;
 use std::alloc::Global;

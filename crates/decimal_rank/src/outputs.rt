@@ -3,8 +3,8 @@
 ghost use Rattle.std.specs.Prelude.{◌<◌, ◌≤◌, length, IfOk, OnOk, OnErr};
 ghost use Rattle.std.specs.Io.KnownBytes.{Appends, WriteAppends};
 ghost use Rattle.decimal_rank.specs.Causes.{HasCause};
-ghost use Rattle.decimal_rank.specs.KnownBytes.{AppendsPart};
-ghost use Rattle.decimal_rank.specs.Writings.{Writing};
+ghost use Rattle.decimal_rank.specs.Outputs.KnownBytes.{AppendsPart};
+ghost use Rattle.decimal_rank.specs.Outputs.Writings.{Writing};
 
 use crate::failures::Failed;
 
@@ -21,7 +21,8 @@ pub trait Output {
     fn write(&mut self, piece: &[u8]) -> Result<usize, Failed>
         ensures bound { IfOk result (λ count. count ≤ length piece.now) }
         ensures some { IfOk result (λ count. 0 < length piece.now → 0 < count) }
-        ensures bytes { WriteAppends (writing self.old).written (writing self.new).written result piece.now }
+        ensures bytes { WriteAppends (writing self.old).written
+            (writing self.new).written result piece.now }
         ensures cause { HasCause (writing self.old).faults (writing self.new).faults result }
         ensures kept { Keeps self.old self.new };
 
@@ -33,8 +34,10 @@ pub trait Output {
 /// Writes the whole text, in as many writes as it takes. A write that fails ends it.
 #[tactic(auto, using(crate::proofs::GrowingBytes::Growth::appends_next))]
 pub fn write_all<O: Output>(out: &mut O, text: &[u8]) -> Result<(), Failed>
-    ensures all { OnOk result (Appends (O.writing out.old).written (O.writing out.new).written text.now) }
-    ensures part { OnErr result (AppendsPart (O.writing out.old).written (O.writing out.new).written text.now) }
+    ensures all { OnOk result
+        (Appends (O.writing out.old).written (O.writing out.new).written text.now) }
+    ensures part { OnErr result
+        (AppendsPart (O.writing out.old).written (O.writing out.new).written text.now) }
     ensures cause { HasCause (O.writing out.old).faults (O.writing out.new).faults result }
     ensures kept { O.Keeps out.old out.new }
 {

@@ -2,17 +2,20 @@
 //! document at a rank in one step and the rank of a document in a few.
 ghost use Rattle.std.specs.Prelude.{◌≡◌, ℕ, ◌+◌, ◌-◌, ◌<◌, ◌≤◌, List, length, map, take, All, Some, Err, IfOk, OnOk, MatchOption, slice_get, ◌≢◌, Any, IfSome, IfNone};
 ghost use Rattle.std.specs.List.Sorted.{IsNonDecreasingBy};
-ghost use Rattle.decimal_rank.specs.Places.{AreDistinct, IsFirstRepeat, place_in, levels};
-ghost use Rattle.decimal_rank.specs.Entries.{AreEntries, entries_in};
-ghost use Rattle.decimal_rank.specs.Ranks.{IsRanking, standing_cmp, standing_of};
+ghost use Rattle.decimal_rank.specs.Rankings.Places.{AreDistinct, IsFirstRepeat, place_in, levels};
+ghost use Rattle.decimal_rank.specs.Rankings.Entries.{AreEntries, entries_in};
+ghost use Rattle.decimal_rank.specs.Rankings.Ranks.{IsRanking, standing_cmp, standing_of};
 ghost use Rattle.decimal_rank.specs.Names.{docno_of};
 
-use crate::counted_lists::CountedList;
+mod counted_lists;
+pub(crate) mod weights;
+
 use crate::decimals::Decimal;
 use crate::naming::{DocId, Names};
-use crate::secrets::Secret;
+use crate::rankings::counted_lists::CountedList;
 use crate::steps::Steps;
 use crate::storage::Memory;
+use crate::tables::secrets::Secret;
 use std::alloc::{AllocError, AllocFailed, Global};
 use std::cmp::Ordering;
 use std::collections::HashMap;
@@ -79,8 +82,9 @@ pub fn rank(alloc: Global, lines: &[Scored], names: &Names) -> Result<Ranking, R
 // The least line whose document stands on an earlier one, after that one, counted from 1.
 fn first_repeat(alloc: Global, lines: &[Scored]) -> Result<Option<(u32, u32)>, Memory>
     requires { length lines.now ≤ 1000 }
-    ensures { IfOk result (λ found. MatchOption found (AreDistinct (map (λ line. line.doc) lines.now))
-        (λ p. IsFirstRepeat (map (λ line. line.doc) lines.now) p.0 p.1)) }
+    ensures { IfOk result
+        (λ found. MatchOption found (AreDistinct (map (λ line. line.doc) lines.now)) (λ p.
+        IsFirstRepeat (map (λ line. line.doc) lines.now) p.0 p.1)) }
 {
     let mut line_of = HashMap::with_capacity_and_hasher(alloc, lines.len(), Secret::drawn())?;
     for (i, line) in lines.iter().enumerate() {
@@ -118,7 +122,7 @@ fn docs_of(alloc: Global, order: &[&Scored]) -> Result<Vec<DocId>, Memory>
 }
 
 // The order of two lines by score, and at equal scores by docno.
-#[tactic(auto, unfolding(crate::specs::Ranks::standing_cmp))]
+#[tactic(auto, unfolding(crate::specs::Rankings::Ranks::standing_cmp))]
 fn standing(names: &Names, a: &Scored, b: &Scored) -> Ordering
     ensures { result ≡ standing_cmp (standing_of names.now a.now) (standing_of names.now b.now) }
 {
@@ -131,14 +135,15 @@ fn standing(names: &Names, a: &Scored, b: &Scored) -> Ordering
 impl Model for Ranking {
     ghost use Rattle.std.specs.Prelude.{◌≤◌, List, length};
     ghost use Rattle.decimal_rank.specs.declared.naming.DocId.{DocId};
-    ghost use Rattle.decimal_rank.specs.Places.{AreDistinct};
-    ghost use Rattle.decimal_rank.specs.Entries.{AreEntries};
+    ghost use Rattle.decimal_rank.specs.Rankings.Places.{AreDistinct};
+    ghost use Rattle.decimal_rank.specs.Rankings.Entries.{AreEntries};
 
     ghost Value = { List DocId };
 
     ghost view = { λ ranking. ranking.docs };
 
-    ghost invariant = { λ ranking. (length ranking.docs ≤ 1000) × AreDistinct ranking.docs × AreEntries ranking.docs ranking.entries };
+    ghost invariant = { λ ranking. (length ranking.docs ≤ 1000) × AreDistinct ranking.docs
+        × AreEntries ranking.docs ranking.entries };
 }
 
 impl Ranking {
@@ -215,7 +220,8 @@ fn place_among<L: Ledger>(
     steps: &mut Steps<L>,
 ) -> Option<u32>
     requires { IsNonDecreasingBy (λ entry. entry.doc) entries.now }
-    ensures found { IfSome result (λ place. Any (λ entry. (entry.doc ≡ doc) × (entry.place ≡ place)) entries.now) }
+    ensures found { IfSome result
+        (λ place. Any (λ entry. (entry.doc ≡ doc) × (entry.place ≡ place)) entries.now) }
     ensures none { IfNone result (All (λ entry. entry.doc ≢ doc) entries.now) }
     ensures cost { steps.new ≤ steps.old + levels (length entries.now) + 1 }
 {

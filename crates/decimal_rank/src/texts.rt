@@ -1,5 +1,6 @@
-//! Texts that a caller keeps, as a topic id, a docno or a page. A text of up to 23 bytes stands in the
-//! value itself, so that making or copying it allocates nothing; a longer one stands on the heap.
+//! Texts that a caller keeps, as a topic id, a docno or a page. A text of up to 23 bytes stands in
+//! the value itself, so that making or copying it allocates nothing; a longer one stands on the
+//! heap.
 ghost use Rattle.std.specs.Prelude.{◌≡◌, ◌≤◌, IfOk, IsOk, length};
 ghost use Rattle.std.specs.Str.{bytes_eq};
 ghost use Rattle.std.specs.Cmp.{partial_order_from_own_ties};
@@ -7,7 +8,11 @@ ghost use Rattle.std.specs.Cmp.Lexicographic.{slice_cmp};
 ghost use Rattle.std.specs.Cmp.Rules.{comparing, hashing};
 ghost use Rattle.std.specs.Ordering.{nat_cmp, as_partial_cmp};
 ghost use Rattle.std.proofs.Common.{rules};
-ghost use Rattle.decimal_rank.specs.TextHashes.{text_writes};
+ghost use Rattle.decimal_rank.specs.Tables.TextHashes.{text_writes};
+
+pub(crate) mod appends;
+pub(crate) mod numbers;
+pub(crate) mod qrel_lines;
 
 use crate::storage::Memory;
 use indexmap::Equivalent;
@@ -23,12 +28,12 @@ const MOST_IN_PLACE: usize = 23;
 /// their bytes, and a text hashes by its length and one write of its bytes.
 #[derive(Debug)]
 pub struct Text {
-    kept: Kept,
+    kept: StoredBytes,
 }
 
 // Where the bytes of a text stand.
 #[derive(Debug, Drop)]
-enum Kept {
+enum StoredBytes {
     // in place, the first of an array
     Short { len: u8, bytes: [u8; MOST_IN_PLACE] },
     // on the heap
@@ -37,7 +42,7 @@ enum Kept {
 
 impl Model for Text {
     ghost use Rattle.std.specs.Prelude.{List, ℕ};
-    ghost use Rattle.decimal_rank.specs.KeptTexts.{kept_bytes, IsWithinRoom};
+    ghost use Rattle.decimal_rank.specs.Texts.KeptTexts.{kept_bytes, IsWithinRoom};
 
     ghost Value = { List ℕ };
 
@@ -52,7 +57,7 @@ impl Text {
         ensures { result ≡ bytes.items }
     {
         Text {
-            kept: Kept::Long(bytes),
+            kept: StoredBytes::Long(bytes),
         }
     }
 
@@ -75,7 +80,7 @@ impl Text {
         let mut kept = [0; MOST_IN_PLACE];
         kept[..bytes.len()].copy_from_slice(bytes);
         Text {
-            kept: Kept::Short {
+            kept: StoredBytes::Short {
                 len: bytes.len() as u8,
                 bytes: kept,
             },
@@ -86,8 +91,8 @@ impl Text {
         ensures { result.now ≡ self.now }
     {
         match &self.kept {
-            Kept::Short { len, bytes } => &bytes[..*len as usize],
-            Kept::Long(bytes) => bytes.as_slice(),
+            StoredBytes::Short { len, bytes } => &bytes[..*len as usize],
+            StoredBytes::Long(bytes) => bytes.as_slice(),
         }
     }
 
@@ -97,13 +102,13 @@ impl Text {
         ensures short { length self.now ≤ 23 → IsOk result }
     {
         match &self.kept {
-            Kept::Short { len, bytes } => Ok(Text {
-                kept: Kept::Short {
+            StoredBytes::Short { len, bytes } => Ok(Text {
+                kept: StoredBytes::Short {
                     len: *len,
                     bytes: *bytes,
                 },
             }),
-            Kept::Long(bytes) => Text::from_slice(*bytes.allocator(), bytes.as_slice()),
+            StoredBytes::Long(bytes) => Text::from_slice(*bytes.allocator(), bytes.as_slice()),
         }
     }
 }
@@ -132,7 +137,8 @@ impl Eq for Text {
 impl PartialOrd for Text {
     ghost partial_cmp = { as_partial_cmp (slice_cmp nat_cmp) };
 
-    ghost laws = { partial_order_from_own_ties (Prim.search (comparing, rules)) (Prim.search (comparing, rules)) };
+    ghost laws = { partial_order_from_own_ties (Prim.search (comparing, rules))
+        (Prim.search (comparing, rules)) };
 
     fn partial_cmp(&self, other: &Text) -> Option<Ordering> {
         Some(self.cmp(other))

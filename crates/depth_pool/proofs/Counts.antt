@@ -5,19 +5,21 @@ use Rattle.std.specs.Bool.{Decides}
 use Rattle.std.specs.Cmp.{IsEquivalence}
 use Rattle.std.specs.List.{AllByRecursion, IsDistinct}
 use Rattle.std.specs.Set.{is_member}
-use Rattle.std.proofs.lemmas.Bool.{false≢true}
+use Rattle.std.proofs.lemmas.Bool.{false≢true, not-true}
 use Rattle.std.proofs.lemmas.Bool.Decides.{nat_tests}
 use Rattle.std.proofs.lemmas.List.Kept.{AllPairs-filter}
 use Rattle.std.proofs.lemmas.Map.Keys.{IsDistinct-cons}
 use Rattle.std.proofs.lemmas.Map.Made.{AllPairs-from_IsDistinct, IsDistinct-from_AllPairs, is_member-filter, length-from_same_keys}
 use borrow.Author.Tests.{eqb-true}
-use Rattle.decimal_rank.specs.Places.{AreDistinct}
+use Rattle.std.proofs.Math.Bool.{and-false}
+use Rattle.decimal_rank.specs.Rankings.Places.{AreDistinct}
 use Rattle.decimal_rank.specs.declared.naming.DocId.{DocId}
+use Rattle.decimal_rank.proofs.TruthValues.{eqb_swap}
 use Rattle.depth_pool.specs.declared.runs.RunId.{RunId}
 use Rattle.depth_pool.specs.Holdings.{Held, IsCount, has_doc, holders_of, put_before, some_run_holds}
 use Rattle.depth_pool.specs.Index.{Index, doc_cmp, has_holder, held_docs, holders_at, is_held, with_holder, without_holder}
 use Rattle.depth_pool.proofs.Holders.{any_holder}
-use Rattle.depth_pool.proofs.Listing.{IndexEntry, flip_test, listed, listed-cons, listed_once, same_doc}
+use Rattle.depth_pool.proofs.ListedDocs.{IndexEntry, listed, listed-cons, listed_once, same_doc}
 use Rattle.depth_pool.proofs.Writes.{same_number}
 
 -- ---- documents by number
@@ -25,7 +27,7 @@ use Rattle.depth_pool.proofs.Writes.{same_number}
 doc_equality : IsEquivalence same_doc
 doc_equality = record {
   refl = λ x. eq-eqb x.0 x.0 refl;
-  symm = λ x y. flip_test x.0 y.0;
+  symm = λ x y. eqb_swap x.0 y.0;
   congr = λ x y z e. ap (λ n. eqb n z.0) (eqb-true _ _ e);
 }
 
@@ -34,14 +36,16 @@ decided x y = (λ e. same_number x y (eqb-true _ _ e), λ e. eq-eqb x.0 y.0 (ap 
 
 member : (docs : List DocId) (doc : DocId) → is_member same_doc docs doc ≡ has_doc doc docs
 member [] doc = refl
-member (other ∷ docs) doc = ap (λ t. t || is_member same_doc docs doc) (flip_test doc.0 other.0) ∙ ap (λ t. eqb other.0 doc.0 || t) (member docs doc)
+member (other ∷ docs) doc = ap (λ t. t || is_member same_doc docs doc) (eqb_swap doc.0 other.0) ∙ ap (λ t. eqb other.0 doc.0 || t) (member docs doc)
 
 -- ---- counts
 
 -- a list of the documents tells how many there are
-pub count_by_list : (passes : DocId → Bool) (docs : List DocId) → IsDistinct same_doc docs → ((doc : DocId) → has_doc doc docs ≡ passes doc) → IsCount passes (length docs)
+pub count_by_list : (passes : DocId → Bool) (docs : List DocId) → IsDistinct same_doc docs
+    → ((doc : DocId) → has_doc doc docs ≡ passes doc) → IsCount passes (length docs)
 count_by_list passes docs once are others also same =
-    length-from_same_keys doc_equality docs others once (IsDistinct-from_AllPairs decided others also) (λ doc. member docs doc ∙ are doc ∙ sym (same doc) ∙ sym (member others doc))
+    length-from_same_keys doc_equality docs others once (IsDistinct-from_AllPairs decided others also)
+    (λ doc. member docs doc ∙ are doc ∙ sym (same doc) ∙ sym (member others doc))
 
 pub same_count : (p q : DocId → Bool) (count : ℕ) → ((doc : DocId) → p doc ≡ q doc) → IsCount p count → IsCount q count
 same_count p q count same counts docs once are = counts docs once (λ doc. are doc ∙ sym (same doc))
@@ -81,15 +85,12 @@ module _ (before after : DocId → Bool) (doc : DocId) where
     -- the documents but for the new one
     rest_are : (other : DocId) → is_member same_doc (filter is_other docs) other ≡ before other
     rest_are other =
-        is_member-filter doc_equality is_other other (λ x e. ap (λ t. not t) (doc_equality.symm doc other ∙ doc_equality.congr other x doc e ∙ doc_equality.symm x doc)) docs
+        is_member-filter doc_equality is_other other
+        (λ x e. ap (λ t. not t) (doc_equality.symm doc other ∙ doc_equality.congr other x doc e ∙ doc_equality.symm x doc)) docs
         ∙ ap (λ t. t && is_other other) (member docs other ∙ are other) ∙ at (same_doc doc other) refl (after other) refl
       where
         at : (t : Bool) → same_doc doc other ≡ t → (u : Bool) → after other ≡ u → (u && not t) ≡ before other
-        at true e u f = none u ∙ sym (ap before (sym (same_number doc other (eqb-true _ _ e))) ∙ is.new refl)
-          where
-            none : (v : Bool) → (v && false) ≡ false
-            none true = refl
-            none false = refl
+        at true e u f = and-false u ∙ sym (ap before (sym (same_number doc other (eqb-true _ _ e))) ∙ is.new refl)
         at false e true f = sym f ∙ is.others other e
         at false e false f = sym f ∙ is.others other e
 
@@ -113,7 +114,8 @@ module _ (before after : DocId → Bool) (doc : DocId) where
   stepped false count is counts = same_count before after count (all_same is) counts
   stepped true count is counts = λ docs once are.
       let rest : count ≡ length (filter is_other docs) =
-      counts (filter is_other docs) (AllPairs-filter (λ x y. x ≢ y) is_other docs once) (λ other. sym (member (filter is_other docs) other) ∙ rest_are is docs are other) in
+      counts (filter is_other docs) (AllPairs-filter (λ x y. x ≢ y) is_other docs once)
+      (λ other. sym (member (filter is_other docs) other) ∙ rest_are is docs are other) in
       let longer = one_longer is docs are once in
       omega arith
 
@@ -149,15 +151,12 @@ pub step_added : (run : RunId) (before after : Index) (doc : DocId) (is_first : 
 step_added run before after doc is_first holders told =
     let changed = changed_at (with_holder run) before after doc holders in
     record {
-      new = λ e. none (has_holder before doc) (sym told ∙ e);
-      here = ap (λ list. nat_lt 0 (length list)) changed.0 ∙ some_put (λ holder. nat_lt run.0 holder.0) run (holders_at before doc) ∙ either (has_holder before doc) ∙ ap (λ t. t || has_holder before doc) (sym told);
+      new = λ e. not-true (has_holder before doc) (sym told ∙ e);
+      here = ap (λ list. nat_lt 0 (length list)) changed.0 ∙ some_put (λ holder. nat_lt run.0 holder.0) run (holders_at before doc)
+          ∙ either (has_holder before doc) ∙ ap (λ t. t || has_holder before doc) (sym told);
       others = changed.1;
     }
   where
-    none : (b : Bool) → not b ≡ true → b ≡ false
-    none true h = sym h
-    none false h = refl
-
     either : (b : Bool) → true ≡ (not b || b)
     either true = refl
     either false = refl
@@ -230,7 +229,8 @@ module _ (runs : List Held) (index : Index) (holders : (doc : DocId) → holders
   index_counted = same_count (λ doc. some_run_holds doc runs) (has_holder index) count (λ doc. sym (held_same doc))
 
 -- the count before a run was taken away from some documents
-pub count_before : (runs : List Held) (before after : Index) → ((doc : DocId) → holders_at before doc ≡ holders_of doc runs) → IsOrdered doc_cmp before → IsOrdered doc_cmp after
+pub count_before : (runs : List Held) (before after : Index) → ((doc : DocId) → holders_at before doc ≡ holders_of doc runs)
+    → IsOrdered doc_cmp before → IsOrdered doc_cmp after
     → (count fewer : ℕ) → ((n : ℕ) → IsCount (has_holder after) n → IsCount (has_holder before) (n + fewer)) → IsCount (λ doc. some_run_holds doc runs) count
     → count ≡ length (held_docs after.entries) + fewer
 count_before runs before after holders ordered also count fewer back counts =

@@ -1,8 +1,8 @@
 pub mod Counts
 pub mod Holders
-pub mod Listing
+pub mod ListedDocs
 pub mod Lists
 pub mod ByNumber
 pub mod Search
-pub mod Unique
+pub mod SingleDocnoOrder
 pub mod Writes

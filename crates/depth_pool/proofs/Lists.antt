@@ -2,9 +2,10 @@
 use Rattle.std.proofs.Common.{◌≡◌, ℕ, suc, ◌+◌, Bool, true, false, cond, not, ◌||◌, ◌<◌, eqb, List, [], ◌∷◌, length, take, filter, refl, sym, ap, ◌∙◌, arith, subst}
 use Rattle.std.specs.List.{position_or_len, insert, list_any, All, AllPairs}
 use Rattle.std.proofs.lemmas.List.{get_or-take, length-take}
-use Rattle.std.proofs.lemmas.List.Elements.{All-cons}
+use Rattle.std.proofs.lemmas.List.Elements.{All-cons, All-tail}
 use borrow.Author.Tests.{eqb-true}
 use Rattle.std.specs.List.Retain.{RetainsInTurn}
+use Rattle.decimal_rank.proofs.TruthValues.{or_in_turn}
 use Rattle.depth_pool.specs.Holdings.{put_before}
 
 -- an insert at the first index that passes
@@ -17,7 +18,8 @@ insert_put {X} p x (y ∷ ys) = step (position_or_len p ys) (insert_put p x ys) 
     step n rest false = ap (λ i. insert (y ∷ ys) i x) (let e : 1 + n ≡ suc n = omega arith in e) ∙ ap (λ zs. y ∷ zs) rest
 
 -- a `retain` whose test changes neither itself nor what it tests
-pub filter_from_turns : {S X : Type 0} (R : S → X → Bool → S → X → Type 0) (test : X → Bool) (s : S) → ((x : X) (b : Bool) (t : S) (y : X) → R s x b t y → (b ≡ test x) × (t ≡ s) × (y ≡ x)) → (xs ys : List X) → RetainsInTurn R s xs ys → ys ≡ filter test xs
+pub filter_from_turns : {S X : Type 0} (R : S → X → Bool → S → X → Type 0) (test : X → Bool) (s : S)
+    → ((x : X) (b : Bool) (t : S) (y : X) → R s x b t y → (b ≡ test x) × (t ≡ s) × (y ≡ x)) → (xs ys : List X) → RetainsInTurn R s xs ys → ys ≡ filter test xs
 filter_from_turns R test s says [] ys h = h
 filter_from_turns R test s says (x ∷ xs) ys h =
     let at = says x h.0 h.1 h.2 h.3 in
@@ -28,17 +30,12 @@ pub filter_twice : {X : Type 0} (p : X → Bool) (xs : List X) → filter p (fil
 filter_twice p [] = refl
 filter_twice {X} p (x ∷ xs) = step (filter_twice p xs) (p x) refl
   where
-    step : filter p (filter p xs) ≡ filter p xs → (t : Bool) → p x ≡ t → filter p (cond t (x ∷ filter p xs) (filter p xs)) ≡ cond t (x ∷ filter p xs) (filter p xs)
+    step : filter p (filter p xs) ≡ filter p xs → (t : Bool) → p x ≡ t
+        → filter p (cond t (x ∷ filter p xs) (filter p xs)) ≡ cond t (x ∷ filter p xs) (filter p xs)
     step twice true e = ap (λ b. cond b (x ∷ filter p (filter p xs)) (filter p (filter p xs))) e ∙ ap (λ zs. x ∷ zs) twice
     step twice false e = twice
 
 -- ---- pairs and quantifiers at a first element
-
-pub pairs_head : {X : Type 0} (R : X → X → Type 0) (x : X) (xs : List X) → AllPairs R (x ∷ xs) → All (R x) xs
-pairs_head R x xs all k d h = all 0 (suc k) d (omega arith) (omega arith)
-
-pub pairs_tail : {X : Type 0} (R : X → X → Type 0) (x : X) (xs : List X) → AllPairs R (x ∷ xs) → AllPairs R xs
-pairs_tail R x xs all i j d h lt = all (suc i) (suc j) d (omega arith) (omega arith)
 
 pub pairs_take : {X : Type 0} (R : X → X → Type 0) (n : ℕ) (xs : List X) → AllPairs R xs → AllPairs R (take n xs)
 pairs_take R n xs all i j d h lt =
@@ -47,12 +44,9 @@ pairs_take R n xs all i j d h lt =
     let first : i < n = omega arith in
     rw (get_or-take n xs i d first, get_or-take n xs j d below) (all i j d h (omega (arith, short)))
 
-pub all_tail : {X : Type 0} (P : X → Type 0) (x : X) (xs : List X) → All P (x ∷ xs) → All P xs
-all_tail P x xs all k d h = all (suc k) d (omega arith)
-
 pub all_put : {X : Type 0} (P : X → Type 0) (q : X → Bool) (x : X) (ys : List X) → P x → All P ys → All P (put_before q x ys)
 all_put P q x [] here all = All-cons P x [] here all
-all_put {X} P q x (y ∷ ys) here all = step (all_put P q x ys here (all_tail P y ys all)) (q y)
+all_put {X} P q x (y ∷ ys) here all = step (all_put P q x ys here (All-tail P y ys all)) (q y)
   where
     step : All P (put_before q x ys) → (t : Bool) → All P (cond t (x ∷ y ∷ ys) (y ∷ put_before q x ys))
     step rest true = All-cons P x (y ∷ ys) here all
@@ -60,19 +54,14 @@ all_put {X} P q x (y ∷ ys) here all = step (all_put P q x ys here (all_tail P 
 
 -- ---- tests of some element
 
-or_swap : (a b c : Bool) → (a || (b || c)) ≡ (b || (a || c))
-or_swap true true c = refl
-or_swap true false c = refl
-or_swap false true c = refl
-or_swap false false c = refl
-
 pub any_put : {X : Type 0} (p q : X → Bool) (x : X) (ys : List X) → list_any p (put_before q x ys) ≡ (p x || list_any p ys)
 any_put p q x [] = refl
 any_put {X} p q x (y ∷ ys) = step (any_put p q x ys) (q y)
   where
-    step : list_any p (put_before q x ys) ≡ (p x || list_any p ys) → (t : Bool) → list_any p (cond t (x ∷ y ∷ ys) (y ∷ put_before q x ys)) ≡ (p x || (p y || list_any p ys))
+    step : list_any p (put_before q x ys) ≡ (p x || list_any p ys) → (t : Bool)
+        → list_any p (cond t (x ∷ y ∷ ys) (y ∷ put_before q x ys)) ≡ (p x || (p y || list_any p ys))
     step rest true = refl
-    step rest false = ap (λ b. p y || b) rest ∙ or_swap (p y) (p x) (list_any p ys)
+    step rest false = ap (λ b. p y || b) rest ∙ or_in_turn (p y) (p x) (list_any p ys)
 
 -- a filter that leaves out nothing that passes
 pub any_filter : {X : Type 0} (p k : X → Bool) → ((x : X) → k x ≡ false → p x ≡ false) → (xs : List X) → list_any p (filter k xs) ≡ list_any p xs

@@ -5,11 +5,12 @@ use Rattle.std.specs.Option.{option_map_or}
 use Rattle.std.specs.Ordering.{nat_cmp, is_eq}
 use Rattle.std.proofs.lemmas.List.{get_or-take, length-take-le, get_or_default}
 use Rattle.std.proofs.lemmas.List.Folds.{list_any_none}
-use Rattle.decimal_rank.specs.Places.{AreDistinct}
+use Rattle.decimal_rank.specs.Rankings.Places.{AreDistinct}
 use Rattle.depth_pool.specs.Holdings.{has_doc}
 use Rattle.std.proofs.lemmas.Bool.Decides.{nat_tests}
 use Rattle.smallvec.specs.SmallVec.{SmallVec}
 use borrow.Author.Tests.{eqb-true}
+use Rattle.std.proofs.lemmas.Bool.{ne_eqb}
 use Rattle.decimal_rank.specs.declared.naming.DocId.{DocId}
 use Rattle.depth_pool.specs.declared.runs.RunId.{RunId}
 use Rattle.depth_pool.specs.Index.{Index, doc_cmp, holders_at, has_room, is_vacant}
@@ -43,7 +44,8 @@ read_after {Y} f h before after doc entry written changed other =
     ∙ ap (λ t. cond t (f entry) (f (get doc_cmp before other))) (is_eq-nat_cmp doc.0 other.0)
     ∙ at (eqb doc.0 other.0) refl
   where
-    at : (t : Bool) → eqb doc.0 other.0 ≡ t → cond t (f entry) (f (get doc_cmp before other)) ≡ cond t (h (f (get doc_cmp before other))) (f (get doc_cmp before other))
+    at : (t : Bool) → eqb doc.0 other.0 ≡ t
+        → cond t (f entry) (f (get doc_cmp before other)) ≡ cond t (h (f (get doc_cmp before other))) (f (get doc_cmp before other))
     at true e = changed ∙ ap (λ d. h (f (get doc_cmp before d))) (same_number doc other (eqb-true doc.0 other.0 e))
     at false e = refl
 
@@ -61,9 +63,11 @@ kept_holders before after doc entry written same other =
 pub taken_out : (before after : Index) (doc : DocId) → IsWrittenAt before after doc None → is_vacant after doc ≡ false
 taken_out before after doc written =
     ap (λ (e : Entry). option_map_or (λ holders. eqb (length holders.items) 0) e false) (written.each doc)
-    ∙ ap (λ t. option_map_or (λ holders. eqb (length holders.items) 0) (cond t None (get doc_cmp before doc)) false) (is_eq-nat_cmp doc.0 doc.0 ∙ eq-eqb doc.0 doc.0 refl)
+    ∙ ap (λ t. option_map_or (λ holders. eqb (length holders.items) 0) (cond t None (get doc_cmp before doc)) false)
+    (is_eq-nat_cmp doc.0 doc.0 ∙ eq-eqb doc.0 doc.0 refl)
 
-pub vacant_others : (before after : Index) (doc : DocId) → IsWrittenAt before after doc None → (other : DocId) → is_vacant before other ≡ false → is_vacant after other ≡ false
+pub vacant_others : (before after : Index) (doc : DocId) → IsWrittenAt before after doc None → (other : DocId)
+    → is_vacant before other ≡ false → is_vacant after other ≡ false
 vacant_others before after doc written other h =
     ap (λ (e : Entry). option_map_or (λ holders. eqb (length holders.items) 0) e false) (written.each other) ∙ both (is_eq (doc_cmp doc other))
   where
@@ -76,7 +80,9 @@ pub kept_room : (before after : Index) (doc : DocId) (entry : SmallVec RunId) �
     → (has_room before doc ≡ true → nat_lt (length entry.items) entry.capacity ≡ true)
     → (other : DocId) → has_room before other ≡ true → has_room after other ≡ true
 kept_room before after doc entry written room other h =
-    ap (λ e. option_map_or (λ v. nat_lt (length v.items) v.capacity) e false) (written.each other) ∙ cond_ap (λ (e : Entry). option_map_or (λ v. nat_lt (length v.items) v.capacity) e false) (is_eq (doc_cmp doc other)) (Some entry) (get doc_cmp before other)
+    ap (λ e. option_map_or (λ v. nat_lt (length v.items) v.capacity) e false) (written.each other)
+    ∙ cond_ap (λ (e : Entry). option_map_or (λ v. nat_lt (length v.items) v.capacity) e false)
+    (is_eq (doc_cmp doc other)) (Some entry) (get doc_cmp before other)
     ∙ ap (λ t. cond t (nat_lt (length entry.items) entry.capacity) (has_room before other)) (is_eq-nat_cmp doc.0 other.0)
     ∙ at (eqb doc.0 other.0) refl
   where
@@ -88,7 +94,8 @@ kept_room before after doc entry written room other h =
 pub other_room : (before after : Index) (doc : DocId) (entry : SmallVec RunId) → IsWrittenAt before after doc (Some entry)
     → (other : DocId) → other ≢ doc → has_room after other ≡ has_room before other
 other_room before after doc entry written other apart =
-    ap (λ e. option_map_or (λ v. nat_lt (length v.items) v.capacity) e false) (written.each other ∙ ap (λ t. cond t (Some entry) (get doc_cmp before other)) (is_eq-nat_cmp doc.0 other.0 ∙ no (eqb doc.0 other.0) refl))
+    ap (λ e. option_map_or (λ v. nat_lt (length v.items) v.capacity) e false)
+    (written.each other ∙ ap (λ t. cond t (Some entry) (get doc_cmp before other)) (is_eq-nat_cmp doc.0 other.0 ∙ no (eqb doc.0 other.0) refl))
   where
     no : (t : Bool) → eqb doc.0 other.0 ≡ t → t ≡ false
     no true e = absurd (apart (sym (same_number doc other (eqb-true doc.0 other.0 e))))
@@ -112,22 +119,22 @@ one_more w old now new true false more m twice n h = n ∙ ap w h ∙ sym (ap (�
 one_more w old now new false true more m twice n h = n ∙ h ∙ sym (ap (λ t. cond t (w old) old) m)
 one_more w old now new false false more m twice n h = n ∙ h ∙ sym (ap (λ t. cond t (w old) old) m)
 
-different : (m n : ℕ) → m ≢ n → eqb m n ≡ false
-different m n h = grind (arith, nat_tests)
-
 -- a document of a list without repeats doesn't stand before its index
-pub not_before : (docs : List DocId) (i : ℕ) (other : DocId) → AreDistinct docs → i < length docs → eqb (get_or docs i (numbered 0)).0 other.0 ≡ true → has_doc other (take i docs) ≡ false
+pub not_before : (docs : List DocId) (i : ℕ) (other : DocId) → AreDistinct docs → i < length docs
+    → eqb (get_or docs i (numbered 0)).0 other.0 ≡ true → has_doc other (take i docs) ≡ false
 not_before docs i other distinct lt here =
     list_any_none (λ d. eqb d.0 other.0) (take i docs) (λ k d h.
     let short : length (take i docs) ≡ i = length-take-le i docs (omega arith) in
     let below : k < i = omega arith in
     ap (λ (x : DocId). eqb x.0 other.0) (get_or-take i docs k d below)
-    ∙ different (get_or docs k d).0 other.0 (λ e. distinct k i d below lt (same_number _ _ (e ∙ sym (eqb-true _ _ here) ∙ ap (λ (x : DocId). x.0) (get_or_default docs i (numbered 0) d lt)))))
+    ∙ ne_eqb (get_or docs k d).0 other.0
+    (λ e. distinct k i d below lt (same_number _ _ (e ∙ sym (eqb-true _ _ here) ∙ ap (λ (x : DocId). x.0) (get_or_default docs i (numbered 0) d lt)))))
 
 -- ---- room at an entry that was written
 
 -- one that lost no capacity and gained no run
-pub grown_room : (before : Index) (doc : DocId) (old new : SmallVec RunId) → get doc_cmp before doc ≡ Some old → length new.items ≡ length old.items → old.capacity ≤ new.capacity
+pub grown_room : (before : Index) (doc : DocId) (old new : SmallVec RunId) → get doc_cmp before doc ≡ Some old
+    → length new.items ≡ length old.items → old.capacity ≤ new.capacity
     → has_room before doc ≡ true → nat_lt (length new.items) new.capacity ≡ true
 grown_room before doc old new found same wide h =
     let had : nat_lt (length old.items) old.capacity ≡ true = sym (ap (λ e. option_map_or (λ v. nat_lt (length v.items) v.capacity) e false) found) ∙ h in
@@ -135,7 +142,8 @@ grown_room before doc old new found same wide h =
     room_from new (omega arith)
 
 -- one that kept its capacity and gained no run
-pub shrunk_room : (before : Index) (doc : DocId) (old new : SmallVec RunId) → get doc_cmp before doc ≡ Some old → length new.items ≤ length old.items → new.capacity ≡ old.capacity
+pub shrunk_room : (before : Index) (doc : DocId) (old new : SmallVec RunId) → get doc_cmp before doc ≡ Some old
+    → length new.items ≤ length old.items → new.capacity ≡ old.capacity
     → has_room before doc ≡ true → nat_lt (length new.items) new.capacity ≡ true
 shrunk_room before doc old new found short same h =
     let had : nat_lt (length old.items) old.capacity ≡ true = sym (ap (λ e. option_map_or (λ v. nat_lt (length v.items) v.capacity) e false) found) ∙ h in

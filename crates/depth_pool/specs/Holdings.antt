@@ -4,7 +4,7 @@ use Rattle.std.specs.Cmp.Lexicographic.{slice_cmp}
 use Rattle.std.specs.List.{list_any}
 use Rattle.std.specs.Ordering.{nat_cmp, is_lt}
 use Rattle.decimal_rank.specs.Names.{docno_of}
-use Rattle.decimal_rank.specs.Places.{AreDistinct}
+use Rattle.decimal_rank.specs.Rankings.Places.{AreDistinct}
 use Rattle.decimal_rank.specs.declared.naming.DocId.{DocId}
 use Rattle.depth_pool.specs.declared.runs.RunId.{RunId}
 
@@ -32,13 +32,13 @@ abbrev pub has_id : RunId → List RunId → Bool
 has_id run runs = list_any (λ other. other.0 == run.0) runs
 
 -- the documents that a run of the pool holds, by rank: none where it isn't in the pool
-abbrev pub docs_of : List Held → RunId → List DocId
-docs_of [] run = []
-docs_of (held ∷ later) run = if held.run.0 == run.0 then held.docs else docs_of later run
+abbrev pub pool_docs : List Held → RunId → List DocId
+pool_docs [] run = []
+pool_docs (held ∷ later) run = if held.run.0 == run.0 then held.docs else pool_docs later run
 
 -- whether a run of the pool holds a document
-abbrev pub holds : List Held → RunId → DocId → Bool
-holds runs run doc = list_any (λ held. (held.run.0 == run.0) && has_doc doc held.docs) runs
+abbrev pub pool_holds : List Held → RunId → DocId → Bool
+pool_holds runs run doc = list_any (λ held. (held.run.0 == run.0) && has_doc doc held.docs) runs
 
 -- whether some run of the pool holds a document
 abbrev pub some_run_holds : DocId → List Held → Bool
@@ -72,7 +72,7 @@ AreByNumber runs = AllPairs (λ a b. a.run.0 < b.run.0) runs
 -- each other run is in the pool as before, and holds what it held
 pub record KeepsOthers (old new : List Held) (run : RunId) : Type 0 where
   pub in_pool : (other : RunId) → other ≢ run → has_run other new ≡ has_run other old
-  pub holdings : (other : RunId) (doc : DocId) → other ≢ run → holds new other doc ≡ holds old other doc
+  pub holdings : (other : RunId) (doc : DocId) → other ≢ run → pool_holds new other doc ≡ pool_holds old other doc
 
 -- the documents stand by docno in byte order, each once
 abbrev pub AreByDocno : List (List ℕ) → List DocId → Type 0

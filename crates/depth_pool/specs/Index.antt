@@ -6,7 +6,7 @@ use Rattle.std.specs.Ordering.{nat_cmp}
 use Rattle.std.specs.declared.cmp.Ordering.{Ordering}
 use Rattle.smallvec.specs.SmallVec.{SmallVec}
 use Rattle.decimal_rank.specs.declared.naming.DocId.{DocId}
-use Rattle.decimal_rank.specs.Places.{AreDistinct}
+use Rattle.decimal_rank.specs.Rankings.Places.{AreDistinct}
 use Rattle.depth_pool.specs.declared.runs.RunId.{RunId}
 use Rattle.depth_pool.specs.Holdings.{Held, AreByNumber, IsCount, holders_of, put_before, some_run_holds}
 

@@ -20,7 +20,8 @@ pub(crate) type Index = BTreeMap<DocId, SmallVec<RunId, 8>>;
 fn make_room(index: &mut Index, alloc: Global, doc: DocId) -> Result<(), Memory>
     ensures room { OnOk result (has_room index.new doc ≡ true) }
     ensures holders { (other : DocId) → holders_at index.new other ≡ holders_at index.old other }
-    ensures rooms { (other : DocId) → has_room index.old other ≡ true → has_room index.new other ≡ true }
+    ensures rooms { (other : DocId) → has_room index.old other ≡ true
+        → has_room index.new other ≡ true }
 {
     match index.get_mut(&doc) {
         Some(holders) => holders.reserve(1)?,
@@ -90,7 +91,8 @@ pub(crate) fn drop_empties(index: &mut Index, docs: &[DocId])
 // Takes the entry of a document out where no run stands at it.
 fn drop_empty(index: &mut Index, doc: DocId)
     ensures gone { is_vacant index.new doc ≡ false }
-    ensures others { (other : DocId) → is_vacant index.old other ≡ false → is_vacant index.new other ≡ false }
+    ensures others { (other : DocId) → is_vacant index.old other ≡ false
+        → is_vacant index.new other ≡ false }
     ensures holders { (other : DocId) → holders_at index.new other ≡ holders_at index.old other }
 {
     if let Some(holders) = index.get(&doc)
@@ -103,8 +105,10 @@ fn drop_empty(index: &mut Index, doc: DocId)
 // Puts a run at a document where there is room. Tells whether it is the first there.
 fn add_holder(index: &mut Index, doc: DocId, run: RunId) -> bool
     requires { has_room index.old doc ≡ true }
-    ensures holders { (other : DocId) → holders_at index.new other ≡ (if doc.0 == other.0 then with_holder run (holders_at index.old other) else holders_at index.old other) }
-    ensures rooms { (other : DocId) → other ≢ doc → has_room index.new other ≡ has_room index.old other }
+    ensures holders { (other : DocId) → holders_at index.new other ≡ (if doc.0 == other.0 then
+        with_holder run (holders_at index.old other) else holders_at index.old other) }
+    ensures rooms { (other : DocId) → other ≢ doc
+        → has_room index.new other ≡ has_room index.old other }
     ensures first { result ≡ not (has_holder index.old doc) }
 {
     match index.get_mut(&doc) {
@@ -120,8 +124,10 @@ fn add_holder(index: &mut Index, doc: DocId, run: RunId) -> bool
 // Puts a run at each document. Gives how many more documents have a holder then.
 pub(crate) fn add_holders(index: &mut Index, docs: &[DocId], run: RunId) -> usize
     requires { IsReserved index.old docs.now }
-    ensures count { (count : ℕ) → IsCount (has_holder index.old) count → IsCount (has_holder index.new) (count + result) }
-    ensures holders { (other : DocId) → holders_at index.new other ≡ (if has_doc other docs.now then with_holder run (holders_at index.old other) else holders_at index.old other) }
+    ensures count { (count : ℕ) → IsCount (has_holder index.old) count
+        → IsCount (has_holder index.new) (count + result) }
+    ensures holders { (other : DocId) → holders_at index.new other ≡ (if has_doc other docs.now then
+        with_holder run (holders_at index.old other) else holders_at index.old other) }
 {
     let mut more = 0;
     for doc in docs {
@@ -135,8 +141,10 @@ pub(crate) fn add_holders(index: &mut Index, docs: &[DocId], run: RunId) -> usiz
 
 // Takes a run away from a document. Tells whether it was the last there.
 fn remove_holder(index: &mut Index, doc: DocId, run: RunId) -> bool
-    ensures holders { (other : DocId) → holders_at index.new other ≡ (if doc.0 == other.0 then without_holder run (holders_at index.old other) else holders_at index.old other) }
-    ensures rooms { (other : DocId) → has_room index.old other ≡ true → has_room index.new other ≡ true }
+    ensures holders { (other : DocId) → holders_at index.new other ≡ (if doc.0 == other.0 then
+        without_holder run (holders_at index.old other) else holders_at index.old other) }
+    ensures rooms { (other : DocId) → has_room index.old other ≡ true
+        → has_room index.new other ≡ true }
     ensures last { result ≡ (has_holder index.old doc && not (has_holder index.new doc)) }
 {
     match index.get_mut(&doc) {
@@ -150,7 +158,8 @@ fn take_holder(holders: &mut SmallVec<RunId, 8>, run: RunId) -> bool
     ensures items { holders.new.items ≡ without_holder run holders.old.items }
     ensures len { length holders.new.items ≤ length holders.old.items }
     ensures capacity { holders.new.capacity ≡ holders.old.capacity }
-    ensures last { result ≡ (nat_lt 0 (length holders.old.items) && not (nat_lt 0 (length holders.new.items))) }
+    ensures last { result
+        ≡ (nat_lt 0 (length holders.old.items) && not (nat_lt 0 (length holders.new.items))) }
 {
     let had_one = !holders.is_empty();
     holders.retain(|holder| holder.0 != run.0);
@@ -159,9 +168,12 @@ fn take_holder(holders: &mut SmallVec<RunId, 8>, run: RunId) -> bool
 
 // Takes a run away from each document. Gives how many documents fewer have a holder then.
 pub(crate) fn remove_holders(index: &mut Index, docs: &[DocId], run: RunId) -> usize
-    ensures count { (count : ℕ) → IsCount (has_holder index.new) count → IsCount (has_holder index.old) (count + result) }
-    ensures holders { (other : DocId) → holders_at index.new other ≡ (if has_doc other docs.now then without_holder run (holders_at index.old other) else holders_at index.old other) }
-    ensures rooms { (other : DocId) → has_room index.old other ≡ true → has_room index.new other ≡ true }
+    ensures count { (count : ℕ) → IsCount (has_holder index.new) count
+        → IsCount (has_holder index.old) (count + result) }
+    ensures holders { (other : DocId) → holders_at index.new other ≡ (if has_doc other docs.now then
+        without_holder run (holders_at index.old other) else holders_at index.old other) }
+    ensures rooms { (other : DocId) → has_room index.old other ≡ true
+        → has_room index.new other ≡ true }
 {
     let mut fewer = 0;
     for doc in docs {

@@ -11,6 +11,7 @@ pub fn greatest_run_goes_last()
 
 /// Documents are listed by docno in one way alone.
 pub fn one_list_by_docno()
-    ensures { (names : List (List ℕ)) (docs others : List DocId) → AreByDocno names docs → AreByDocno names others
+    ensures { (names : List (List ℕ)) (docs others : List DocId)
+        → AreByDocno names docs → AreByDocno names others
         → ((doc : DocId) → has_doc doc docs ≡ has_doc doc others) → docs ≡ others }
 {}

@@ -1,11 +1,11 @@
 //! The pool of a topic: the documents that its runs have within the depth.
 ghost use Rattle.std.specs.Prelude.{◌≡◌, ◌+◌, ◌<◌, ◌≤◌, [], Bool, true, false, List, All, AllPairs, IfSome, IfOk, IfErr, OnOk, OnErr, Some, None, IsTrue, length, slice_get, take};
 ghost use Rattle.decimal_rank.specs.Names.{docno_of};
-ghost use Rattle.decimal_rank.specs.Places.{AreDistinct};
+ghost use Rattle.decimal_rank.specs.Rankings.Places.{AreDistinct};
 ghost use Rattle.decimal_rank.specs.declared.naming.DocId.{DocId};
 ghost use Rattle.depth_pool.specs.declared.runs.RunId.{RunId};
 ghost use Rattle.depth_pool.specs.Index.{holders_at, is_vacant};
-ghost use Rattle.depth_pool.specs.Holdings.{AreByDocno, AreByNumber, IsCount, KeepsOthers, docs_of, has_doc, has_id, has_run, holders_of, holds, some_run_holds, with_run, without_run};
+ghost use Rattle.depth_pool.specs.Holdings.{AreByDocno, AreByNumber, IsCount, KeepsOthers, has_doc, has_id, has_run, holders_of, pool_docs, pool_holds, some_run_holds, with_run, without_run};
 
 use crate::index::{Index, add_holders, docs_held, drop_empties, make_rooms, remove_holders};
 use crate::runs::{RunDocs, RunId, doc_at, docs_of, is_among, put_run, take_run};
@@ -37,9 +37,15 @@ impl Model for Pool {
 
     ghost Value = { Holdings };
 
-    ghost view = { λ pool. record { depth = pool.depth; runs = pool.runs.items; room = option_map (λ docs. docs.items) pool.reserved } };
+    ghost view = { λ pool. record {
+      depth = pool.depth;
+      runs = pool.runs.items;
+      room = option_map (λ docs. docs.items) pool.reserved;
+    } };
 
-    ghost invariant = { λ pool. IsPool pool.runs.items pool.index pool.held_docs × ForSome pool.reserved (λ docs. IsReserved pool.index docs.items × (vec_len pool.runs < vec_capacity pool.runs)) };
+    ghost invariant = { λ pool. IsPool pool.runs.items pool.index pool.held_docs
+        × ForSome pool.reserved (λ docs. IsReserved pool.index docs.items
+        × (vec_len pool.runs < vec_capacity pool.runs)) };
 }
 
 impl Pool {
@@ -77,7 +83,8 @@ impl Pool {
     pub fn add_run(&mut self, run: RunId, ranking: &Ranking)
         requires room { self.old.room ≡ Some (take self.old.depth ranking.now) }
         requires is_new { has_run run self.old.runs ≡ false }
-        ensures runs { self.new.runs ≡ with_run (record { run = run; docs = take self.old.depth ranking.now }) self.old.runs }
+        ensures runs { self.new.runs ≡ with_run
+            (record { run = run; docs = take self.old.depth ranking.now }) self.old.runs }
         ensures is_in { IsTrue (has_run run self.new.runs) }
         ensures others { KeepsOthers self.old.runs self.new.runs run }
         ensures depth { self.new.depth ≡ self.old.depth }
@@ -110,7 +117,7 @@ impl Pool {
     /// The runs that hold a document, by number, in one step. A step is a look-up by document.
     pub fn holders<L: Ledger>(&self, doc: DocId, steps: &mut Steps<L>) -> &[RunId]
         ensures value { result.now ≡ holders_of doc self.now.runs }
-        ensures each { (run : RunId) → has_id run result.now ≡ holds self.now.runs run doc }
+        ensures each { (run : RunId) → has_id run result.now ≡ pool_holds self.now.runs run doc }
         ensures ascending { AllPairs (λ a b. a.0 < b.0) result.now }
         ensures by_number { AreByNumber self.now.runs }
         ensures cost { steps.new ≡ steps.old + 1 }
@@ -124,7 +131,7 @@ impl Pool {
 
     /// Whether a run holds a document, in one step.
     pub fn holds<L: Ledger>(&self, run: RunId, doc: DocId, steps: &mut Steps<L>) -> bool
-        ensures value { result ≡ holds self.now.runs run doc }
+        ensures value { result ≡ pool_holds self.now.runs run doc }
         ensures cost { steps.new ≡ steps.old + 1 }
     {
         is_among(run, self.holders(doc, steps))
@@ -132,16 +139,17 @@ impl Pool {
 
     /// How many documents a run holds: none where it isn't in the pool.
     pub fn count_of(&self, run: RunId) -> usize
-        ensures { result ≡ length (docs_of self.now.runs run) }
+        ensures { result ≡ length (pool_docs self.now.runs run) }
     {
         docs_of(self.runs.as_slice(), run).len()
     }
 
     /// The document that a run holds at a place by rank, from 0, in one step.
     pub fn doc_at<L: Ledger>(&self, run: RunId, place: usize, steps: &mut Steps<L>) -> DocId
-        requires { place < length (docs_of self.now.runs run) }
-        ensures doc { slice_get (docs_of self.now.runs run) place ≡ Some result }
-        ensures each { (doc : DocId) → has_doc doc (docs_of self.now.runs run) ≡ holds self.now.runs run doc }
+        requires { place < length (pool_docs self.now.runs run) }
+        ensures doc { slice_get (pool_docs self.now.runs run) place ≡ Some result }
+        ensures each { (doc : DocId)
+            → has_doc doc (pool_docs self.now.runs run) ≡ pool_holds self.now.runs run doc }
         ensures cost { steps.new ≡ steps.old + 1 }
     {
         doc_at(self.runs.as_slice(), run, place, steps)
@@ -156,8 +164,10 @@ impl Pool {
 
     /// The documents that some run holds, each once, by docno.
     pub fn docs(&self, names: &Names) -> Result<Vec<DocId>, Memory>
-        requires docs_named { All (λ held. All (λ doc. doc.0 < length names.now) held.docs) self.now.runs }
-        ensures each { IfOk result (λ docs. (doc : DocId) → has_doc doc docs.items ≡ some_run_holds doc self.now.runs) }
+        requires docs_named { All
+            (λ held. All (λ doc. doc.0 < length names.now) held.docs) self.now.runs }
+        ensures each { IfOk result (λ docs. (doc : DocId)
+            → has_doc doc docs.items ≡ some_run_holds doc self.now.runs) }
         ensures ascending { IfOk result (λ docs. AreByDocno names.now docs.items) }
     {
         // names tell with their length that no name stands twice
@@ -170,7 +180,8 @@ impl Pool {
 
 // Gives reserved room back.
 fn forget(index: &mut Index, reserved: &mut Option<Vec<DocId>>)
-    ensures gone { IfSome reserved.old (λ docs. All (λ doc. is_vacant index.new doc ≡ false) docs.items) }
+    ensures gone { IfSome reserved.old
+        (λ docs. All (λ doc. is_vacant index.new doc ≡ false) docs.items) }
     ensures holders { (doc : DocId) → holders_at index.new doc ≡ holders_at index.old doc }
     ensures none { reserved.new ≡ None }
 {

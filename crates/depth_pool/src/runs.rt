@@ -2,7 +2,7 @@
 ghost use Rattle.std.specs.Prelude.{◌≡◌, ◌+◌, ◌<◌, ◌==◌, AllPairs, IsTrue, Some, length, slice_get, vec_len, vec_capacity, nat_lt};
 ghost use Rattle.std.specs.List.{position_or_len};
 ghost use Rattle.decimal_rank.specs.declared.naming.DocId.{DocId};
-ghost use Rattle.depth_pool.specs.Holdings.{Held, AreByNumber, docs_of, has_id, has_run, has_doc, holds, with_run, without_run};
+ghost use Rattle.depth_pool.specs.Holdings.{Held, AreByNumber, pool_docs, has_id, has_run, has_doc, pool_holds, with_run, without_run};
 
 use decimal_rank::{DocId, Steps};
 use std::marker::Model;
@@ -61,7 +61,7 @@ pub(crate) fn take_run(runs: &mut Vec<RunDocs>, run: RunId) -> Vec<DocId>
     requires by_number { AreByNumber runs.old.items }
     requires is_in { IsTrue (has_run run runs.old.items) }
     ensures runs { runs.new.items ≡ without_run run runs.old.items }
-    ensures docs { (doc : DocId) → has_doc doc result.items ≡ holds runs.old.items run doc }
+    ensures docs { (doc : DocId) → has_doc doc result.items ≡ pool_holds runs.old.items run doc }
     ensures len { vec_len runs.new + 1 ≡ vec_len runs.old }
     ensures capacity { vec_capacity runs.new ≡ vec_capacity runs.old }
 {
@@ -78,8 +78,8 @@ pub(crate) fn doc_at<L: Ledger>(
     steps: &mut Steps<L>,
 ) -> DocId
     requires by_number { AreByNumber runs.now }
-    requires within { place < length (docs_of runs.now run) }
-    ensures doc { slice_get (docs_of runs.now run) place ≡ Some result }
+    requires within { place < length (pool_docs runs.now run) }
+    ensures doc { slice_get (pool_docs runs.now run) place ≡ Some result }
     ensures cost { steps.new ≡ steps.old + 1 }
 {
     steps.tick();
@@ -90,7 +90,7 @@ pub(crate) fn doc_at<L: Ledger>(
 // The documents that a run holds.
 pub(crate) fn docs_of(runs: &[RunDocs], run: RunId) -> &[DocId]
     requires { AreByNumber runs.now }
-    ensures { result.now ≡ docs_of runs.now run }
+    ensures { result.now ≡ pool_docs runs.now run }
 {
     match runs.get(index_of(runs, run)) {
         Some(held) => held.docs.as_slice(),

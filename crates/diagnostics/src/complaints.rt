@@ -1,5 +1,5 @@
-//! Why settings are refused. `read_settings` decides that they are; this second walk over their text looks for the first
-//! fault and its line, to tell a person.
+//! Why settings are refused. `read_settings` decides that they are; this second walk over their
+//! text looks for the first fault and its line, to tell a person.
 ghost use Rattle.std.specs.Prelude.{◌≡◌, ◌≢◌, None, Ok, IfOk, IfSome};
 ghost use Rattle.campaign_settings.specs.Settings.{settings_of};
 
@@ -22,7 +22,8 @@ struct Finding<'a> {
     fault: Fault<'a>,
 }
 
-/// Tells what is wrong with the text of the settings, or that the journal is of others. `name` is that of their file.
+/// Tells what is wrong with the text of the settings, or that the journal is of others. `name` is
+/// that of their file.
 pub fn tell_settings(errors: &impl Eprint, alloc: Global, name: &str, text: &[u8]) {
     let _ = match complaint_of(alloc, text) {
         Ok(Some(complaint)) => eprintln!(errors; "{name}: {complaint}"),
@@ -33,10 +34,11 @@ pub fn tell_settings(errors: &impl Eprint, alloc: Global, name: &str, text: &[u8
     };
 }
 
-// The sentence on the first fault of settings that are refused, with its line where that was found; none where they
-// aren't refused.
+// The sentence on the first fault of settings that are refused, with its line where that was found;
+// none where they aren't refused.
 fn complaint_of(alloc: Global, text: &[u8]) -> Result<Option<String>, Memory>
-    ensures refused { IfOk result (λ complaint. IfSome complaint (λ _. settings_of text.now ≡ None)) }
+    ensures refused { IfOk result
+        (λ complaint. IfSome complaint (λ _. settings_of text.now ≡ None)) }
     ensures accepted { result ≡ Ok None → settings_of text.now ≢ None }
 {
     match read_settings(alloc, text) {
@@ -197,7 +199,8 @@ fn levels_fault<'a>(text: &str, table: &Table) -> Option<Finding<'a>> {
     }
 }
 
-// Whether a value is an array of tables with a topic and its level alone, each topic before the next.
+// Whether a value is an array of tables with a topic and its level alone, each topic before the
+// next.
 fn are_levels(value: &Value, top_grade: i64) -> bool {
     let Some(items) = value.as_array() else {
         return false;

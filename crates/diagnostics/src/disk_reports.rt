@@ -1,7 +1,8 @@
 //! A disk that tells on standard error that a new journal is begun on it.
 use disk_model::{Disk, Failed};
 
-/// A disk, and standard error. A journal is begun by a write at its first byte; it is told once that is synced.
+/// A disk, and standard error. A journal is begun by a write at its first byte; it is told once
+/// that is synced.
 #[derive(Drop)]
 pub struct ReportingDisk<D: Disk, E: Eprint> {
     disk: D,

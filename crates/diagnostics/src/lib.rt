@@ -1,6 +1,11 @@
-//! What standard error is told: the sentence of each status and the commands (`sentences`), why settings are refused, with
-//! the line (`complaints`), why the journal's file can't be used (`journal_faults`), and that a journal is begun
-//! (`disk_reports`).
+//! What standard error is told, beside what the program prints.
+//!
+//! - `sentences`: the sentence of each status.
+//! - `complaints`: why settings are refused, with the line, over `setting_lines`; `setting_faults`:
+//!   what is wrong, as a sentence.
+//! - `journal_faults`: why the journal's file can't be used.
+//! - `disk_reports`: what a disk tells as it is used. A new ghost member of `Disk` wants its line
+//!   there.
 #![tactic(auto)]
 
 mod complaints;

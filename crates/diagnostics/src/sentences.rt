@@ -1,4 +1,5 @@
-//! What is told on standard error where the words are no command, and at the statuses that need no second look.
+//! What is told on standard error where the words are no command, and at the statuses that need no
+//! second look.
 
 /// Each command: its name, what is called, and what that does.
 static COMMANDS: [(&str, &str, &str); 12] = [

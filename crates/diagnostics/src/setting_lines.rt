@@ -1,7 +1,8 @@
-//! The lines of the settings' text, as it is written by hand: the keys of the campaign stand above the callers, and each
-//! caller's behind a header `[[caller]]` of its own.
+//! The lines of the settings' text, as it is written by hand: the keys of the campaign stand above
+//! the callers, and each caller's behind a header `[[caller]]` of its own.
 
-/// The line, from 1, that gives a key: above the callers where `caller` is 0, else behind the header of this caller.
+/// The line, from 1, that gives a key: above the callers where `caller` is 0, else behind the
+/// header of this caller.
 pub fn line_of_key(text: &str, caller: usize, key: &str) -> Option<usize> {
     let mut headers = 0usize;
     for (place, line) in text.lines().enumerate() {

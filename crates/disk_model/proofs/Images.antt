@@ -6,7 +6,7 @@ use mathlib.Core.Logic.{dite}
 use native.Mathlib.Decide.{dec_le}
 use Rattle.disk_model.specs.declared.disk_calls.DiskCall.{DiskCall}
 use Rattle.disk_model.specs.declared.disk_calls.DiskCall.TheVariants.{Len, Read, Write, Cut, Sync}
-use Rattle.disk_model.specs.Calls.{AreImagesOf, ImageSince, Images, IsQuiet, content_after, content_by, images_after, images_by, images_of, seen_after}
+use Rattle.disk_model.specs.Calls.{AreImagesOf, ImageSince, Images, LeavesContent, content_after, content_by, images_after, images_by, images_of, seen_after}
 use Rattle.disk_model.specs.Disks.{Alone, CutShort, Elapses, Follows, NoFurther, Torn, written}
 
 -- One call more
@@ -21,7 +21,8 @@ abbrev images_pushed : (calls : List DiskCall) (call : DiskCall) (content : List
 images_pushed [] call content images image here = here
 images_pushed (c ∷ calls) call content images image here = images_pushed calls call (content_by c content) (images_by c content images) image here
 
-pub content_push : (calls : List DiskCall) (call : DiskCall) (content : List ℕ) → content_after (calls ++ call ∷ []) content ≡ content_by call (content_after calls content)
+pub content_push : (calls : List DiskCall) (call : DiskCall) (content : List ℕ)
+    → content_after (calls ++ call ∷ []) content ≡ content_by call (content_after calls content)
 content_push [] call content = refl
 content_push (c ∷ calls) call content = content_push calls call (content_by c content)
 
@@ -33,10 +34,12 @@ torn_same place count content = record { before = refl; after = refl; no_shorter
 pub cut_same : (to : ℕ) (content : List ℕ) → CutShort to content content
 cut_same to content = record { before = refl; no_shorter = omega arith; no_longer = omega arith }
 
-length_written : (place : ℕ) (piece content : List ℕ) → place ≤ length content → length (written place piece content) ≡ place + length piece + (length content - (place + length piece))
+length_written : (place : ℕ) (piece content : List ℕ) → place ≤ length content
+    → length (written place piece content) ≡ place + length piece + (length content - (place + length piece))
 length_written place piece content within =
     length-append (take place content ++ piece) (drop (place + length piece) content)
-    ∙ ap (λ (n : ℕ). n + length (drop (place + length piece) content)) (length-append (take place content) piece ∙ ap (λ (n : ℕ). n + length piece) (length-take-le place content within))
+    ∙ ap (λ (n : ℕ). n + length (drop (place + length piece) content))
+    (length-append (take place content) piece ∙ ap (λ (n : ℕ). n + length piece) (length-take-le place content within))
     ∙ ap (λ (n : ℕ). place + length piece + n) (length-drop (place + length piece) content)
 
 pub torn_written : (place : ℕ) (piece content : List ℕ) → place ≤ length content → Torn place (length piece) content (written place piece content)
@@ -51,7 +54,8 @@ torn_written place piece content within =
     let end_in : place + length piece ≤ length (front ++ piece) = omega arith in
     record {
       before = take-append-le place (front ++ piece) rest place_in ∙ take-append-le place front piece place_front ∙ take_all place front (omega arith);
-      after = drop-append-le (place + length piece) (front ++ piece) rest end_in ∙ ap (λ (xs : List ℕ). xs ++ rest) (drop_all (place + length piece) (front ++ piece) (omega arith));
+      after = drop-append-le (place + length piece) (front ++ piece) rest end_in
+          ∙ ap (λ (xs : List ℕ). xs ++ rest) (drop_all (place + length piece) (front ++ piece) (omega arith));
       no_shorter = omega arith;
       no_longer = omega arith;
     }
@@ -68,8 +72,10 @@ written_within place piece content = dite (dec_le place (length content))
     (λ (beyond : ¬ (place ≤ length content)).
     let same : min place (length content) ≡ length content = omega arith in
     ap (λ (n : ℕ). written n piece content) same
-    ∙ ap (λ (xs : List ℕ). xs ++ piece ++ drop (length content + length piece) content) (take_all (length content) content (le_refl (length content)) ∙ sym (take_all place content (omega arith)))
-    ∙ ap (λ (xs : List ℕ). take place content ++ piece ++ xs) (drop_all (length content + length piece) content (omega arith) ∙ sym (drop_all (place + length piece) content (omega arith))))
+    ∙ ap (λ (xs : List ℕ). xs ++ piece ++ drop (length content + length piece) content)
+    (take_all (length content) content (le_refl (length content)) ∙ sym (take_all place content (omega arith)))
+    ∙ ap (λ (xs : List ℕ). take place content ++ piece ++ xs)
+    (drop_all (length content + length piece) content (omega arith) ∙ sym (drop_all (place + length piece) content (omega arith))))
 
 pub length_written_within : (place : ℕ) (piece content : List ℕ) → min place (length content) + length piece ≤ length (written place piece content)
 length_written_within place piece content =
@@ -92,23 +98,26 @@ content_among (Cut to) content images here = (content, here, cut_any)
         (λ (beyond : ¬ (to ≤ length content)). subst (λ (xs : List ℕ). CutShort to content xs) (sym (take_all to content (omega arith))) (cut_same to content))
 content_among Sync content images here = refl
 
-quiet_among : (call : DiskCall) → IsQuiet call → (content : List ℕ) (images : List ℕ → Type 0) (image : List ℕ) → images content → images_by call content images image → images image
+quiet_among : (call : DiskCall) → LeavesContent call → (content : List ℕ) (images : List ℕ → Type 0) (image : List ℕ)
+    → images content → images_by call content images image → images image
 quiet_among Len is content images image now here = here
 quiet_among (Read place count) is content images image now here = here
 quiet_among (Write place piece) is content images image now here = absurd is
 quiet_among (Cut to) is content images image now here = absurd is
 quiet_among Sync is content images image now here = subst images (sym here) now
 
-pub content_left : (call : DiskCall) → IsQuiet call → (content : List ℕ) → content ≡ content_by call content
+pub content_left : (call : DiskCall) → LeavesContent call → (content : List ℕ) → content ≡ content_by call content
 content_left Len is content = refl
 content_left (Read place count) is content = refl
 content_left (Write place piece) is content = absurd is
 content_left (Cut to) is content = absurd is
 content_left Sync is content = refl
 
-images_hold : (calls : List DiskCall) (content : List ℕ) (images : List ℕ → Type 0) → images content → images_after calls content images (content_after calls content)
+images_hold : (calls : List DiskCall) (content : List ℕ) (images : List ℕ → Type 0) → images content
+    → images_after calls content images (content_after calls content)
 images_hold [] content images here = here
-images_hold (call ∷ calls) content images here = images_hold calls (content_by call content) (images_by call content images) (content_among call content images here)
+images_hold (call ∷ calls) content images here =
+    images_hold calls (content_by call content) (images_by call content images) (content_among call content images here)
 
 -- the content is among the images of the calls
 pub among : (calls : List DiskCall) (start image : List ℕ) → Images calls start image → images_of calls start image
@@ -130,10 +139,22 @@ module _ (calls : List DiskCall) (start : List ℕ) where
   pub one_more : (call : DiskCall) (before now : ℕ) → Elapses (seen_after calls start before) (seen_after (calls ++ call ∷ []) start now)
   one_more call before now = record {
     later = (let l = longer in omega arith);
-    nothing_else = λ moment image le since. ⊎_elim (λ (is : image ≡ content_after (calls ++ call ∷ []) start). inr (inl is)) (λ since. split moment image since.0 since.1 since.2 since.3) since;
+    nothing_else = λ moment image le since. ⊎_elim (λ (is : image ≡ content_after (calls ++ call ∷ []) start). inr (inl is))
+        (λ since. split moment image since.0 since.1 since.2 since.3) since;
     keeps = λ moment image le past. ⊎_elim
-        (λ (is : image ≡ content_after calls start). inr (length calls, le, (let l = longer in omega arith), subst (λ (cs : List DiskCall). images_of cs start image) (sym front) (subst (λ (i : List ℕ). images_of calls start i) (sym is) content_now)))
-        (λ past. inr (past.0, past.1, (let l = longer in let low : past.0 ≤ length calls = past.2 in omega arith), subst (λ (cs : List DiskCall). images_of cs start image) (sym (take-append-le past.0 calls (call ∷ []) past.2)) past.3))
+        (λ (is : image ≡ content_after calls start). inr (
+          length calls,
+          le,
+          (let l = longer in omega arith),
+          subst (λ (cs : List DiskCall). images_of cs start image)
+              (sym front) (subst (λ (i : List ℕ). images_of calls start i) (sym is) content_now),
+        ))
+        (λ past. inr (
+          past.0,
+          past.1,
+          (let l = longer in let low : past.0 ≤ length calls = past.2 in omega arith),
+          subst (λ (cs : List DiskCall). images_of cs start image) (sym (take-append-le past.0 calls (call ∷ []) past.2)) past.3,
+        ))
         past;
   }
     where
@@ -143,23 +164,28 @@ module _ (calls : List DiskCall) (start : List ℕ) where
       longer : length (calls ++ call ∷ []) ≡ length calls + 1
       longer = length-append calls (call ∷ [])
 
-      split : (moment : ℕ) (image : List ℕ) (count : ℕ) → moment ≤ count → count ≤ length (calls ++ call ∷ []) → images_of (take count (calls ++ call ∷ [])) start image
+      split : (moment : ℕ) (image : List ℕ) (count : ℕ) → moment ≤ count → count ≤ length (calls ++ call ∷ [])
+          → images_of (take count (calls ++ call ∷ [])) start image
           → ImageSince calls start moment image ⊎ Images (calls ++ call ∷ []) start image
       split moment image count low high here = dite (dec_le count (length calls))
-          (λ (within : count ≤ length calls). inl (inr (count, low, within, subst (λ (cs : List DiskCall). images_of cs start image) (take-append-le count calls (call ∷ []) within) here)))
+          (λ (within : count ≤ length calls). inl
+          (inr (count, low, within, subst (λ (cs : List DiskCall). images_of cs start image) (take-append-le count calls (call ∷ []) within) here)))
           (λ (beyond : ¬ (count ≤ length calls)). let l = longer in
           inr (inr (subst (λ (cs : List DiskCall). images_of cs start image) (take_all count (calls ++ call ∷ []) (omega arith)) here)))
 
   -- an image behind a call is one by it, and the other way round
-  behind : (call : DiskCall) (image : List ℕ) → Images (calls ++ call ∷ []) start image → images_by call (content_after calls start) (images_of calls start) image
+  behind : (call : DiskCall) (image : List ℕ) → Images (calls ++ call ∷ []) start image
+      → images_by call (content_after calls start) (images_of calls start) image
   behind call image here = images_push calls call start (λ other. other ≡ start) image (among (calls ++ call ∷ []) start image here)
 
-  pub left_by : (call : DiskCall) (image : List ℕ) → images_by call (content_after calls start) (images_of calls start) image → Images (calls ++ call ∷ []) start image
+  pub left_by : (call : DiskCall) (image : List ℕ) → images_by call (content_after calls start) (images_of calls start) image
+      → Images (calls ++ call ∷ []) start image
   left_by call image here = inr (images_pushed calls call start (λ other. other ≡ start) image here)
 
   -- What a crash leaves behind a call.
-  pub quiet : (call : DiskCall) → IsQuiet call → NoFurther (Images calls start) (Images (calls ++ call ∷ []) start)
-  quiet call is_quiet image here = inr (quiet_among call is_quiet (content_after calls start) (images_of calls start) image content_now (behind call image here))
+  pub quiet : (call : DiskCall) → LeavesContent call → NoFurther (Images calls start) (Images (calls ++ call ∷ []) start)
+  quiet call is_quiet image here =
+      inr (quiet_among call is_quiet (content_after calls start) (images_of calls start) image content_now (behind call image here))
 
   pub alone : (faults : ℕ) → Alone (seen_after (calls ++ Sync ∷ []) start faults)
   alone faults image here = ap (λ (i : List ℕ). Some i) (content_push calls Sync start ∙ sym (behind Sync image here))

@@ -37,7 +37,8 @@ same_rest n old new same place above =
     ∙ ap (λ (bytes : List ℕ). slice_get bytes (place - n)) same
     ∙ slice_get-drop n old (place - n) place here
 
-same_outside : (first count : ℕ) (old new : List ℕ) → Torn first count old new → (place : ℕ) → ¬ ((first ≤ place) × (place < first + count)) → slice_get new place ≡ slice_get old place
+same_outside : (first count : ℕ) (old new : List ℕ) → Torn first count old new → (place : ℕ)
+    → ¬ ((first ≤ place) × (place < first + count)) → slice_get new place ≡ slice_get old place
 same_outside first count old new torn place outside = dite (dec_le first place)
     (λ (low : first ≤ place). dite (dec_le (first + count) place)
     (λ (past : first + count ≤ place). same_rest (first + count) old new torn.after place past)
@@ -84,19 +85,23 @@ agrees_by (Cut to) content images since agree image here =
     let short : CutShort to here.0 image = here.2 in
     let now = length (take to content) in
     record {
-      same = λ place untouched. same_before to here.0 image short place (λ behind. untouched (inr behind)) ∙ was.same place (λ touched. untouched (inl touched));
+      same = λ place untouched. same_before to here.0 image short place (λ behind. untouched (inr behind))
+          ∙ was.same place (λ touched. untouched (inl touched));
       no_shorter = cut_lower since.least (length here.0) (length image) to (length content) now was.no_shorter short.no_shorter (length-take to content);
       no_longer = cut_upper since.greatest (length here.0) (length image) now was.no_longer short.no_longer;
     }
 agrees_by Sync content images since agree image here = at_its_sync content image here
 
-agrees_after : (calls : List DiskCall) (content : List ℕ) (images : List ℕ → Type 0) (since : SinceSync) → ((image : List ℕ) → images image → Agrees since image)
+agrees_after : (calls : List DiskCall) (content : List ℕ) (images : List ℕ → Type 0) (since : SinceSync)
+    → ((image : List ℕ) → images image → Agrees since image)
     → (image : List ℕ) → images_after calls content images image → Agrees (since_after calls content since) image
 agrees_after [] content images since agree image here = agree image here
 agrees_after (call ∷ calls) content images since agree image here =
-    agrees_after calls (content_by call content) (images_by call content images) (since_by call content since) (agrees_by call content images since agree) image here
+    agrees_after calls (content_by call content) (images_by call content images) (since_by call content since)
+    (agrees_by call content images since agree) image here
 
 pub agrees : (disk : MemoryDiskState) (image : List ℕ) → (told_by disk).images image → Agrees (since_sync disk.held) image
 agrees disk image here =
     let start = disk.held.start in
-    agrees_after disk.held.calls start (λ other. other ≡ start) (at_sync start) (λ other is. at_its_sync start other is) image (among disk.held.calls start image here)
+    agrees_after disk.held.calls start (λ other. other ≡ start) (at_sync start)
+    (λ other is. at_its_sync start other is) image (among disk.held.calls start image here)

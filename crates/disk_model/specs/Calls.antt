@@ -15,12 +15,12 @@ content_by (Cut to) content = take to content
 content_by Sync content = content
 
 -- the call leaves the content
-abbrev pub IsQuiet : DiskCall → Type 0
-IsQuiet Len = Unit {0}
-IsQuiet (Read place count) = Unit {0}
-IsQuiet (Write place piece) = ⊥
-IsQuiet (Cut to) = ⊥
-IsQuiet Sync = Unit {0}
+abbrev pub LeavesContent : DiskCall → Type 0
+LeavesContent Len = Unit {0}
+LeavesContent (Read place count) = Unit {0}
+LeavesContent (Write place piece) = ⊥
+LeavesContent (Cut to) = ⊥
+LeavesContent Sync = Unit {0}
 
 -- the images after a call that found this content and these images
 abbrev pub images_by : DiskCall → List ℕ → (List ℕ → Type 0) → List ℕ → Type 0
@@ -73,7 +73,13 @@ module _ (calls : List DiskCall) (start : List ℕ) where
   pub now_among : (moment : ℕ) (image : List ℕ) → moment ≤ length calls → Images calls start image → ImageSince calls start moment image
   now_among moment image within (inl is) = inl is
   now_among moment image within (inr here) =
-      inr (length calls, within, le_refl (length calls), subst (λ (cs : List DiskCall). images_of cs start image) (sym (take_all (length calls) calls (le_refl (length calls)))) here)
+      inr (
+        length calls,
+        within,
+        le_refl (length calls),
+        subst (λ (cs : List DiskCall). images_of cs start image)
+            (sym (take_all (length calls) calls (le_refl (length calls)))) here,
+      )
 
   pub only_now_left : (image : List ℕ) → ImageSince calls start (length calls) image → Images calls start image
   only_now_left image (inl is) = inl is

@@ -5,7 +5,7 @@ use Rattle.disk_model.specs.declared.disk_calls.DiskCall.{DiskCall}
 use Rattle.disk_model.specs.declared.disk_calls.DiskCall.TheVariants.{Len, Read, Write, Cut, Sync}
 use Rattle.disk_model.specs.Calls.{content_by}
 use Rattle.disk_model.specs.Disks.{written}
-use Rattle.disk_model.specs.MemoryDisks.{Held}
+use Rattle.disk_model.specs.MemoryDisks.{HeldContent}
 
 -- the bytes at the last sync, the places that were written or cut off since then, and the least and the greatest length since then
 pub record SinceSync : Type 1 where
@@ -44,7 +44,7 @@ since_after [] content since = since
 since_after (call ∷ calls) content since = since_after calls (content_by call content) (since_by call content since)
 
 -- at the start all is synced
-abbrev pub since_sync : Held → SinceSync
+abbrev pub since_sync : HeldContent → SinceSync
 since_sync held = since_after held.calls held.start (at_sync held.start)
 
 -- These bytes are those of the last sync wherever nothing was written or cut off since then, and their number is between the least and the greatest.

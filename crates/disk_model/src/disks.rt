@@ -9,8 +9,8 @@ use decimal_rank::Failed;
 /// How many bytes a disk has at most.
 pub const MOST_BYTES: u64 = 1 << 40;
 
-/// Bytes that outlast a crash once they are synced. A call that fails may have done its work whole, in
-/// part or not at all.
+/// Bytes that outlast a crash once they are synced. A call that fails may have done its work whole,
+/// in part or not at all.
 pub trait Disk {
     /// What the disk tells.
     ghost seen: { Self → DiskState };
@@ -34,8 +34,8 @@ pub trait Disk {
         ensures time { Elapses (seen self.old) (seen self.new) }
         ensures cause { HasCause (seen self.old).faults (seen self.new).faults result };
 
-    /// Writes over what is there, and past the end. Until a sync, a crash may leave any bytes in the
-    /// range.
+    /// Writes over what is there, and past the end. Until a sync, a crash may leave any bytes in
+    /// the range.
     fn write_at(&mut self, place: u64, piece: &[u8]) -> Result<(), Failed>
         requires within { IfSome (seen self.old).content (λ bytes. place ≤ length bytes) }
         requires room { place + length piece.now ≤ 2 ^ 40 }

@@ -11,9 +11,9 @@ use std::os::unix::fs::{FileExt, MetadataExt, OpenOptionsExt};
 use std::path::Path;
 use std::rt::Files;
 
-/// A file that is opened at the first call, and made where it isn't there, for its owner alone. It is
-/// locked while it is open: where another process has it as a disk, each call fails. A symbolic link is
-/// no disk, so a path is resolved before.
+/// A file that is opened at the first call, and made where it isn't there, for its owner alone. It
+/// is locked while it is open: where another process has it as a disk, each call fails. A symbolic
+/// link is no disk, so a path is resolved before.
 #[derive(Drop)]
 pub struct FileDisk<'a, R: Files<File = File>> {
     files: R,
@@ -67,8 +67,9 @@ fn is_link<R: Files<File = File>>(files: &R, path: &str) -> bool {
     }
 }
 
-// Has later reads come from the disk. Where a sync failed, the system may take what it holds in memory
-// for synced, and answer the next sync by Ok: a process that is started then would read what no disk has.
+// Has later reads come from the disk. Where a sync failed, the system may take what it holds in
+// memory for synced, and answer the next sync by Ok: a process that is started then would read what
+// no disk has.
 fn read_from_the_disk(file: &File) -> io::Result<()> {
     file.sync_data()?;
     match libc::posix_fadvise(file.as_raw_fd(), 0, 0, libc::POSIX_FADV_DONTNEED) {

@@ -1,6 +1,6 @@
 //! The bytes of a disk in memory, and the calls that made them.
 ghost use Rattle.std.specs.Prelude.{◌≡◌, ◌≤◌, ℕ, List, [], length, OnErr, OnOk};
-ghost use Rattle.disk_model.specs.Calls.{IsQuiet};
+ghost use Rattle.disk_model.specs.Calls.{LeavesContent};
 ghost use Rattle.disk_model.specs.Disks.{written};
 ghost use Rattle.disk_model.specs.MemoryDisks.{begun_with, content_of, with_call};
 
@@ -8,8 +8,8 @@ use crate::disk_calls::DiskCall;
 use decimal_rank::{Memory, Text};
 use std::marker::Model;
 
-/// What a disk holds, and the calls that made it. Contracts see the content before the first call, and
-/// the calls.
+/// What a disk holds, and the calls that made it. Contracts see the content before the first call,
+/// and the calls.
 pub(crate) struct HeldBytes {
     // the content before the first call, from the first one on that changes it
     start: Option<Vec<u8>>,
@@ -20,9 +20,9 @@ pub(crate) struct HeldBytes {
 impl Model for HeldBytes {
     ghost use Rattle.std.specs.Prelude.{◌≡◌};
     ghost use Rattle.disk_model.specs.Calls.{content_after};
-    ghost use Rattle.disk_model.specs.MemoryDisks.{Held, begun_with};
+    ghost use Rattle.disk_model.specs.MemoryDisks.{HeldContent, begun_with};
 
-    ghost Value = { Held };
+    ghost Value = { HeldContent };
 
     ghost view = { λ held. record {
       start = begun_with held.start held.content.items;
@@ -70,7 +70,7 @@ impl HeldBytes {
 
     /// Keeps a call that leaves the content.
     pub(crate) fn note(&mut self, call: DiskCall) -> Result<(), Memory>
-        requires { IsQuiet call }
+        requires { LeavesContent call }
         ensures ok { OnOk result (self.new ≡ with_call self.old call) }
         ensures err { OnErr result (self.new ≡ self.old) }
         ensures content { content_of self.new ≡ content_of self.old }

@@ -1,10 +1,10 @@
 //! A disk in memory, which keeps all its calls, so that its images are exactly those that the rules
 //! allow.
 ghost use Rattle.std.specs.Prelude.{◌≡◌, ◌+◌, ◌≤◌, ◌^◌, IsErr, IsTrue, IfOk, OnOk, Some, drop, length, take};
-ghost use Rattle.decimal_rank.specs.FailurePlans.{count_more as one_more, fails_next};
+ghost use Rattle.decimal_rank.specs.Outputs.FailurePlans.{count_more as one_more, fails_next};
 ghost use Rattle.disk_model.specs.Calls.{AreImagesOf};
 ghost use Rattle.disk_model.specs.Disks.{Alone, CutShort, Torn};
-ghost use Rattle.disk_model.specs.MemoryDisks.{LeavesAll, after, begun, content_of, told_by};
+ghost use Rattle.disk_model.specs.MemoryDisks.{LeavesAll, after_disk_call, before_calls, content_of, told_by};
 
 use crate::disk_calls::DiskCall;
 use crate::disks::Disk;
@@ -12,8 +12,8 @@ use crate::held_bytes::HeldBytes;
 use decimal_rank::{Failed, FailurePlan, Memory, count_more};
 use std::marker::Model;
 
-/// A disk in memory. Contracts see the content at its start, the calls that did their work, and those
-/// that are to fail.
+/// A disk in memory. Contracts see the content at its start, the calls that did their work, and
+/// those that are to fail.
 pub struct MemoryDisk {
     held: HeldBytes,
     plan: FailurePlan,
@@ -50,7 +50,7 @@ impl MemoryDisk {
     /// A disk with these bytes, all of them synced. The calls that are to fail are given by their
     /// places, from 1. It takes no memory.
     pub fn new(content: Vec<u8>, fails: Vec<u64>) -> MemoryDisk
-        ensures begun { result ≡ begun content.items fails.items }
+        ensures begun { result ≡ before_calls content.items fails.items }
         ensures content { (⟦<MemoryDisk as Disk>⟧.seen result).content ≡ Some content.items }
         ensures synced { Alone (⟦<MemoryDisk as Disk>⟧.seen result) }
         ensures faults { (⟦<MemoryDisk as Disk>⟧.seen result).faults ≡ 0 }
@@ -71,8 +71,8 @@ impl MemoryDisk {
         self.held.content()
     }
 
-    /// The calls that did their work, in order. What a crash may leave is exactly what the rules allow of
-    /// them.
+    /// The calls that did their work, in order. What a crash may leave is exactly what the rules
+    /// allow of them.
     pub fn calls(&self) -> &[DiskCall]
         ensures calls { result.now ≡ self.now.held.calls }
         ensures images { AreImagesOf result.now (⟦<MemoryDisk as Disk>⟧.seen self.now) }
@@ -117,7 +117,7 @@ impl Disk for MemoryDisk {
     fn len(&mut self) -> Result<u64, Failed>
         ensures told { IfOk result (λ count. count ≡ length (content_of self.old.held)) }
         ensures failed { IsTrue (fails_next self.old.plan) → IsErr result }
-        ensures after { self.new ≡ after self.old DiskCall.Len result }
+        ensures after { self.new ≡ after_disk_call self.old DiskCall.Len result }
     {
         if self.plan.call() {
             return Err(self.fault());
@@ -134,7 +134,8 @@ impl Disk for MemoryDisk {
         ensures told { OnOk result
             (out.new ≡ take (length out.old) (drop place (content_of self.old.held))) }
         ensures failed { IsTrue (fails_next self.old.plan) → IsErr result }
-        ensures after { self.new ≡ after self.old (DiskCall.Read place (length out.old)) result }
+        ensures after { self.new
+            ≡ after_disk_call self.old (DiskCall.Read place (length out.old)) result }
     {
         if self.plan.call() {
             return Err(self.fault());
@@ -155,7 +156,8 @@ impl Disk for MemoryDisk {
         requires within { place ≤ length (content_of self.old.held) }
         requires room { place + length piece.now ≤ 2 ^ 40 }
         ensures failed { IsTrue (fails_next self.old.plan) → IsErr result }
-        ensures after { self.new ≡ after self.old (DiskCall.Write place piece.now) result }
+        ensures after { self.new
+            ≡ after_disk_call self.old (DiskCall.Write place piece.now) result }
         ensures torn { OnOk result (LeavesAll (Torn place (length piece.now))
             (told_by self.old).images (told_by self.new).images) }
     {
@@ -172,7 +174,7 @@ impl Disk for MemoryDisk {
     fn cut(&mut self, to: u64) -> Result<(), Failed>
         requires { to ≤ length (content_of self.old.held) }
         ensures failed { IsTrue (fails_next self.old.plan) → IsErr result }
-        ensures after { self.new ≡ after self.old (DiskCall.Cut to) result }
+        ensures after { self.new ≡ after_disk_call self.old (DiskCall.Cut to) result }
         ensures torn { OnOk result (LeavesAll (CutShort to)
             (told_by self.old).images (told_by self.new).images) }
     {
@@ -188,7 +190,7 @@ impl Disk for MemoryDisk {
     /// Likewise.
     fn sync(&mut self) -> Result<(), Failed>
         ensures failed { IsTrue (fails_next self.old.plan) → IsErr result }
-        ensures after { self.new ≡ after self.old DiskCall.Sync result }
+        ensures after { self.new ≡ after_disk_call self.old DiskCall.Sync result }
     {
         if self.plan.call() {
             return Err(self.fault());

@@ -1,5 +1,5 @@
-//! Tries a disk that is a file: written, cut, synced, opened again and held by one alone; and a disk in memory whose
-//! calls fail as planned.
+//! Tries a disk that is a file: written, cut, synced, opened again and held by one alone; and a
+//! disk in memory whose calls fail as planned.
 use disk_model::{Disk, Failed, FileDisk, MemoryDisk};
 use std::string::String;
 use std::test::Fail;

@@ -16,7 +16,8 @@ after-more step n old mid new before one =
     subst (λ m. After step m old new) (next n) (mid, before, subst (λ m. step m mid new) (sym (next n)) one)
 
 -- what is written with one text more
-pub written-more : (out now new : List ℕ) (n : ℕ) (text : ℕ → List ℕ) → now ≡ out ++ texts_to n text → new ≡ now ++ text (n + 1) → new ≡ out ++ texts_to (n + 1) text
+pub written-more : (out now new : List ℕ) (n : ℕ) (text : ℕ → List ℕ) → now ≡ out ++ texts_to n text
+    → new ≡ now ++ text (n + 1) → new ≡ out ++ texts_to (n + 1) text
 written-more out now new n text now_is new_is =
     new_is
     ∙ ap (λ front. front ++ text (n + 1)) now_is

@@ -8,12 +8,14 @@ module _ (numbers : DrillNumbers) (are : IsTrue (are_numbers numbers)) where
   -- all tests but the last, and all but the last two
   counts : (nat_le numbers.seed 2147483647 && (nat_le 1 numbers.runs && nat_le numbers.runs 256) && (nat_le 1 numbers.topics && nat_le numbers.topics 250)
       && (nat_le 1 numbers.docs && nat_le numbers.docs 1000)) ≡ true
-  counts = (and_parts (nat_le numbers.seed 2147483647 && (nat_le 1 numbers.runs && nat_le numbers.runs 256) && (nat_le 1 numbers.topics && nat_le numbers.topics 250)
+  counts = (and_parts
+      (nat_le numbers.seed 2147483647 && (nat_le 1 numbers.runs && nat_le numbers.runs 256) && (nat_le 1 numbers.topics && nat_le numbers.topics 250)
       && (nat_le 1 numbers.docs && nat_le numbers.docs 1000)) (nat_le (numbers.runs * numbers.topics * numbers.docs) 8000000) are).0
 
   pub few-docs : numbers.docs ≤ 1000
   few-docs =
-      let front = nat_le numbers.seed 2147483647 && (nat_le 1 numbers.runs && nat_le numbers.runs 256) && (nat_le 1 numbers.topics && nat_le numbers.topics 250) in
+      let front = nat_le numbers.seed 2147483647 && (nat_le 1 numbers.runs && nat_le numbers.runs 256)
+      && (nat_le 1 numbers.topics && nat_le numbers.topics 250) in
       let docs = (and_parts front (nat_le 1 numbers.docs && nat_le numbers.docs 1000) counts).1 in
       leb-true numbers.docs 1000 (and_parts (nat_le 1 numbers.docs) (nat_le numbers.docs 1000) docs).1
 

@@ -9,7 +9,7 @@ use Rattle.std.proofs.lemmas.List.Folds.{list_all-append}
 use Rattle.std.proofs.lemmas.Str.Parse.{digit_from_value}
 use Rattle.httparse.specs.Grammar.{AllPass, is_ows, is_uri_byte, is_value_byte, skip_ows, trim_ows}
 use Rattle.httparse.proofs.TrimLemmas.{trim_ows_space}
-use Rattle.decimal_rank.specs.DecimalText.{are_digits, is_digit}
+use Rattle.decimal_rank.specs.Decimals.DecimalText.{are_digits, is_digit}
 use Rattle.drill.specs.Messages.{is_visible}
 
 bounds : (b : ℕ) → is_visible b ≡ true → (32 < b) × (b < 127)

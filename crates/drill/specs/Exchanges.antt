@@ -7,8 +7,8 @@ use Rattle.routes.specs.declared.answers.Answered.{Answered}
 use Rattle.rulebook.specs.Campaign.{History}
 use Rattle.campaign_server.specs.declared.ends.End.{End as ConnectionEnd}
 use Rattle.campaign_server.specs.declared.ends.End.TheVariants as end
-use Rattle.campaign_server.specs.Chains.{Said, requests_of, texts_of}
-use Rattle.campaign_server.specs.Talks.{Says}
+use Rattle.campaign_server.specs.Conversations.Chains.{Said, answer_texts, requests_of}
+use Rattle.campaign_server.specs.Conversations.Talks.{SaysByRules}
 use Rattle.drill.specs.Answers.{leased_doc}
 use Rattle.drill.specs.Messages.{Message, callers, message_text}
 
@@ -20,7 +20,7 @@ pub record IsMet (answer : Answered) : Type 0 where
 -- The answers of the rules at moment 0, each behind the entries that stand then; at the end S stands.
 abbrev pub AreTold : History → List Said → History → Type 0
 AreTold H [] S = S ≡ H
-AreTold H (x ∷ said) S = (more : History) × Says callers H x.request 0 x.answer more × IsMet x.answer × AreTold (H ++ more) said S
+AreTold H (x ∷ said) S = (more : History) × SaysByRules callers H x.request 0 x.answer more × IsMet x.answer × AreTold (H ++ more) said S
 
 -- the bytes are whole messages to their end
 abbrev pub IsWhole : End → Type 0
@@ -52,7 +52,7 @@ pub record IsExchange (H : History) (text : List ℕ) (S : History) (answers : L
   pub are_messages : Messages (text ++ text) (requests_of said) ending
   pub whole : IsWhole ending
   pub told : AreTold H said S
-  pub answers_are : answers ≡ texts_of said
+  pub answers_are : answers ≡ answer_texts said
 
 -- an exchange, and the document that its answers tell
 abbrev pub IsAnswered : History → List ℕ → History → Option ℕ → Type 0

@@ -31,15 +31,15 @@ abbrev pub score_of : DrillNumbers → ℕ → ℕ → ℕ → ℕ
 score_of numbers r t d = (31 * numbers.seed + 17 * r + 13 * t + d * (r + 6)) % 101
 
 -- the grade of a document of a topic
-abbrev pub grade_of : DrillNumbers → ℕ → ℕ → ℕ
-grade_of numbers t d = (numbers.seed + 5 * t + 3 * d) % 4
+abbrev pub drill_grade : DrillNumbers → ℕ → ℕ → ℕ
+drill_grade numbers t d = (numbers.seed + 5 * t + 3 * d) % 4
 
 -- The worked example: two runs of three documents on one topic.
 
 abbrev example : DrillNumbers
 example = record { seed = 1; runs = 2; topics = 1; docs = 3 }
 
-grades : map (grade_of example 1) (1 ∷ 2 ∷ 3 ∷ []) ≡ 1 ∷ 0 ∷ 3 ∷ []
+grades : map (drill_grade example 1) (1 ∷ 2 ∷ 3 ∷ []) ≡ 1 ∷ 0 ∷ 3 ∷ []
 grades = refl
 
 scores_of_the_first : map (score_of example 1 1) (1 ∷ 2 ∷ 3 ∷ []) ≡ 68 ∷ 75 ∷ 82 ∷ []

@@ -1,6 +1,6 @@
 -- The link over which a message is sent.
 use Rattle.std.specs.Prelude.{◌≡◌, ℕ, List, []}
-use Rattle.campaign_server.specs.MemoryLinks.{MemoryLinkState}
+use Rattle.campaign_server.specs.MemoryForms.MemoryLinks.{MemoryLinkState}
 
 -- it gives these bytes at moment 0, and nothing was written on it
 pub record IsFresh (bytes : List ℕ) (link : MemoryLinkState) : Type 0 where

@@ -76,7 +76,13 @@ lease_message t number = record { key = assessor_key; number = number; path = co
 
 abbrev pub grade_message : ℕ → ℕ → ℕ → Message
 grade_message lease number grade =
-    record { key = assessor_key; number = number; path = codes "/leases/" ++ decimal lease ++ codes "/grade"; body = codes "{\"grade\":" ++ decimal grade ++ codes "}" }
+    record {
+      key = assessor_key;
+      number = number;
+      path = codes "/leases/" ++ decimal lease
+          ++ codes "/grade";
+      body = codes "{\"grade\":" ++ decimal grade ++ codes "}";
+    }
 
 abbrev pub publish_message : Message
 publish_message = record { key = organiser_key; number = 3; path = codes "/publish"; body = [] }

@@ -2,13 +2,13 @@
 use Rattle.std.specs.Prelude.{◌≡◌, ◌<◌, ◌≤◌, ℕ, zero, suc, ◌+◌, ◌*◌, false, List, [], ◌∷◌, None, Some, codes, length}
 use Rattle.std.specs.List.{list_any}
 use Rattle.rulebook.specs.Campaign.{History}
-use Rattle.rulebook.specs.Legal.{founding}
-use Rattle.rulebook.specs.Numbers.{is_numbered}
+use Rattle.rulebook.specs.Histories.Legal.{founding}
+use Rattle.rulebook.specs.Requests.Numbers.{is_numbered}
 use Rattle.drill.specs.declared.numbers.DrillNumbers.{DrillNumbers}
 use Rattle.drill.specs.declared.plays.Sent.{Sent}
 use Rattle.drill.specs.Answers.{leased_doc}
 use Rattle.drill.specs.Exchanges.{IsExchange, IsSent}
-use Rattle.drill.specs.Figures.{grade_of}
+use Rattle.drill.specs.Figures.{drill_grade}
 use Rattle.drill.specs.Messages.{grade_message, lease_message, message_text, open_message, publish_message, rules, run_message, topics_message}
 
 -- the steps 1 up to a number lead from one state to another
@@ -23,8 +23,8 @@ pub record Judging : Type 0 where
   pub leases : ℕ
 
 -- with what was counted of the messages so far
-abbrev pub judging : History → Sent → Judging
-judging H sent = record { history = H; number = sent.number; leases = sent.leases }
+abbrev pub judging_after : History → Sent → Judging
+judging_after H sent = record { history = H; number = sent.number; leases = sent.leases }
 
 -- no entry of the assessor has a greater number
 abbrev pub IsNumberedTo : ℕ → History → Type 0
@@ -32,7 +32,7 @@ IsNumberedTo n H = (k : ℕ) → n < k → list_any (is_numbered (codes "asr") k
 
 -- Before the last message for topic t: the next number is unused, the assessor sent two messages for each accepted lease and one for each topic
 -- before, and each accepted lease is an entry.
-pub record IsCounted (t : ℕ) (now : Judging) : Type 0 where
+pub record IsBeforeLastMessage (t : ℕ) (now : Judging) : Type 0 where
   pub numbered : IsNumberedTo now.number now.history
   pub messages : now.number < 2 * now.leases + t
   pub entries : now.leases ≤ length now.history
@@ -44,7 +44,7 @@ pub record IsGraded (numbers : DrillNumbers) (t : ℕ) (old new : Judging) : Typ
   pub doc : ℕ
   pub lease : IsExchange old.history (message_text (lease_message t (old.number + 1))) leased answers
   pub doc_is : leased_doc answers ≡ Some doc
-  pub grade : IsSent leased (grade_message (old.leases + 1) (old.number + 2) (grade_of numbers t doc)) new.history
+  pub grade : IsSent leased (grade_message (old.leases + 1) (old.number + 2) (drill_grade numbers t doc)) new.history
   pub number_is : new.number ≡ old.number + 2
   pub leases_are : new.leases ≡ old.leases + 1
 
@@ -64,12 +64,12 @@ pub record IsJudged (numbers : DrillNumbers) (t : ℕ) (old new : Judging) : Typ
   pub refused : IsRefused t last new
 
 -- before the first lease
-abbrev pub unjudged : History → Judging
-unjudged H = record { history = H; number = 0; leases = 0 }
+abbrev pub before_judging : History → Judging
+before_judging H = record { history = H; number = 0; leases = 0 }
 
 -- all topics are judged, one after another
 abbrev pub AreJudged : DrillNumbers → History → History → Type 0
-AreJudged numbers old new = (judged : Judging) × After (IsJudged numbers) numbers.topics (unjudged old) judged × (new ≡ judged.history)
+AreJudged numbers old new = (judged : Judging) × After (IsJudged numbers) numbers.topics (before_judging old) judged × (new ≡ judged.history)
 
 -- From the founding entry on: the topics, the runs, the opening, the leases and grades topic by topic, and the publication.
 pub record IsPlayed (numbers : DrillNumbers) (H : History) : Type 0 where

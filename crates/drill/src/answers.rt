@@ -1,8 +1,8 @@
 //! What the answers to a message tell, from their bytes.
 ghost use Rattle.std.specs.Prelude.{◌≡◌, ◌-◌, option_map};
-ghost use Rattle.drill.specs.Answers.{are_met, behind, four_digit_number, leased_doc};
+ghost use Rattle.drill.specs.Answers.{are_met, behind_part, four_digit_number, leased_doc};
 
-use decimal_rank::{ZERO, are_all_digits};
+use decimal_rank::are_all_digits;
 
 /// Whether no answer has the status of a fault of the disk or of want of memory.
 pub(crate) fn are_met(answers: &[u8]) -> bool
@@ -39,12 +39,12 @@ fn four_digit_number(text: &[u8]) -> Option<u32>
 fn digit(byte: u8) -> u32
     ensures { result ≡ byte - 48 }
 {
-    u32::from(byte.saturating_sub(ZERO))
+    u32::from(byte.saturating_sub(b'0'))
 }
 
 /// What stands behind the first place of a part.
 fn behind<'a>(text: &'a [u8], part: &[u8]) -> Option<&'a [u8]>
-    ensures { option_map (λ rest. rest.now) result ≡ behind part.now text.now }
+    ensures { option_map (λ rest. rest.now) result ≡ behind_part part.now text.now }
 {
     let mut left = text;
     while let [_, rest @ ..] = left {

@@ -1,12 +1,12 @@
 //! A generated campaign, from its numbers to its seven lines.
 ghost use Rattle.std.specs.Prelude.{◌≡◌, [], ◌∷◌, IfOk, IsTrue};
 ghost use Rattle.rulebook.specs.Campaign.{History};
-ghost use Rattle.rulebook.specs.Legal.{founding};
+ghost use Rattle.rulebook.specs.Histories.Legal.{founding};
 ghost use Rattle.drill.specs.Figures.{are_numbers};
 ghost use Rattle.drill.specs.Foundings.{RefusesEmpty};
 ghost use Rattle.drill.specs.Messages.{callers as drill_callers, rules as drill_rules};
 ghost use Rattle.drill.specs.Plays.{IsPlayed};
-ghost use Rattle.drill.specs.Summaries.{summary_of as summary_by};
+ghost use Rattle.drill.specs.Summaries.{drill_summary as summary_by};
 
 use crate::messages::{callers, rules};
 use crate::numbers::DrillNumbers;
@@ -18,11 +18,12 @@ use disk_model::MemoryDisk;
 use routes::Keys;
 use std::alloc::Global;
 
-/// Plays the campaign that the numbers give, on a disk in memory, and tells its seven lines. There may be no
-/// memory for it, or for the answer to one of its messages.
+/// Plays the campaign that the numbers give, on a disk in memory, and tells its seven lines. There
+/// may be no memory for it, or for the answer to one of its messages.
 pub fn drill<R>(rt: &R, alloc: Global, numbers: &DrillNumbers) -> Result<Vec<u8>, Memory>
     requires { IsTrue (are_numbers numbers.now) }
-    ensures { IfOk result (λ text. (H : History) × IsPlayed numbers.now H × (text.items ≡ summary_by numbers.now H)) }
+    ensures { IfOk result (λ text. (H : History) × IsPlayed numbers.now H
+        × (text.items ≡ summary_by numbers.now H)) }
 {
     let keys = callers(alloc)?;
     let mut book = found(alloc)?;
@@ -40,7 +41,8 @@ fn drilled<R>(
     requires numbers { IsTrue (are_numbers numbers.now) }
     requires keys { keys.now ≡ drill_callers }
     requires founded { book.old.history ≡ founding drill_rules ∷ [] }
-    ensures { IfOk result (λ text. (H : History) × IsPlayed numbers.now H × (text.items ≡ summary_by numbers.now H)) }
+    ensures { IfOk result (λ text. (H : History) × IsPlayed numbers.now H
+        × (text.items ≡ summary_by numbers.now H)) }
 {
     play(rt, alloc, numbers, book, keys)?;
     summary_of(alloc, numbers, book)
@@ -60,8 +62,8 @@ fn found(alloc: Global) -> Result<Book<MemoryDisk>, Memory>
     }
 }
 
-/// Why an empty disk isn't opened. It holds nothing that could be refused, and it is in memory, where no call fails
-/// but for want of it.
+/// Why an empty disk isn't opened. It holds nothing that could be refused, and it is in memory,
+/// where no call fails but for want of it.
 fn want_of(fault: BookFault) -> Memory
     requires { RefusesEmpty fault }
 {

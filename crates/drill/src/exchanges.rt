@@ -15,7 +15,8 @@ use http_wire::{fronts_stay, one_reading};
 use routes::Keys;
 use std::alloc::Global;
 
-/// Sends a message twice, in a session of its own. Its answers tell the number of a document where they lease one.
+/// Sends a message twice, in a session of its own. Its answers tell the number of a document where
+/// they lease one.
 pub(crate) fn send<R>(
     rt: &R,
     alloc: Global,
@@ -25,9 +26,12 @@ pub(crate) fn send<R>(
 ) -> Result<Option<u32>, Memory>
     requires keys { keys.now ≡ callers }
     requires message { IsMessage text.items }
-    ensures { IfOk result (λ doc. (answers : List ℕ) × IsExchange book.old.history text.items book.new.history answers × (doc ≡ leased_doc answers)) }
+    ensures { IfOk result (λ doc. (answers : List ℕ)
+        × IsExchange book.old.history text.items book.new.history answers
+        × (doc ≡ leased_doc answers)) }
 {
-    // a request that stands at the front stays there, whatever comes behind it, and bytes are read in one way
+    // a request that stands at the front stays there, whatever comes behind it, and bytes are read
+    // in one way
     fronts_stay();
     one_reading();
     let mut link = twice(alloc, text)?;
@@ -47,11 +51,12 @@ fn twice(alloc: Global, text: Vec<u8>) -> Result<MemoryLink, Memory>
     Ok(MemoryLink::new(pieces, Vec::new(alloc), Vec::new(alloc), Vec::new(alloc)))
 }
 
-/// What the answers tell, where the session ended and there was no want of memory. The disk and the link are
-/// in memory, and fail for want of it alone.
+/// What the answers tell, where the session ended and there was no want of memory. The disk and the
+/// link are in memory, and fail for want of it alone.
 fn read_answers(end: End, link: &MemoryLink) -> Result<Option<u32>, Memory>
     requires { EndsWhole end }
-    ensures told { IfOk result (λ doc. (end ≡ Ended) × (are_met link.now.written ≡ true) × (doc ≡ leased_doc link.now.written)) }
+    ensures told { IfOk result (λ doc. (end ≡ Ended) × (are_met link.now.written ≡ true)
+        × (doc ≡ leased_doc link.now.written)) }
     ensures want { IsErr result → (end ≢ Ended) ⊎ (are_met link.now.written ≡ false) }
 {
     let is_over = is_ended(end);
@@ -66,7 +71,8 @@ fn read_answers(end: End, link: &MemoryLink) -> Result<Option<u32>, Memory>
     Ok(leased_doc(answers))
 }
 
-/// Whether the session came to the end of its messages. These are whole, and fewer than a connection takes.
+/// Whether the session came to the end of its messages. These are whole, and fewer than a
+/// connection takes.
 fn is_ended(end: End) -> bool
     requires { EndsWhole end }
     ensures over { result ≡ true → end ≡ Ended }

@@ -1,6 +1,6 @@
 //! The names, the scores and the grades of a generated campaign.
 ghost use Rattle.std.specs.Prelude.{◌≡◌, ◌≤◌, ◌∷◌, ◌++◌, OnOk};
-ghost use Rattle.drill.specs.Figures.{doc_name, grade_of, run_name, score_of, three_digits, topic_name};
+ghost use Rattle.drill.specs.Figures.{doc_name, drill_grade, run_name, score_of, three_digits, topic_name};
 
 use crate::numbers::DrillNumbers;
 use decimal_rank::Memory;
@@ -69,7 +69,7 @@ pub(crate) fn score_of(numbers: &DrillNumbers, r: u32, t: u32, d: u32) -> u64
 /// The grade of a document of a topic.
 pub(crate) fn grade_of(numbers: &DrillNumbers, t: u32, d: u32) -> u64
     requires t { t ≤ 250 }
-    ensures { result ≡ grade_of numbers.now t d }
+    ensures { result ≡ drill_grade numbers.now t d }
 {
     (u64::from(numbers.seed) + 5 * u64::from(t) + 3 * u64::from(d)) % 4
 }

@@ -137,7 +137,8 @@ fn message(
     path: &[u8],
     body: &[u8],
 ) -> Result<Vec<u8>, Memory>
-    ensures { IfOk result (λ text. text.items ≡ message_text (record { key = key.now; number = number; path = path.now; body = body.now })) }
+    ensures { IfOk result (λ text. text.items ≡ message_text
+        (record { key = key.now; number = number; path = path.now; body = body.now })) }
 {
     let mut text = Vec::new(alloc);
     text.extend_from_slice(b"POST ")?;

@@ -1,10 +1,10 @@
-//! The numbers that a drill is generated from, seed, runs, topics and documents, with their ranges and the most lines
-//! that they may make.
+//! The numbers that a drill is generated from, seed, runs, topics and documents, with their ranges
+//! and the most lines that they may make.
 ghost use Rattle.std.specs.Prelude.{◌≡◌, ◌&&◌, nat_le};
 ghost use Rattle.drill.specs.Figures.{are_numbers};
 
-/// What a campaign is generated from: a number, and how many runs it has, how many topics, and how many
-/// documents each run has on each topic.
+/// What a campaign is generated from: a number, and how many runs it has, how many topics, and how
+/// many documents each run has on each topic.
 #[derive(Clone, Copy, Debug, PartialEq, Eq)]
 pub struct DrillNumbers {
     pub seed: u32,

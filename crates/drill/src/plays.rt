@@ -1,10 +1,10 @@
 //! The messages of a generated campaign, in their order.
 ghost use Rattle.std.specs.Prelude.{◌≡◌, ◌+◌, ◌≤◌, [], ◌∷◌, IfOk, IsTrue, MatchBool, OnOk};
-ghost use Rattle.rulebook.specs.Legal.{founding};
+ghost use Rattle.rulebook.specs.Histories.Legal.{founding};
 ghost use Rattle.drill.specs.Exchanges.{IsAnswered, IsSent};
 ghost use Rattle.drill.specs.Figures.{are_numbers};
 ghost use Rattle.drill.specs.Messages.{IsMessage, callers, rules, run_message as message_of_run};
-ghost use Rattle.drill.specs.Plays.{After, AreJudged, IsCounted, IsGraded, IsJudged, IsNumberedTo, IsPlayed, IsRefused, judging};
+ghost use Rattle.drill.specs.Plays.{After, AreJudged, IsBeforeLastMessage, IsGraded, IsJudged, IsNumberedTo, IsPlayed, IsRefused, judging_after};
 
 use crate::exchanges::send;
 use crate::figures::grade_of;
@@ -80,7 +80,8 @@ impl<'a, R> Sender<'a, R> {
     fn submit_runs(&self, book: &mut Book<MemoryDisk>) -> Result<(), Memory>
         requires numbers { IsTrue (are_numbers self.now.numbers.now) }
         requires keys { self.now.keys.now ≡ callers }
-        ensures { OnOk result (After (λ r old new. IsSent old (message_of_run self.now.numbers.now r) new) self.now.numbers.now.runs book.old.history book.new.history) }
+        ensures { OnOk result (After (λ r old new. IsSent old (message_of_run self.now.numbers.now
+            r) new) self.now.numbers.now.runs book.old.history book.new.history) }
     {
         for before in 0..self.numbers.runs {
             self.send(book, run_message(self.alloc, self.numbers, before + 1)?)?;
@@ -105,8 +106,8 @@ impl<'a, R> Sender<'a, R> {
         Ok(())
     }
 
-    /// Leases and grades the documents of a topic, until no lease is accepted. Each accepted lease is an entry, of
-    /// which a campaign has no more than so many.
+    /// Leases and grades the documents of a topic, until no lease is accepted. Each accepted lease
+    /// is an entry, of which a campaign has no more than so many.
     fn judge_topic(
         &self,
         t: u32,
@@ -115,9 +116,11 @@ impl<'a, R> Sender<'a, R> {
     ) -> Result<(), Memory>
         requires keys { self.now.keys.now ≡ callers }
         requires topic { t ≤ 250 }
-        requires counted { IsCounted t (judging book.old.history sent.old) }
-        ensures judged { OnOk result (IsJudged self.now.numbers.now t (judging book.old.history sent.old) (judging book.new.history sent.new)) }
-        ensures counted { OnOk result (IsCounted (t + 1) (judging book.new.history sent.new)) }
+        requires counted { IsBeforeLastMessage t (judging_after book.old.history sent.old) }
+        ensures judged { OnOk result (IsJudged self.now.numbers.now t
+            (judging_after book.old.history sent.old) (judging_after book.new.history sent.new)) }
+        ensures counted { OnOk result
+            (IsBeforeLastMessage (t + 1) (judging_after book.new.history sent.new)) }
     {
         fronts_stay();
         one_reading();
@@ -131,7 +134,8 @@ impl<'a, R> Sender<'a, R> {
         }
     }
 
-    /// Asks for a lease on a topic, and grades its document. False is that the lease wasn't accepted.
+    /// Asks for a lease on a topic, and grades its document. False is that the lease wasn't
+    /// accepted.
     fn judge_next(
         &self,
         t: u32,
@@ -142,9 +146,10 @@ impl<'a, R> Sender<'a, R> {
         requires topic { t ≤ 250 }
         requires few { sent.old.number ≤ 9000000 }
         requires few_leases { sent.old.leases ≤ 9000000 }
-        ensures { IfOk result (λ is_graded. MatchBool is_graded
-            (IsGraded self.now.numbers.now t (judging book.old.history sent.old) (judging book.new.history sent.new))
-            (IsRefused t (judging book.old.history sent.old) (judging book.new.history sent.new))) }
+        ensures { IfOk result (λ is_graded. MatchBool is_graded (IsGraded self.now.numbers.now t
+            (judging_after book.old.history sent.old) (judging_after book.new.history sent.new))
+            (IsRefused t (judging_after book.old.history sent.old)
+            (judging_after book.new.history sent.new))) }
     {
         let lease = lease_message(self.alloc, t, sent.number + 1)?;
         match self.send(book, lease)? {

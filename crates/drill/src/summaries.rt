@@ -1,8 +1,8 @@
 //! What is printed of a generated campaign.
 ghost use Rattle.std.specs.Prelude.{◌≡◌, ◌++◌, IfOk, IsTrue, OnOk};
-ghost use Rattle.campaign_core.specs.Tallies.{IsTally};
+ghost use Rattle.campaign_core.specs.Views.Tallies.{IsTally};
 ghost use Rattle.drill.specs.Figures.{are_numbers};
-ghost use Rattle.drill.specs.Summaries.{best_line, count_line, summary_of};
+ghost use Rattle.drill.specs.Summaries.{best_line, drill_summary, summary_line};
 
 use crate::numbers::DrillNumbers;
 use crate::texts::write_number;
@@ -20,7 +20,7 @@ pub(crate) fn summary_of(
     book: &Book<MemoryDisk>,
 ) -> Result<Vec<u8>, Memory>
     requires { IsTrue (are_numbers numbers.now) }
-    ensures { IfOk result (λ text. text.items ≡ summary_of numbers.now book.now.history) }
+    ensures { IfOk result (λ text. text.items ≡ drill_summary numbers.now book.now.history) }
 {
     let tally = book.tally();
     let lines = numbers.runs * numbers.topics * numbers.docs;
@@ -36,7 +36,7 @@ pub(crate) fn summary_of(
 }
 
 fn write_count(word: &[u8], count: u64, out: &mut Vec<u8>) -> Result<(), Memory>
-    ensures { OnOk result (out.new.items ≡ out.old.items ++ count_line word.now count) }
+    ensures { OnOk result (out.new.items ≡ out.old.items ++ summary_line word.now count) }
 {
     out.extend_from_slice(word)?;
     out.extend_from_slice(b" ")?;

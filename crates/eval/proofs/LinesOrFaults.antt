@@ -1,14 +1,14 @@
 -- A file has lines or a fault, and never both.
 use Rattle.std.proofs.Common.{◌≡◌, inl, inr, ℕ, List, Ok, Err, Result, sym, ◌∙◌}
-use Rattle.trec_formats.specs.declared.lists.TopicList.{TopicList}
+use Rattle.trec_formats.specs.declared.runs.lists.TopicList.{TopicList}
 use Rattle.trec_formats.specs.declared.qrels.QrelLine.{QrelLine}
 use Rattle.trec_formats.specs.declared.faults.FormatFault.{FormatFault}
 use Rattle.trec_formats.specs.Faults.{ExactlyOne}
-use Rattle.trec_formats.specs.Qrels.{IsQrels, IsQrelsFault, IsQrelsReading}
-use Rattle.trec_formats.specs.Lists.{IsRankableReading, IsRankedRun, IsRankedRunFault}
+use Rattle.trec_formats.specs.QrelsFormat.Qrels.{IsQrels, IsQrelsFault, IsQrelsReading}
+use Rattle.trec_formats.specs.RunFormat.Lists.{IsRankableReading, IsRankedRun, IsRankedRunFault}
 use Rattle.eval.specs.declared.evaluation.Finding.{Finding}
 use Rattle.eval.specs.declared.evaluation.Finding.TheVariants as finding
-use Rattle.eval.specs.Findings.{Finds, IsRefusal, AreExclusive}
+use Rattle.eval.specs.Findings.{FindsScores, IsRefusal, AreExclusive}
 
 -- two readings of one text are one
 same_reading : {X : Type 0} (P : X → Type 0) → ExactlyOne P → (x y : X) → P x → P y → x ≡ y
@@ -29,13 +29,14 @@ module _ (one_run : (text : List ℕ) → ExactlyOne (IsRankableReading text)) (
   exclusive run_name qrels_name run qrels text line w (inr at) = qrels_have_no_fault qrels w.1 at.1 w.3 at.3
 
 -- the run's file is named for its fault
-pub run_refused : (run_name qrels_name run qrels : List ℕ) (fault : FormatFault) → IsRankedRunFault run fault → (found : Finding) → IsRefusal run_name fault found
-    → Finds run_name qrels_name run qrels found
+pub run_refused : (run_name qrels_name run qrels : List ℕ) (fault : FormatFault) → IsRankedRunFault run fault
+    → (found : Finding) → IsRefusal run_name fault found
+    → FindsScores run_name qrels_name run qrels found
 run_refused run_name qrels_name run qrels fault at (finding.Report t) w = absurd w
 run_refused run_name qrels_name run qrels fault at (finding.Input l) w = inl (fault, at, w)
 
 -- the file of the qrels is named for its fault
 pub qrels_refused : (run_name qrels_name run qrels : List ℕ) (lists : List TopicList) (fault : FormatFault) → IsRankedRun run lists → IsQrelsFault qrels fault
-    → (found : Finding) → IsRefusal qrels_name fault found → Finds run_name qrels_name run qrels found
+    → (found : Finding) → IsRefusal qrels_name fault found → FindsScores run_name qrels_name run qrels found
 qrels_refused run_name qrels_name run qrels lists fault r at (finding.Report t) w = absurd w
 qrels_refused run_name qrels_name run qrels lists fault r at (finding.Input l) w = inr (lists, fault, r, at, w)

@@ -30,7 +30,12 @@ length-fold-le (text ∷ texts) names =
 -- there are no more topics than lines
 pub length-topics_of-le : (qrels : List QrelLine) (i : ℕ) → i ≤ length qrels → length (topics_of (take i qrels)) ≤ i
 length-topics_of-le qrels i le =
-    omega (arith, length-fold-le (map (λ (line : QrelLine). line.topic) (take i qrels)) [], length-map (take i qrels) (λ (line : QrelLine). line.topic), length-take-le i qrels le)
+    omega (
+      arith,
+      length-fold-le (map (λ (line : QrelLine). line.topic) (take i qrels)) [],
+      length-map (take i qrels) (λ (line : QrelLine). line.topic),
+      length-take-le i qrels le,
+    )
 
 pub all_topics_of-le : (qrels : List QrelLine) → length (topics_of qrels) ≤ length qrels
 all_topics_of-le qrels = omega (arith, length-fold-le (map (λ (line : QrelLine). line.topic) qrels) [], length-map qrels (λ (line : QrelLine). line.topic))

@@ -6,9 +6,9 @@ use Rattle.eval.specs.declared.evaluation.Finding.TheVariants as finding
 use Rattle.eval.specs.Evaluations.{IsReport, IsInputFault, input_line}
 
 -- their scores were found, or the file that is refused
-abbrev pub Finds : List ℕ → List ℕ → List ℕ → List ℕ → Finding → Type 0
-Finds run_name qrels_name run qrels (finding.Report text) = IsReport run_name run qrels text.items
-Finds run_name qrels_name run qrels (finding.Input line) = IsInputFault run_name qrels_name run qrels line.items
+abbrev pub FindsScores : List ℕ → List ℕ → List ℕ → List ℕ → Finding → Type 0
+FindsScores run_name qrels_name run qrels (finding.Report text) = IsReport run_name run qrels text.items
+FindsScores run_name qrels_name run qrels (finding.Input line) = IsInputFault run_name qrels_name run qrels line.items
 
 -- the file was named, and its fault
 abbrev pub IsRefusal : List ℕ → FormatFault → Finding → Type 0

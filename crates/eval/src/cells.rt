@@ -1,7 +1,7 @@
 //! The cells of a run, one for each topic of the qrels.
 ghost use Rattle.std.specs.Prelude.{◌≡◌, ◌≢◌, ◌≤◌, [], length, map, All, AllPairs, IfOk};
 ghost use Rattle.measures.specs.Cells.{IsSound};
-ghost use Rattle.eval.specs.Evaluations.{docs_on as listed_on, cell_on, topics_of};
+ghost use Rattle.eval.specs.Evaluations.{run_docs_on as listed_on, evaluated_cell, topics_of};
 ghost use Rattle.eval.specs.Tables.{AreRankedLists, cell_in, tally_on};
 
 use crate::judgements::{Judgements, LEVEL, Tally, judgements_of};
@@ -18,7 +18,8 @@ pub(crate) fn cells_of(
 ) -> Result<Vec<Cell>, Memory>
     requires lists { AreRankedLists lists.now }
     requires few { length qrels.now ≤ 268435456 }
-    ensures cells { IfOk result (λ cells. cells.items ≡ map (cell_on lists.now qrels.now) (topics_of qrels.now)) }
+    ensures cells { IfOk result
+        (λ cells. cells.items ≡ map (evaluated_cell lists.now qrels.now) (topics_of qrels.now)) }
     ensures sound { IfOk result (λ cells. All IsSound cells.items) }
 {
     let judgements = judgements_of(alloc, qrels.lines())?;
@@ -34,8 +35,10 @@ fn cells_on(
 ) -> Result<Vec<Cell>, Memory>
     requires lists { AreRankedLists lists.now }
     requires few { length qrels.now ≤ 268435456 }
-    requires tallies { judgements.now.tallies.items ≡ map (tally_on qrels.now) judgements.now.topics }
-    ensures cells { IfOk result (λ cells. cells.items ≡ map (cell_on lists.now qrels.now) judgements.now.topics) }
+    requires tallies { judgements.now.tallies.items
+        ≡ map (tally_on qrels.now) judgements.now.topics }
+    ensures cells { IfOk result
+        (λ cells. cells.items ≡ map (evaluated_cell lists.now qrels.now) judgements.now.topics) }
     ensures sound { IfOk result (λ cells. All IsSound cells.items) }
 {
     let none = Docnos::new(alloc);

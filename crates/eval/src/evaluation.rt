@@ -1,9 +1,9 @@
 //! What the bytes of a run and of qrels come to: scores, or the file that is refused.
 ghost use Rattle.std.specs.Prelude.{◌≡◌, ◌≤◌, ◌++◌, length, IfOk, OnOk};
 ghost use Rattle.trec_formats.specs.Faults.{IfFault};
-ghost use Rattle.trec_formats.specs.Lists.{IsRankedRun, IsRankedRunFault};
-ghost use Rattle.eval.specs.Evaluations.{scores_text, detail as detail_of, input_line as line_of_input};
-ghost use Rattle.eval.specs.Findings.{Finds, IsRefusal, AreExclusive};
+ghost use Rattle.trec_formats.specs.RunFormat.Lists.{IsRankedRun, IsRankedRunFault};
+ghost use Rattle.eval.specs.Evaluations.{scores_text, fault_detail as detail_of, input_line as line_of_input};
+ghost use Rattle.eval.specs.Findings.{FindsScores, IsRefusal, AreExclusive};
 ghost use Rattle.eval.specs.Tables.{AreRankedLists};
 
 use crate::cells::cells_of;
@@ -36,7 +36,7 @@ pub fn evaluate(
 ) -> Result<Finding, Memory>
     requires run { length run_bytes.now ≤ 268435456 }
     requires qrels { length qrels_bytes.now ≤ 268435456 }
-    ensures { IfOk result (Finds run.now qrels.now run_bytes.now qrels_bytes.now) }
+    ensures { IfOk result (FindsScores run.now qrels.now run_bytes.now qrels_bytes.now) }
 {
     let lists = match lists_of(alloc, run_bytes) {
         Ok(lists) => lists,

@@ -4,7 +4,7 @@ ghost use Rattle.std.specs.List.{IsDistinct, list_any};
 ghost use Rattle.decimal_rank.specs.Names.{number_of, with_name};
 ghost use Rattle.eval.specs.Evaluations.{topics_of};
 ghost use Rattle.eval.specs.Tables.{no_tally, tally_more, tally_on};
-ghost use Rattle.trec_formats.specs.LineViews.{qrel_shown};
+ghost use Rattle.trec_formats.specs.RunFormat.LineViews.{qrel_shown};
 
 use decimal_rank::{Memory, Names, Text};
 use std::alloc::Global;
@@ -31,8 +31,10 @@ pub(crate) struct Judgements {
 /// The topics of qrels, and how the documents of each are judged.
 pub(crate) fn judgements_of(alloc: Global, qrels: &[QrelView<'_>]) -> Result<Judgements, Memory>
     requires { length qrels.now ≤ 268435456 }
-    ensures topics { IfOk result (λ judgements. judgements.topics ≡ topics_of (map qrel_shown qrels.now)) }
-    ensures tallies { IfOk result (λ judgements. judgements.tallies.items ≡ map (tally_on (map qrel_shown qrels.now)) (topics_of (map qrel_shown qrels.now))) }
+    ensures topics { IfOk result
+        (λ judgements. judgements.topics ≡ topics_of (map qrel_shown qrels.now)) }
+    ensures tallies { IfOk result (λ judgements. judgements.tallies.items
+        ≡ map (tally_on (map qrel_shown qrels.now)) (topics_of (map qrel_shown qrels.now))) }
 {
     let mut topics = Names::new(alloc);
     let mut tallies = Vec::new(alloc);
@@ -54,7 +56,9 @@ fn place_of(
     ensures topics { OnOk result (topics.new ≡ with_name topics.old topic.now) }
     ensures place { IfOk result (λ place. number_of topics.new topic.now ≡ Some place) }
     ensures distinct { OnOk result (IsDistinct bytes_eq topics.new) }
-    ensures tallies { OnOk result (tallies.new.items ≡ (if list_any (bytes_eq topic.now) topics.old then tallies.old.items else tallies.old.items ++ no_tally ∷ [])) }
+    ensures tallies { OnOk result (tallies.new.items
+        ≡ (if list_any (bytes_eq topic.now) topics.old then tallies.old.items else tallies.old.items
+        ++ no_tally ∷ [])) }
 {
     if let Some(number) = topic_number(topics, topic) {
         // names tell with their length that no name stands twice

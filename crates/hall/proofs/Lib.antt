@@ -1,4 +1,6 @@
-pub mod Ascending
-pub mod Growing
-pub mod Keeping
-pub mod Acting
+pub mod AscendingPlaces
+pub mod GrowingStories
+pub mod SeatViews
+pub mod TurnSteps
+pub mod SeatSteps
+pub mod ActSteps

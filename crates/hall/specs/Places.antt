@@ -7,14 +7,14 @@ abbrev pub Apart : List ℕ → List ℕ → Type 0
 Apart xs ys = (p : ℕ) → Contains xs p → Contains ys p → ⊥
 
 -- the place goes before the first greater one
-abbrev pub placed : ℕ → List ℕ → List ℕ
-placed p [] = p ∷ []
-placed p (x ∷ xs) = cond (nat_lt p x) (p ∷ x ∷ xs) (x ∷ placed p xs)
+abbrev pub place_inserted : ℕ → List ℕ → List ℕ
+place_inserted p [] = p ∷ []
+place_inserted p (x ∷ xs) = cond (nat_lt p x) (p ∷ x ∷ xs) (x ∷ place_inserted p xs)
 
 -- the places of both, in order
-abbrev pub merged : List ℕ → List ℕ → List ℕ
-merged xs [] = xs
-merged xs (y ∷ ys) = placed y (merged xs ys)
+abbrev pub places_merged : List ℕ → List ℕ → List ℕ
+places_merged xs [] = xs
+places_merged xs (y ∷ ys) = place_inserted y (places_merged xs ys)
 
 -- the places ascend strictly, above the first number and up to the second
 abbrev pub Rises : ℕ → List ℕ → ℕ → Type 0
@@ -22,5 +22,5 @@ Rises from [] to = from ≤ to
 Rises from (p ∷ ps) to = (from < p) × Rises p ps to
 
 -- the place of what the second list has more than the first, which has one entry more or none
-abbrev pub added : {E : Type 0} → List E → List E → List ℕ
-added xs ys = cond (length xs == length ys) [] (suc (length xs) ∷ [])
+abbrev pub added_place : {E : Type 0} → List E → List E → List ℕ
+added_place xs ys = cond (length xs == length ys) [] (suc (length xs) ∷ [])

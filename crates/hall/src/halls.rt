@@ -1,17 +1,17 @@
-//! A hall, and what workers do in it. The value lies in the one slot of a table while nobody has the
-//! turn. A worker takes the turn by the lock word, takes the value out, acts on it, writes down how
-//! many entries it has, puts it back, and leaves the turn.
+//! A hall, and what workers do in it. The value lies in the one slot of a table while nobody has
+//! the turn. A worker takes the turn by the lock word, takes the value out, acts on it, writes down
+//! how many entries it has, puts it back, and leaves the turn.
 ghost use Rattle.std.specs.Prelude.{◌≡◌, ◌+◌, ◌++◌, List, [], ◌≤◌, length, IfOk, IfErr};
 ghost use Rattle.hall.specs.declared.stories.Stage.TheVariants.{Counted, Idle, Took};
 ghost use Rattle.hall.specs.declared.stories.Story.{Story};
-ghost use Rattle.hall.specs.Acts.{Acts};
-ghost use Rattle.hall.specs.Places.{Apart, added, merged};
+ghost use Rattle.hall.specs.Acts.{HallActs};
+ghost use Rattle.hall.specs.Places.{Apart, added_place, places_merged};
 ghost use Rattle.hall.specs.Rule.{HasTurn, viewed};
-ghost use Rattle.hall.specs.Stories.{AreComparable, AtMost, Grows, joined};
+ghost use Rattle.hall.specs.Stories.{AreComparable, AtMost, Grows, joined_story};
 
 use crate::passes::Pass;
 use crate::storied::Storied;
-use crate::stories::View;
+use crate::stories::StoryView;
 use crate::turns::{End, Fresh, Leave, Meet, Note, Passing, Take, Turns};
 use atomic_table::{Refused, Seat, Table};
 use decimal_rank::Memory;
@@ -34,7 +34,7 @@ const ENDED: u64 = 2;
 
 /// One value, on which the holders of its passes act in turn. Contracts see which hall it is.
 pub struct Hall<B: Storied> {
-    table: Table<Option<B>, View<B::Entry>, Snapshot<B>, Turns<B>, Global>,
+    table: Table<Option<B>, StoryView<B::Entry>, Snapshot<B>, Turns<B>, Global>,
 }
 
 impl<B: Storied> Model for Hall<B> {
@@ -45,7 +45,8 @@ impl<B: Storied> Model for Hall<B> {
 
     ghost view = { λ h. h.table.shared.table_id };
 
-    ghost invariant = { λ h. (h.table.shared.table_id.words ≡ 2) × (h.table.shared.table_id.slots ≡ 1) };
+    ghost invariant = { λ h. (h.table.shared.table_id.words ≡ 2)
+        × (h.table.shared.table_id.slots ≡ 1) };
 }
 
 impl<B: Storied> Hall<B> {
@@ -76,7 +77,8 @@ impl<B: Storied> Hall<B> {
     /// A pass that has seen as much and added nothing. It waits for nobody, and takes no memory.
     pub fn split(&self, pass: &mut Pass<B>) -> Pass<B>
         requires { pass.old.hall ≡ self.now }
-        ensures new { (result.hall ≡ pass.old.hall) × (result.seen ≡ pass.old.seen) × (result.mine ≡ []) }
+        ensures new { (result.hall ≡ pass.old.hall) × (result.seen ≡ pass.old.seen)
+            × (result.mine ≡ []) }
         ensures same { pass.new ≡ pass.old }
     {
         let seat = self.table.shared.split_seat::<Passing>(&mut pass.seat);
@@ -89,10 +91,12 @@ impl<B: Storied> Hall<B> {
         requires pass { pass.old.hall ≡ self.now }
         requires other { other.hall ≡ self.now }
         ensures hall { pass.new.hall ≡ pass.old.hall }
-        ensures seen { pass.new.seen ≡ joined pass.old.seen other.seen }
+        ensures seen { pass.new.seen ≡ joined_story pass.old.seen other.seen }
         ensures grown { AtMost pass.old.seen pass.new.seen × AtMost other.seen pass.new.seen }
-        ensures one_history { AreComparable pass.old.seen.list other.seen.list × (pass.old.seen.opening ≡ other.seen.opening) }
-        ensures mine { Apart pass.old.mine other.mine × (pass.new.mine ≡ merged pass.old.mine other.mine) }
+        ensures one_history { AreComparable pass.old.seen.list other.seen.list
+            × (pass.old.seen.opening ≡ other.seen.opening) }
+        ensures mine { Apart pass.old.mine other.mine
+            × (pass.new.mine ≡ places_merged pass.old.mine other.mine) }
     {
         let Pass { seat } = other;
         let shared = &self.table.shared;
@@ -100,7 +104,7 @@ impl<B: Storied> Hall<B> {
         let _ = shared.load::<Meet<B>>(&mut pass.seat, LOCK);
     }
 
-    fn take_turn<R: Wait>(&self, rt: &R, seat: &mut Seat<Option<B>, View<B::Entry>>)
+    fn take_turn<R: Wait>(&self, rt: &R, seat: &mut Seat<Option<B>, StoryView<B::Entry>>)
         requires hall { seat.old.table_id ≡ self.now }
         requires free { (seat.old.me.1 ≡ []) × (seat.old.me.0.stage ≡ Idle) }
         ensures hall { seat.new.table_id ≡ seat.old.table_id }
@@ -117,16 +121,21 @@ impl<B: Storied> Hall<B> {
 
     fn note<N: Fresh<B::Entry>>(
         &self,
-        seat: &mut Seat<Option<B>, View<B::Entry>>,
+        seat: &mut Seat<Option<B>, StoryView<B::Entry>>,
         _value: &B,
         count: u64,
     )
         requires hall { seat.old.table_id ≡ self.now }
-        requires turn { (base : Story B.Entry) × (seat.old.me.0.stage ≡ Took base) × Grows base N.next }
+        requires turn { (base : Story B.Entry) × (seat.old.me.0.stage ≡ Took base)
+            × Grows base N.next }
         requires count { count ≡ length N.next.list }
         ensures hall { (seat.new.table_id ≡ seat.old.table_id) × (seat.new.id ≡ seat.old.id) }
         ensures noted { (base : Story B.Entry) → seat.old.me.0.stage ≡ Took base
-            → seat.new.me ≡ (viewed Counted N.next (seat.old.me.0.mine ++ added base.list N.next.list), seat.old.me.1) }
+            → seat.new.me ≡ (
+              viewed Counted N.next
+                  (seat.old.me.0.mine ++ added_place base.list N.next.list),
+              seat.old.me.1,
+            ) }
     {
         self.table.shared.store::<Note<B, N>>(seat, COUNT, count);
     }
@@ -136,7 +145,7 @@ impl<B: Storied> Hall<B> {
         requires hall { pass.old.hall ≡ self.now }
         requires ask { B.fits ask }
         ensures hall { pass.new.hall ≡ pass.old.hall }
-        ensures acts { Acts B.tells pass.old ask result pass.new }
+        ensures acts { HallActs B.tells pass.old ask result pass.new }
     {
         self.take_turn(rt, &mut pass.seat);
         let shared = &self.table.shared;

@@ -3,7 +3,7 @@ ghost use Rattle.std.specs.Prelude.{◌≡◌, [], length};
 ghost use Rattle.hall.specs.Places.{Rises};
 
 use crate::storied::Storied;
-use crate::stories::View;
+use crate::stories::StoryView;
 use atomic_table::Seat;
 use std::marker::Model;
 
@@ -11,7 +11,7 @@ use std::marker::Model;
 /// state that was seen, and those places, from 1. It has no bytes.
 #[derive(Drop)]
 pub struct Pass<B: Storied> {
-    pub(crate) seat: Seat<Option<B>, View<B::Entry>>,
+    pub(crate) seat: Seat<Option<B>, StoryView<B::Entry>>,
 }
 
 impl<B: Storied> Model for Pass<B> {
@@ -22,9 +22,14 @@ impl<B: Storied> Model for Pass<B> {
 
     ghost Value = { Known B.Entry };
 
-    ghost view = { λ p. record { hall = p.seat.table_id; seen = p.seat.me.0.seen; mine = p.seat.me.0.mine } };
+    ghost view = { λ p. record {
+      hall = p.seat.table_id;
+      seen = p.seat.me.0.seen;
+      mine = p.seat.me.0.mine;
+    } };
 
-    ghost invariant = { λ p. (p.seat.me.1 ≡ []) × (p.seat.me.0.stage ≡ Idle) × Rises 0 p.seat.me.0.mine (length p.seat.me.0.seen.list) };
+    ghost invariant = { λ p. (p.seat.me.1 ≡ []) × (p.seat.me.0.stage ≡ Idle)
+        × Rises 0 p.seat.me.0.mine (length p.seat.me.0.seen.list) };
 }
 
 impl<B: Storied> Pass<B> {

@@ -1,4 +1,5 @@
-//! What proofs speak of: a state, what a seat knows, and where it stands. No value of these is made.
+//! What proofs speak of: a state, what a seat knows, and where it stands. No value of these is
+//! made.
 
 use std::collections::LinkedList;
 
@@ -27,7 +28,7 @@ pub enum Stage<E> {
 
 /// What a seat knows: where it stands, the state that was seen, and the places of its own entries,
 /// from 1.
-pub struct View<E> {
+pub struct StoryView<E> {
     pub stage: Stage<E>,
     pub seen: Story<E>,
     pub mine: LinkedList<u64>,

@@ -3,7 +3,7 @@ use Rattle.std.specs.Prelude.{ℕ}
 use Rattle.hall_tally.specs.declared.workers.Crowd.{Crowd}
 use Rattle.hall_tally.specs.declared.workers.Crowd.TheVariants.{One, Two, Four}
 
-abbrev pub size : Crowd → ℕ
-size One = 1
-size Two = 2
-size Four = 4
+abbrev pub crowd_size : Crowd → ℕ
+crowd_size One = 1
+crowd_size Two = 2
+crowd_size Four = 4

@@ -8,8 +8,8 @@ use Rattle.hall_tally.specs.declared.tallies.Told.{Told}
 use Rattle.hall_tally.specs.declared.tallies.Told.TheVariants.{At, Counted, Memory}
 
 -- a list that no fault touches
-abbrev pub story_of : List Note → Story Note
-story_of notes = record { list = notes; faults = 0; opening = 0 }
+abbrev pub story_of_notes : List Note → Story Note
+story_of_notes notes = record { list = notes; faults = 0; opening = 0 }
 
 -- A note is written last, at its place from 1, or not at all for want of memory. A count is that of the notes, and adds none.
 abbrev pub Tells : Story Note → Asked → Told → Story Note → Type 0

@@ -1,7 +1,8 @@
-//! Tries a hall with real threads, over a list that begins with one note. First workers ask how many notes there are: as
-//! long as that is one, each word of the hall's table has a value that a worker could sleep on, so one that sleeps on
-//! another than the turn's is never woken. Then they write notes into the list, each its own numbers in order, and the list
-//! is read back. Usage: `hall_tally WORKERS NOTES`, with 1, 2 or 4 workers, each of which counts as often. It prints how
+//! Tries a hall with real threads, over a list that begins with one note. First workers ask how
+//! many notes there are: as long as that is one, each word of the hall's table has a value that a
+//! worker could sleep on, so one that sleeps on another than the turn's is never woken. Then they
+//! write notes into the list, each its own numbers in order, and the list is read back. Usage:
+//! `hall_tally WORKERS NOTES`, with 1, 2 or 4 workers, each of which counts as often. It prints how
 //! many notes stand in the list, and whether each worker's stand there once, in their order.
 #![tactic(auto)]
 

@@ -51,7 +51,7 @@ impl Tally {
 
 impl Storied for Tally {
     ghost use Rattle.std.specs.Prelude.{List};
-    ghost use Rattle.hall_tally.specs.Tallies.{Tells, story_of};
+    ghost use Rattle.hall_tally.specs.Tallies.{Tells, story_of_notes};
 
     type Ask = Asked;
 
@@ -59,7 +59,7 @@ impl Storied for Tally {
 
     type Answer = Told;
 
-    ghost story = { λ tally. story_of tally.notes.items };
+    ghost story = { λ tally. story_of_notes tally.notes.items };
 
     ghost fits = { λ _. Unit {0} };
 
@@ -80,7 +80,8 @@ impl Storied for Tally {
     }
 }
 
-/// Whether the notes behind the first are those of so many workers, so many of each, and each worker's in their order.
+/// Whether the notes behind the first are those of so many workers, so many of each, and each
+/// worker's in their order.
 pub fn are_in_order(notes: &[Note], workers: u32, each: u32) -> bool {
     let mut counts = [0u32; 4];
     for note in notes.iter().skip(1) {

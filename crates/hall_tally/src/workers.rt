@@ -54,7 +54,8 @@ fn count<R: Wait>(rt: &R, hall: &Hall<Tally>, mut pass: Pass<Tally>, counts: u32
     pass
 }
 
-// One worker writes its notes. It stops where a count hasn't the note, so that the list then lacks some.
+// One worker writes its notes. It stops where a count hasn't the note, so that the list then lacks
+// some.
 fn write<R: Wait>(
     rt: &R,
     hall: &Hall<Tally>,
@@ -75,8 +76,8 @@ fn write<R: Wait>(
     pass
 }
 
-/// Each worker takes part in a round, the workers with the numbers from the first one's on. The pass afterwards has seen
-/// all that they wrote.
+/// Each worker takes part in a round, the workers with the numbers from the first one's on. The
+/// pass afterwards has seen all that they wrote.
 pub fn work<R: Threads + Wait + Sync>(
     rt: &R,
     hall: &Hall<Tally>,

@@ -10,8 +10,8 @@ use Rattle.http_wire.specs.declared.messages.HttpHead.{HttpHead}
 use Rattle.http_wire.specs.declared.messages.HttpRequest.{HttpRequest}
 use Rattle.http_wire.specs.declared.messages.WireFault.{WireFault}
 use Rattle.http_wire.specs.declared.messages.WireFault.TheVariants as fault
-use Rattle.http_wire.specs.Heads.{passed, head_length, IsHead, fields_of, is_filled, body_length}
-use Rattle.http_wire.specs.Messages.{HeadFront, Heads, Faults, Needs, Front, Whole, Faulty, Unfinished, head_of, request_with, behind_head, front_of, AtHead, AtLength, AtMessage, IsHeadFront, IsFront, Closed, Clean, Cut, Messages, Stays, GoesOn}
+use Rattle.http_wire.specs.Heads.{behind_line_ends, head_length, IsHead, head_fields, is_filled, body_length}
+use Rattle.http_wire.specs.Messages.{HeadFront, Heads, Faults, Needs, Front, Whole, Faulty, Unfinished, head_of, request_with, behind_head, front_of, AtHead, AtLength, AtMessage, IsHeadFront, IsFront, Closed, Clean, Cut, Messages, Stays, FrontGoesOn}
 use Rattle.http_wire.proofs.HeadLengths.{passed-append, head_stays, head_inside}
 
 one_head : (text : List ℕ) (a b : RequestHead) → IsHead text a → IsHead text b → a ≡ b
@@ -22,7 +22,7 @@ one_at_head text rest a b (inl (none, is)) (inl (other, same)) = is ∙ sym same
 one_at_head text rest a b (inl (none, is)) (inr (head, found, same)) = absurd (none head found)
 one_at_head text rest a b (inr (head, found, is)) (inl (none, same)) = absurd (none head found)
 one_at_head text rest a b (inr (head, found, is)) (inr (other, there, same)) =
-    is ∙ ap (λ h. behind_head h (body_length h.method (fields_of h)) rest) (one_head text head other found there) ∙ sym same
+    is ∙ ap (λ h. behind_head h (body_length h.method (head_fields h)) rest) (one_head text head other found there) ∙ sym same
 
 one_at_length : (message : List ℕ) (found : Option ℕ) (a b : HeadFront) → AtLength message found a
     → AtLength message found b → a ≡ b
@@ -31,7 +31,7 @@ one_at_length message (Some n) a b first second = one_at_head (take n message) (
 
 pub head_front_is_one : (bytes : List ℕ) (a b : HeadFront) → IsHeadFront bytes a → IsHeadFront bytes b → a ≡ b
 head_front_is_one bytes a b first second =
-    one_at_length (passed bytes) (head_length (take 8192 (passed bytes))) a b first second
+    one_at_length (behind_line_ends bytes) (head_length (take 8192 (behind_line_ends bytes))) a b first second
 
 pub front_is_one : (bytes : List ℕ) (a b : Front) → IsFront bytes a → IsFront bytes b → a ≡ b
 front_is_one bytes a b (upto, at, is) (other, there, same) =
@@ -73,7 +73,7 @@ heads_go_on message more None given rest ends is =
 heads_go_on message more (Some n) given rest ends (inl (none, is)) = cc
 heads_go_on message more (Some n) given rest ends (inr (head, found, is)) =
     at_head_more message more n (Heads given (rest ++ more)) ends (inside_of 8192 message n ends).1
-    (inr (head, found, heads_more head (body_length head.method (fields_of head)) (drop n message) more given rest is))
+    (inr (head, found, heads_more head (body_length head.method (head_fields head)) (drop n message) more given rest is))
 
 -- over 8,192 bytes end no head, and so do what they go on to be
 long_stays : (k : ℕ) (message more : List ℕ) → k ≤ length message → head_length (take k message) ≡ None
@@ -95,7 +95,7 @@ faults_go_on message more (Some n) cause ends (inl (none, is)) =
     at_head_more message more n (Faults cause) ends (inside_of 8192 message n ends).1 (inl (none, is))
 faults_go_on message more (Some n) cause ends (inr (head, found, is)) =
     at_head_more message more n (Faults cause) ends (inside_of 8192 message n ends).1
-    (inr (head, found, faults_more head (body_length head.method (fields_of head)) (drop n message) more cause is))
+    (inr (head, found, faults_more head (body_length head.method (head_fields head)) (drop n message) more cause is))
 
 filled_heads : (message : List ℕ) (given : HttpHead) (rest : List ℕ) → AtMessage message (Heads given rest)
     → 0 < length message
@@ -109,18 +109,18 @@ filled_faults (b ∷ message) cause at = omega arith
 pub heads_stay : (bytes more : List ℕ) (given : HttpHead) (rest : List ℕ) → IsHeadFront bytes (Heads given rest)
     → IsHeadFront (bytes ++ more) (Heads given (rest ++ more))
 heads_stay bytes more given rest at =
-    subst (λ message. AtMessage message (Heads given (rest ++ more))) (sym (passed-append bytes more (filled_heads (passed bytes) given rest at)))
-    (heads_go_on (passed bytes) more (head_length (take 8192 (passed bytes))) given rest refl at)
+    subst (λ message. AtMessage message (Heads given (rest ++ more))) (sym (passed-append bytes more (filled_heads (behind_line_ends bytes) given rest at)))
+    (heads_go_on (behind_line_ends bytes) more (head_length (take 8192 (behind_line_ends bytes))) given rest refl at)
 
 pub faults_stay : (bytes more : List ℕ) (cause : WireFault) → IsHeadFront bytes (Faults cause)
     → IsHeadFront (bytes ++ more) (Faults cause)
 faults_stay bytes more cause at =
-    subst (λ message. AtMessage message (Faults cause)) (sym (passed-append bytes more (filled_faults (passed bytes) cause at)))
-    (faults_go_on (passed bytes) more (head_length (take 8192 (passed bytes))) cause refl at)
+    subst (λ message. AtMessage message (Faults cause)) (sym (passed-append bytes more (filled_faults (behind_line_ends bytes) cause at)))
+    (faults_go_on (behind_line_ends bytes) more (head_length (take 8192 (behind_line_ends bytes))) cause refl at)
 
 pub heads_filled : (bytes : List ℕ) (given : HttpHead) (rest : List ℕ) → IsHeadFront bytes (Heads given rest)
-    → is_filled (passed bytes) ≡ true
-heads_filled bytes given rest at = some (passed bytes) (filled_heads (passed bytes) given rest at)
+    → is_filled (behind_line_ends bytes) ≡ true
+heads_filled bytes given rest at = some (behind_line_ends bytes) (filled_heads (behind_line_ends bytes) given rest at)
   where
     some : (message : List ℕ) → 0 < length message → is_filled message ≡ true
     some [] filled = absurd (omega (arith, filled))
@@ -134,7 +134,8 @@ short_body head rest few =
 pub whole_body : (head : HttpHead) (body rest : List ℕ) → length body ≡ head.length
     → Whole (request_with head body) rest ≡ front_of (Heads head (body ++ rest))
 whole_body head body rest all =
-    let enough : nat_lt (length (body ++ rest)) head.length ≡ false = le-ltb (length (body ++ rest)) head.length (omega (arith, all, length-append body rest)) in
+    let enough : nat_lt (length (body ++ rest)) head.length ≡ false =
+    le-ltb (length (body ++ rest)) head.length (omega (arith, all, length-append body rest)) in
     let front : take head.length (body ++ rest) ≡ body = ap (λ n. take n (body ++ rest)) (sym all) ∙ take-append_seam body rest in
     let behind : drop head.length (body ++ rest) ≡ rest = ap (λ n. drop n (body ++ rest)) (sym all) ∙ drop-append_seam body rest in
     rw (enough, front, behind) refl
@@ -148,7 +149,8 @@ whole_more head behind more request rest is =
     (λ few wrong. cc)
     (λ enough same.
     let there : head.length ≤ length behind = ltb-false (length behind) head.length enough in
-    let still : nat_lt (length (behind ++ more)) head.length ≡ false = le-ltb (length (behind ++ more)) head.length (omega (arith, there, length-append behind more)) in
+    let still : nat_lt (length (behind ++ more)) head.length ≡ false =
+    le-ltb (length (behind ++ more)) head.length (omega (arith, there, length-append behind more)) in
     let body : take head.length (behind ++ more) ≡ take head.length behind = take-append-le head.length behind more there in
     let left : drop head.length (behind ++ more) ≡ drop head.length behind ++ more = drop-append-le head.length behind more there in
     let first : request ≡ request_with head (take head.length behind) = cc in
@@ -181,22 +183,28 @@ front_stays bytes more = record {
 }
 
 ends_at : (old : List ℕ) (clean filled : Bool) → IsFront old Unfinished → clean ≡ not filled
-    → is_filled (passed old) ≡ filled → Messages old [] (if clean then Clean else Cut)
+    → is_filled (behind_line_ends old) ≡ filled → Messages old [] (if clean then Clean else Cut)
 ends_at old true true front is filled = let wrong : true ≡ false = is in cc
 ends_at old false true front is filled = (front, filled)
 ends_at old false false front is filled = let wrong : false ≡ true = is in cc
-ends_at old true false front is filled = (front, empty (passed old) filled)
+ends_at old true false front is filled = (front, empty (behind_line_ends old) filled)
   where
     empty : (message : List ℕ) → is_filled message ≡ false → message ≡ []
     empty [] none = refl
     empty (b ∷ message) none = cc
 
-pub front_goes_on : (old new more : List ℕ) → GoesOn old new more
+pub front_goes_on : (old new more : List ℕ) → FrontGoesOn old new more
 front_goes_on old new more = record {
-  request = λ request requests end front open_ later.
-      (new ++ more, (front_stays old more).whole request new front, subst (λ close. MatchBool close ((requests ≡ []) × (end ≡ Closed)) (Messages (new ++ more) requests end)) (sym open_) later);
-  last = λ request front closes.
-      (new ++ more, (front_stays old more).whole request new front, subst (λ close. MatchBool close ((◌≡◌ {A = List HttpRequest} [] []) × (Closed ≡ Closed)) (Messages (new ++ more) [] Closed)) (sym closes) (refl, refl));
+  request = λ request requests end front open_ later. (
+    new ++ more,
+    (front_stays old more).whole request new front,
+    subst (λ close. MatchBool close ((requests ≡ []) × (end ≡ Closed)) (Messages (new ++ more) requests end)) (sym open_) later,
+  );
+  last = λ request front closes. (
+    new ++ more,
+    (front_stays old more).whole request new front,
+    subst (λ close. MatchBool close ((◌≡◌ {A = List HttpRequest} [] []) × (Closed ≡ Closed)) (Messages (new ++ more) [] Closed)) (sym closes) (refl, refl),
+  );
   refused = λ cause front. (front_stays old more).faulty cause front;
-  ends = λ clean waits. ends_at old clean (is_filled (passed old)) waits.0 waits.1 refl;
+  ends = λ clean waits. ends_at old clean (is_filled (behind_line_ends old)) waits.0 waits.1 refl;
 }

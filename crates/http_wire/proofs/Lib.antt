@@ -1,7 +1,7 @@
-pub mod Continuing
+pub mod FrontRequests
 pub mod FrontLaws
 pub mod HeadLengths
 pub mod MessageFronts
 pub mod PieceLaws
 pub mod ReadingLaws
-pub mod Searching
+pub mod HeadSearches

@@ -6,19 +6,20 @@ use Rattle.http_wire.specs.declared.messages.HttpHead.{HttpHead}
 use Rattle.http_wire.specs.declared.messages.WireFault.{WireFault}
 use Rattle.http_wire.specs.declared.messages.Step.{Step}
 use Rattle.http_wire.specs.declared.messages.Step.TheVariants as steps
-use Rattle.http_wire.specs.Heads.{passed}
+use Rattle.http_wire.specs.Heads.{behind_line_ends}
 use Rattle.http_wire.specs.Messages.{Heads, Faults, Needs, Whole, Faulty, AtMessage, IsHeadFront, IsFront, Waits, front_of, request_with}
-use Rattle.http_wire.specs.Pieces.{WireState, fed, Steps, StepsAt, HeadSteps, BodySteps, Begun, StandsOn, PiecesGoOn, RefusesAgain}
+use Rattle.http_wire.specs.Pieces.{WireState, wire_fed, Steps, StepsAt, HeadSteps, BodySteps, Begun, StandsOn, PiecesGoOn, RefusesAgain}
 use Rattle.http_wire.proofs.HeadLengths.{passed_again}
 use Rattle.http_wire.proofs.FrontLaws.{head_front_is_one, heads_stay, faults_stay, heads_filled, short_body, whole_body}
 
 fed_stands : (at more : List ℕ) (old : WireState) (now : Option Begun) → StandsOn at now old
-    → StandsOn (at ++ more) now (fed old more)
-fed_stands at more old None is = ap (λ wire. fed wire more) is
+    → StandsOn (at ++ more) now (wire_fed old more)
+fed_stands at more old None is = ap (λ wire. wire_fed wire more) is
 fed_stands at more old (Some begun) (left, most, front) = (
   left,
   most,
-  subst (λ rest. IsHeadFront (at ++ more) (Heads begun.head rest)) (append_assoc begun.given old.bytes more) (heads_stay at more begun.head (begun.given ++ old.bytes) front),
+  subst (λ rest. IsHeadFront (at ++ more) (Heads begun.head rest)) (append_assoc begun.given old.bytes more)
+      (heads_stay at more begun.head (begun.given ++ old.bytes) front),
 )
 
 head_stands : (at : List ℕ) (old new : WireState) (head : HttpHead) → StandsOn at None old
@@ -39,7 +40,8 @@ piece_stands at new bytes begun text most front (some, is, after) =
     let count = length-append begun.given text in
     let size : length text ≤ left = omega (arith, ap length is, length-take left bytes) in
     let joined : begun.given ++ bytes ≡ (begun.given ++ text) ++ drop left bytes =
-    ap (λ xs. begun.given ++ xs) (sym (take-append-drop left bytes) ∙ ap (λ xs. xs ++ drop left bytes) (sym is)) ∙ sym (append_assoc begun.given text (drop left bytes)) in
+    ap (λ xs. begun.given ++ xs) (sym (take-append-drop left bytes) ∙ ap (λ xs. xs ++ drop left bytes) (sym is))
+    ∙ sym (append_assoc begun.given text (drop left bytes)) in
     let now_left : left - length text ≡ begun.head.length - length (begun.given ++ text) = omega (arith, count, most, size) in (
       ap (λ wire. wire.left) after ∙ ap (λ (n : ℕ). Some n) now_left,
       omega (arith, count, most, size),
@@ -61,12 +63,17 @@ whole_stands at old new begun (left, most, front) step =
     let rest : new.bytes ≡ old.bytes = ap (λ wire. wire.bytes) after in
     let front_is = front_of (Heads begun.head (begun.given ++ old.bytes)) in (
       all,
-      (Heads begun.head (begun.given ++ old.bytes), front, subst (λ xs. Whole (request_with begun.head begun.given) xs ≡ front_is) (sym rest) (whole_body begun.head begun.given old.bytes all)),
+      (
+        Heads begun.head (begun.given ++ old.bytes),
+        front,
+        subst (λ xs. Whole (request_with begun.head begun.given) xs ≡ front_is)
+            (sym rest) (whole_body begun.head begun.given old.bytes all),
+      ),
       after ∙ ap (λ xs. record { bytes = xs; left = None }) (sym rest),
     )
 
 waits_at : (at : List ℕ) (old new : WireState) (now : Option Begun) (clean : Bool) → StandsOn at now old
-    → Steps old (steps.Need clean) new → Waits at clean × StandsOn (passed at) now new
+    → Steps old (steps.Need clean) new → Waits at clean × StandsOn (behind_line_ends at) now new
 waits_at at old new None clean is step =
     let (front, told, after) = subst (λ wire. Steps wire (steps.Need clean) new) is step in
     (((Needs, front, refl), told), after)
@@ -79,7 +86,7 @@ waits_at at old new (Some begun) clean (left, most, front) step =
       (
         ap (λ wire. wire.left) after,
         most,
-        subst (λ xs. IsHeadFront (passed at) (Heads begun.head (begun.given ++ xs))) (none ∙ sym (ap (λ wire. wire.bytes) after))
+        subst (λ xs. IsHeadFront (behind_line_ends at) (Heads begun.head (begun.given ++ xs))) (none ∙ sym (ap (λ wire. wire.bytes) after))
             (subst (λ message. AtMessage message (Heads begun.head (begun.given ++ old.bytes))) (sym (passed_again at)) front),
       ),
     )
@@ -114,11 +121,12 @@ again bytes cause (steps.Refused other) after front next =
     let equal : other ≡ cause = cc in ap (λ c. steps.Refused c) equal
 
 refuses_at : (left : Option ℕ) (bytes : List ℕ) (new : WireState) (more : List ℕ) (cause : WireFault) (step : Step) (after : WireState)
-    → StepsAt left bytes (steps.Refused cause) new → Steps (fed new more) step after → step ≡ steps.Refused cause
+    → StepsAt left bytes (steps.Refused cause) new → Steps (wire_fed new more) step after → step ≡ steps.Refused cause
 refuses_at (Some left) bytes new more cause step after refused next = absurd refused
 refuses_at None bytes new more cause step after (front, is) next =
-    let here : IsHeadFront (passed bytes) (Faults cause) = subst (λ message. AtMessage message (Faults cause)) (sym (passed_again bytes)) front in
-    again (passed bytes ++ more) cause step after (faults_stay (passed bytes) more cause here) (subst (λ wire. Steps (fed wire more) step after) is next)
+    let here : IsHeadFront (behind_line_ends bytes) (Faults cause) = subst (λ message. AtMessage message (Faults cause)) (sym (passed_again bytes)) front in
+    again (behind_line_ends bytes ++ more) cause step after (faults_stay (behind_line_ends bytes) more cause here)
+    (subst (λ wire. Steps (wire_fed wire more) step after) is next)
 
 pub refuses_again : (old new : WireState) (more : List ℕ) → RefusesAgain old new more
 refuses_again old new more cause step after refused next =

@@ -2,7 +2,7 @@
 use Rattle.std.proofs.Common.{◌≡◌, ℕ, List, [], ◌∷◌, Bool, true, false, refl, sym, ap, ◌∙◌, subst}
 use Rattle.std.specs.Prelude.{MatchBool}
 use Rattle.http_wire.specs.declared.messages.HttpRequest.{HttpRequest}
-use Rattle.http_wire.specs.Heads.{passed, is_filled}
+use Rattle.http_wire.specs.Heads.{behind_line_ends, is_filled}
 use Rattle.http_wire.specs.Messages.{Whole, Faulty, Unfinished, IsFront, End, Closed, Refused, Clean, Cut, IsEnd, Messages}
 use Rattle.http_wire.proofs.FrontLaws.{front_is_one}
 
@@ -28,10 +28,10 @@ one_end bytes (Refused cause) Cut first second = let wrong = front_is_one bytes 
 one_end bytes Clean Closed first second = absurd second
 one_end bytes Clean (Refused cause) first second = let wrong = front_is_one bytes Unfinished (Faulty cause) first.0 second in cc
 one_end bytes Clean Clean first second = refl
-one_end bytes Clean Cut first second = absurd (clean_or_cut (passed bytes) first.1 second.1)
+one_end bytes Clean Cut first second = absurd (clean_or_cut (behind_line_ends bytes) first.1 second.1)
 one_end bytes Cut Closed first second = absurd second
 one_end bytes Cut (Refused cause) first second = let wrong = front_is_one bytes Unfinished (Faulty cause) first.0 second in cc
-one_end bytes Cut Clean first second = absurd (clean_or_cut (passed bytes) second.1 first.1)
+one_end bytes Cut Clean first second = absurd (clean_or_cut (behind_line_ends bytes) second.1 first.1)
 one_end bytes Cut Cut first second = refl
 
 -- what follows a request is one thing where the rest is read in one way
@@ -42,7 +42,8 @@ one_after : (close : Bool) (rest : List ℕ) (requests others : List HttpRequest
 one_after true rest requests others end other behind first second = (first.0 ∙ sym second.0, first.1 ∙ sym second.1)
 one_after false rest requests others end other behind first second = behind first second
 
-pub reading_is_one : (bytes : List ℕ) (requests others : List HttpRequest) (end other : End) → Messages bytes requests end → Messages bytes others other → (requests ≡ others) × (end ≡ other)
+pub reading_is_one : (bytes : List ℕ) (requests others : List HttpRequest) (end other : End) → Messages bytes requests end
+    → Messages bytes others other → (requests ≡ others) × (end ≡ other)
 reading_is_one bytes [] [] end other first second = (refl, one_end bytes end other first second)
 reading_is_one bytes [] (request ∷ others) end other first (rest, front, later) = absurd (ends_here bytes end request rest first front)
 reading_is_one bytes (request ∷ requests) [] end other (rest, front, later) second = absurd (ends_here bytes other request rest second front)

@@ -11,7 +11,7 @@ use Rattle.http_wire.specs.declared.heads.Head.{Head}
 use Rattle.http_wire.specs.declared.messages.HttpField.{HttpField}
 use Rattle.http_wire.specs.declared.messages.HttpHead.{HttpHead}
 use Rattle.http_wire.specs.declared.messages.WireFault.{WireFault}
-use Rattle.http_wire.specs.Heads.{fields_of, head_length, is_last}
+use Rattle.http_wire.specs.Heads.{head_fields, head_length, is_last}
 use Rattle.http_wire.specs.Messages.{AtMessage, Heads, Faults, Needs}
 use Rattle.http_wire.specs.Pieces.{WireState}
 
@@ -20,11 +20,11 @@ abbrev pub field_at : List ℕ → HeaderSpan → HttpField
 field_at text span = record { name = span_bytes text span.name; value = span_bytes text span.value }
 
 -- what is kept of a head is what it says
-pub record Says (said : Head) (head : RequestHead) : Type 0 where
+pub record SaysHead (said : Head) (head : RequestHead) : Type 0 where
   pub method : said.method ≡ head.method
   pub path : said.path ≡ head.target
-  pub fields : said.fields ≡ fields_of head
-  pub close : said.close ≡ is_last head.minor (fields_of head)
+  pub fields : said.fields ≡ head_fields head
+  pub close : said.close ≡ is_last head.minor (head_fields head)
 
 abbrev pub head_with : Head → ℕ → HttpHead
 head_with said size = record { method = said.method; path = said.path; fields = said.fields; length = size; close = said.close }
@@ -49,5 +49,5 @@ abbrev pub wire_at : List ℕ → Option ℕ → WireState
 wire_at bytes left = record { bytes = bytes; left = left }
 
 -- what a look leaves of the bytes
-abbrev pub behind : List ℕ → Look → WireState
-behind bytes look = wire_at (drop look.taken bytes) look.left
+abbrev pub behind_look : List ℕ → Look → WireState
+behind_look bytes look = wire_at (drop look.taken bytes) look.left

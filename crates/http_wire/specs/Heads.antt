@@ -5,27 +5,28 @@ use Rattle.std.specs.List.{list_any}
 use Rattle.std.specs.Str.{bytes_eq, str_eq_ignore_ascii_case}
 use Rattle.std.specs.Str.Parse.{digits_value}
 use Rattle.httparse.specs.Grammar.{Field, field_value, RequestHead, ReadsRequest}
-use Rattle.decimal_rank.specs.DecimalText.{are_digits}
+use Rattle.decimal_rank.specs.Bytes.{carriage_return, line_feed}
+use Rattle.decimal_rank.specs.Decimals.DecimalText.{are_digits}
 use Rattle.http_wire.specs.declared.messages.HttpField.{HttpField}
 use Rattle.http_wire.specs.declared.messages.WireFault.{WireFault}
 use Rattle.http_wire.specs.declared.messages.WireFault.TheVariants.{Head, Length, Body, Coding}
 
 -- the bytes from the first that is neither CR nor LF
-abbrev pub passed : List ℕ → List ℕ
-passed [] = []
-passed (b ∷ bytes) = if b == 10 || b == 13 then passed bytes else b ∷ bytes
+abbrev pub behind_line_ends : List ℕ → List ℕ
+behind_line_ends [] = []
+behind_line_ends (b ∷ bytes) = if b == line_feed || b == carriage_return then behind_line_ends bytes else b ∷ bytes
 
 -- how many bytes the LF or CR LF at the front has, and 0 where there is none
-abbrev pub empty_line : List ℕ → ℕ
-empty_line [] = 0
-empty_line (b ∷ []) = if b == 10 then 1 else 0
-empty_line (b ∷ c ∷ bytes) = if b == 10 then 1 else (if b == 13 && c == 10 then 2 else 0)
+abbrev pub line_end_length : List ℕ → ℕ
+line_end_length [] = 0
+line_end_length (b ∷ []) = if b == line_feed then 1 else 0
+line_end_length (b ∷ c ∷ bytes) = if b == line_feed then 1 else (if b == carriage_return && c == line_feed then 2 else 0)
 
 -- how many bytes there are up to the least LF that is followed by LF, or by CR and LF, with these
 abbrev pub head_length : List ℕ → Option ℕ
 head_length [] = None
 head_length (b ∷ bytes) =
-    if b == 10 && nat_lt 0 (empty_line bytes) then Some (empty_line bytes + 1) else option_map (λ n. n + 1) (head_length bytes)
+    if b == line_feed && nat_lt 0 (line_end_length bytes) then Some (line_end_length bytes + 1) else option_map (λ n. n + 1) (head_length bytes)
 
 -- the text, whole, is this request head, which has at most 32 fields
 abbrev pub IsHead : List ℕ → RequestHead → Type 0
@@ -35,8 +36,8 @@ IsHead text head = ReadsRequest text head [] × (length head.fields ≤ 32)
 abbrev pub field_of : Field → HttpField
 field_of field = record { name = field.name; value = field_value field }
 
-abbrev pub fields_of : RequestHead → List HttpField
-fields_of head = map field_of head.fields
+abbrev pub head_fields : RequestHead → List HttpField
+head_fields head = map field_of head.fields
 
 -- the values of the fields of this name
 abbrev pub values_named : List ℕ → List HttpField → List (List ℕ)

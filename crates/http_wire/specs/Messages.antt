@@ -5,7 +5,7 @@ use Rattle.http_wire.specs.declared.messages.HttpHead.{HttpHead}
 use Rattle.http_wire.specs.declared.messages.HttpRequest.{HttpRequest}
 use Rattle.http_wire.specs.declared.messages.WireFault.{WireFault}
 use Rattle.http_wire.specs.declared.messages.WireFault.TheVariants as fault
-use Rattle.http_wire.specs.Heads.{passed, head_length, IsHead, fields_of, is_filled, body_length, is_last}
+use Rattle.http_wire.specs.Heads.{behind_line_ends, head_length, IsHead, head_fields, is_filled, body_length, is_last}
 
 -- what stands at the front of bytes, up to the end of a head
 pub data HeadFront : Type 0 where
@@ -25,7 +25,7 @@ pub data Front : Type 0 where
 
 -- a head whose body has so many bytes
 abbrev pub head_of : RequestHead → ℕ → HttpHead
-head_of head n = record { method = head.method; path = head.target; fields = fields_of head; length = n; close = is_last head.minor (fields_of head) }
+head_of head n = record { method = head.method; path = head.target; fields = head_fields head; length = n; close = is_last head.minor (head_fields head) }
 
 -- the request of a head and its body
 abbrev pub request_with : HttpHead → List ℕ → HttpRequest
@@ -40,7 +40,7 @@ behind_head head (Ok n) rest = Heads (head_of head n) rest
 abbrev pub AtHead : List ℕ → List ℕ → HeadFront → Type 0
 AtHead text rest front =
     (((head : RequestHead) → ¬ (IsHead text head)) × (front ≡ Faults fault.Head))
-    ⊎ ((head : RequestHead) × IsHead text head × (front ≡ behind_head head (body_length head.method (fields_of head)) rest))
+    ⊎ ((head : RequestHead) × IsHead text head × (front ≡ behind_head head (body_length head.method (head_fields head)) rest))
 
 -- what stands where a head of this length is to be, or where the first 8,192 bytes end none
 abbrev pub AtLength : List ℕ → Option ℕ → HeadFront → Type 0
@@ -53,7 +53,7 @@ AtMessage message front = AtLength message (head_length (take 8192 message)) fro
 
 -- this stands at the front of the bytes, up to the end of a head
 abbrev pub IsHeadFront : List ℕ → HeadFront → Type 0
-IsHeadFront bytes front = AtMessage (passed bytes) front
+IsHeadFront bytes front = AtMessage (behind_line_ends bytes) front
 
 -- what a head is with the bytes behind it
 abbrev pub front_of : HeadFront → Front
@@ -77,8 +77,8 @@ pub data End : Type 0 where
 abbrev pub IsEnd : List ℕ → End → Type 0
 IsEnd bytes Closed = ⊥
 IsEnd bytes (Refused fault) = IsFront bytes (Faulty fault)
-IsEnd bytes Clean = IsFront bytes Unfinished × (passed bytes ≡ [])
-IsEnd bytes Cut = IsFront bytes Unfinished × (is_filled (passed bytes) ≡ true)
+IsEnd bytes Clean = IsFront bytes Unfinished × (behind_line_ends bytes ≡ [])
+IsEnd bytes Cut = IsFront bytes Unfinished × (is_filled (behind_line_ends bytes) ≡ true)
 
 -- the bytes are these requests from the start, and then this end
 abbrev pub Messages : List ℕ → List HttpRequest → End → Type 0
@@ -89,7 +89,7 @@ Messages bytes (request ∷ requests) end =
 
 -- no whole request stands at the front, and no fault; clean is that nothing but CR and LF is left
 abbrev pub Waits : List ℕ → Bool → Type 0
-Waits bytes clean = IsFront bytes Unfinished × (clean ≡ not (is_filled (passed bytes)))
+Waits bytes clean = IsFront bytes Unfinished × (clean ≡ not (is_filled (behind_line_ends bytes)))
 
 -- a whole request and a fault stay where more bytes come behind them
 pub record Stays (bytes more : List ℕ) : Type 0 where
@@ -97,7 +97,7 @@ pub record Stays (bytes more : List ℕ) : Type 0 where
   pub faulty : (fault : WireFault) → IsFront bytes (Faulty fault) → IsFront (bytes ++ more) (Faulty fault)
 
 -- how what stands at the front goes on to the requests of bytes of which `more` is still to be fed
-pub record GoesOn (old new more : List ℕ) : Type 0 where
+pub record FrontGoesOn (old new more : List ℕ) : Type 0 where
   pub request : (request : HttpRequest) (requests : List HttpRequest) (end : End) → IsFront old (Whole request new)
       → request.close ≡ false → Messages (new ++ more) requests end → Messages (old ++ more) (request ∷ requests) end
   pub last : (request : HttpRequest) → IsFront old (Whole request new) → request.close ≡ true → Messages (old ++ more) (request ∷ []) Closed
@@ -106,13 +106,13 @@ pub record GoesOn (old new more : List ℕ) : Type 0 where
 
 -- the bytes begin with these requests, none of which closes, and the rest stands behind them but for the CR and LF that are passed over
 abbrev pub Behind : List ℕ → List HttpRequest → List ℕ → Type 0
-Behind bytes [] rest = passed bytes ≡ passed rest
+Behind bytes [] rest = behind_line_ends bytes ≡ behind_line_ends rest
 Behind bytes (request ∷ requests) rest = (next : List ℕ) × IsFront bytes (Whole request next) × (request.close ≡ false) × Behind next requests rest
 
 -- how the requests at the front of bytes go on, where `old` is behind them: as bytes are fed, by what stands there, and to the end
 pub record ReadsOn (bytes : List ℕ) (requests : List HttpRequest) (old new more : List ℕ) : Type 0 where
   pub fed : Behind bytes requests old → Behind (bytes ++ more) requests (old ++ more)
-  pub waits : Behind bytes requests old → Behind bytes requests (passed old)
+  pub waits : Behind bytes requests old → Behind bytes requests (behind_line_ends old)
   pub request : (request : HttpRequest) → Behind bytes requests old → IsFront old (Whole request new) → request.close ≡ false
       → Behind bytes (requests ++ request ∷ []) new
   pub ends : (others : List HttpRequest) (end : End) → Behind bytes requests old → Messages old others end → Messages bytes (requests ++ others) end

@@ -1,5 +1,5 @@
-//! The text of an answer: the status line, `Content-Type`, `Content-Length`, `Connection: close` where it closes,
-//! an empty line, and the body.
+//! The text of an answer: the status line, `Content-Type`, `Content-Length`, `Connection: close`
+//! where it closes, an empty line, and the body.
 ghost use Rattle.std.specs.Prelude.{◌≡◌, ◌+◌, ◌++◌, ◌≤◌, IsTrue, IsOk, OnOk, OnErr, length, map, vec_len, vec_capacity};
 ghost use Rattle.std.specs.List.{concat};
 ghost use Rattle.http_wire.specs.Answers.{answer_text, closing, head_text, is_status, reason_of, type_of};
@@ -56,7 +56,8 @@ pub fn write_head(
     requires { IsTrue (is_status status) }
     ensures ok { OnOk result (out.new.items ≡ out.old.items ++ head_text status json close size) }
     ensures err { OnErr result (out.new.items ≡ out.old.items) }
-    ensures room { vec_len out.old + length (head_text status json close size) ≤ vec_capacity out.old → IsOk result }
+    ensures room { vec_len out.old + length (head_text status json close size)
+        ≤ vec_capacity out.old → IsOk result }
     ensures capacity { vec_capacity out.old ≤ vec_capacity out.new }
 {
     let mut status_digits = Buffer::new();
@@ -79,8 +80,8 @@ pub fn write_head(
     )
 }
 
-/// Appends the answer of this status, the body being JSON or else plain text. It takes no memory where
-/// `out` has room for it.
+/// Appends the answer of this status, the body being JSON or else plain text. It takes no memory
+/// where `out` has room for it.
 pub fn write_answer(
     status: u16,
     json: bool,
@@ -89,9 +90,11 @@ pub fn write_answer(
     out: &mut Vec<u8>,
 ) -> Result<(), Memory>
     requires { IsTrue (is_status status) }
-    ensures ok { OnOk result (out.new.items ≡ out.old.items ++ answer_text status json close body.now) }
+    ensures ok { OnOk result
+        (out.new.items ≡ out.old.items ++ answer_text status json close body.now) }
     ensures err { OnErr result (out.new.items ≡ out.old.items) }
-    ensures room { vec_len out.old + length (answer_text status json close body.now) ≤ vec_capacity out.old → IsOk result }
+    ensures room { vec_len out.old + length (answer_text status json close body.now)
+        ≤ vec_capacity out.old → IsOk result }
     ensures capacity { vec_capacity out.old ≤ vec_capacity out.new }
 {
     let before = out.len();

@@ -1,10 +1,10 @@
-//! Fields of a head, found by their names, and what they say: how many bytes the body has, and whether the
-//! connection is to close.
+//! Fields of a head, found by their names, and what they say: how many bytes the body has, and
+//! whether the connection is to close.
 ghost use Rattle.std.specs.Prelude.{◌≡◌, [], ◌∷◌, min, codes, IsTrue, MatchOption};
 ghost use Rattle.std.specs.List.{list_all, list_any};
 ghost use Rattle.std.specs.Str.{str_eq_ignore_ascii_case};
 ghost use Rattle.std.specs.Str.Parse.{digits_value};
-ghost use Rattle.decimal_rank.specs.DecimalText.{are_digits, is_digit};
+ghost use Rattle.decimal_rank.specs.Decimals.DecimalText.{are_digits, is_digit};
 ghost use Rattle.http_wire.specs.Heads.{body_length, length_of_value, says_close, stated_length, values_named};
 
 use crate::messages::{HttpField, WireFault};
@@ -22,8 +22,8 @@ fn is_same_word(text: &[u8], word: &str) -> bool
 /// The value of the first field of a name, and the fields behind it. Names are compared without
 /// regard to ASCII case.
 pub fn find_named<'a>(fields: &'a [HttpField], name: &str) -> Option<(&'a [u8], &'a [HttpField])>
-    ensures { MatchOption result (values_named name.now fields.now ≡ [])
-        (λ found. values_named name.now fields.now ≡ found.0.now ∷ values_named name.now found.1.now) }
+    ensures { MatchOption result (values_named name.now fields.now ≡ []) (λ found.
+        values_named name.now fields.now ≡ found.0.now ∷ values_named name.now found.1.now) }
 {
     let mut left = fields;
     while let [first, rest @ ..] = left {

@@ -1,8 +1,8 @@
-//! What stands at the front of a connection's bytes: a head, a piece of a body, the body's end, a fault, or too
-//! few bytes to tell.
+//! What stands at the front of a connection's bytes: a head, a piece of a body, the body's end, a
+//! fault, or too few bytes to tell.
 ghost use Rattle.std.specs.Prelude.{◌≡◌, ◌≤◌, ◌<◌, ◌^◌, None, Some, IfOk, length, drop, take};
-ghost use Rattle.http_wire.specs.Fronts.{IsFound, IsSearched, behind, found_with, wire_at};
-ghost use Rattle.http_wire.specs.Heads.{body_length, head_length, passed};
+ghost use Rattle.http_wire.specs.Fronts.{IsFound, IsSearched, behind_look, found_with, wire_at};
+ghost use Rattle.http_wire.specs.Heads.{behind_line_ends, body_length, head_length};
 ghost use Rattle.http_wire.specs.Pieces.{BodyFits, BodySteps, HeadSteps, Shortens, Steps};
 
 use crate::fields::body_length;
@@ -115,12 +115,15 @@ pub(crate) fn look_at(
     left: Option<u32>,
     searched: usize,
 ) -> Result<Look, Memory>
-    requires { IsSearched (passed bytes.now) searched }
-    ensures step { IfOk result (λ look. Steps (wire_at bytes.now left) look.step (behind bytes.now look)) }
+    requires { IsSearched (behind_line_ends bytes.now) searched }
+    ensures step { IfOk result
+        (λ look. Steps (wire_at bytes.now left) look.step (behind_look bytes.now look)) }
     ensures body { IfOk result (λ look. BodyFits look.step) }
-    ensures shorter { IfOk result (λ look. Shortens (wire_at bytes.now left) look.step (behind bytes.now look)) }
+    ensures shorter { IfOk result
+        (λ look. Shortens (wire_at bytes.now left) look.step (behind_look bytes.now look)) }
     ensures inside { IfOk result (λ look. look.taken ≤ length bytes.now) }
-    ensures searched { IfOk result (λ look. IsSearched (passed (drop look.taken bytes.now)) look.searched) }
+    ensures searched { IfOk result
+        (λ look. IsSearched (behind_line_ends (drop look.taken bytes.now)) look.searched) }
 {
     match left {
         None => look_for_head(alloc, bytes, searched),
@@ -130,12 +133,15 @@ pub(crate) fn look_at(
 
 // The step where no body was begun.
 fn look_for_head(alloc: Global, bytes: &[u8], searched: usize) -> Result<Look, Memory>
-    requires { IsSearched (passed bytes.now) searched }
-    ensures step { IfOk result (λ look. HeadSteps bytes.now look.step (behind bytes.now look)) }
+    requires { IsSearched (behind_line_ends bytes.now) searched }
+    ensures step { IfOk result
+        (λ look. HeadSteps bytes.now look.step (behind_look bytes.now look)) }
     ensures body { IfOk result (λ look. BodyFits look.step) }
-    ensures shorter { IfOk result (λ look. Shortens (wire_at bytes.now None) look.step (behind bytes.now look)) }
+    ensures shorter { IfOk result
+        (λ look. Shortens (wire_at bytes.now None) look.step (behind_look bytes.now look)) }
     ensures inside { IfOk result (λ look. look.taken ≤ length bytes.now) }
-    ensures searched { IfOk result (λ look. IsSearched (passed (drop look.taken bytes.now)) look.searched) }
+    ensures searched { IfOk result
+        (λ look. IsSearched (behind_line_ends (drop look.taken bytes.now)) look.searched) }
 {
     let (taken, message) = pass_line_ends(bytes);
     if message.is_empty() {
@@ -171,11 +177,14 @@ fn look_for_head(alloc: Global, bytes: &[u8], searched: usize) -> Result<Look, M
 
 // The step where so many bytes of a body are still to be given.
 fn look_in_body(alloc: Global, bytes: &[u8], left: u32) -> Result<Look, Memory>
-    ensures step { IfOk result (λ look. BodySteps left bytes.now look.step (behind bytes.now look)) }
+    ensures step { IfOk result
+        (λ look. BodySteps left bytes.now look.step (behind_look bytes.now look)) }
     ensures body { IfOk result (λ look. BodyFits look.step) }
-    ensures shorter { IfOk result (λ look. Shortens (wire_at bytes.now (Some left)) look.step (behind bytes.now look)) }
+    ensures shorter { IfOk result
+        (λ look. Shortens (wire_at bytes.now (Some left)) look.step (behind_look bytes.now look)) }
     ensures inside { IfOk result (λ look. look.taken ≤ length bytes.now) }
-    ensures searched { IfOk result (λ look. IsSearched (passed (drop look.taken bytes.now)) look.searched) }
+    ensures searched { IfOk result
+        (λ look. IsSearched (behind_line_ends (drop look.taken bytes.now)) look.searched) }
 {
     let is_given = left == 0;
     if is_given {

@@ -1,11 +1,11 @@
-//! The head of a request: CR and LF in front are passed over, its end is found, and its parts are copied.
-//! It has at most 8,192 bytes and 32 fields.
+//! The head of a request: CR and LF in front are passed over, its end is found, and its parts are
+//! copied. It has at most 8,192 bytes and 32 fields.
 ghost use Rattle.std.specs.Prelude.{◌≡◌, ◌+◌, ◌≤◌, ℕ, List, [], true, length, drop, take, map, All, IfOk, IfSome, IfNone};
 ghost use Rattle.std.specs.Option.{option_map};
 ghost use Rattle.httparse.specs.Grammar.{RequestHead};
 ghost use Rattle.httparse.specs.Spans.{IsHeaderWithin, IsRequestAt, IsRequestWithin};
-ghost use Rattle.http_wire.specs.Fronts.{Says, field_at};
-ghost use Rattle.http_wire.specs.Heads.{IsHead, empty_line, head_length, is_last, passed};
+ghost use Rattle.http_wire.specs.Fronts.{SaysHead, field_at};
+ghost use Rattle.http_wire.specs.Heads.{IsHead, behind_line_ends, head_length, is_last, line_end_length};
 
 use crate::fields::says_close;
 use crate::messages::HttpField;
@@ -34,7 +34,7 @@ pub(crate) struct Head {
 
 /// How many bytes of CR and LF stand in front, and the bytes behind them.
 pub(crate) fn pass_line_ends(bytes: &[u8]) -> (usize, &[u8])
-    ensures message { result.1.now ≡ passed bytes.now }
+    ensures message { result.1.now ≡ behind_line_ends bytes.now }
     ensures behind { result.1.now ≡ drop result.0 bytes.now }
     ensures inside { result.0 ≤ length bytes.now }
 {
@@ -52,7 +52,7 @@ pub(crate) fn pass_line_ends(bytes: &[u8]) -> (usize, &[u8])
 
 // How many bytes the empty line in front has.
 fn empty_line(bytes: &[u8]) -> usize
-    ensures value { result ≡ empty_line bytes.now }
+    ensures value { result ≡ line_end_length bytes.now }
     ensures inside { result ≤ length bytes.now }
 {
     match bytes {
@@ -66,7 +66,8 @@ fn empty_line(bytes: &[u8]) -> usize
 /// those that are left to be searched.
 pub(crate) fn find_head_from(bytes: &[u8], searched: usize) -> Option<usize>
     requires inside { searched ≤ length bytes.now }
-    requires ends { head_length bytes.now ≡ option_map (λ n. n + searched) (head_length (drop searched bytes.now)) }
+    requires ends { head_length bytes.now
+        ≡ option_map (λ n. n + searched) (head_length (drop searched bytes.now)) }
     ensures value { result ≡ head_length bytes.now }
     ensures inside { IfSome result (λ count. count ≤ length bytes.now) }
 {
@@ -98,7 +99,8 @@ fn find_head(bytes: &[u8]) -> Option<usize>
 pub(crate) fn find_parts(text: &[u8], spans: &mut [HeaderSpan]) -> Option<RequestSpans>
     requires { length spans.old ≡ 32 }
     ensures within { IfSome result (λ parts. IsRequestWithin text.now spans.new parts) }
-    ensures found { IfSome result (λ parts. (head : RequestHead) × IsHead text.now head × IsRequestAt text.now spans.new parts head) }
+    ensures found { IfSome result (λ parts. (head : RequestHead) × IsHead text.now head
+        × IsRequestAt text.now spans.new parts head) }
     ensures none { IfNone result ((head : RequestHead) → ¬ (IsHead text.now head)) }
 {
     match parse_request(text, spans) {
@@ -149,7 +151,8 @@ pub(crate) fn copy_head(
 ) -> Result<Head, Memory>
     requires within { IsRequestWithin text.now spans.now parts.now }
     requires whole { parts.now.len ≤ length text.now }
-    ensures { IfOk result (λ said. (head : RequestHead) → IsRequestAt text.now spans.now parts.now head → Says said head) }
+    ensures { IfOk result (λ said. (head : RequestHead)
+        → IsRequestAt text.now spans.now parts.now head → SaysHead said head) }
 {
     let fields = copy_fields(alloc, text, &spans[..parts.headers])?;
     Ok(Head {

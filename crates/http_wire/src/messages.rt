@@ -1,5 +1,5 @@
-//! What a wire gives: a request's head, the pieces of its body and its end, or the fault by which the bytes are no
-//! request.
+//! What a wire gives: a request's head, the pieces of its body and its end, or the fault by which
+//! the bytes are no request.
 use decimal_rank::{Rows, Text};
 
 /// A field of a request's head (RFC 9112, section 5). The value has no white space around it.

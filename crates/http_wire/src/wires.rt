@@ -1,7 +1,8 @@
-//! A connection's bytes, fed as they come in pieces of any size, and the steps that they make, given one by one.
+//! A connection's bytes, fed as they come in pieces of any size, and the steps that they make,
+//! given one by one.
 ghost use Rattle.std.specs.Prelude.{◌≡◌, ◌+◌, ◌≤◌, [], None, IfOk, OnOk, OnErr, drop, length};
 ghost use Rattle.http_wire.specs.Fronts.{wire_at};
-ghost use Rattle.http_wire.specs.Pieces.{BodyFits, Shortens, Steps, fed};
+ghost use Rattle.http_wire.specs.Pieces.{BodyFits, Shortens, Steps, wire_fed};
 
 use crate::fronts::{Look, look_at};
 use crate::messages::Step;
@@ -9,8 +10,8 @@ use decimal_rank::Memory;
 use std::alloc::Global;
 use std::marker::Model;
 
-/// The bytes of a connection that were fed and not yet given. Contracts see these bytes, and how many
-/// of a body are still to be given.
+/// The bytes of a connection that were fed and not yet given. Contracts see these bytes, and how
+/// many of a body are still to be given.
 #[derive(Drop)]
 pub struct Wire {
     bytes: Vec<u8>,
@@ -43,8 +44,8 @@ fn left_of(bytes: &[u8], done: usize) -> &[u8]
     &bytes[done..]
 }
 
-// Drops the bytes that are done with where they are more than those that are left, so that each byte
-// that stays is moved for one that goes. Gives how many at the front are done with then.
+// Drops the bytes that are done with where they are more than those that are left, so that each
+// byte that stays is moved for one that goes. Gives how many at the front are done with then.
 fn drop_done(bytes: &mut Vec<u8>, done: usize) -> usize
     requires { done ≤ length bytes.old.items }
     ensures left { drop result bytes.new.items ≡ drop done bytes.old.items }
@@ -72,15 +73,16 @@ impl Wire {
 
     /// Adds the bytes that came next.
     pub fn feed(&mut self, piece: &[u8]) -> Result<(), Memory>
-        ensures ok { OnOk result (self.new ≡ fed self.old piece.now) }
+        ensures ok { OnOk result (self.new ≡ wire_fed self.old piece.now) }
         ensures err { OnErr result (self.new ≡ self.old) }
     {
         self.bytes.extend_from_slice(piece)?;
         Ok(())
     }
 
-    /// What comes next of the bytes that were fed. After a refusal each further call gives the same.
-    /// Behind a request that closes nothing more is to be asked for: what follows is read as it stands.
+    /// What comes next of the bytes that were fed. After a refusal each further call gives the
+    /// same. Behind a request that closes nothing more is to be asked for: what follows is read as
+    /// it stands.
     pub fn next(&mut self) -> Result<Step, Memory>
         ensures ok { IfOk result (λ step. Steps self.old step self.new) }
         ensures body { IfOk result BodyFits }

@@ -9,18 +9,20 @@ use Rattle.std.proofs.lemmas.List.{append-nil, drop-append-le, drop-drop, drop-t
 use Rattle.std.proofs.Math.ListN.{get_or-append}
 use Rattle.std.proofs.Math.Seq.{get_or-append_seam}
 use Rattle.disk_model.specs.Disks.{Torn, written}
-use Rattle.journal.specs.Format.{bytes_of, decode, mark, place_behind, records, records_of, state_byte, told_place}
-use Rattle.journal.specs.Kept.{IsFront}
-use Rattle.journal.specs.MovedAreas.{Gives, GivesOneOf, HasArea, HasBoth, IsArea, IsBack, IsMoved, IsPlaced, IsShut, IsTurned, place_bytes}
+use Rattle.journal.specs.Format.{count_of_bytes, decode, mark, place_behind, records, records_of, state_byte, told_place}
+use Rattle.journal.specs.KeptRecords.{AreFrontRecords}
+use Rattle.journal.specs.MovedAreas.{AreUpToGate, GivesOneOf, GivesRecords, HasArea, HasBoth, IsArea, IsBack, IsMoved, IsPlaced, IsTurned, place_bytes}
 use Rattle.journal.proofs.RecordBytes.{front_holds, front_long, front_of, front_reads, long_gives, records_skip, rest_gives, shut_ends}
 use Rattle.journal.proofs.Steps.{gate_stays}
 
 -- A write that is done is one that is cut short
 
-length_written : (place : ℕ) (piece content : List ℕ) → place ≤ length content → length (written place piece content) ≡ place + length piece + (length content - (place + length piece))
+length_written : (place : ℕ) (piece content : List ℕ) → place ≤ length content
+    → length (written place piece content) ≡ place + length piece + (length content - (place + length piece))
 length_written place piece content within =
     length-append (take place content ++ piece) (drop (place + length piece) content)
-    ∙ ap (λ (n : ℕ). n + length (drop (place + length piece) content)) (length-append (take place content) piece ∙ ap (λ (n : ℕ). n + length piece) (length-take-le place content within))
+    ∙ ap (λ (n : ℕ). n + length (drop (place + length piece) content))
+    (length-append (take place content) piece ∙ ap (λ (n : ℕ). n + length piece) (length-take-le place content within))
     ∙ ap (λ (n : ℕ). place + length piece + n) (length-drop (place + length piece) content)
 
 pub torn_written : (place : ℕ) (piece content : List ℕ) → place ≤ length content → Torn place (length piece) content (written place piece content)
@@ -35,7 +37,8 @@ torn_written place piece content within =
     let end_in : place + length piece ≤ length (front ++ piece) = omega arith in
     record {
       before = take-append-le place (front ++ piece) rest place_in ∙ take-append-le place front piece place_front ∙ take_all place front (omega arith);
-      after = drop-append-le (place + length piece) (front ++ piece) rest end_in ∙ ap (λ (xs : List ℕ). xs ++ rest) (drop_all (place + length piece) (front ++ piece) (omega arith));
+      after = drop-append-le (place + length piece) (front ++ piece) rest end_in
+          ∙ ap (λ (xs : List ℕ). xs ++ rest) (drop_all (place + length piece) (front ++ piece) (omega arith));
       no_shorter = omega arith;
       no_longer = omega arith;
     }
@@ -86,27 +89,30 @@ moving_gives image place all area two =
     let found : records (told_place image) image ≡ all = ap (λ (n : ℕ). records n image) area.told ∙ area.holds in
     let inside : nat_lt (told_place image) (length image) ≡ true = let less = area.within in let told = area.told in grind (arith, nat_tests) in
     let behind : place_behind (records (told_place image) image) ≡ place_behind all = ap (λ (found : List (List ℕ)). place_behind found) found in
-    let fits : nat_lt (place_behind (records (told_place image) image)) (told_place image) ≡ true = let less = area.room in let told = area.told in grind (arith, nat_tests) in
+    let fits : nat_lt (place_behind (records (told_place image) image)) (told_place image) ≡ true = let less = area.room in
+    let told = area.told in grind (arith, nat_tests) in
     rw is_two (rw inside (rw fits (ap (λ (found : List (List ℕ)). Some found) found)))
 
 area_long : (image : List ℕ) (place : ℕ) (all : List (List ℕ)) → HasArea place all image → 17 < length image
 area_long image place all area = omega (arith, area.within, area.room)
 
-pub turned_gives : (image : List ℕ) (place : ℕ) (all : List (List ℕ)) → IsTurned place all image → Gives all image
+pub turned_gives : (image : List ℕ) (place : ℕ) (all : List (List ℕ)) → IsTurned place all image → GivesRecords all image
 turned_gives image place all turned = long_gives image (area_long image place all turned.0) turned.0.marked ∙ moving_gives image place all turned.0 turned.1
 
 pub both_gives : (image : List ℕ) (place : ℕ) (old all : List (List ℕ)) → HasBoth place old all image → GivesOneOf old all image
 both_gives image place old all both =
     ⊎_elim (λ (two : state_byte image ≡ 2). inr (turned_gives image place all (both.0, two)))
-    (λ (at_rest : state_byte image ≢ 2). inl (long_gives image (area_long image place all both.0) both.0.marked ∙ rest_gives image at_rest ∙ ap (λ (found : List (List ℕ)). Some found) both.1))
+    (λ (at_rest : state_byte image ≢ 2). inl
+    (long_gives image (area_long image place all both.0) both.0.marked ∙ rest_gives image at_rest ∙ ap (λ (found : List (List ℕ)). Some found) both.1))
     (cases_eq (state_byte image) 2)
 
-pub shut_image_gives : (image : List ℕ) (place : ℕ) (all : List (List ℕ)) → IsShut place all image → Gives all image
+pub shut_image_gives : (image : List ℕ) (place : ℕ) (all : List (List ℕ)) → AreUpToGate place all image → GivesRecords all image
 shut_image_gives image place all shut =
     ap (λ (bytes : List ℕ). decode bytes) shut.is ∙ front_reads shut.front place all shut.is_front (shut.gate ∷ shut.behind)
-    ∙ ap (λ (more : List (List ℕ)). Some (all ++ more)) (shut_ends shut.gate shut.behind shut.shut) ∙ ap (λ (found : List (List ℕ)). Some found) (append-nil all)
+    ∙ ap (λ (more : List (List ℕ)). Some (all ++ more)) (shut_ends shut.gate shut.behind shut.shut)
+    ∙ ap (λ (found : List (List ℕ)). Some found) (append-nil all)
 
-shut_holds : (image : List ℕ) (place : ℕ) (all : List (List ℕ)) → IsShut place all image → records 16 image ≡ all
+shut_holds : (image : List ℕ) (place : ℕ) (all : List (List ℕ)) → AreUpToGate place all image → records 16 image ≡ all
 shut_holds image place all shut =
     ap (λ (bytes : List ℕ). records 16 bytes) shut.is ∙ front_holds shut.front place all shut.is_front (shut.gate ∷ shut.behind)
     ∙ ap (λ (more : List (List ℕ)). all ++ more) (shut_ends shut.gate shut.behind shut.shut) ∙ append-nil all
@@ -117,23 +123,26 @@ area_gives area rest all is =
     ∙ ap (λ (bytes : List ℕ). records 0 bytes) (append_assoc is.run (0 ∷ []) rest)
     ∙ is.holds.gives (0 ∷ rest) ∙ append-nil all
 
-pub area_size : (area : List ℕ) (all : List (List ℕ)) → IsArea area all → length area ≡ bytes_of all + 1
+pub area_size : (area : List ℕ) (all : List (List ℕ)) → IsArea area all → length area ≡ count_of_bytes all + 1
 area_size area all is = omega (arith, ap (λ (bytes : List ℕ). length bytes) is.ended, length-append is.run (0 ∷ []), is.holds.size)
 
 -- The new records written behind the old ones
 
 -- a write over bytes 9 to 15
-pub shut_told : (image after : List ℕ) (place : ℕ) (all : List (List ℕ)) → IsShut place all image → Torn 9 7 image after → IsShut place all after
+pub shut_told : (image after : List ℕ) (place : ℕ) (all : List (List ℕ)) → AreUpToGate place all image → Torn 9 7 image after → AreUpToGate place all after
 shut_told image after place all shut torn =
     let front_is_long : 16 ≤ length shut.front = front_long shut.front place all shut.is_front in
-    let size : length image ≡ length shut.front + length (shut.gate ∷ shut.behind) = ap (λ (bytes : List ℕ). length bytes) shut.is ∙ length-append shut.front (shut.gate ∷ shut.behind) in
+    let size : length image ≡ length shut.front + length (shut.gate ∷ shut.behind) =
+    ap (λ (bytes : List ℕ). length bytes) shut.is ∙ length-append shut.front (shut.gate ∷ shut.behind) in
     let long : 16 ≤ length after = omega (arith, front_is_long, size, torn.no_shorter) in
     let head : List ℕ = take 16 after in
-    let nine : take 9 after ≡ take 9 shut.front = torn.before ∙ ap (λ (bytes : List ℕ). take 9 bytes) shut.is ∙ take-append-le 9 shut.front (shut.gate ∷ shut.behind) (omega (arith, front_is_long)) in
-    let last : drop 16 after ≡ drop 16 shut.front ++ shut.gate ∷ shut.behind = torn.after ∙ ap (λ (bytes : List ℕ). drop 16 bytes) shut.is ∙ drop-append-le 16 shut.front (shut.gate ∷ shut.behind) front_is_long in
+    let nine : take 9 after ≡ take 9 shut.front = torn.before ∙ ap (λ (bytes : List ℕ). take 9 bytes) shut.is
+    ∙ take-append-le 9 shut.front (shut.gate ∷ shut.behind) (omega (arith, front_is_long)) in
+    let last : drop 16 after ≡ drop 16 shut.front ++ shut.gate ∷ shut.behind =
+    torn.after ∙ ap (λ (bytes : List ℕ). drop 16 bytes) shut.is ∙ drop-append-le 16 shut.front (shut.gate ∷ shut.behind) front_is_long in
     record {
       front = head ++ drop 16 shut.front;
-      is_front = subst (λ (n : ℕ). IsFront (head ++ drop 16 shut.front) n all) (sym shut.is_front.total)
+      is_front = subst (λ (n : ℕ). AreFrontRecords (head ++ drop 16 shut.front) n all) (sym shut.is_front.total)
           (front_of head (drop 16 shut.front) all (length-take-le 16 after long)
           (take-take 8 16 after (omega arith) ∙ same_front after shut.front 9 8 (omega arith) nine ∙ shut.is_front.marked)
           (λ is. shut.is_front.at_rest (sym (same_byte after shut.front 9 8 (omega arith) nine) ∙ sym (get_or-take 16 after 8 0 (omega arith)) ∙ is))
@@ -145,7 +154,8 @@ shut_told image after place all shut torn =
     }
 
 -- a write behind the gate
-pub shut_followed : (count : ℕ) (image after : List ℕ) (place : ℕ) (all : List (List ℕ)) → IsShut place all image → Torn (place + 1) count image after → IsShut place all after
+pub shut_followed : (count : ℕ) (image after : List ℕ) (place : ℕ) (all : List (List ℕ)) → AreUpToGate place all image
+    → Torn (place + 1) count image after → AreUpToGate place all after
 shut_followed count image after place all shut torn = record {
   front = shut.front;
   is_front = shut.is_front;
@@ -156,7 +166,8 @@ shut_followed count image after place all shut torn = record {
 }
 
 -- the place told, in a journal with nothing behind its gate
-module _ (bytes : List ℕ) (place : ℕ) (old : List (List ℕ)) (shut : IsShut place old bytes) (size : length bytes ≡ place + 1) (near : place + 1 < 2 ^ 56) where
+module _ (bytes : List ℕ) (place : ℕ) (old : List (List ℕ)) (shut : AreUpToGate place old bytes)
+    (size : length bytes ≡ place + 1) (near : place + 1 < 2 ^ 56) where
   long_enough : 16 ≤ place
   long_enough = omega (arith, shut.is_front.size, front_long shut.front place old shut.is_front)
 
@@ -166,7 +177,7 @@ module _ (bytes : List ℕ) (place : ℕ) (old : List (List ℕ)) (shut : IsShut
   pub told_size : length (written 9 (place_bytes (place + 1)) bytes) ≡ place + 1
   told_size = let long = long_enough in let torn = told_torn in omega (arith, size, long, torn.no_shorter, torn.no_longer)
 
-  pub told_shut : IsShut place old (written 9 (place_bytes (place + 1)) bytes)
+  pub told_shut : AreUpToGate place old (written 9 (place_bytes (place + 1)) bytes)
   told_shut = shut_told bytes (written 9 (place_bytes (place + 1)) bytes) place old shut told_torn
 
   pub told_tells : told_place (written 9 (place_bytes (place + 1)) bytes) ≡ place + 1
@@ -179,11 +190,12 @@ module _ (bytes : List ℕ) (place : ℕ) (old : List (List ℕ)) (shut : IsShut
       ∙ take_at (place_bytes (place + 1)) (drop 16 bytes) 7 refl)
 
 -- an area written where the place is told
-module _ (bytes area : List ℕ) (place : ℕ) (old all : List (List ℕ)) (shut : IsShut place old bytes) (size : length bytes ≡ place + 1) (tells : told_place bytes ≡ place + 1) (is_area : IsArea area all) (room : 16 + length area ≤ place + 1) where
+module _ (bytes area : List ℕ) (place : ℕ) (old all : List (List ℕ)) (shut : AreUpToGate place old bytes) (size : length bytes ≡ place + 1)
+    (tells : told_place bytes ≡ place + 1) (is_area : IsArea area all) (room : 16 + length area ≤ place + 1) where
   area_torn : Torn (place + 1) (length area) bytes (written (place + 1) area bytes)
   area_torn = torn_written (place + 1) area bytes (omega (arith, size))
 
-  area_shut : IsShut place old (written (place + 1) area bytes)
+  area_shut : AreUpToGate place old (written (place + 1) area bytes)
   area_shut = shut_followed (length area) bytes (written (place + 1) area bytes) place old shut area_torn
 
   area_found : records (place + 1) (written (place + 1) area bytes) ≡ all
@@ -200,12 +212,13 @@ module _ (bytes area : List ℕ) (place : ℕ) (old all : List (List ℕ)) (shut
   area_placed =
       let now = area_shut in
       let torn = area_torn in
-      let area_is : length area ≡ bytes_of all + 1 = area_size area all is_area in
+      let area_is : length area ≡ count_of_bytes all + 1 = area_size area all is_area in
       let long : 16 ≤ length now.front = front_long now.front place old now.is_front in
       let image : List ℕ = written (place + 1) area bytes in (
         (
           record {
-            marked = ap (λ (image : List ℕ). take 8 image) now.is ∙ take-append-le 8 now.front (now.gate ∷ now.behind) (omega (arith, long)) ∙ now.is_front.marked;
+            marked = ap (λ (image : List ℕ). take 8 image) now.is ∙ take-append-le 8 now.front (now.gate ∷ now.behind) (omega (arith, long))
+                ∙ now.is_front.marked;
             told = told_from_front image bytes (same_front image bytes (place + 1) 16 (omega (arith, room, area_is)) torn.before) ∙ tells;
             within = omega (arith, length_written (place + 1) area bytes (omega (arith, size)), area_is);
             holds = area_found;
@@ -213,7 +226,8 @@ module _ (bytes area : List ℕ) (place : ℕ) (old all : List (List ℕ)) (shut
           },
           shut_holds image place old now,
         ),
-        λ is. now.is_front.at_rest (sym (get_or-append now.front (now.gate ∷ now.behind) 0 8 (omega (arith, long))) ∙ ap (λ (image : List ℕ). state_byte image) (sym now.is) ∙ is),
+        λ is. now.is_front.at_rest
+            (sym (get_or-append now.front (now.gate ∷ now.behind) 0 8 (omega (arith, long))) ∙ ap (λ (image : List ℕ). state_byte image) (sym now.is) ∙ is),
       )
 
 -- Byte 8
@@ -227,8 +241,10 @@ area_turned image after place all area torn = record {
   room = area.room;
 }
 
-pub both_turned : (image after : List ℕ) (place : ℕ) (old all : List (List ℕ)) → HasBoth place old all image → Torn 8 1 image after → HasBoth place old all after
-both_turned image after place old all both torn = (area_turned image after place all both.0 torn, same_records after image 9 16 (omega arith) torn.after ∙ both.1)
+pub both_turned : (image after : List ℕ) (place : ℕ) (old all : List (List ℕ)) → HasBoth place old all image
+    → Torn 8 1 image after → HasBoth place old all after
+both_turned image after place old all both torn =
+    (area_turned image after place all both.0 torn, same_records after image 9 16 (omega arith) torn.after ∙ both.1)
 
 pub written_byte : (byte : ℕ) (image : List ℕ) → 8 < length image → state_byte (written 8 (byte ∷ []) image) ≡ byte
 written_byte byte image long =
@@ -240,12 +256,15 @@ written_byte byte image long =
 
 pub turned : (image : List ℕ) (place : ℕ) (all : List (List ℕ)) → HasArea place all image → IsTurned place all (written 8 (2 ∷ []) image)
 turned image place all area =
-    let long = area_long image place all area in
-    (area_turned image (written 8 (2 ∷ []) image) place all area (torn_written 8 (2 ∷ []) image (omega (arith, long))), written_byte 2 image (omega (arith, long)))
+    let long = area_long image place all area in (
+      area_turned image (written 8 (2 ∷ []) image) place all area (torn_written 8 (2 ∷ []) image (omega (arith, long))),
+      written_byte 2 image (omega (arith, long)),
+    )
 
 -- The new records written behind the header
 
-pub area_moved : (count : ℕ) (image after : List ℕ) (place : ℕ) (all : List (List ℕ)) → 16 + count ≤ place → IsTurned place all image → Torn 16 count image after → IsTurned place all after
+pub area_moved : (count : ℕ) (image after : List ℕ) (place : ℕ) (all : List (List ℕ)) → 16 + count ≤ place
+    → IsTurned place all image → Torn 16 count image after → IsTurned place all after
 area_moved count image after place all room now torn = (
   record {
     marked = same_front after image 16 8 (omega arith) torn.before ∙ now.0.marked;
@@ -264,7 +283,8 @@ moved area image place all is now =
     let sixteen : length (take 16 image) ≡ 16 = length-take-le 16 image (omega (arith, long)) in
     let rest : List ℕ = drop (16 + length area) image in
     record {
-      turned = area_moved (length area) image (written 16 area image) place all (omega (arith, size, now.0.room)) now (torn_written 16 area image (omega (arith, long)));
+      turned = area_moved (length area) image (written 16 area image) place all (omega (arith, size, now.0.room)) now
+          (torn_written 16 area image (omega (arith, long)));
       run = is.run;
       are_records = is.holds;
       behind = rest;
@@ -279,7 +299,7 @@ moved_both image place all now =
 
 -- Byte 8 written again
 
-pub moved_shut : (image : List ℕ) (place : ℕ) (all : List (List ℕ)) → IsMoved place all image → IsShut (place_behind all) all (written 8 (3 ∷ []) image)
+pub moved_shut : (image : List ℕ) (place : ℕ) (all : List (List ℕ)) → IsMoved place all image → AreUpToGate (place_behind all) all (written 8 (3 ∷ []) image)
 moved_shut image place all now =
     let long = area_long image place all now.turned.0 in
     let torn = torn_written 8 (3 ∷ []) image (omega (arith, long)) in
@@ -290,7 +310,8 @@ moved_shut image place all now =
     let byte : state_byte head ≡ 3 = get_or-take 16 after 8 0 (omega arith) ∙ written_byte 3 image (omega (arith, long)) in
     record {
       front = head ++ now.run;
-      is_front = front_of head now.run all head_long (take-take 8 16 after (omega arith) ∙ torn.before ∙ now.turned.0.marked) (λ is. omega (arith, byte, is)) now.are_records;
+      is_front = front_of head now.run all head_long (take-take 8 16 after (omega arith) ∙ torn.before ∙ now.turned.0.marked)
+          (λ is. omega (arith, byte, is)) now.are_records;
       gate = 0;
       shut = λ is. omega (arith, is);
       behind = now.behind;
@@ -308,6 +329,6 @@ moved_back image place all now =
       state = written_byte 3 image (omega (arith, long));
       behind = now.behind;
       closed =
-          sym (drop-drop (bytes_of all) 16 after) ∙ ap (λ (rest : List ℕ). drop (bytes_of all) rest) last
-          ∙ drop_at now.run (0 ∷ now.behind) (bytes_of all) now.are_records.size;
+          sym (drop-drop (count_of_bytes all) 16 after) ∙ ap (λ (rest : List ℕ). drop (count_of_bytes all) rest) last
+          ∙ drop_at now.run (0 ∷ now.behind) (count_of_bytes all) now.are_records.size;
     }

@@ -4,23 +4,25 @@ use Rattle.std.specs.Prelude.{◌==◌, None, nat_lt}
 use Rattle.std.proofs.lemmas.Bool.Decides.{nat_tests}
 use Rattle.std.proofs.lemmas.List.{append-nil}
 use Rattle.disk_model.specs.Disks.{DiskState, EachMoment, OnlyNow}
-use Rattle.journal.specs.Format.{bytes_of, decode, mark, place_behind, records, state_byte, told_place}
-use Rattle.journal.specs.Kept.{AreRecords}
+use Rattle.journal.specs.Format.{count_of_bytes, decode, mark, place_behind, records, state_byte, told_place}
+use Rattle.journal.specs.KeptRecords.{AreRecords}
 use Rattle.journal.specs.Moments.{started}
 use Rattle.journal.specs.MovedAreas.{IsArea, IsTurned}
 use Rattle.journal.proofs.RecordBytes.{long_gives, records_skip}
 
-pub told_count : (behind : List ℕ) (size : ℕ) (all : List (List ℕ)) → AreRecords (take size behind) all → size ≤ length behind → bytes_of all ≡ size
+pub told_count : (behind : List ℕ) (size : ℕ) (all : List (List ℕ)) → AreRecords (take size behind) all → size ≤ length behind → count_of_bytes all ≡ size
 told_count behind size all are inside = let run = length-take-le size behind inside in omega (arith, run, are.size)
 
-module _ (bytes : List ℕ) (long : 17 < length bytes) (marked : take 8 bytes ≡ mark) (moving : state_byte bytes ≡ 2) (told : ℕ) (told_is : told ≡ told_place bytes) (within : told < length bytes)
-    (behind : List ℕ) (behind_is : behind ≡ drop told bytes) (size : ℕ) (all : List (List ℕ)) (are : AreRecords (take size behind) all) (inside : size ≤ length behind) (none : records 0 (drop size behind) ≡ []) where
+module _ (bytes : List ℕ) (long : 17 < length bytes) (marked : take 8 bytes ≡ mark) (moving : state_byte bytes ≡ 2)
+    (told : ℕ) (told_is : told ≡ told_place bytes) (within : told < length bytes)
+    (behind : List ℕ) (behind_is : behind ≡ drop told bytes) (size : ℕ) (all : List (List ℕ)) (are : AreRecords (take size behind) all)
+    (inside : size ≤ length behind) (none : records 0 (drop size behind) ≡ []) where
   found : records told bytes ≡ all
   found =
       records_skip told bytes ∙ ap (λ (rest : List ℕ). records 0 rest) (sym behind_is ∙ sym (take-append-drop size behind))
       ∙ are.gives (drop size behind) ∙ ap (λ (more : List (List ℕ)). all ++ more) none ∙ append-nil all
 
-  count : bytes_of all ≡ size
+  count : count_of_bytes all ≡ size
   count = told_count behind size all are inside
 
   pub told_turned : 16 + size < told → IsTurned told all bytes

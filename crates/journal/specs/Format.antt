@@ -42,12 +42,12 @@ records zero (gate ∷ behind) =
     if gate == 1 && is_whole behind then payload_behind behind ∷ records (4 + told_length behind) behind else []
 
 -- how many bytes the records of these payloads have: each has a gate and a length in front of it
-abbrev pub bytes_of : List (List ℕ) → ℕ
-bytes_of all = sum_by (λ payload. length payload + 5) all
+abbrev pub count_of_bytes : List (List ℕ) → ℕ
+count_of_bytes all = sum_by (λ payload. length payload + 5) all
 
 -- the place of the gate behind these payloads, which stand behind a header
 abbrev pub place_behind : List (List ℕ) → ℕ
-place_behind all = 16 + bytes_of all
+place_behind all = 16 + count_of_bytes all
 
 -- byte 8, which is 2 while records are moved
 abbrev pub state_byte : List ℕ → ℕ
@@ -61,7 +61,8 @@ told_place image = from_le_bytes w64 (take 7 (drop 9 image) ++ 0 ∷ [])
 abbrev pub fits_before : ℕ → List ℕ → Bool
 fits_before place image = nat_lt place (length image) && nat_lt (place_behind (records place image)) place
 
--- What these bytes give behind the text POOLJRNL: their records stand behind the header; while records are moved, at the place that is told, from which they must fit behind the header.
+-- What these bytes give behind the text POOLJRNL: their records stand behind the header; while records are moved, at
+-- the place that is told, from which they must fit behind the header.
 abbrev pub records_of : List ℕ → Option (List (List ℕ))
 records_of image =
     if state_byte image == 2 then (if fits_before (told_place image) image then Some (records (told_place image) image) else None)

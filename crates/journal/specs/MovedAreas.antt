@@ -2,7 +2,7 @@
 use Rattle.std.specs.Prelude.{◌≡◌, ◌≢◌, ◌⊎◌, ◌<◌, ◌^◌, ℕ, List, [], ◌∷◌, ◌++◌, Some, length, take, drop}
 use Rattle.std.specs.Int.{to_le_bytes, w64}
 use Rattle.journal.specs.Format.{decode, mark, place_behind, records, state_byte, told_place}
-use Rattle.journal.specs.Kept.{AreRecords, IsFront}
+use Rattle.journal.specs.KeptRecords.{AreFrontRecords, AreRecords}
 
 -- the seven bytes that tell a place
 abbrev pub place_bytes : ℕ → List ℕ
@@ -15,15 +15,15 @@ pub record IsArea (area : List ℕ) (all : List (List ℕ)) : Type 0 where
   pub ended : area ≡ run ++ 0 ∷ []
 
 -- each image is the same bytes, of which P holds
-pub record Alike (images : List ℕ → Type 0) (P : List ℕ → Type 0) : Type 0 where
+pub record IsOneImage (images : List ℕ → Type 0) (P : List ℕ → Type 0) : Type 0 where
   pub bytes : List ℕ
   pub has : P bytes
   pub each : (image : List ℕ) → images image → image ≡ bytes
 
 -- the records up to a closed gate, behind a header that tells of no move
-pub record IsShut (place : ℕ) (all : List (List ℕ)) (image : List ℕ) : Type 0 where
+pub record AreUpToGate (place : ℕ) (all : List (List ℕ)) (image : List ℕ) : Type 0 where
   pub front : List ℕ
-  pub is_front : IsFront front place all
+  pub is_front : AreFrontRecords front place all
   pub gate : ℕ
   pub shut : gate ≢ 1
   pub behind : List ℕ
@@ -51,7 +51,7 @@ IsTurned place all image = HasArea place all image × (state_byte image ≡ 2)
 
 -- the records of the area stand at some place, of which byte 8 tells
 abbrev pub HasTurned : (List ℕ → Type 0) → List ℕ → Type 0
-HasTurned images area = (place : ℕ) × (all : List (List ℕ)) × Alike images (IsTurned place all) × IsArea area all × (place < 2 ^ 40)
+HasTurned images area = (place : ℕ) × (all : List (List ℕ)) × IsOneImage images (IsTurned place all) × IsArea area all × (place < 2 ^ 40)
 
 -- the new records at the place, of which byte 8 tells, and behind the header
 pub record IsMoved (place : ℕ) (all : List (List ℕ)) (image : List ℕ) : Type 0 where
@@ -63,7 +63,7 @@ pub record IsMoved (place : ℕ) (all : List (List ℕ)) (image : List ℕ) : Ty
 
 -- the new records behind the header, up to a gate of 0, where byte 8 tells of no move again
 pub record IsBack (all : List (List ℕ)) (image : List ℕ) : Type 0 where
-  pub is_shut : IsShut (place_behind all) all image
+  pub is_shut : AreUpToGate (place_behind all) all image
   pub state : state_byte image ≡ 3
   pub behind : List ℕ
   pub closed : drop (place_behind all) image ≡ 0 ∷ behind
@@ -73,5 +73,5 @@ abbrev pub GivesOneOf : List (List ℕ) → List (List ℕ) → List ℕ → Typ
 GivesOneOf old all image = (decode image ≡ Some old) ⊎ (decode image ≡ Some all)
 
 -- the image gives these records
-abbrev pub Gives : List (List ℕ) → List ℕ → Type 0
-Gives all image = decode image ≡ Some all
+abbrev pub GivesRecords : List (List ℕ) → List ℕ → Type 0
+GivesRecords all image = decode image ≡ Some all

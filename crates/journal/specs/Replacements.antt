@@ -7,7 +7,7 @@ use Rattle.journal.specs.declared.dues.Due.TheVariants.{Nothing}
 use Rattle.journal.specs.declared.replacing.ReplaceEnd.{ReplaceEnd}
 use Rattle.journal.specs.declared.replacing.ReplaceEnd.TheVariants.{Done, Larger, Failed}
 use Rattle.journal.specs.Format.{decode, place_behind}
-use Rattle.journal.specs.Kept.{EndsClosed, Keeps, Settled, StandsFor}
+use Rattle.journal.specs.KeptRecords.{EndsClosed, HoldsRecords, Keeps, Settled}
 use Rattle.journal.specs.MovedAreas.{GivesOneOf}
 
 -- each image gives these records, and ends with the gate behind them
@@ -31,20 +31,20 @@ module _ {D : Type 0} (seen : D → DiskState) (old new : D) (place : ℕ) where
   -- The old records, and perhaps the pending ones, up to a mend that was due; from it on the old records or the new ones.
   pub record MovesOver (all pending area : List (List ℕ)) : Type 0 where
     pub mended : D
-    pub first : EachMoment seen old mended (StandsFor all pending)
+    pub first : EachMoment seen old mended (HoldsRecords all pending)
     pub then : EachMoment seen mended new (GivesOneOf all area)
 
   -- so it is, or the mend failed
   abbrev pub Moves : List (List ℕ) → List (List ℕ) → List (List ℕ) → Type 0
-  Moves all pending area = EachMoment seen old new (StandsFor all pending) ⊎ MovesOver all pending area
+  Moves all pending area = EachMoment seen old new (HoldsRecords all pending) ⊎ MovesOver all pending area
 
   -- where the new records take more room: nothing is written but by a mend that was due
-  pub record Leaves (due : Due) (ended : ReplaceEnd) : Type 0 where
+  pub record LeavesRecords (due : Due) (ended : ReplaceEnd) : Type 0 where
     pub untouched : due ≡ Nothing → (ended ≡ Larger) × (new ≡ old)
-    pub moments : (all pending : List (List ℕ)) → Keeps (seen old).images place due all pending → EachMoment seen old new (StandsFor all pending)
+    pub moments : (all pending : List (List ℕ)) → Keeps (seen old).images place due all pending → EachMoment seen old new (HoldsRecords all pending)
 
   pub record Replaces (due : Due) (area : List (List ℕ)) (ended : ReplaceEnd) : Type 0 where
     pub comes : Comes ((all pending : List (List ℕ)) → Keeps (seen old).images place due all pending → HasAlone (seen new).images all) area ended
     pub moments : (all pending : List (List ℕ)) → Keeps (seen old).images place due all pending → Moves all pending area
-    pub larger : place < place_behind area → Leaves due ended
+    pub larger : place < place_behind area → LeavesRecords due ended
     pub later : (seen old).faults ≤ (seen new).faults

@@ -7,25 +7,25 @@ ghost use Rattle.journal.specs.declared.opening.OpenFault.{OpenFault};
 ghost use Rattle.journal.specs.declared.opening.OpenFault.TheVariants.{Disk as DiskFault};
 ghost use Rattle.journal.specs.Format.{decode, empty_journal, place_behind};
 ghost use Rattle.journal.specs.Journals.{KeepsRecords};
-ghost use Rattle.journal.specs.Kept.{EndsClosed, KeepsSome, Settled, StandsFor, StandsForOneOf, StillKeeps, payloads};
+ghost use Rattle.journal.specs.KeptRecords.{EndsClosed, HoldsRecords, HoldsRecordsOfOne, KeepsSome, Settled, StillKeeps, payloads};
 ghost use Rattle.journal.specs.Moments.{DecodesAs, Turned, Turns};
 ghost use Rattle.journal.specs.Replacements.{HasAlone, Replaces};
 
 use crate::appends::append_frame;
-use crate::areas::Area;
+use crate::appends::frames::Frame;
 use crate::dues::Due;
-use crate::frames::Frame;
 use crate::mends::mend_due;
 use crate::opening::{OpenFault, take_up};
 use crate::reading::Records;
+use crate::replacing::areas::Area;
 use crate::replacing::{ReplaceEnd, replace_records};
 use disk_model::{Disk, Failed, MOST_BYTES};
 use std::alloc::Global;
 use std::marker::Model;
 
-/// A journal over a disk. Contracts see the disk, the place of the gate behind the last record, and what
-/// a mend has to do. The records themselves are known from the images of the disk: each clause speaks of
-/// whatever list of records the disk keeps, with the payload that may be pending.
+/// A journal over a disk. Contracts see the disk, the place of the gate behind the last record, and
+/// what a mend has to do. The records themselves are known from the images of the disk: each clause
+/// speaks of whatever list of records the disk keeps, with the payload that may be pending.
 #[derive(Drop)]
 pub struct Journal<D: Disk> {
     disk: D,
@@ -35,7 +35,7 @@ pub struct Journal<D: Disk> {
 
 impl<D: Disk> Model for Journal<D> {
     ghost use Rattle.std.specs.Prelude.{◌<◌, ◌^◌};
-    ghost use Rattle.journal.specs.Kept.{Kept};
+    ghost use Rattle.journal.specs.KeptRecords.{KeepsAny};
     ghost use Rattle.journal.specs.Journals.{JournalState};
 
     ghost Value = { JournalState D };
@@ -44,13 +44,13 @@ impl<D: Disk> Model for Journal<D> {
         record { disk = journal.disk; place = journal.place; due = journal.due } };
 
     ghost invariant = { λ journal. (journal.place < 2 ^ 40)
-        × Kept (D.seen journal.disk).images journal.place journal.due };
+        × KeepsAny (D.seen journal.disk).images journal.place journal.due };
 }
 
 impl<D: Disk> Journal<D> {
-    /// Reads the records of a disk and mends its end. A disk with no more bytes than a header and a gate
-    /// becomes an empty journal. One that is no journal is left as it is. A disk of 2^39 bytes and more
-    /// finds no memory.
+    /// Reads the records of a disk and mends its end. A disk with no more bytes than a header and a
+    /// gate becomes an empty journal. One that is no journal is left as it is. A disk of 2^39 bytes
+    /// and more finds no memory.
     pub fn open(alloc: Global, disk: D) -> Result<(Journal<D>, Vec<Vec<u8>>), (D, OpenFault)>
         ensures read { IfOk result (λ opened.
             IfSome (D.seen disk).content (λ bytes. decode bytes ≡ Some (payloads opened.1.items))) }
@@ -91,8 +91,8 @@ impl<D: Disk> Journal<D> {
         }
     }
 
-    /// Adds a frame's record, and acknowledges it by Ok. Where the last append or mend failed it mends
-    /// first. It takes no memory.
+    /// Adds a frame's record, and acknowledges it by Ok. Where the last append or mend failed it
+    /// mends first. It takes no memory.
     pub fn append(&mut self, frame: &Frame) -> Result<(), Failed>
         requires { self.old.place + 6 + length frame.now ≤ 2 ^ 40 }
         ensures added { OnOk result ((all pending : List (List ℕ))
@@ -108,7 +108,8 @@ impl<D: Disk> Journal<D> {
             all pending frame.now) }
         ensures any_moment { (all pending : List (List ℕ))
             → KeepsRecords D.seen self.old all pending
-            → EachMoment D.seen self.old.disk self.new.disk (StandsForOneOf all pending frame.now) }
+            → EachMoment D.seen self.old.disk self.new.disk
+            (HoldsRecordsOfOne all pending frame.now) }
         ensures cause { HasCause (D.seen self.old.disk).faults (D.seen self.new.disk).faults
             result }
     {
@@ -133,15 +134,15 @@ impl<D: Disk> Journal<D> {
             → KeepsSome (D.seen self.new.disk).images self.new.place self.new.due all pending }
         ensures any_moment { (all pending : List (List ℕ))
             → KeepsRecords D.seen self.old all pending
-            → EachMoment D.seen self.old.disk self.new.disk (StandsFor all pending) }
+            → EachMoment D.seen self.old.disk self.new.disk (HoldsRecords all pending) }
         ensures cause { HasCause (D.seen self.old.disk).faults (D.seen self.new.disk).faults
             result }
     {
         mend_due(&mut self.disk, self.place, &mut self.due)
     }
 
-    /// Puts the records of an area in the place of all others, where they take no more room. Where the last
-    /// append or mend failed it mends first. It takes no memory.
+    /// Puts the records of an area in the place of all others, where they take no more room. Where
+    /// the last append or mend failed it mends first. It takes no memory.
     pub fn replace(self, area: Area) -> (D, ReplaceEnd)
         requires { 2 * (self.place + 1) ≤ 2 ^ 40 }
         ensures { Replaces D.seen self.disk result.0 self.place self.due area result.1 }
@@ -153,10 +154,12 @@ impl<D: Disk> Journal<D> {
         (disk, end)
     }
 
-    /// What a journal keeps is what each image of its disk gives; the place follows from the payloads.
+    /// What a journal keeps is what each image of its disk gives; the place follows from the
+    /// payloads.
     pub fn stands(&self)
         ensures stands { (all pending : List (List ℕ)) → KeepsRecords D.seen self.now all pending
-            → (image : List ℕ) → (D.seen self.now.disk).images image → StandsFor all pending image }
+            → (image : List ℕ) → (D.seen self.now.disk).images image
+            → HoldsRecords all pending image }
         ensures alone { (all : List (List ℕ))
             → Settled (D.seen self.now.disk).images self.now.place all
             → (image : List ℕ) → (D.seen self.now.disk).images image → decode image ≡ Some all }
@@ -182,7 +185,8 @@ impl<D: Disk> Journal<D> {
         self.due != Due::Nothing
     }
 
-    /// Whether a frame's record can be added: with it the journal has at most `MOST_BYTES` of the disk.
+    /// Whether a frame's record can be added: with it the journal has at most `MOST_BYTES` of the
+    /// disk.
     pub fn has_room(&self, frame: &Frame) -> bool
         ensures { (result ≡ true → self.now.place + 6 + length frame.now ≤ 2 ^ 40)
             × (self.now.place + 6 + length frame.now ≤ 2 ^ 40 → result ≡ true) }

@@ -1,5 +1,5 @@
-//! Opening a journal. The bytes are read whole, at once; what a crash left behind the last whole record
-//! is mended. Bytes that are no journal are left as they are.
+//! Opening a journal. The bytes are read whole, at once; what a crash left behind the last whole
+//! record is mended. Bytes that are no journal are left as they are.
 ghost use Rattle.std.specs.Prelude.{◌≡◌, ◌≢◌, ℕ, ◌+◌, ◌≤◌, ◌<◌, ◌^◌, [], List, None, Some, length, take, true, IfErr, IfOk, IfSome, OnOk, nat_eq};
 ghost use Rattle.std.specs.List.{starts_with};
 ghost use Rattle.decimal_rank.specs.Causes.{HasCause, Rose};
@@ -7,14 +7,14 @@ ghost use Rattle.disk_model.specs.Disks.{EachMoment, NoFurther};
 ghost use Rattle.journal.specs.declared.opening.OpenFault.{OpenFault};
 ghost use Rattle.journal.specs.declared.opening.OpenFault.TheVariants.{Disk as DiskFault, Memory as MemoryFault};
 ghost use Rattle.journal.specs.Format.{decode, empty_journal, mark, state_byte};
-ghost use Rattle.journal.specs.Kept.{Settled, payloads};
+ghost use Rattle.journal.specs.KeptRecords.{Settled, payloads};
 ghost use Rattle.journal.specs.Moments.{DecodesAs, Turned, Turns};
 
-use crate::areas::area_of;
 use crate::layout::{EMPTY_JOURNAL, HEADER_LENGTH, MOST_OPENED, MOVING, STATE_PLACE};
 use crate::mends::mend_due;
-use crate::moves::settle;
 use crate::reading::{Records, behind, due_at, has_mark, read_records, told_place_of};
+use crate::replacing::areas::area_of;
+use crate::replacing::moves::settle;
 use decimal_rank::Memory;
 use disk_model::{Disk, Failed};
 use std::alloc::Global;
@@ -45,8 +45,8 @@ impl From<Memory> for OpenFault {
     }
 }
 
-/// Reads a journal's records and mends it; a disk with fewer bytes than a record takes becomes an empty
-/// journal.
+/// Reads a journal's records and mends it; a disk with fewer bytes than a record takes becomes an
+/// empty journal.
 pub(crate) fn take_up<D: Disk>(alloc: Global, disk: &mut D) -> Result<Records, OpenFault>
     ensures read { IfOk result (λ found. IfSome (D.seen disk.old).content
         (λ bytes. decode bytes ≡ Some (payloads found.payloads.items))) }
@@ -130,8 +130,8 @@ fn found<D: Disk>(disk: &mut D) -> Result<(), Failed>
     Ok(())
 }
 
-// Reads the records of these bytes, which are the only ones that a crash leaves, and mends their end; or
-// moves them on where they were being moved.
+// Reads the records of these bytes, which are the only ones that a crash leaves, and mends their
+// end; or moves them on where they were being moved.
 fn reopen<D: Disk>(alloc: Global, disk: &mut D, bytes: &[u8]) -> Result<Records, OpenFault>
     requires alone { (image : List ℕ) → (D.seen disk.old).images image → image ≡ bytes.now }
     requires long { 17 < length bytes.now }

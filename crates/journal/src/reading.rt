@@ -1,9 +1,10 @@
-//! The records of a journal's bytes: record after record up to the first that is closed or isn't whole.
+//! The records of a journal's bytes: record after record up to the first that is closed or isn't
+//! whole.
 ghost use Rattle.std.specs.Prelude.{◌≡◌, ℕ, ◌+◌, ◌≤◌, ◌<◌, ◌∷◌, ◌++◌, [], false, true, List, Some, length, take, drop, IfSome, IfNone, IfOk, nat_eq};
 ghost use Rattle.std.specs.Int.{from_le_bytes, w32, w64};
 ghost use Rattle.std.specs.List.{starts_with};
 ghost use Rattle.journal.specs.Format.{is_whole, mark, records, told_length, told_place};
-ghost use Rattle.journal.specs.Kept.{AreRecords, DueAt, IsRecord, payloads};
+ghost use Rattle.journal.specs.KeptRecords.{AreRecords, DueAt, IsRecord, payloads};
 
 use crate::dues::Due;
 use crate::layout::{HEADER_LENGTH, LENGTH_BYTES, MARK, OPEN, TOLD_PLACE};

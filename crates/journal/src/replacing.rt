@@ -1,14 +1,17 @@
-//! Records in the place of all that a journal has: what is due is mended, and those that take no more room
-//! are moved in.
+//! Records in the place of all that a journal has: what is due is mended, and those that take no
+//! more room are moved in.
 ghost use Rattle.std.specs.Prelude.{◌≡◌, ℕ, ◌+◌, ◌*◌, ◌≤◌, ◌^◌, List};
-ghost use Rattle.journal.specs.Kept.{HasSettled, Kept};
+ghost use Rattle.journal.specs.KeptRecords.{HasSettled, KeepsAny};
 ghost use Rattle.journal.specs.MovedAreas.{IsArea};
 ghost use Rattle.journal.specs.Replacements.{Puts, Replaces};
+
+pub(crate) mod areas;
+pub(crate) mod moves;
 
 use crate::dues::Due;
 use crate::layout::HEADER_LENGTH;
 use crate::mends::mend_first;
-use crate::moves::move_in;
+use crate::replacing::moves::move_in;
 use disk_model::{Disk, Failed};
 
 /// What replacing a journal's records came to.
@@ -28,7 +31,7 @@ pub(crate) fn replace_records<D: Disk>(
     due: &mut Due,
     area: &[u8],
 ) -> ReplaceEnd
-    requires kept { Kept (D.seen disk.old).images place due.old }
+    requires kept { KeepsAny (D.seen disk.old).images place due.old }
     requires area { (all : List (List ℕ)) × IsArea area.now all }
     requires room { 2 * (place + 1) ≤ 2 ^ 40 }
     ensures { (all : List (List ℕ)) → IsArea area.now all

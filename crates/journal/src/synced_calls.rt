@@ -1,5 +1,5 @@
-//! A write and a cut that are synced at once: after Ok each image is an old one with all of it done, and
-//! before that one with all, a part or nothing of it done.
+//! A write and a cut that are synced at once: after Ok each image is an old one with all of it
+//! done, and before that one with all, a part or nothing of it done.
 ghost use Rattle.std.specs.Prelude.{◌≡◌, ℕ, ◌+◌, ◌≤◌, ◌^◌, List, length, take, OnOk};
 ghost use Rattle.decimal_rank.specs.Causes.{HasCause};
 ghost use Rattle.disk_model.specs.Disks.{CutShort, EachMoment, Follows, Torn, written};

@@ -1,6 +1,6 @@
-//! Adds records to a journal, each synced before the next. Usage: `journal_log FILE RECORDS BYTES`; a
-//! file `-` stands for a disk in memory. It prints how many records the journal had, and how many more
-//! of so many bytes it has now.
+//! Adds records to a journal, each synced before the next. Usage: `journal_log FILE RECORDS BYTES`;
+//! a file `-` stands for a disk in memory. It prints how many records the journal had, and how many
+//! more of so many bytes it has now.
 #![tactic(auto)]
 
 ghost use Rattle.std.specs.Prelude.{◌≤◌, ◌^◌, IfSome};

@@ -1,5 +1,5 @@
-//! Images that a stop in a call of the disk may leave: the bytes of the last sync, with others wherever
-//! something was written or cut off since.
+//! Images that a stop in a call of the disk may leave: the bytes of the last sync, with others
+//! wherever something was written or cut off since.
 use crate::openings::text_and_rest;
 use disk_model::DiskCall;
 use std::alloc::Global;
@@ -32,8 +32,8 @@ struct Replayed {
     same: Vec<bool>,
 }
 
-/// The texts of records that the images at each moment of these calls give, each once and with a line's
-/// end, in the order in which they come.
+/// The texts of records that the images at each moment of these calls give, each once and with a
+/// line's end, in the order in which they come.
 pub(crate) fn texts_given(
     alloc: Global,
     start: &[u8],

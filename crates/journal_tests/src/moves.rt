@@ -1,5 +1,5 @@
-//! Tries records that take the place of a journal's: how many bytes they may have, each call of a move
-//! failing, and a mend that is due before it.
+//! Tries records that take the place of a journal's: how many bytes they may have, each call of a
+//! move failing, and a mend that is due before it.
 use crate::openings::{WHOLE, append, open_copy, text_and_rest};
 use disk_model::MemoryDisk;
 use journal::{Area, Journal, ReplaceEnd};
@@ -117,7 +117,8 @@ fn a_move_that_failed_at_a_call_is_undone_or_goes_on(rt: HostRuntime) -> Result<
     Ok(())
 }
 
-// What a replacement comes to behind an append that failed at its last call, where this call fails too.
+// What a replacement comes to behind an append that failed at its last call, where this call fails
+// too.
 fn replaced_behind_a_fault(
     alloc: Global,
     fail: u64,

@@ -1,5 +1,5 @@
-//! Tries what a stop in each call of the disk leaves: of an opening that founds a journal, an append, a mend
-//! and a move.
+//! Tries what a stop in each call of the disk leaves: of an opening that founds a journal, an
+//! append, a mend and a move.
 use crate::images::texts_given;
 use crate::moves::replaced_where;
 use crate::openings::{WHOLE, append, open_copy, text_and_rest};
@@ -82,8 +82,8 @@ fn a_stop_in_an_opening_that_founds_leaves_no_record(rt: HostRuntime) -> Result<
     Ok(())
 }
 
-// Whether a mend is made where this call failed in an append before it and that one fails in it, whether
-// it is due then, whether the next one is made, and what is left.
+// Whether a mend is made where this call failed in an append before it and that one fails in it,
+// whether it is due then, whether the next one is made, and what is left.
 fn mended(
     alloc: Global,
     first: u64,

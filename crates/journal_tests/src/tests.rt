@@ -1,5 +1,5 @@
-//! Tries journals on a disk in memory: begun on an empty disk, cut at any byte, with other bytes behind or within, and
-//! mended after an append that failed.
+//! Tries journals on a disk in memory: begun on an empty disk, cut at any byte, with other bytes
+//! behind or within, and mended after an append that failed.
 use crate::openings::{WHOLE, append, open_copy};
 use journal::{Failed, OpenFault};
 use std::alloc::Global;
@@ -142,8 +142,8 @@ fn other_bytes_are_refused_or_mended(rt: HostRuntime) -> Result<(), Fail> {
     Ok(())
 }
 
-// What an append leaves of two records, and how many calls were done, where this call of the disk fails
-// in the append before it.
+// What an append leaves of two records, and how many calls were done, where this call of the disk
+// fails in the append before it.
 fn after_fault(alloc: Global, failing: u64) -> Result<Option<(Vec<u8>, usize)>, Fail> {
     match open_copy(alloc, &WHOLE, vec![in alloc; failing]?)? {
         Ok((mut journal, _records)) => {

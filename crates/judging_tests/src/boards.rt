@@ -1,6 +1,12 @@
-//! Tried are boards: the cell, the summary and the rankings of a run after each list, withdrawal and grade.
+//! Tried are boards: the cell, the summary and the rankings of a run after each list, withdrawal
+//! and grade.
+
+mod board_courses;
+mod plain_cells;
+mod scored_board;
+
+use crate::boards::scored_board::Scored;
 use crate::letters::{A, B, C, D, E, F};
-use crate::scored_board::Scored;
 use decimal_rank::ONE;
 use measures::Summary;
 use std::alloc::Global;

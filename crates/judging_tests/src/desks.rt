@@ -1,4 +1,5 @@
-//! Tried are the live leases of a document, assessor and topic, and leases by number, also against a walk over all.
+//! Tried are the live leases of a document, assessor and topic, and leases by number, also against
+//! a walk over all.
 use decimal_rank::{DocId, Text};
 use lease_desk::{Desk, LeaseEnd};
 use rand_core::Rng;
@@ -13,7 +14,8 @@ const Q: u8 = b'q';
 
 const R: u8 = b'r';
 
-// Grants a lease to an assessor of one letter, and tells its number: none where the desk has a thousand.
+// Grants a lease to an assessor of one letter, and tells its number: none where the desk has a
+// thousand.
 fn grant(
     alloc: Global,
     desk: &mut Desk,

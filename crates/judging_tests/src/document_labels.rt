@@ -1,6 +1,7 @@
-//! Tried are the labels and effective grades of one document, and those of three documents of a topic.
+//! Tried are the labels and effective grades of one document, and those of three documents of a
+//! topic.
 use decimal_rank::{DocId, Text};
-use labels::{Labels, Marks};
+use labels::{Labels, TopicLabels};
 use std::alloc::Global;
 use std::process::Abort;
 use std::test::Fail;
@@ -148,26 +149,26 @@ fn the_grades_of_the_first_two_assessors(rt: HostRuntime) -> Result<(), Fail> {
 
 // What happens to a document of a topic.
 #[derive(Drop)]
-enum Mark {
+enum LabelStep {
     // an assessor's grade
     Set(u32, &'static [u8], u8),
     Rule(u32, u8),
 }
 
 // Marks a document. False where a ruling comes before the first label.
-fn play_at(alloc: Global, marks: &mut Marks, mark: &Mark) -> Result<bool, Fail> {
+fn play_at(alloc: Global, marks: &mut TopicLabels, mark: &LabelStep) -> Result<bool, Fail> {
     match mark {
-        Mark::Set(doc, assessor, grade) => {
+        LabelStep::Set(doc, assessor, grade) => {
             set_at(alloc, marks, DocId(*doc), assessor, *grade)?;
             Ok(true)
         }
-        Mark::Rule(doc, grade) => Ok(rule_at(marks, DocId(*doc), *grade)),
+        LabelStep::Rule(doc, grade) => Ok(rule_at(marks, DocId(*doc), *grade)),
     }
 }
 
 fn set_at(
     alloc: Global,
-    marks: &mut Marks,
+    marks: &mut TopicLabels,
     doc: DocId,
     assessor: &[u8],
     grade: u8,
@@ -180,7 +181,7 @@ fn set_at(
     Ok(())
 }
 
-fn rule_at(marks: &mut Marks, doc: DocId, grade: u8) -> bool {
+fn rule_at(marks: &mut TopicLabels, doc: DocId, grade: u8) -> bool {
     let is_marked = marks.count(doc) > 0;
     if is_marked {
         marks.rule(doc, grade);
@@ -194,30 +195,30 @@ const B: u32 = 2;
 
 const C: u32 = 9;
 
-// Marks of three documents, after each of which: the document, its labels, its effective grade where
-// two labels are needed, and the documents that show a disagreement.
-type Row = (Mark, u32, u32, Option<u8>, &'static [DocId]);
+// Marks of three documents, after each of which: the document, its labels, its effective grade
+// where two labels are needed, and the documents that show a disagreement.
+type Row = (LabelStep, u32, u32, Option<u8>, &'static [DocId]);
 
 fn rows() -> [Row; 9] {
     [
-        (Mark::Set(B, P, 1), B, 1, None, &[]),
-        (Mark::Set(A, P, 1), A, 1, None, &[]),
-        (Mark::Set(A, Q, 2), A, 2, None, &[DocId(A)]),
+        (LabelStep::Set(B, P, 1), B, 1, None, &[]),
+        (LabelStep::Set(A, P, 1), A, 1, None, &[]),
+        (LabelStep::Set(A, Q, 2), A, 2, None, &[DocId(A)]),
         // the order is that of the first labels
-        (Mark::Set(B, Q, 0), B, 2, None, &[DocId(B), DocId(A)]),
-        (Mark::Rule(B, 3), B, 2, Some(3), &[DocId(A)]),
+        (LabelStep::Set(B, Q, 0), B, 2, None, &[DocId(B), DocId(A)]),
+        (LabelStep::Rule(B, 3), B, 2, Some(3), &[DocId(A)]),
         // a label in place of the assessor's earlier one
-        (Mark::Set(A, Q, 1), A, 2, Some(1), &[]),
-        (Mark::Set(A, P, 0), A, 2, None, &[DocId(A)]),
-        (Mark::Set(B, P, 2), B, 2, Some(3), &[DocId(A)]),
-        (Mark::Set(A, R, 0), A, 3, None, &[]),
+        (LabelStep::Set(A, Q, 1), A, 2, Some(1), &[]),
+        (LabelStep::Set(A, P, 0), A, 2, None, &[DocId(A)]),
+        (LabelStep::Set(B, P, 2), B, 2, Some(3), &[DocId(A)]),
+        (LabelStep::Set(A, R, 0), A, 3, None, &[]),
     ]
 }
 
 #[test]
 fn the_marks_of_three_documents(rt: HostRuntime) -> Result<(), Fail> {
     let alloc = rt.alloc();
-    let mut marks = Marks::new(alloc);
+    let mut marks = TopicLabels::new(alloc);
     for (call, doc, count, effective, disagreements) in rows() {
         assert!(rt; play_at(alloc, &mut marks, &call)?);
         assert_eq!(rt; marks.count(DocId(doc)), count);
@@ -233,12 +234,12 @@ fn the_marks_of_three_documents(rt: HostRuntime) -> Result<(), Fail> {
 #[test]
 fn the_label_of_each_assessor_of_each_document(rt: HostRuntime) -> Result<(), Fail> {
     let alloc = rt.alloc();
-    let mut marks = Marks::new(alloc);
+    let mut marks = TopicLabels::new(alloc);
     let calls = [
-        Mark::Set(A, P, 1),
-        Mark::Set(B, Q, 2),
-        Mark::Rule(A, 3),
-        Mark::Set(A, P, 0),
+        LabelStep::Set(A, P, 1),
+        LabelStep::Set(B, Q, 2),
+        LabelStep::Rule(A, 3),
+        LabelStep::Set(A, P, 0),
     ];
     for call in &calls {
         assert!(rt; play_at(alloc, &mut marks, call)?);
@@ -264,12 +265,16 @@ fn the_label_of_each_assessor_of_each_document(rt: HostRuntime) -> Result<(), Fa
 
 #[test]
 fn the_documents_with_a_label(rt: HostRuntime) -> Result<(), Fail> {
-    let mut marks = Marks::new(rt.alloc());
+    let mut marks = TopicLabels::new(rt.alloc());
     expect_labelled(&rt, rt.alloc(), &mut marks)
 }
 
-fn expect_labelled(rt: &impl Abort, alloc: Global, marks: &mut Marks) -> Result<(), Fail> {
-    for call in [Mark::Set(A, P, 1), Mark::Set(B, Q, 2), Mark::Set(A, P, 0)] {
+fn expect_labelled(rt: &impl Abort, alloc: Global, marks: &mut TopicLabels) -> Result<(), Fail> {
+    for call in [
+        LabelStep::Set(A, P, 1),
+        LabelStep::Set(B, Q, 2),
+        LabelStep::Set(A, P, 0),
+    ] {
         assert!(rt; play_at(alloc, marks, &call)?);
     }
     let labelled: &[DocId] = &[DocId(A), DocId(B)];

@@ -1,9 +1,8 @@
-//! Tests of pools, labels, effective grades, measures and their lines; and of the board of scores, the desk of leases
-//! and the judging order, each also along random courses against what is worked out from nothing.
+//! Tests of pools, labels, effective grades, measures and their lines; and of the board of scores,
+//! the desk of leases and the judging order, each also along random courses against what is worked
+//! out from nothing.
 #![tactic(auto)]
 
-#[cfg(test)]
-mod board_courses;
 #[cfg(test)]
 mod boards;
 #[cfg(test)]
@@ -15,14 +14,10 @@ mod graded_views;
 #[cfg(test)]
 mod letters;
 #[cfg(test)]
-mod plain_cells;
-#[cfg(test)]
 mod queued_topics;
 #[cfg(test)]
 mod queues;
 #[cfg(test)]
 mod run_measures;
-#[cfg(test)]
-mod scored_board;
 #[cfg(test)]
 mod topic_pools;

@@ -1,7 +1,7 @@
 //! A topic of the tests, with its pool, its queue and the queue's trail.
 ghost use Rattle.std.specs.Prelude.{◌≡◌, ◌+◌, ◌<◌, ◌≤◌, ◌∷◌, [], ◌++◌, false, All, Contains, IfOk, IsTrue, Some, length, take};
 ghost use Rattle.std.specs.Bool.{OnFalse, OnTrue};
-ghost use Rattle.decimal_rank.specs.Places.{AreDistinct};
+ghost use Rattle.decimal_rank.specs.Rankings.Places.{AreDistinct};
 ghost use Rattle.depth_pool.specs.Holdings.{has_run, with_run, without_run};
 ghost use Rattle.mtf_queue.specs.Rule.{IsInOrder};
 
@@ -18,7 +18,7 @@ pub(crate) const DOCS: u32 = 12;
 
 /// A topic of the tests. Contracts see the queue's order.
 #[derive(Drop)]
-pub(crate) struct Topic {
+pub(crate) struct QueuedTopic {
     pool: Pool,
     queue: Queue,
     // the queue's trail
@@ -27,21 +27,22 @@ pub(crate) struct Topic {
     next: u16,
 }
 
-impl Model for Topic {
+impl Model for QueuedTopic {
     ghost use Rattle.std.specs.Prelude.{List};
     ghost use Rattle.depth_pool.specs.declared.runs.RunId.{RunId};
-    ghost use Rattle.judging_tests.specs.QueuedTopics.{IsPlayed};
+    ghost use Rattle.judging_tests.specs.QueuedTopics.{IsTopicPlayed};
 
     ghost Value = { List RunId };
 
     ghost view = { λ topic. topic.queue.order };
 
-    ghost invariant = { λ topic. IsPlayed topic.pool.runs topic.queue topic.trail.items topic.next };
+    ghost invariant = { λ topic.
+        IsTopicPlayed topic.pool.runs topic.queue topic.trail.items topic.next };
 }
 
-impl Topic {
-    pub(crate) fn new(alloc: Global) -> Topic {
-        Topic {
+impl QueuedTopic {
+    pub(crate) fn new(alloc: Global) -> QueuedTopic {
+        QueuedTopic {
             pool: Pool::new(alloc, DOCS),
             queue: Queue::new(alloc),
             trail: Vec::new(alloc),
@@ -111,7 +112,8 @@ fn add(pool: &mut Pool, queue: &mut Queue, run: RunId, ranking: &Ranking)
     requires in_order { IsInOrder pool.old.runs queue.old.trail queue.old.order }
     ensures in_order { IsInOrder pool.new.runs queue.new.trail queue.new.order }
     ensures trail { queue.new.trail ≡ queue.old.trail }
-    ensures runs { pool.new.runs ≡ with_run (record { run = run; docs = take pool.old.depth ranking.now }) pool.old.runs }
+    ensures runs { pool.new.runs
+        ≡ with_run (record { run = run; docs = take pool.old.depth ranking.now }) pool.old.runs }
 {
     pool.add_run(run, ranking);
     order_outlasts_other_runs();
@@ -146,7 +148,8 @@ fn judge_counted<L: Ledger>(
     requires is_new { All (λ judged. ¬ (judged.doc ≡ doc)) queue.old.trail }
     requires in_order { IsInOrder pool.now.runs queue.old.trail queue.old.order }
     ensures in_order { IsInOrder pool.now.runs queue.new.trail queue.new.order }
-    ensures trail { queue.new.trail ≡ queue.old.trail ++ record { doc = doc; relevant = Some relevant } ∷ [] }
+    ensures trail { queue.new.trail
+        ≡ queue.old.trail ++ record { doc = doc; relevant = Some relevant } ∷ [] }
 {
     let mut steps = Steps::<L>::new(blank);
     queue.judge(doc, relevant, pool, &mut steps);

@@ -1,6 +1,6 @@
 //! Tried is the order of a queue after each call, and after random courses against the rule itself.
 use crate::letters::{A, B, C, D, E, F, G};
-use crate::queued_topics::{DOCS, Topic};
+use crate::queued_topics::{DOCS, QueuedTopic};
 use decimal_rank::DocId;
 use depth_pool::RunId;
 use mtf_queue::Judged;
@@ -20,7 +20,7 @@ enum Call {
 }
 
 // Whether the call's conditions held.
-fn play(alloc: Global, topic: &mut Topic, call: &Call) -> Result<bool, Fail> {
+fn play(alloc: Global, topic: &mut QueuedTopic, call: &Call) -> Result<bool, Fail> {
     match call {
         Call::Submit(docs) => {
             topic.submit(alloc, docs)?;
@@ -64,7 +64,7 @@ fn the_order_after_each_call(rt: HostRuntime) -> Result<(), Fail> {
         ],
     ];
     for row in rows {
-        let mut topic = Topic::new(alloc);
+        let mut topic = QueuedTopic::new(alloc);
         expect_orders(&rt, alloc, &mut topic, row)?;
     }
     Ok(())
@@ -73,7 +73,7 @@ fn the_order_after_each_call(rt: HostRuntime) -> Result<(), Fail> {
 fn expect_orders(
     rt: &impl Abort,
     alloc: Global,
-    topic: &mut Topic,
+    topic: &mut QueuedTopic,
     row: &[(Call, &[RunId])],
 ) -> Result<(), Fail> {
     for (call, order) in row {
@@ -151,7 +151,7 @@ fn is_sorted(entrants: &[Entrant], trail: &[Judged], order: &[RunId]) -> bool {
 // One random step of a campaign.
 fn step(
     alloc: Global,
-    topic: &mut Topic,
+    topic: &mut QueuedTopic,
     entrants: &mut Vec<Entrant>,
     dice: &mut Pcg32,
 ) -> Result<(), Fail> {
@@ -196,7 +196,7 @@ fn step(
 fn random_campaigns_are_sorted_by_the_rule(rt: HostRuntime) -> Result<(), Fail> {
     let mut dice = Pcg32::new(2026, 0);
     for _ in 0..300 {
-        let mut topic = Topic::new(rt.alloc());
+        let mut topic = QueuedTopic::new(rt.alloc());
         play_campaign(&rt, rt.alloc(), &mut topic, &mut dice)?;
     }
     Ok(())
@@ -205,7 +205,7 @@ fn random_campaigns_are_sorted_by_the_rule(rt: HostRuntime) -> Result<(), Fail> 
 fn play_campaign(
     rt: &impl Abort,
     alloc: Global,
-    topic: &mut Topic,
+    topic: &mut QueuedTopic,
     dice: &mut Pcg32,
 ) -> Result<(), Fail> {
     let mut entrants = Vec::new(alloc);

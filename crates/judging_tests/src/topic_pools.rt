@@ -1,4 +1,5 @@
-//! Tried is what a pool and its runs hold, whatever the order of the runs, and after one is dropped.
+//! Tried is what a pool and its runs hold, whatever the order of the runs, and after one is
+//! dropped.
 ghost use Rattle.std.specs.Prelude.{◌≡◌, ◌≢◌, ◌<◌, [], ◌∷◌, false, true, List, All, IfOk, OnOk, length};
 ghost use Rattle.decimal_rank.specs.declared.naming.DocId.{DocId};
 ghost use Rattle.depth_pool.specs.Holdings.{KeepsOthers, has_run};

@@ -1,6 +1,6 @@
-pub mod Agreeing
-pub mod Disagreeing
+pub mod AgreeingLabels
+pub mod DisagreeingDocs
 pub mod Documents
 pub mod Entries
-pub mod Meaning
-pub mod Setting
+pub mod GradeMeanings
+pub mod SetLabels

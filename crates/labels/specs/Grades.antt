@@ -13,10 +13,10 @@ abbrev pub effective_grade : ℕ → List ℕ → Option ℕ → Option ℕ
 effective_grade need grades ruling = option_or ruling (common_grade need grades)
 
 -- whether these are two grades, and differ
-abbrev pub differ : List ℕ → Bool
-differ (first ∷ second ∷ []) = not (first == second)
-differ _ = false
+abbrev pub grades_differ : List ℕ → Bool
+grades_differ (first ∷ second ∷ []) = not (first == second)
+grades_differ _ = false
 
 -- two labels that differ, where two are needed, and no ruling
 abbrev pub shows_disagreement : ℕ → List ℕ → Option ℕ → Bool
-shows_disagreement need grades ruling = (need == 2) && differ grades && is_none ruling
+shows_disagreement need grades ruling = (need == 2) && grades_differ grades && is_none ruling

@@ -1,4 +1,4 @@
 pub mod Grades
-pub mod Labelled
-pub mod Marked
-pub mod Markings
+pub mod DocumentLabels
+pub mod LabelledDocuments
+pub mod TopicLabelViews

@@ -1,7 +1,7 @@
 //! The labels of one document: a grade of each assessor, the last ruling, and the effective grade.
 ghost use Rattle.std.specs.Prelude.{◌≡◌, ◌+◌, ◌<◌, ◌≤◌, ◌^◌, ◌-◌, ◌∷◌, [], None, Some, OnOk, length, slice_get};
 ghost use Rattle.labels.specs.Grades.{effective_grade, shows_disagreement};
-ghost use Rattle.labels.specs.Labelled.{IsOncePerAssessor, grades_of, label_of, with_label};
+ghost use Rattle.labels.specs.DocumentLabels.{IsOncePerAssessor, grades_of, label_grade, with_label};
 
 use crate::given::{Given, are_two_that_differ, common, grade_at, place_of};
 use decimal_rank::{Memory, Text};
@@ -18,13 +18,18 @@ pub struct Labels {
 
 impl Model for Labels {
     ghost use Rattle.std.specs.Prelude.{◌-◌, ◌<◌, ◌^◌, vec_len, vec_capacity};
-    ghost use Rattle.labels.specs.Labelled.{Labelled, IsOncePerAssessor};
+    ghost use Rattle.labels.specs.DocumentLabels.{Labelled, IsOncePerAssessor};
 
     ghost Value = { Labelled };
 
-    ghost view = { λ labels. record { given = labels.given.items; ruling = labels.ruling; spare = vec_capacity labels.given - vec_len labels.given } };
+    ghost view = { λ labels. record {
+      given = labels.given.items;
+      ruling = labels.ruling;
+      spare = vec_capacity labels.given - vec_len labels.given;
+    } };
 
-    ghost invariant = { λ labels. (vec_len labels.given < 2 ^ 32) × IsOncePerAssessor labels.given.items };
+    ghost invariant = { λ labels. (vec_len labels.given < 2 ^ 32)
+        × IsOncePerAssessor labels.given.items };
 }
 
 impl Labels {
@@ -86,7 +91,7 @@ impl Labels {
 
     /// The grade of an assessor's label.
     pub fn grade_of(&self, assessor: &[u8]) -> Option<u8>
-        ensures { result ≡ label_of assessor.now self.now.given }
+        ensures { result ≡ label_grade assessor.now self.now.given }
     {
         let label = self
             .given
@@ -95,7 +100,8 @@ impl Labels {
         Some(label.grade)
     }
 
-    /// The grades of the first two assessors, in the order of their first labels: None where there is no such label.
+    /// The grades of the first two assessors, in the order of their first labels: None where there
+    /// is no such label.
     pub fn grades(&self) -> [Option<u8>; 2]
         ensures { let grades = grades_of self.now.given in
             result ≡ slice_get grades 0 ∷ slice_get grades 1 ∷ [] }

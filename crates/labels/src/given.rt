@@ -2,7 +2,7 @@
 ghost use Rattle.std.specs.Prelude.{◌≡◌, ◌==◌, map, position, slice_get};
 ghost use Rattle.std.specs.List.{list_all};
 ghost use Rattle.std.specs.Str.{bytes_eq};
-ghost use Rattle.labels.specs.Grades.{common_grade, differ};
+ghost use Rattle.labels.specs.Grades.{common_grade, grades_differ};
 
 use decimal_rank::Text;
 
@@ -50,7 +50,7 @@ fn is_each(given: &[Given], grade: u8) -> bool
 
 // Whether there are two labels, and they differ.
 pub(crate) fn are_two_that_differ(given: &[Given]) -> bool
-    ensures { result ≡ differ (map (λ label. label.grade) given.now) }
+    ensures { result ≡ grades_differ (map (λ label. label.grade) given.now) }
 {
     match given {
         [first, second] => first.grade != second.grade,

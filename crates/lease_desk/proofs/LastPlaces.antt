@@ -5,7 +5,8 @@ use Rattle.lease_desk.specs.Series.{last_of, last_place, up_to}
 -- ---- the last place
 
 -- an element behind the others
-pub last_place-push : {X : Type 0} (passes : X → Bool) (xs : List X) (x : X) → last_place passes (xs ++ x ∷ []) ≡ cond (passes x) (Some (length xs)) (last_place passes xs)
+pub last_place-push : {X : Type 0} (passes : X → Bool) (xs : List X) (x : X)
+    → last_place passes (xs ++ x ∷ []) ≡ cond (passes x) (Some (length xs)) (last_place passes xs)
 last_place-push passes [] x = none (passes x)
   where
     none : (t : Bool) → last_of None t ≡ cond t (Some 0) None
@@ -13,7 +14,8 @@ last_place-push passes [] x = none (passes x)
     none false = refl
 last_place-push passes (y ∷ ys) x = ap (λ place. last_of place (passes y)) (last_place-push passes ys x) ∙ step (passes x)
   where
-    step : (t : Bool) → last_of (cond t (Some (length ys)) (last_place passes ys)) (passes y) ≡ cond t (Some (length (y ∷ ys))) (last_of (last_place passes ys) (passes y))
+    step : (t : Bool) → last_of (cond t (Some (length ys)) (last_place passes ys)) (passes y)
+        ≡ cond t (Some (length (y ∷ ys))) (last_of (last_place passes ys) (passes y))
     step true = let e : length ys + 1 ≡ length (y ∷ ys) = omega arith in ap Option.Some e
     step false = refl
 
@@ -32,7 +34,8 @@ pub last_passes : {X : Type 0} (passes : X → Bool) (xs : List X) (place : ℕ)
 last_passes passes [] place d e = cc
 last_passes passes (x ∷ xs) place d e = step (last_place passes xs) (passes x) refl (λ i is. last_passes passes xs i d is) e
   where
-    step : (last : Option ℕ) (t : Bool) → passes x ≡ t → ((i : ℕ) → last ≡ Some i → passes (get_or xs i d) ≡ true) → last_of last t ≡ Some place → passes (get_or (x ∷ xs) place d) ≡ true
+    step : (last : Option ℕ) (t : Bool) → passes x ≡ t → ((i : ℕ) → last ≡ Some i → passes (get_or xs i d) ≡ true)
+        → last_of last t ≡ Some place → passes (get_or (x ∷ xs) place d) ≡ true
     step None true here rest at = let zero_is : 0 ≡ place = cc in subst (λ i. passes (get_or (x ∷ xs) i d) ≡ true) zero_is here
     step None false here rest at = cc
     step (Some i) t here rest at =

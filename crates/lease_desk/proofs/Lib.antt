@@ -1,7 +1,7 @@
-pub mod Asking
-pub mod Counting
-pub mod Ending
-pub mod Granting
-pub mod Keeping
+pub mod CountAnswers
+pub mod SeriesCounts
+pub mod LeaseEnds
+pub mod NextLeases
+pub mod DeskSteps
 pub mod LastPlaces
 pub mod Numbers

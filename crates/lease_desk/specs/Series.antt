@@ -3,7 +3,7 @@ use Rattle.std.specs.Prelude.{◌≡◌, ℕ, ◌+◌, ◌<◌, ◌≤◌, ◌�
 use Rattle.std.specs.Option.{option_map_or}
 use Rattle.lease_desk.specs.declared.series.Link.{Link}
 use Rattle.lease_desk.specs.declared.leases.Lease.{Lease}
-use Rattle.lease_desk.specs.Leases.{is_of}
+use Rattle.lease_desk.specs.Leases.{is_of_assessor}
 
 -- the place of the last element that passes, from the last one behind the first and from whether the first passes
 abbrev pub last_of : Option ℕ → Bool → Option ℕ
@@ -29,14 +29,17 @@ LeadEarlier links = (place : ℕ) (link : Link) → place < length links → up_
 pub record LeadsBack (passes : Lease → Bool) (leases : List Lease) (place : ℕ) (previous : Option ℕ) : Type 0 where
   pub earlier : up_to previous ≤ place
   pub passes_there : (there : ℕ) (lease : Lease) → previous ≡ Some there → passes (slice_index_or leases there lease) ≡ true
-  pub ended_between : (i : ℕ) (lease : Lease) → up_to previous ≤ i → i < place → passes (slice_index_or leases i lease) ≡ true → is_none (slice_index_or leases i lease).end ≡ false
+  pub ended_between : (i : ℕ) (lease : Lease) → up_to previous ≤ i → i < place → passes (slice_index_or leases i lease) ≡ true
+      → is_none (slice_index_or leases i lease).end ≡ false
 
--- the leases that pass a test, from the newest on: each one's link leads back past ended ones alone, and none of them up to it has a later `until` than the link
+-- the leases that pass a test, from the newest on: each one's link leads back past ended ones alone, and none of them
+-- up to it has a later `until` than the link
 pub record IsSeriesOf (passes : Lease → Bool) (leases : List Lease) (links : List Link) (newest : Option ℕ) : Type 0 where
   pub newest_is : newest ≡ last_place passes leases
   pub leads_back : (place : ℕ) (lease : Lease) (link : Link) → place < length leases → passes (slice_index_or leases place lease) ≡ true
       → LeadsBack passes leases place (slice_index_or links place link).previous
-  pub latest_is : (place earlier : ℕ) (lease : Lease) (link : Link) → place < length leases → earlier ≤ place → passes (slice_index_or leases place lease) ≡ true
+  pub latest_is : (place earlier : ℕ) (lease : Lease) (link : Link) → place < length leases
+      → earlier ≤ place → passes (slice_index_or leases place lease) ≡ true
       → passes (slice_index_or leases earlier lease) ≡ true → (slice_index_or leases earlier lease).until ≤ (slice_index_or links place link).latest_until
 
 -- one more link behind the others, which lead where they led: it leads back from the newest lease of its key
@@ -45,7 +48,8 @@ pub record HasLink (leases : List Lease) (old new : List Link) (newest : Option 
   pub previous_stays : (i : ℕ) (link : Link) → i < length old → (slice_index_or new i link).previous ≡ (slice_index_or old i link).previous
   pub latest_stays : (i : ℕ) (link : Link) → i < length old → (slice_index_or new i link).latest_until ≡ (slice_index_or old i link).latest_until
   pub latest_is : (link : Link) → (slice_index_or new (length old) link).latest_until ≡ latest_until
-  pub leads_back : (passes : Lease → Bool) → IsSeriesOf passes leases old newest → (link : Link) → LeadsBack passes leases (length old) (slice_index_or new (length old) link).previous
+  pub leads_back : (passes : Lease → Bool) → IsSeriesOf passes leases old newest → (link : Link)
+      → LeadsBack passes leases (length old) (slice_index_or new (length old) link).previous
 
 -- where a link led, or where that of a place leads if it led to the place
 abbrev pub IsPast : ℕ → Option ℕ → Option ℕ → Option ℕ → Type 0
@@ -55,7 +59,8 @@ IsPast place behind old new = (new ≡ old) ⊎ ((old ≡ Some place) × (new �
 pub record LeadPast (place : ℕ) (old new : List Link) : Type 0 where
   pub as_many : length new ≡ length old
   pub latest_stays : (i : ℕ) (link : Link) → (slice_index_or new i link).latest_until ≡ (slice_index_or old i link).latest_until
-  pub previous_is : (i : ℕ) (link : Link) → IsPast place (slice_index_or old place link).previous (slice_index_or old i link).previous (slice_index_or new i link).previous
+  pub previous_is : (i : ℕ) (link : Link)
+      → IsPast place (slice_index_or old place link).previous (slice_index_or old i link).previous (slice_index_or new i link).previous
 
 -- a series for each key
 pub record AreInSeries {K : Type 0} (same : K → K → Bool) (key_of : Lease → K) (leases : List Lease) (links : List Link) (newest : K → Option ℕ) : Type 0 where
@@ -70,7 +75,7 @@ latest_at links (Some place) = option_map_or (λ link. link.latest_until) (slice
 -- whether a lease is of the assessor that is asked for: of any, where none is
 abbrev pub is_asked : Option (List ℕ) → Lease → Bool
 is_asked None lease = true
-is_asked (Some assessor) lease = is_of assessor lease
+is_asked (Some assessor) lease = is_of_assessor assessor lease
 
 -- a document's key
 abbrev pub document_of : Lease → ℕ × ℕ

@@ -2,7 +2,7 @@
 ghost use Rattle.std.specs.Prelude.{◌≡◌, ◌+◌, ◌-◌, ◌<◌, ◌≤◌, ◌^◌, ◌&&◌, [], None, OnOk, count_by, length};
 ghost use Rattle.std.specs.Option.{IsSomeAnd, option_copied, option_map};
 ghost use Rattle.lease_desk.specs.Series.{document_of, is_asked, same_document};
-ghost use Rattle.lease_desk.specs.Leases.{AreNumbered, granted, has_live, is_live, lease_numbered, live_of, live_on, live_on_topic, with_end};
+ghost use Rattle.lease_desk.specs.Leases.{AreNumbered, desk_lease, has_live, is_lease_live, live_of, live_on, live_on_topic, with_end, with_grant};
 
 use crate::leases::{Lease, LeaseEnd};
 use crate::series::Series;
@@ -35,13 +35,17 @@ impl Model for Desk {
     ghost view = { λ desk. record {
       leases = desk.leases.items;
       spare = min (vec_capacity desk.leases - vec_len desk.leases)
-          (min (min (vec_capacity desk.assessors.links - vec_len desk.assessors.links) (spare desk.assessors.newest))
-          (min (min (vec_capacity desk.documents.links - vec_len desk.documents.links) (spare desk.documents.newest))
-          (min (vec_capacity desk.topics.links - vec_len desk.topics.links) (spare desk.topics.newest))));
+          (min (min (vec_capacity desk.assessors.links - vec_len desk.assessors.links)
+          (spare desk.assessors.newest))
+          (min (min (vec_capacity desk.documents.links - vec_len desk.documents.links)
+          (spare desk.documents.newest))
+          (min (vec_capacity desk.topics.links - vec_len desk.topics.links)
+          (spare desk.topics.newest))));
     } };
 
-    ghost invariant = { λ desk. IsKept desk.secret desk.leases.items desk.assessors.links.items desk.documents.links.items desk.topics.links.items
-        (get eqb desk.assessors.newest) (get same_document desk.documents.newest) (get eqb desk.topics.newest) };
+    ghost invariant = { λ desk. IsKept desk.secret desk.leases.items desk.assessors.links.items
+        desk.documents.links.items desk.topics.links.items (get eqb desk.assessors.newest)
+        (get same_document desk.documents.newest) (get eqb desk.topics.newest) };
 }
 
 impl Desk {
@@ -84,7 +88,7 @@ impl Desk {
         requires room { 1 ≤ self.old.spare }
         requires few { length self.old.leases < 2 ^ 32 - 1 }
         ensures number { result ≡ length self.old.leases + 1 }
-        ensures leases { self.new.leases ≡ granted self.old.leases assessor topic doc until }
+        ensures leases { self.new.leases ≡ with_grant self.old.leases assessor topic doc until }
     {
         let number = self.leases.len() as u32 + 1;
         let leases = self.leases.as_slice();
@@ -106,7 +110,7 @@ impl Desk {
 
     /// Ends a lease that has no end yet. Room stays.
     pub fn end(&mut self, number: u32, how: LeaseEnd)
-        requires { IsSomeAnd (lease_numbered self.old.leases number) (λ lease. lease.end ≡ None) }
+        requires { IsSomeAnd (desk_lease self.old.leases number) (λ lease. lease.end ≡ None) }
         ensures leases { self.new.leases ≡ with_end self.old.leases number how }
         ensures room { self.new.spare ≡ self.old.spare }
     {
@@ -119,7 +123,7 @@ impl Desk {
 
     /// The lease of a number, from 1.
     pub fn find(&self, number: u32) -> Option<&Lease>
-        ensures lease { option_copied result ≡ lease_numbered self.now.leases number }
+        ensures lease { option_copied result ≡ desk_lease self.now.leases number }
         ensures numbered { AreNumbered self.now.leases }
     {
         let leases = self.leases.as_slice();
@@ -166,7 +170,8 @@ impl Desk {
     // How many leases on a document are live: of one assessor, or of all.
     fn count_on(&self, topic: u16, doc: DocId, assessor: Option<&[u8]>, now: u64) -> u32
         ensures { result ≡ count_by (λ lease. same_document (topic, doc.0) (document_of lease)
-            && is_asked (option_map (λ name. name.now) assessor.entry) lease && is_live lease now) self.now.leases }
+            && is_asked (option_map (λ name. name.now) assessor.entry) lease
+            && is_lease_live lease now) self.now.leases }
     {
         let newest = self.documents.newest.get(&(topic, doc.0)).copied();
         let links = self.documents.links.as_slice();

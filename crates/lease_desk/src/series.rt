@@ -1,5 +1,5 @@
-//! The leases of one key, found from the newest back, by links. What a link tells lets a walk stop early,
-//! and an ended lease is left out by the link behind it.
+//! The leases of one key, found from the newest back, by links. What a link tells lets a walk stop
+//! early, and an ended lease is left out by the link behind it.
 ghost use Rattle.std.specs.Prelude.{◌≡◌, ◌+◌, ◌<◌, ◌≤◌, ◌^◌, max, Bool, None, Some, IfSome, OnOk, [], length, slice_index_or, vec_len, vec_capacity};
 ghost use Rattle.indexmap.specs.IndexMap.{Updates, get, spare};
 ghost use Rattle.lease_desk.specs.Series.{HasLink, IsSeriesOf, LeadEarlier, LeadPast, LeadsBack, latest_at, up_to};
@@ -12,8 +12,9 @@ use indexmap::IndexMap;
 use std::alloc::Global;
 use std::hash::Hash;
 
-// What stands at a lease: the place of one before it with the same key, past ended ones; the place of
-// one whose link leads here, a hint alone; and the greatest `until` of those with this key up to it.
+// What stands at a lease: the place of one before it with the same key, past ended ones; the place
+// of one whose link leads here, a hint alone; and the greatest `until` of those with this key up to
+// it.
 #[derive(Clone, Copy)]
 pub(crate) struct Link {
     pub(crate) previous: Option<u32>,
@@ -59,9 +60,11 @@ impl<K: Eq + Hash + Drop> Series<K> {
         requires as_many { length self.old.links.items ≡ length leases.now }
         requires within { up_to (get K.eq self.old.newest key) ≤ length self.old.links.items }
         requires back { LeadEarlier self.old.links.items }
-        ensures newest { Updates K.eq self.old.newest self.new.newest key (Some (length self.old.links.items)) }
+        ensures newest { Updates K.eq self.old.newest self.new.newest key
+            (Some (length self.old.links.items)) }
         ensures links { let newest = get K.eq self.old.newest key in
-            HasLink leases.now self.old.links.items self.new.links.items newest (max until (latest_at self.old.links.items newest)) }
+            HasLink leases.now self.old.links.items self.new.links.items newest
+            (max until (latest_at self.old.links.items newest)) }
     {
         let place = self.links.len() as u32;
         let newest = self.newest.insert(key, place).unwrap();
@@ -87,7 +90,8 @@ fn add_link(links: &mut Vec<Link>, leases: &[Lease], newest: Option<u32>, until:
     requires as_many { length links.old.items ≡ length leases.now }
     requires within { up_to newest ≤ length links.old.items }
     requires back { LeadEarlier links.old.items }
-    ensures { HasLink leases.now links.old.items links.new.items newest (max until (latest_at links.old.items newest)) }
+    ensures { HasLink leases.now links.old.items links.new.items newest
+        (max until (latest_at links.old.items newest)) }
 {
     let place = links.len() as u32;
     let latest_until = until.max(latest_at(links.as_slice(), newest));
@@ -110,7 +114,8 @@ fn unended(leases: &[Lease], links: &[Link], newest: Option<u32>) -> Option<u32>
     requires within { up_to newest ≤ length links.now }
     requires back { LeadEarlier links.now }
     ensures within { up_to result ≤ length links.now }
-    ensures back { (passes : Lease → Bool) → IsSeriesOf passes leases.now links.now newest → LeadsBack passes leases.now (length links.now) result }
+    ensures back { (passes : Lease → Bool) → IsSeriesOf passes leases.now links.now newest
+        → LeadsBack passes leases.now (length links.now) result }
 {
     let place = newest?;
     if leases[place as usize].end.is_none() {
@@ -138,7 +143,8 @@ fn lead_past(links: &mut [Link], place: u32)
 fn behind(links: &[Link], place: u32) -> Option<u32>
     requires { place < length links.now }
     ensures within { IfSome result (λ behind. behind < length links.now) }
-    ensures leads { (link : Link) → IfSome result (λ behind. (slice_index_or links.now behind link).previous ≡ Some place) }
+    ensures leads { (link : Link)
+        → IfSome result (λ behind. (slice_index_or links.now behind link).previous ≡ Some place) }
 {
     let next = links[place as usize].next?;
     let link = links.get(next as usize)?;

@@ -2,7 +2,7 @@
 ghost use Rattle.std.specs.Prelude.{◌≡◌, ◌<◌, ◌≤◌, ◌^◌, ◌&&◌, Bool, count_by, length};
 ghost use Rattle.std.specs.Option.{option_map};
 ghost use Rattle.lease_desk.specs.Series.{IsSeriesOf, LeadEarlier, is_asked, up_to};
-ghost use Rattle.lease_desk.specs.Leases.{is_live};
+ghost use Rattle.lease_desk.specs.Leases.{is_lease_live};
 ghost use Rattle.lease_desk.specs.declared.leases.Lease.{Lease};
 
 use crate::leases::Lease;
@@ -22,7 +22,8 @@ pub(crate) fn count_live(
     requires back { LeadEarlier links.now }
     requires few { length leases.now < 2 ^ 32 }
     ensures { (key : Lease → Bool) → IsSeriesOf key leases.now links.now newest
-        → result ≡ count_by (λ lease. key lease && is_asked (option_map (λ name. name.now) assessor.entry) lease && is_live lease now) leases.now }
+        → result ≡ count_by (λ lease. key lease && is_asked (option_map
+        (λ name. name.now) assessor.entry) lease && is_lease_live lease now) leases.now }
 {
     let mut count = 0;
     let mut next = newest;
@@ -41,7 +42,8 @@ pub(crate) fn count_live(
 
 // Whether a lease is live, and of the assessor that is asked for.
 fn counts(lease: &Lease, assessor: Option<&[u8]>, now: u64) -> bool
-    ensures { result ≡ is_asked (option_map (λ name. name.now) assessor.entry) lease.now && is_live lease.now now }
+    ensures { result ≡ is_asked (option_map (λ name. name.now) assessor.entry) lease.now
+        && is_lease_live lease.now now }
 {
     let is_asked = match assessor {
         Some(name) => lease.assessor.bytes() == name,

@@ -4,7 +4,7 @@ use Rattle.std.specs.List.{cons_option, filter_map, list_all}
 use Rattle.std.specs.Option.{option_map}
 use Rattle.std.proofs.lemmas.List.{take_more}
 use Rattle.std.proofs.lemmas.List.Elements.{filter_map-append}
-use Rattle.campaign_core.proofs.Lists.Elements.{both_true}
+use Rattle.std.proofs.lemmas.Bool.{and_parts}
 
 -- what is told of a value that is there
 pub told : {X Y : Type 0} (o : Option X) (x : X) (f : X → Y) (y : Y) → o ≡ Some x → option_map f o ≡ Some y → f x ≡ y
@@ -16,7 +16,7 @@ told {X} {Y} o x f y there is =
 pub all-push : {X : Type 0} (p : X → Bool) (xs : List X) (x : X) → list_all p xs ≡ true → p x ≡ true → list_all p (xs ++ x ∷ []) ≡ true
 all-push p [] x all here = ap (λ t. t && true) here
 all-push p (y ∷ ys) x all here =
-    let parts = both_true (p y) (list_all p ys) all in
+    let parts = and_parts (p y) (list_all p ys) all in
     ap (λ t. t && list_all p (ys ++ x ∷ [])) parts.0 ∙ all-push p ys x parts.1 here
 
 -- values that are all there, by a number each
@@ -35,7 +35,8 @@ module _ {X : Type 0} (f : ℕ → Option X) where
 
 module _ {X Y : Type 0} (f : X → Option Y) where
   -- one more element
-  pub filter_map-more : (xs : List X) (i : ℕ) (d : X) → i < length xs → filter_map f (take (i + 1) xs) ≡ filter_map f (take i xs) ++ cons_option (f (get_or xs i d)) []
+  pub filter_map-more : (xs : List X) (i : ℕ) (d : X) → i < length xs
+      → filter_map f (take (i + 1) xs) ≡ filter_map f (take i xs) ++ cons_option (f (get_or xs i d)) []
   filter_map-more xs i d within = ap (filter_map f) (take_more xs i d within) ∙ filter_map-append f (take i xs) (get_or xs i d ∷ [])
 
   pub length-filter_map : (xs : List X) → length (filter_map f xs) ≤ length xs

@@ -3,17 +3,14 @@ use Rattle.std.proofs.Common.{◌≡◌, ◌||◌, Bool, true, false, cond, List
 use Rattle.std.specs.Prelude.{if◌then◌else◌}
 use Rattle.std.specs.Str.{bytes_eq}
 use Rattle.std.proofs.lemmas.Cmp.{nat_list_eq_equiv}
+use Rattle.std.proofs.Math.Bool.{or-true}
 use Rattle.rulebook.specs.Words.{Text, contains_text}
-use Rattle.rulebook.specs.Grades.{effective}
+use Rattle.rulebook.specs.Judgements.Grades.{effective}
 use Rattle.measures.specs.Means.{summary_of}
 use Rattle.measures.specs.declared.cells.Cell.{Cell}
-use Rattle.campaign_core.specs.Gradings.{Grading, cell_by, counts_by}
-use Rattle.campaign_core.specs.Topics.{topic_ids}
-use Rattle.leave_out.specs.Reuse.{ReducedIsFull, reduced}
-
-or-true : (t : Bool) → (t || true) ≡ true
-or-true true = refl
-or-true false = refl
+use Rattle.campaign_core.specs.Views.Gradings.{Grading, cell_by_grading, counts_by}
+use Rattle.campaign_core.specs.Assessments.Topics.{topic_ids}
+use Rattle.leave_out.specs.Reuse.{ReducedIsFull, reduced_grade}
 
 -- what is made of the elements that pass, where on each element both do the same
 module _ {X : Type 0} (f g : Text → X) (p q : Text → Bool) where
@@ -32,9 +29,12 @@ module _ {X : Type 0} (f g : Text → X) (p q : Text → Bool) where
 
 pub full : ReducedIsFull
 full H group run nothing =
-    let same : (topic : Text) → contains_text (topic_ids H) topic ≡ true → reduced H group topic ≡ effective H topic = λ topic there.
+    let same : (topic : Text) → contains_text (topic_ids H) topic ≡ true → reduced_grade H group topic ≡ effective H topic = λ topic there.
     λ i doc. ap (λ (docs : List Text). if contains_text docs doc then None else effective H topic doc) (nothing topic there) i in
     ap (λ (cs : List Cell). (summary_of cs).map)
-    (same-passing (λ topic. cell_by H run topic (reduced H group topic)) (λ topic. cell_by H run topic (effective H topic))
-    (λ topic. counts_by H topic (reduced H group topic)) (λ topic. counts_by H topic (effective H topic)) (topic_ids H)
-    (λ topic there. (ap (λ (grade : Grading). counts_by H topic grade) (same topic there), ap (λ (grade : Grading). cell_by H run topic grade) (same topic there))))
+    (same-passing (λ topic. cell_by_grading H run topic (reduced_grade H group topic)) (λ topic. cell_by_grading H run topic (effective H topic))
+    (λ topic. counts_by H topic (reduced_grade H group topic)) (λ topic. counts_by H topic (effective H topic)) (topic_ids H)
+    (λ topic there. (
+      ap (λ (grade : Grading). counts_by H topic grade) (same topic there),
+      ap (λ (grade : Grading). cell_by_grading H run topic grade) (same topic there),
+    )))

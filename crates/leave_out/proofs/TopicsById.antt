@@ -9,8 +9,8 @@ use Rattle.std.proofs.lemmas.Map.Text.{is_eq-slice_cmp}
 use Rattle.std.proofs.lemmas.Slice.Eq.{bytes_eq-Decides}
 use Rattle.rulebook.specs.Words.{Text}
 use Rattle.rulebook.specs.Campaign.{History}
-use Rattle.campaign_core.specs.LentTopics.{topic_at}
-use Rattle.leave_out.specs.TopicOrder.{AreNumbered}
+use Rattle.campaign_core.specs.Views.LentTopics.{topic_at}
+use Rattle.leave_out.specs.TopicOrder.{AreTopicNumbers}
 
 abbrev pub text_cmp : Text → Text → Ordering
 text_cmp = slice_cmp nat_cmp
@@ -25,7 +25,8 @@ abbrev first : Text × ℕ → Text
 first one = one.0
 
 -- the keys after an entry is put in
-pub keys-put : (topics : List (Text × ℕ)) (id : Text) (n : ℕ) → map (λ one. one.0) (insert_entry text_cmp topics id n) ≡ insert_key text_cmp (map (λ one. one.0) topics) id
+pub keys-put : (topics : List (Text × ℕ)) (id : Text) (n : ℕ)
+    → map (λ one. one.0) (insert_entry text_cmp topics id n) ≡ insert_key text_cmp (map (λ one. one.0) topics) id
 keys-put [] id n = refl
 keys-put (one ∷ topics) id n = step (text_cmp id one.0) (keys-put topics id n)
   where
@@ -43,22 +44,25 @@ abbrev named : Text × ℕ → Option Text
 named one = Some one.0
 
 -- the numbers are still those of the ids
-pub numbered-put : (H : History) (topics : List (Text × ℕ)) (id : Text) (n : ℕ) → topic_at H n ≡ Some id → AreNumbered H topics → AreNumbered H (insert_entry text_cmp topics id n)
+pub numbered-put : (H : History) (topics : List (Text × ℕ)) (id : Text) (n : ℕ) → topic_at H n ≡ Some id
+    → AreTopicNumbers H topics → AreTopicNumbers H (insert_entry text_cmp topics id n)
 numbered-put H [] id n at are = ap (λ o. o ∷ []) at
 numbered-put H (one ∷ topics) id n at are =
     let head : known H one ≡ named one = cc are in
     let tail : map (known H) topics ≡ map named topics = cc are in
     step (text_cmp id one.0) refl head tail (numbered-put H topics id n at tail)
   where
-    step : (o : Ordering) → text_cmp id one.0 ≡ o → known H one ≡ named one → map (known H) topics ≡ map named topics → AreNumbered H (insert_entry text_cmp topics id n)
-        → AreNumbered H (match_ordering o ((id, n) ∷ one ∷ topics) ((one.0, n) ∷ topics) (one ∷ insert_entry text_cmp topics id n))
+    step : (o : Ordering) → text_cmp id one.0 ≡ o → known H one ≡ named one → map (known H) topics ≡ map named topics
+        → AreTopicNumbers H (insert_entry text_cmp topics id n)
+        → AreTopicNumbers H (match_ordering o ((id, n) ∷ one ∷ topics) ((one.0, n) ∷ topics) (one ∷ insert_entry text_cmp topics id n))
     step Less is head tail rest = ap (λ o. o ∷ known H one ∷ map (known H) topics) at ∙ ap (λ os. named (id, n) ∷ os) are
     step Equal is head tail rest =
         ap (λ o. o ∷ map (known H) topics) (at ∙ ap (λ (t : Text). let o : Option Text = Some t in o) (same_text id one.0 is)) ∙ ap (λ os. named one ∷ os) tail
     step Greater is head tail rest = ap (λ o. o ∷ map (known H) (insert_entry text_cmp topics id n)) head ∙ ap (λ os. named one ∷ os) rest
 
 -- the topics by their numbers
-pub numbers-are : (H : History) (topics : List (Text × ℕ)) → AreNumbered H topics → map (topic_at H) (map (λ one. one.1) topics) ≡ map Some (map (λ one. one.0) topics)
+pub numbers-are : (H : History) (topics : List (Text × ℕ)) → AreTopicNumbers H topics
+    → map (topic_at H) (map (λ one. one.1) topics) ≡ map Some (map (λ one. one.0) topics)
 numbers-are H [] are = refl
 numbers-are H (one ∷ topics) are =
     let head : known H one ≡ named one = cc are in

@@ -12,7 +12,7 @@ use Rattle.rulebook.specs.declared.ask.Ask.TheVariants.{Act}
 use Rattle.rulebook.specs.Words.{Text}
 use Rattle.rulebook.specs.Answers.{answer}
 use Rattle.rulebook.specs.Campaign.{History}
-use Rattle.rulebook.specs.Legal.{founding}
+use Rattle.rulebook.specs.Histories.Legal.{founding}
 use Rattle.leave_out.specs.Agreement.{agreement}
 use Rattle.leave_out.specs.Reuse.{reuse}
 use Rattle.leave_out.specs.declared.assessors.Agreed.{Agreed}
@@ -87,7 +87,8 @@ of-one-list = refl
 
 abbrev doubled : History
 doubled =
-    after (after (begun (record rules { doubles = codes "1" ∷ [] })) (caller Group (codes "grp")) (submitted (codes "X") (codes "b" ∷ codes "e" ∷ codes "a" ∷ [])))
+    after (after (begun (record rules { doubles = codes "1" ∷ [] })) (caller Group (codes "grp"))
+    (submitted (codes "X") (codes "b" ∷ codes "e" ∷ codes "a" ∷ [])))
     organiser command.Open
 
 -- a document leased and graded by both
@@ -104,7 +105,8 @@ labelled = twice (twice (twice doubled 1 1 1) 3 0 0) 5 1 2
 abbrev amended : History
 amended =
     let p = caller Assessor (codes "p") in
-    after (after (after labelled organiser (command.Rule (codes "1") (codes "a") 2)) p (command.Amend (codes "1") (codes "a") 0)) p (command.Amend (codes "1") (codes "b") 0)
+    after (after (after labelled organiser (command.Rule (codes "1") (codes "a") 2)) p (command.Amend (codes "1") (codes "a") 0)) p
+    (command.Amend (codes "1") (codes "b") 0)
 
 abbrev counts : Agreed → List ℕ
 counts one = one.pairs ∷ one.equal ∷ one.both ∷ one.either ∷ []

@@ -4,8 +4,8 @@ use Rattle.std.specs.List.{filter_map}
 use Rattle.labels.specs.declared.given.Given.{Given}
 use Rattle.rulebook.specs.Words.{Text}
 use Rattle.rulebook.specs.Campaign.{History, level, need}
-use Rattle.rulebook.specs.Grades.{labelled, labels_on}
-use Rattle.rulebook.specs.Pages.{topics_in_order}
+use Rattle.rulebook.specs.Judgements.Grades.{labelled_documents, labels_on}
+use Rattle.rulebook.specs.Reports.Pages.{topics_in_order}
 use Rattle.leave_out.specs.Pairs.{are_both, are_equal, is_either}
 use Rattle.leave_out.specs.declared.assessors.Agreed.{Agreed}
 
@@ -21,11 +21,11 @@ two_of _ = None
 
 -- the grades of a topic's documents that have two labels; rulings aren't looked at
 abbrev pub pairs_on : History → Text → List (ℕ × ℕ)
-pairs_on H topic = filter_map (λ doc. two_grades (labels_on H topic doc)) (labelled H topic)
+pairs_on H topic = filter_map (λ doc. two_grades (labels_on H topic doc)) (labelled_documents H topic)
 
 -- a topic whose documents have these pairs of grades, where a grade from the level on is relevant
-abbrev pub agreed : ℕ → Text → List (ℕ × ℕ) → Agreed
-agreed level topic grades = record {
+abbrev pub agreement_of : ℕ → Text → List (ℕ × ℕ) → Agreed
+agreement_of level topic grades = record {
   topic = topic;
   pairs = length grades;
   equal = count_by are_equal grades;
@@ -35,8 +35,8 @@ agreed level topic grades = record {
 
 -- a topic, where its documents need two labels
 abbrev pub agreed_on : History → Text → Option Agreed
-agreed_on H topic = if need H topic == 2 then Some (agreed (level H topic) topic (pairs_on H topic)) else None
+agreed_on H topic = if need H topic == 2 then Some (agreement_of (level H topic) topic (pairs_on H topic)) else None
 
 -- the topics whose documents need two labels, by id
 abbrev pub agreement : History → List Agreed
-agreement H = map (λ topic. agreed (level H topic) topic (pairs_on H topic)) (filter (λ topic. need H topic == 2) (topics_in_order H))
+agreement H = map (λ topic. agreement_of (level H topic) topic (pairs_on H topic)) (filter (λ topic. need H topic == 2) (topics_in_order H))

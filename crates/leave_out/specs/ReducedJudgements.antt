@@ -3,19 +3,19 @@ use Rattle.std.specs.Prelude.{◌≡◌, ℕ, ◌&&◌, ◌||◌, ◌+◌, ◌�
 use Rattle.decimal_rank.specs.Relevance.{is_non_relevant, is_relevant}
 use Rattle.decimal_rank.specs.declared.naming.DocId.{DocId}
 use Rattle.depth_pool.specs.declared.runs.RunId.{RunId}
-use Rattle.rulebook.specs.Limits.{max_entries}
+use Rattle.rulebook.specs.Requests.Limits.{max_entries}
 use Rattle.rulebook.specs.Spelling.{differ}
 use Rattle.rulebook.specs.Words.{Text, contains_text}
 use Rattle.rulebook.specs.Campaign.{History, Run, docs_on, level}
-use Rattle.rulebook.specs.Grades.{effective, graded, labelled}
+use Rattle.rulebook.specs.Judgements.Grades.{effective, graded_documents, labelled_documents}
 use Rattle.measures.specs.Means.{value_of}
 use Rattle.measures.specs.declared.means.Measure.TheVariants.{Map}
-use Rattle.campaign_core.specs.Gradings.{cell_by, counts_by}
-use Rattle.campaign_core.specs.LentTopics.{topic_at}
-use Rattle.campaign_core.specs.Numbers.{are_named, doc_in, names_of}
-use Rattle.campaign_core.specs.Scoring.{run_at}
-use Rattle.campaign_core.specs.Topics.{topic_ids}
-use Rattle.leave_out.specs.Reuse.{own, reduced}
+use Rattle.campaign_core.specs.Views.Gradings.{cell_by_grading, counts_by}
+use Rattle.campaign_core.specs.Views.LentTopics.{topic_at}
+use Rattle.campaign_core.specs.Numbering.Numbers.{are_named, doc_in, names_of}
+use Rattle.campaign_core.specs.Assessments.RunScores.{run_at}
+use Rattle.campaign_core.specs.Assessments.Topics.{topic_ids}
+use Rattle.leave_out.specs.Reuse.{own, reduced_grade}
 use Rattle.leave_out.specs.declared.groups.GroupJudgements.{GroupJudgements}
 use Rattle.leave_out.specs.declared.reduced_judgements.ReducedJudgements.{ReducedJudgements}
 use Rattle.leave_out.specs.declared.reusability.Sums.{Sums}
@@ -50,8 +50,8 @@ with_doc level grade owned judgements =
 -- of these documents of a topic, those that are relevant by the reduced judgements of a group, those with a lower grade, and the group's own with a grade
 abbrev pub reduced_in : History → Text → Text → List Text → ReducedJudgements
 reduced_in H group topic docs = record {
-  relevant = count_by (λ doc. is_relevant (level H topic) (reduced H group topic doc)) docs;
-  lower = count_by (λ doc. is_non_relevant (level H topic) (reduced H group topic doc)) docs;
+  relevant = count_by (λ doc. is_relevant (level H topic) (reduced_grade H group topic doc)) docs;
+  lower = count_by (λ doc. is_non_relevant (level H topic) (reduced_grade H group topic doc)) docs;
   own = count_by (λ doc. is_some (effective H topic doc) && contains_text (own H group topic) doc) docs;
 }
 
@@ -63,7 +63,7 @@ pub record AreFew (judgements : ReducedJudgements) : Type 0 where
 
 -- the reduced judgements of a group, topic by topic
 pub record AreReduced (H : History) (group : Text) (topics : List ReducedJudgements) : Type 0 where
-  pub topics_are : topics ≡ map (λ topic. reduced_in H group topic (labelled H topic)) (topic_ids H)
+  pub topics_are : topics ≡ map (λ topic. reduced_in H group topic (labelled_documents H topic)) (topic_ids H)
   pub few : All AreFew topics
 
 abbrev pub group_in : GroupJudgements → Text
@@ -73,22 +73,22 @@ abbrev pub AreOfGroup : History → GroupJudgements → Type 0
 AreOfGroup H judgements = AreReduced H judgements.group judgements.topics.items
 
 -- whether a document has a grade
-abbrev pub is_counted : ReducedJudgements → Bool
-is_counted judgements = nat_lt 0 judgements.relevant || nat_lt 0 judgements.lower
+abbrev pub has_any_grade : ReducedJudgements → Bool
+has_any_grade judgements = nat_lt 0 judgements.relevant || nat_lt 0 judgements.lower
 
 -- the average precision of a run on a topic by the reduced judgements of a group, where the topic still counts
 abbrev pub value_on : History → Text → Run → Text → Option ℕ
 value_on H group run topic =
-    if counts_by H topic (reduced H group topic) then Some (value_of Map (cell_by H run topic (reduced H group topic))) else None
+    if counts_by H topic (reduced_grade H group topic) then Some (value_of Map (cell_by_grading H run topic (reduced_grade H group topic))) else None
 
 -- over some topics, a group's own documents with a grade; and the topics that count without them, with the sum of a run's average precisions
 abbrev pub sums_in : History → Text → Run → List Text → Sums
 sums_in H group run topics =
-    let counted = filter (λ topic. counts_by H topic (reduced H group topic)) topics in
+    let counted = filter (λ topic. counts_by H topic (reduced_grade H group topic)) topics in
     record {
-      own = sum_by (λ topic. count_by (contains_text (own H group topic)) (graded H topic)) topics;
+      own = sum_by (λ topic. count_by (contains_text (own H group topic)) (graded_documents H topic)) topics;
       topics = length counted;
-      precisions = sum_by (λ topic. value_of Map (cell_by H run topic (reduced H group topic))) counted;
+      precisions = sum_by (λ topic. value_of Map (cell_by_grading H run topic (reduced_grade H group topic))) counted;
     }
 
 -- one more topic

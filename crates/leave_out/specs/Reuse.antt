@@ -3,14 +3,14 @@ use Rattle.std.specs.Prelude.{◌≡◌, ℕ, ◌&&◌, Bool, true, [], List, No
 use Rattle.std.specs.List.{list_all}
 use Rattle.std.specs.Str.{bytes_eq}
 use Rattle.rulebook.specs.Words.{Text, contains_text}
-use Rattle.rulebook.specs.Campaign.{History, Run, numbered, pool}
-use Rattle.rulebook.specs.Grades.{effective, graded}
-use Rattle.campaign_core.specs.Gradings.{summary_by}
-use Rattle.campaign_core.specs.Groups.{group_of}
-use Rattle.campaign_core.specs.Topics.{topic_ids}
-use Rattle.rulebook.specs.Holders.{holders}
-use Rattle.rulebook.specs.Scores.{summary_on}
-use Rattle.rulebook.specs.Systems.{is_mean}
+use Rattle.rulebook.specs.Campaign.{History, Run, numbered_runs, pool}
+use Rattle.rulebook.specs.Judgements.Grades.{effective, graded_documents}
+use Rattle.campaign_core.specs.Views.Gradings.{summary_by}
+use Rattle.campaign_core.specs.Views.Groups.{group_of}
+use Rattle.campaign_core.specs.Assessments.Topics.{topic_ids}
+use Rattle.rulebook.specs.Judgements.Holders.{holders}
+use Rattle.rulebook.specs.Reports.Scores.{summary_on}
+use Rattle.rulebook.specs.Reports.Systems.{is_mean}
 use Rattle.leave_out.specs.declared.reusability.Reused.{Reused}
 
 -- the documents of a topic's pool that runs of a group alone hold
@@ -18,20 +18,20 @@ abbrev pub own : History → Text → Text → List Text
 own H group topic = filter (λ doc. list_all (λ run. bytes_eq (group_of H run.0) group) (holders H topic doc)) (pool H topic)
 
 -- the reduced judgements of a group: the effective grades of a topic but for those of the group's own documents
-abbrev pub reduced : History → Text → Text → Text → Option ℕ
-reduced H group topic doc = if contains_text (own H group topic) doc then None else effective H topic doc
+abbrev pub reduced_grade : History → Text → Text → Text → Option ℕ
+reduced_grade H group topic doc = if contains_text (own H group topic) doc then None else effective H topic doc
 
 -- how many documents with an effective grade are a group's own, over all topics
 abbrev pub unique_count : History → Text → ℕ
-unique_count H group = sum_by (λ topic. count_by (contains_text (own H group topic)) (graded H topic)) (topic_ids H)
+unique_count H group = sum_by (λ topic. count_by (contains_text (own H group topic)) (graded_documents H topic)) (topic_ids H)
 
 -- the mean average precision of a run by the reduced judgements of a group
 abbrev pub reduced_map : History → Text → Run → ℕ
-reduced_map H group run = (summary_by H run (reduced H group)).map
+reduced_map H group run = (summary_by H run (reduced_grade H group)).map
 
 -- a numbered run, without what its own group alone brought in
-abbrev pub reused : History → ℕ × Run → Reused
-reused H run = record {
+abbrev pub reuse_of : History → ℕ × Run → Reused
+reuse_of H run = record {
   run = run.1.name;
   unique = unique_count H (group_of H run.0);
   full = (summary_on H run.1).map;
@@ -40,11 +40,11 @@ reused H run = record {
 
 -- the live runs, by submission
 abbrev pub reuse : History → List Reused
-reuse H = map (reused H) (numbered H)
+reuse H = map (reuse_of H) (numbered_runs H)
 
 -- both means of a run are at most 1
-abbrev pub are_means : Reused → Bool
-are_means row = is_mean row.full && is_mean row.reduced
+abbrev pub are_reused_means : Reused → Bool
+are_reused_means row = is_mean row.full && is_mean row.reduced
 
 -- a group brought no document in alone
 abbrev pub OwnsNothing : History → Text → Type 0

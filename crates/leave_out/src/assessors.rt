@@ -3,12 +3,12 @@ ghost use Rattle.std.specs.Prelude.{◌≡◌, ◌<◌, ◌^◌, ◌++◌, [], I
 ghost use Rattle.std.specs.List.{cons_option};
 ghost use Rattle.std.specs.Option.{option_map};
 ghost use Rattle.rulebook.specs.Campaign.{need};
-ghost use Rattle.rulebook.specs.Grades.{labels_on};
+ghost use Rattle.rulebook.specs.Judgements.Grades.{labels_on};
 ghost use Rattle.rulebook.specs.Words.{Text as Words, contains_text};
-ghost use Rattle.campaign_core.specs.LentTopics.{topic_at};
-ghost use Rattle.campaign_core.specs.Numbers.{doc_in, names_of};
-ghost use Rattle.campaign_core.specs.Topics.{topic_ids};
-ghost use Rattle.leave_out.specs.Agreement.{agreed, agreed_on, agreement, pairs_on, two_grades, two_of};
+ghost use Rattle.campaign_core.specs.Views.LentTopics.{topic_at};
+ghost use Rattle.campaign_core.specs.Numbering.Numbers.{doc_in, names_of};
+ghost use Rattle.campaign_core.specs.Assessments.Topics.{topic_ids};
+ghost use Rattle.leave_out.specs.Agreement.{agreed_on, agreement, agreement_of, pairs_on, two_grades, two_of};
 
 use crate::pairs::{both, either, equal};
 use crate::topic_order::topics_by_id;
@@ -17,8 +17,8 @@ use decimal_rank::{DocId, Memory, Text};
 use rulebook::{entries_are_few, labelled_are_listed, labels_are_few};
 use std::alloc::Global;
 
-/// A topic whose documents need two labels: how many have two, of how many these are equal, of how many both are
-/// relevant, and of how many at least one is.
+/// A topic whose documents need two labels: how many have two, of how many these are equal, of how
+/// many both are relevant, and of how many at least one is.
 #[derive(Debug, Drop, PartialEq)]
 pub struct Agreed {
     pub topic: Text,
@@ -28,7 +28,8 @@ pub struct Agreed {
     pub either: u32,
 }
 
-/// How the assessors agree on each topic whose documents need two labels, by topic id. Rulings aren't looked at.
+/// How the assessors agree on each topic whose documents need two labels, by topic id. Rulings
+/// aren't looked at.
 pub fn agreement(alloc: Global, state: &State) -> Result<Vec<Agreed>, Memory>
     ensures { IfOk result (λ rows. rows.items ≡ agreement state.now.history) }
 {
@@ -57,7 +58,7 @@ fn agreed_on(alloc: Global, state: &State, topic: u16) -> Result<Option<Agreed>,
 /// A topic whose documents have these pairs of grades.
 fn row_of(level: u8, topic: Text, pairs: &[(u8, u8)]) -> Agreed
     requires { length pairs.now < 2 ^ 32 }
-    ensures { result ≡ agreed level topic pairs.now }
+    ensures { result ≡ agreement_of level topic pairs.now }
 {
     Agreed {
         topic,
@@ -93,8 +94,9 @@ fn pairs_on(alloc: Global, state: &State, topic: u16) -> Result<Vec<(u8, u8)>, M
 fn pair_on(state: &State, topic: u16, doc: DocId) -> Option<(u8, u8)>
     requires within { topic < length (topic_ids state.now.history) }
     requires two { option_map (need state.now.history) (topic_at state.now.history topic) ≡ Some 2 }
-    ensures { let H = state.now.history in (id d : Words) → topic_at H topic ≡ Some id
-        → IsTrue (contains_text (names_of H) d) → doc ≡ doc_in (names_of H) d → result ≡ two_grades (labels_on H id d) }
+    ensures { let H = state.now.history in
+        (id d : Words) → topic_at H topic ≡ Some id → IsTrue (contains_text (names_of H) d)
+        → doc ≡ doc_in (names_of H) d → result ≡ two_grades (labels_on H id d) }
 {
     // no document has more labels than its topic needs
     labels_are_few();

@@ -16,8 +16,8 @@ pub(crate) struct GroupJudgements {
     pub(crate) topics: Vec<ReducedJudgements>,
 }
 
-/// The place of a group's reduced judgements among those of the groups so far, where they are added if they aren't
-/// there yet.
+/// The place of a group's reduced judgements among those of the groups so far, where they are added
+/// if they aren't there yet.
 pub(crate) fn place_of(
     alloc: Global,
     state: &State,

@@ -1,15 +1,16 @@
-//! The documents of a topic's pool that runs of one group alone hold, and the effective grades without them.
+//! The documents of a topic's pool that runs of one group alone hold, and the effective grades
+//! without them.
 ghost use Rattle.std.specs.Prelude.{◌≡◌, ◌<◌, All, IsSome, length};
 ghost use Rattle.std.specs.List.{list_all};
 ghost use Rattle.std.specs.Str.{bytes_eq};
 ghost use Rattle.depth_pool.specs.Holdings.{holders_of};
-ghost use Rattle.rulebook.specs.Grades.{effective};
+ghost use Rattle.rulebook.specs.Judgements.Grades.{effective};
 ghost use Rattle.rulebook.specs.Words.{Text as Words, contains_text};
-ghost use Rattle.campaign_core.specs.Groups.{group_of};
-ghost use Rattle.campaign_core.specs.Tallies.{submitted_at};
-ghost use Rattle.campaign_core.specs.Topics.{topic_ids};
+ghost use Rattle.campaign_core.specs.Views.Groups.{group_of};
+ghost use Rattle.campaign_core.specs.Views.Tallies.{submitted_at};
+ghost use Rattle.campaign_core.specs.Assessments.Topics.{topic_ids};
 ghost use Rattle.leave_out.specs.ReducedJudgements.{IsDocAt};
-ghost use Rattle.leave_out.specs.Reuse.{own, reduced};
+ghost use Rattle.leave_out.specs.Reuse.{own, reduced_grade};
 
 use campaign_core::{State, holders_by_numbers};
 use decimal_rank::{DocId, Steps};
@@ -18,11 +19,12 @@ use rulebook::graded_are_there;
 use std::marker::Brand;
 use std::sync::ledger::{Blank, Ledger};
 
-/// The grade of a document by the reduced judgements of a group: its effective one, where it isn't the group's own.
+/// The grade of a document by the reduced judgements of a group: its effective one, where it isn't
+/// the group's own.
 pub(crate) fn reduced_grade(state: &State, topic: u16, group: &[u8], doc: DocId) -> Option<u8>
     requires { topic < length (topic_ids state.now.history) }
     ensures { let H = state.now.history in (id d : Words) → IsDocAt H topic id d doc
-        → result ≡ reduced H group.now id d }
+        → result ≡ reduced_grade H group.now id d }
 {
     let grade = effective_grade(state, topic, doc)?;
     if is_own(state, topic, group, doc) {

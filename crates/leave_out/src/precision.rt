@@ -5,13 +5,13 @@ ghost use Rattle.measures.specs.Cells.{cell_of};
 ghost use Rattle.measures.specs.Means.{value_of};
 ghost use Rattle.measures.specs.declared.means.Measure.TheVariants.{Map};
 ghost use Rattle.rulebook.specs.Campaign.{Run, docs_on};
-ghost use Rattle.rulebook.specs.Grades.{labelled};
+ghost use Rattle.rulebook.specs.Judgements.Grades.{labelled_documents};
 ghost use Rattle.rulebook.specs.Words.{Text as Words};
-ghost use Rattle.campaign_core.specs.LentTopics.{topic_at};
-ghost use Rattle.campaign_core.specs.Numbers.{are_named, docs_in, names_of};
-ghost use Rattle.campaign_core.specs.Topics.{topic_ids};
-ghost use Rattle.leave_out.specs.ReducedJudgements.{AreFew, IsLive, is_counted, reduced_in, value_on};
-ghost use Rattle.leave_out.specs.Reuse.{reduced};
+ghost use Rattle.campaign_core.specs.Views.LentTopics.{topic_at};
+ghost use Rattle.campaign_core.specs.Numbering.Numbers.{are_named, docs_in, names_of};
+ghost use Rattle.campaign_core.specs.Assessments.Topics.{topic_ids};
+ghost use Rattle.leave_out.specs.ReducedJudgements.{AreFew, IsLive, has_any_grade, reduced_in, value_on};
+ghost use Rattle.leave_out.specs.Reuse.{reduced_grade};
 
 use crate::own_docs::reduced_grade;
 use crate::reduced_judgements::ReducedJudgements;
@@ -24,7 +24,8 @@ use std::alloc::Global;
 use std::marker::Brand;
 use std::sync::ledger::{Blank, Ledger};
 
-/// The average precision of a run on a topic with these reduced judgements: None where no document has a grade by them.
+/// The average precision of a run on a topic with these reduced judgements: None where no document
+/// has a grade by them.
 pub(crate) fn value_on(
     alloc: Global,
     state: &State,
@@ -36,7 +37,7 @@ pub(crate) fn value_on(
     requires topic { topic < length (topic_ids state.now.history) }
     requires live { (one : ℕ × Run) × IsLive state.now.history run one }
     requires judgements { let H = state.now.history in (id : Words) → topic_at H topic ≡ Some id
-        → judgements ≡ reduced_in H group.now id (labelled H id) }
+        → judgements ≡ reduced_in H group.now id (labelled_documents H id) }
     requires few { AreFew judgements }
     ensures value { let H = state.now.history in (id : Words) (one : ℕ × Run)
         → topic_at H topic ≡ Some id → IsLive H run one
@@ -57,7 +58,7 @@ pub(crate) fn value_on(
 
 /// Whether a document has a grade.
 fn is_counted(judgements: ReducedJudgements) -> bool
-    ensures { result ≡ is_counted judgements }
+    ensures { result ≡ has_any_grade judgements }
 {
     judgements.relevant > 0 || judgements.lower > 0
 }
@@ -71,9 +72,9 @@ fn reduced_grades(
     run: RunId,
 ) -> Result<Vec<Option<u8>>, Memory>
     requires { topic < length (topic_ids state.now.history) }
-    ensures grades { let H = state.now.history in (id : Words) (one : ℕ × Run)
-        → topic_at H topic ≡ Some id → IsLive H run one
-        → IfOk result (λ grades. grades.items ≡ map (reduced H group.now id) (docs_on one.1.lists id)) }
+    ensures grades { let H = state.now.history in
+        (id : Words) (one : ℕ × Run) → topic_at H topic ≡ Some id → IsLive H run one → IfOk result
+        (λ grades. grades.items ≡ map (reduced_grade H group.now id) (docs_on one.1.lists id)) }
     ensures few { IfOk result (λ grades. length grades.items ≤ 1000) }
 {
     match state.ranking(run, topic) {
@@ -91,9 +92,10 @@ fn listed_grades(
     ranking: &Ranking,
 ) -> Result<Vec<Option<u8>>, Memory>
     requires { topic < length (topic_ids state.now.history) }
-    ensures grades { let H = state.now.history in (id : Words) (docs : List Words)
-        → topic_at H topic ≡ Some id → IsTrue (are_named (names_of H) docs) → ranking.now ≡ docs_in (names_of H) docs
-        → IfOk result (λ grades. grades.items ≡ map (reduced H group.now id) docs) }
+    ensures grades { let H = state.now.history in
+        (id : Words) (docs : List Words) → topic_at H topic ≡ Some id
+        → IsTrue (are_named (names_of H) docs) → ranking.now ≡ docs_in (names_of H) docs
+        → IfOk result (λ grades. grades.items ≡ map (reduced_grade H group.now id) docs) }
     ensures few { IfOk result (λ grades. length grades.items ≤ 1000) }
 {
     let len = ranking.len();
@@ -125,15 +127,16 @@ fn counted_doc_at<L: Ledger>(ranking: &Ranking, place: u32, blank: Blank) -> Doc
     ranking.doc_at(place + 1, &mut steps)
 }
 
-/// The average precision of a ranked list from its grades by rank, in units of 10^-15, on a topic with these reduced
-/// judgements.
+/// The average precision of a ranked list from its grades by rank, in units of 10^-15, on a topic
+/// with these reduced judgements.
 #[tactic(auto, unfolding(measures::specs::Cells::cell_of))]
 fn average_precision(grades: &[Option<u8>], judgements: ReducedJudgements, level: u8) -> u64
     requires short { length grades.now ≤ 1000 }
     requires relevant { count_by (is_relevant level) grades.now ≤ judgements.relevant }
     requires lower { count_by (is_non_relevant level) grades.now ≤ judgements.lower }
     requires few { AreFew judgements }
-    ensures value { result ≡ value_of Map (cell_of grades.now judgements.relevant judgements.lower level) }
+    ensures value { result
+        ≡ value_of Map (cell_of grades.now judgements.relevant judgements.lower level) }
     ensures mean { result ≤ 10 ^ 15 }
 {
     if judgements.relevant == 0 {

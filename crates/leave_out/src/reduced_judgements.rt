@@ -1,9 +1,10 @@
-//! The reduced judgements of a group: the effective grades of a topic without those of the group's own documents.
+//! The reduced judgements of a group: the effective grades of a topic without those of the group's
+//! own documents.
 ghost use Rattle.std.specs.Prelude.{◌≡◌, ◌+◌, ◌<◌, ◌^◌, ◌&&◌, None, Some, if◌then◌else◌, is_some, length};
-ghost use Rattle.rulebook.specs.Grades.{labelled};
+ghost use Rattle.rulebook.specs.Judgements.Grades.{labelled_documents};
 ghost use Rattle.rulebook.specs.Words.{Text as Words};
-ghost use Rattle.campaign_core.specs.LentTopics.{topic_at};
-ghost use Rattle.campaign_core.specs.Topics.{topic_ids};
+ghost use Rattle.campaign_core.specs.Views.LentTopics.{topic_at};
+ghost use Rattle.campaign_core.specs.Assessments.Topics.{topic_ids};
 ghost use Rattle.leave_out.specs.ReducedJudgements.{AreFew, reduced_in, with_doc};
 
 use crate::own_docs::{effective_grade, is_own};
@@ -11,8 +12,8 @@ use campaign_core::State;
 use decimal_rank::{is_non_relevant, is_relevant};
 use rulebook::{entries_are_few, labelled_are_listed};
 
-/// The reduced judgements of a group on a topic: so many documents that are relevant, so many with a lower grade, and so
-/// many of the group's own with a grade, which aren't among them.
+/// The reduced judgements of a group on a topic: so many documents that are relevant, so many with
+/// a lower grade, and so many of the group's own with a grade, which aren't among them.
 #[derive(Clone, Copy)]
 pub(crate) struct ReducedJudgements {
     pub(crate) relevant: usize,
@@ -24,7 +25,7 @@ pub(crate) struct ReducedJudgements {
 pub(crate) fn reduced_on(state: &State, topic: u16, group: &[u8]) -> ReducedJudgements
     requires { topic < length (topic_ids state.now.history) }
     ensures judgements { let H = state.now.history in (id : Words) → topic_at H topic ≡ Some id
-        → result ≡ reduced_in H group.now id (labelled H id) }
+        → result ≡ reduced_in H group.now id (labelled_documents H id) }
     ensures few { AreFew result }
 {
     // there are no more labels than entries, and what has a label is among the names

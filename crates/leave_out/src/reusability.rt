@@ -2,11 +2,11 @@
 ghost use Rattle.std.specs.Prelude.{◌≡◌, ◌+◌, ◌<◌, ◌≤◌, ◌^◌, ◌*◌, ◌/◌, ℕ, ◌==◌, IfOk, IsTrue, if◌then◌else◌, length};
 ghost use Rattle.std.specs.List.{list_all};
 ghost use Rattle.rulebook.specs.Campaign.{Run};
-ghost use Rattle.rulebook.specs.Systems.{is_mean, system_of};
-ghost use Rattle.campaign_core.specs.Groups.{group_of};
-ghost use Rattle.campaign_core.specs.Topics.{topic_ids};
+ghost use Rattle.rulebook.specs.Reports.Systems.{is_mean, system_of};
+ghost use Rattle.campaign_core.specs.Views.Groups.{group_of};
+ghost use Rattle.campaign_core.specs.Assessments.Topics.{topic_ids};
 ghost use Rattle.leave_out.specs.ReducedJudgements.{AreOfGroup, IsLive, sums_in, with_topic};
-ghost use Rattle.leave_out.specs.Reuse.{are_means, reuse, reused};
+ghost use Rattle.leave_out.specs.Reuse.{are_reused_means, reuse, reuse_of};
 
 use crate::groups::{GroupJudgements, place_of};
 use crate::precision::value_on;
@@ -16,8 +16,9 @@ use depth_pool::RunId;
 use rulebook::{System, entries_are_plain};
 use std::alloc::Global;
 
-/// A live run: how many documents with an effective grade its group alone holds, over all topics; and its mean average
-/// precision by all effective grades, and without those documents', in units of 10^-15.
+/// A live run: how many documents with an effective grade its group alone holds, over all topics;
+/// and its mean average precision by all effective grades, and without those documents', in units
+/// of 10^-15.
 #[derive(Debug, Drop, PartialEq)]
 pub struct Reused {
     pub run: Text,
@@ -26,8 +27,8 @@ pub struct Reused {
     pub reduced: u64,
 }
 
-/// Over some topics, a group's own documents with a grade; and the topics that count without them, with the sum of a
-/// run's average precisions on these, in units of 10^-15.
+/// Over some topics, a group's own documents with a grade; and the topics that count without them,
+/// with the sum of a run's average precisions on these, in units of 10^-15.
 #[derive(Clone, Copy)]
 pub(crate) struct Sums {
     own: u64,
@@ -35,12 +36,14 @@ pub(crate) struct Sums {
     precisions: u128,
 }
 
-/// The live runs by submission, scored without the judgements that their own groups alone brought in.
+/// The live runs by submission, scored without the judgements that their own groups alone brought
+/// in.
 pub fn reuse(alloc: Global, state: &State) -> Result<Vec<Reused>, Memory>
     ensures reused { IfOk result (λ rows. rows.items ≡ reuse state.now.history) }
-    ensures means { IfOk result (λ rows. IsTrue (list_all are_means rows.items)) }
+    ensures means { IfOk result (λ rows. IsTrue (list_all are_reused_means rows.items)) }
 {
-    // a board tells that the topics are few, and a legal history that a run names no document twice on a topic
+    // a board tells that the topics are few, and a legal history that a run names no document twice
+    // on a topic
     entries_are_plain();
     let _board = state.board();
     let _entries = state.entries();
@@ -72,8 +75,8 @@ fn row_of(
     requires reduced { AreOfGroup state.now.history judgements.now }
     ensures reused { let H = state.now.history in (one : ℕ × Run) → IsLive H run one
         → system.now ≡ system_of H (group_of H one.0) one.1
-        → IfOk result (λ row. row ≡ reused H one) }
-    ensures means { IfOk result (λ row. IsTrue (are_means row)) }
+        → IfOk result (λ row. row ≡ reuse_of H one) }
+    ensures means { IfOk result (λ row. IsTrue (are_reused_means row)) }
 {
     let sums = sums_of(alloc, state, judgements, run)?;
     let name = system.run.copy()?;

@@ -1,7 +1,7 @@
 //! The topics of a campaign by id.
 ghost use Rattle.std.specs.Prelude.{◌≡◌, IfOk, Some, map};
-ghost use Rattle.rulebook.specs.Pages.{topics_in_order};
-ghost use Rattle.campaign_core.specs.LentTopics.{topic_at};
+ghost use Rattle.rulebook.specs.Reports.Pages.{topics_in_order};
+ghost use Rattle.campaign_core.specs.Views.LentTopics.{topic_at};
 ghost use Rattle.leave_out.specs.TopicOrder.{AreTopicsById};
 
 use campaign_core::State;

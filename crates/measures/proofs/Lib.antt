@@ -3,5 +3,6 @@ pub mod RelevantSum
 pub mod PrecisionSum
 pub mod PreferenceSum
 pub mod Places
-pub mod OneTopic
-pub mod Summing
+pub mod MeasureRows
+pub mod ValueLines
+pub mod RunningSums

@@ -37,7 +37,8 @@ added level grades rank relevant sum d h graded s =
     record {
       counted = count;
       total =
-          one_added level grades (precision level grades) rank sum ((relevant + 1) * weight (rank + 1)) d h graded (ap (λ n. n * weight (rank + 1)) count) s.total;
+          one_added level grades (precision level grades) rank sum ((relevant + 1) * weight (rank + 1)) d h graded
+          (ap (λ n. n * weight (rank + 1)) count) s.total;
       few = omega (arith, s.few);
       within =
           let most : relevant + 1 ≤ rank + 1 = omega (arith, s.few) in

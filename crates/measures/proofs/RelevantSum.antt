@@ -28,14 +28,16 @@ next_rank level grades f rank d h =
 pub nothing_added : (level : ℕ) (grades : List (Option ℕ)) (f : ℕ → ℕ) (rank sum : ℕ) (d : Option ℕ) → rank < length grades
     → is_relevant level (get_or grades rank d) ≡ false → sum ≡ sum_to level grades f rank → sum ≡ sum_to level grades f (rank + 1)
 nothing_added level grades f rank sum d h lower total =
-    total ∙ sym (next_rank level grades f rank d h ∙ ap (λ b. sum_to level grades f rank + cond b (f (rank + 1)) 0) lower ∙ add-zero (sum_to level grades f rank))
+    total ∙ sym (next_rank level grades f rank d h ∙ ap (λ b. sum_to level grades f rank + cond b (f (rank + 1)) 0) lower
+    ∙ add-zero (sum_to level grades f rank))
 
 -- a relevant one adds its term
 pub one_added : (level : ℕ) (grades : List (Option ℕ)) (f : ℕ → ℕ) (rank sum v : ℕ) (d : Option ℕ) → rank < length grades
     → is_relevant level (get_or grades rank d) ≡ true → v ≡ f (rank + 1) → sum ≡ sum_to level grades f rank
     → sum + v ≡ sum_to level grades f (rank + 1)
 one_added level grades f rank sum v d h relevant value total =
-    sym (next_rank level grades f rank d h ∙ ap (λ b. sum_to level grades f rank + cond b (f (rank + 1)) 0) relevant ∙ ap (λ n. sum_to level grades f rank + n) (sym value) ∙ ap (λ n. n + v) (sym total))
+    sym (next_rank level grades f rank d h ∙ ap (λ b. sum_to level grades f rank + cond b (f (rank + 1)) 0) relevant
+    ∙ ap (λ n. sum_to level grades f rank + n) (sym value) ∙ ap (λ n. n + v) (sym total))
 
 pub all_added : (level : ℕ) (grades : List (Option ℕ)) (f : ℕ → ℕ) (rank sum : ℕ) → length grades ≤ rank
     → sum ≡ sum_to level grades f rank → sum ≡ sum_over_relevant level grades f

@@ -1,7 +1,7 @@
 -- The counts and sums of one ranked list on one topic, from which its measures are taken.
-use Rattle.std.specs.Prelude.{ℕ, ◌+◌, ◌-◌, ◌*◌, ◌/◌, ◌^◌, ◌<◌, ◌≤◌, ◌==◌, if◌then◌else◌, min, List, [], ◌∷◌, Option, map, length, position, count_by, slice_index}
+use Rattle.std.specs.Prelude.{ℕ, ◌+◌, ◌-◌, ◌*◌, ◌^◌, ◌<◌, ◌≤◌, ◌==◌, if◌then◌else◌, min, List, [], ◌∷◌, Option, map, length, position, count_by, slice_index}
 use Rattle.std.specs.Option.{option_map_or}
-pub use Rattle.decimal_rank.specs.Weights.{weight}
+pub use Rattle.decimal_rank.specs.Rankings.Weights.{weight}
 use Rattle.measures.specs.declared.cells.Cell.{Cell}
 use Rattle.measures.specs.Grades.{is_relevant, relevant_to, non_relevant_to, sum_over_relevant}
 

@@ -1,5 +1,5 @@
 -- The value of a measure on one topic, and its mean over topics. The unit of a value is 10^-15.
-use Rattle.std.specs.Prelude.{⊤, ℕ, ◌*◌, ◌/◌, ◌^◌, ◌<◌, ◌≤◌, ◌==◌, if◌then◌else◌, List, map, length, sum_by, slice_index}
+use Rattle.std.specs.Prelude.{⊤, ℕ, ◌*◌, ◌/◌, ◌^◌, ◌<◌, ◌≤◌, ◌==◌, if◌then◌else◌, All, List, ◌∷◌, map, length, sum_by, slice_index}
 use Rattle.std.specs.List.{range_with_len}
 use Rattle.measures.specs.declared.cells.Cell.{Cell}
 use Rattle.measures.specs.declared.means.Measure.{Measure}
@@ -14,6 +14,13 @@ IsMeasure RPrec = ⊤
 IsMeasure Bpref = ⊤
 IsMeasure RecipRank = ⊤
 IsMeasure (Precision place) = place < 9
+
+-- the measures in the order in which they are printed
+abbrev pub measures : List Measure
+measures = Map ∷ RPrec ∷ Bpref ∷ RecipRank ∷ map Precision (range_with_len 0 9)
+
+abbrev pub measure_count : ℕ
+measure_count = length measures
 
 -- a over b, rounded down
 abbrev pub fixed_of : ℕ → ℕ → ℕ
@@ -30,6 +37,10 @@ share_of (Precision place) cell = fixed_of (slice_index cell.at place) (slice_in
 -- the value on a topic: 0 where no document is relevant
 abbrev pub value_of : Measure → Cell → ℕ
 value_of measure cell = if cell.rel == 0 then 0 else share_of measure cell
+
+-- the value of each measure on a topic
+abbrev pub values_of : Cell → List ℕ
+values_of cell = map (λ measure. value_of measure cell) measures
 
 -- the sum of the values divided by their number, rounded down; 0 where there is none
 abbrev pub mean_by : (Cell → ℕ) → List Cell → ℕ
@@ -49,14 +60,6 @@ summary_of cells = record {
   at = map (λ place. mean_by (value_of (Precision place)) cells) (range_with_len 0 9);
 }
 
--- each mean is at most 1
-pub record IsProper (summary : Summary) : Type 0 where
-  pub map : summary.map ≤ 10 ^ 15
-  pub r_prec : summary.r_prec ≤ 10 ^ 15
-  pub bpref : summary.bpref ≤ 10 ^ 15
-  pub recip : summary.recip ≤ 10 ^ 15
-  pub at : (i : ℕ) → i < 9 → slice_index summary.at i ≤ 10 ^ 15
-
 -- the mean of a measure in a summary
 abbrev pub mean_in : Summary → Measure → ℕ
 mean_in summary Map = summary.map
@@ -64,3 +67,11 @@ mean_in summary RPrec = summary.r_prec
 mean_in summary Bpref = summary.bpref
 mean_in summary RecipRank = summary.recip
 mean_in summary (Precision place) = slice_index summary.at place
+
+-- the mean of each measure in a summary
+abbrev pub means_in : Summary → List ℕ
+means_in summary = map (mean_in summary) measures
+
+-- each mean is at most 1
+abbrev pub IsProper : Summary → Type 0
+IsProper summary = All (λ mean. mean ≤ 10 ^ 15) (means_in summary)

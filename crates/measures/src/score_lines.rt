@@ -1,12 +1,12 @@
-//! The lines in which scores are printed: 16 of a cell, and 17 of a summary. A value has four decimals.
-ghost use Rattle.std.specs.Prelude.{◌≡◌, ◌^◌, ◌≤◌, ◌++◌, OnOk, OnErr};
+//! The lines in which scores are printed: 16 of a cell, and 17 of a summary. A value has four
+//! decimals.
+ghost use Rattle.std.specs.Prelude.{◌≡◌, ◌^◌, ◌≤◌, ◌++◌, All, OnOk, OnErr, length, map};
 ghost use Rattle.measures.specs.Cells.{IsSound};
-ghost use Rattle.measures.specs.Means.{IsProper, mean_in};
-ghost use Rattle.measures.specs.ScoreLines.{four_decimals, line_start, count_line, value_line, count_lines, measure_lines, precision_lines, cell_text, summary_text};
+ghost use Rattle.measures.specs.Means.{IsProper};
+ghost use Rattle.measures.specs.ScoreLines.{four_decimals, line_start, count_line, value_line, count_lines, value_lines, cell_text, summary_text};
 
 use crate::cells::Cell;
-use crate::means::Summary;
-use crate::totals::mean;
+use crate::means::{NAMES, Summary, means_in, values_of};
 use decimal_rank::Memory;
 use itoa::Buffer;
 
@@ -31,15 +31,17 @@ pub fn write_four(value: u64, out: &mut Vec<u8>) -> Result<(), Memory>
 }
 
 /// Appends the 16 lines of a cell. On want of memory nothing is appended.
-#[tactic(auto, using(std::proofs::lemmas::Grind::common_steps))]
+#[tactic(auto, using(std::proofs::lemmas::Grind::common_steps), unfolding(crate::specs::ScoreLines::cell_text))]
 pub fn write_cell(run: &[u8], topic: &[u8], cell: &Cell, out: &mut Vec<u8>) -> Result<(), Memory>
     requires { IsSound cell.now }
-    ensures ok { OnOk result (out.new.items ≡ out.old.items ++ cell_text run.now topic.now cell.now) }
+    ensures ok { OnOk result
+        (out.new.items ≡ out.old.items ++ cell_text run.now topic.now cell.now) }
     ensures err { OnErr result (out.new.items ≡ out.old.items) }
 {
     let mut lines = Vec::new(*out.allocator());
-    // the means over one topic are its values
-    write_scores(run, topic, &mean(&[*cell]), &mut lines)?;
+    let (ret, rel, rel_ret) = (cell.ret as u64, cell.rel as u64, cell.rel_ret as u64);
+    write_counts(run, topic, ret, rel, rel_ret, &mut lines)?;
+    write_values(run, topic, &NAMES, &values_of(cell), &mut lines)?;
     out.extend_from_slice(&lines)?;
     Ok(())
 }
@@ -53,81 +55,53 @@ pub fn write_summary(run: &[u8], summary: &Summary, out: &mut Vec<u8>) -> Result
 {
     let mut page = Vec::new(*out.allocator());
     write_count(run, b"all", b"num_q", summary.topics as u64, &mut page)?;
-    write_scores(run, b"all", summary, &mut page)?;
+    write_counts(
+        run,
+        b"all",
+        summary.ret,
+        summary.rel,
+        summary.rel_ret,
+        &mut page,
+    )?;
+    write_values(run, b"all", &NAMES, &means_in(summary), &mut page)?;
     out.extend_from_slice(&page)?;
     Ok(())
-}
-
-/// Appends the lines of a summary that a cell has too.
-#[tactic(auto, using(std::proofs::lemmas::Grind::common_steps))]
-fn write_scores(
-    run: &[u8],
-    topic: &[u8],
-    summary: &Summary,
-    page: &mut Vec<u8>,
-) -> Result<(), Memory>
-    requires { IsProper summary.now }
-    ensures { OnOk result (page.new.items ≡ page.old.items
-        ++ count_lines run.now topic.now summary.now.ret summary.now.rel summary.now.rel_ret
-        ++ measure_lines run.now topic.now (mean_in summary.now)
-        ++ precision_lines run.now topic.now (mean_in summary.now)) }
-{
-    write_counts(run, topic, summary, page)?;
-    write_measures(run, topic, summary, page)?;
-    write_precisions(run, topic, summary, page)
 }
 
 #[tactic(auto, using(std::proofs::lemmas::Grind::common_steps), unfolding(crate::specs::ScoreLines::count_lines))]
 fn write_counts(
     run: &[u8],
     topic: &[u8],
-    summary: &Summary,
+    ret: u64,
+    rel: u64,
+    rel_ret: u64,
     page: &mut Vec<u8>,
 ) -> Result<(), Memory>
-    ensures { OnOk result (page.new.items ≡ page.old.items ++ count_lines run.now topic.now summary.now.ret summary.now.rel summary.now.rel_ret) }
+    ensures { OnOk result
+        (page.new.items ≡ page.old.items ++ count_lines run.now topic.now ret rel rel_ret) }
 {
-    write_count(run, topic, b"num_ret", summary.ret, page)?;
-    write_count(run, topic, b"num_rel", summary.rel, page)?;
-    write_count(run, topic, b"num_rel_ret", summary.rel_ret, page)?;
+    write_count(run, topic, b"num_ret", ret, page)?;
+    write_count(run, topic, b"num_rel", rel, page)?;
+    write_count(run, topic, b"num_rel_ret", rel_ret, page)?;
     Ok(())
 }
 
-#[tactic(auto, using(std::proofs::lemmas::Grind::common_steps), unfolding(crate::specs::ScoreLines::measure_lines))]
-fn write_measures(
+/// Appends a line for each name, with the value at its place.
+fn write_values(
     run: &[u8],
     topic: &[u8],
-    summary: &Summary,
+    names: &[&[u8]],
+    values: &[u64],
     page: &mut Vec<u8>,
 ) -> Result<(), Memory>
-    requires { IsProper summary.now }
-    ensures { OnOk result (page.new.items ≡ page.old.items ++ measure_lines run.now topic.now (mean_in summary.now)) }
+    requires same { length names.now ≡ length values.now }
+    requires within { All (λ value. value ≤ 10 ^ 15) values.now }
+    ensures { OnOk result (page.new.items ≡ page.old.items
+        ++ value_lines run.now topic.now (map (λ name. name.now) names.now) values.now) }
 {
-    write_value(run, topic, b"map", summary.map, page)?;
-    write_value(run, topic, b"Rprec", summary.r_prec, page)?;
-    write_value(run, topic, b"bpref", summary.bpref, page)?;
-    write_value(run, topic, b"recip_rank", summary.recip, page)?;
-    Ok(())
-}
-
-#[tactic(auto, using(std::proofs::lemmas::Grind::common_steps), unfolding(crate::specs::ScoreLines::precision_lines))]
-fn write_precisions(
-    run: &[u8],
-    topic: &[u8],
-    summary: &Summary,
-    page: &mut Vec<u8>,
-) -> Result<(), Memory>
-    requires { IsProper summary.now }
-    ensures { OnOk result (page.new.items ≡ page.old.items ++ precision_lines run.now topic.now (mean_in summary.now)) }
-{
-    write_value(run, topic, b"P_5", summary.at[0], page)?;
-    write_value(run, topic, b"P_10", summary.at[1], page)?;
-    write_value(run, topic, b"P_15", summary.at[2], page)?;
-    write_value(run, topic, b"P_20", summary.at[3], page)?;
-    write_value(run, topic, b"P_30", summary.at[4], page)?;
-    write_value(run, topic, b"P_100", summary.at[5], page)?;
-    write_value(run, topic, b"P_200", summary.at[6], page)?;
-    write_value(run, topic, b"P_500", summary.at[7], page)?;
-    write_value(run, topic, b"P_1000", summary.at[8], page)?;
+    for place in 0..names.len() {
+        write_value(run, topic, names[place], values[place], page)?;
+    }
     Ok(())
 }
 
@@ -138,7 +112,8 @@ fn write_count(
     count: u64,
     page: &mut Vec<u8>,
 ) -> Result<(), Memory>
-    ensures { OnOk result (page.new.items ≡ page.old.items ++ count_line run.now topic.now measure.now count) }
+    ensures { OnOk result
+        (page.new.items ≡ page.old.items ++ count_line run.now topic.now measure.now count) }
 {
     write_line_start(run, topic, measure, page)?;
     page.extend_from_slice(Buffer::new().format(count).as_bytes())?;
@@ -154,7 +129,8 @@ fn write_value(
     page: &mut Vec<u8>,
 ) -> Result<(), Memory>
     requires { value ≤ 10 ^ 15 }
-    ensures { OnOk result (page.new.items ≡ page.old.items ++ value_line run.now topic.now measure.now value) }
+    ensures { OnOk result
+        (page.new.items ≡ page.old.items ++ value_line run.now topic.now measure.now value) }
 {
     write_line_start(run, topic, measure, page)?;
     write_four(value, page)?;
@@ -169,7 +145,8 @@ fn write_line_start(
     measure: &[u8],
     page: &mut Vec<u8>,
 ) -> Result<(), Memory>
-    ensures { OnOk result (page.new.items ≡ page.old.items ++ line_start run.now topic.now measure.now) }
+    ensures { OnOk result
+        (page.new.items ≡ page.old.items ++ line_start run.now topic.now measure.now) }
 {
     page.extend_from_slice(run)?;
     page.extend_from_slice(b"\t")?;

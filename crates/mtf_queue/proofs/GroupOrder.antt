@@ -17,9 +17,9 @@ use Rattle.depth_pool.specs.declared.runs.RunId.{RunId}
 use Rattle.depth_pool.specs.Holdings.{has_id}
 use Rattle.mtf_queue.specs.declared.groups.Member.{Member}
 use Rattle.mtf_queue.specs.declared.rule.Judged.{Judged}
-use Rattle.mtf_queue.specs.Groups.{AreByRun, AreFew, AreGrouped, AreSorted, AreToldApart, StandAlike, docs_cmp, first_group, half_of, run_of}
-use Rattle.mtf_queue.specs.Rule.{Holds, IsBefore, rule_cmp, side}
-use Rattle.mtf_queue.proofs.Comparing.{before_from_less}
+use Rattle.mtf_queue.specs.Groups.{AreFewGroups, AreGrouped, AreMembersByRun, AreSorted, AreToldApart, StandAlike, docs_cmp, first_group, half_of, member_run}
+use Rattle.mtf_queue.specs.Rule.{HoldingRule, IsBefore, rule_cmp, side}
+use Rattle.mtf_queue.proofs.RunComparisons.{before_from_less}
 
 -- ---- comparisons of numbers
 
@@ -41,7 +41,8 @@ halves_cmp a b x y few few' = step (nat_cmp a b) refl (ranked a b (nat_cmp a b) 
     inner same Equal e h = cmp_same (2 * a + x) (2 * b + y) (omega arith)
     inner same Greater e h = cmp_more (2 * a + x) (2 * b + y) (omega arith)
 
-    step : (o : Ordering) → nat_cmp a b ≡ o → MatchOrdering o (a < b) (a ≡ b) (b < a) → nat_cmp (2 * a + x) (2 * b + y) ≡ ordering_then (nat_cmp a b) (nat_cmp x y)
+    step : (o : Ordering) → nat_cmp a b ≡ o → MatchOrdering o (a < b) (a ≡ b) (b < a)
+        → nat_cmp (2 * a + x) (2 * b + y) ≡ ordering_then (nat_cmp a b) (nat_cmp x y)
     step Less e h = cmp_less (2 * a + x) (2 * b + y) (omega arith) ∙ ap (λ o. ordering_then o (nat_cmp x y)) (sym e)
     step Equal e h = inner h (nat_cmp x y) refl (ranked x y (nat_cmp x y) refl) ∙ ap (λ o. ordering_then o (nat_cmp x y)) (sym e)
     step Greater e h = cmp_more (2 * a + x) (2 * b + y) (omega arith) ∙ ap (λ o. ordering_then o (nat_cmp x y)) (sym e)
@@ -65,14 +66,17 @@ then_nothing Less = refl
 then_nothing Equal = refl
 then_nothing Greater = refl
 
-rule-docs : (held : Holds) (docs older : List Judged) (r s : RunId) → rule_cmp held (reverse docs ++ older) r s ≡ ordering_then (docs_cmp held docs r s) (rule_cmp held older r s)
+rule-docs : (held : HoldingRule) (docs older : List Judged) (r s : RunId)
+    → rule_cmp held (reverse docs ++ older) r s ≡ ordering_then (docs_cmp held docs r s) (rule_cmp held older r s)
 rule-docs held [] older r s = refl
 rule-docs held (judged ∷ newer) older r s =
     ap (λ newest. rule_cmp held newest r s) (ap (λ docs. docs ++ older) (reverse-append (judged ∷ []) newer) ∙ append_assoc (reverse newer) (judged ∷ []) older)
     ∙ rule-docs held newer (judged ∷ older) r s
-    ∙ sym (then_assoc (docs_cmp held newer r s) (nat_cmp (side judged.relevant (held r judged.doc)) (side judged.relevant (held s judged.doc))) (rule_cmp held older r s))
+    ∙ sym (then_assoc (docs_cmp held newer r s) (nat_cmp (side judged.relevant (held r judged.doc)) (side judged.relevant (held s judged.doc)))
+    (rule_cmp held older r s))
 
-rule-left : (held : Holds) (trail : List Judged) (left : ℕ) (r s : RunId) → rule_cmp held (reverse trail) r s ≡ ordering_then (docs_cmp held (drop left trail) r s) (rule_cmp held (reverse (take left trail)) r s)
+rule-left : (held : HoldingRule) (trail : List Judged) (left : ℕ) (r s : RunId)
+    → rule_cmp held (reverse trail) r s ≡ ordering_then (docs_cmp held (drop left trail) r s) (rule_cmp held (reverse (take left trail)) r s)
 rule-left held trail left r s =
     ap (λ docs. rule_cmp held (reverse docs) r s) (sym (take-append-drop left trail))
     ∙ ap (λ newest. rule_cmp held newest r s) (reverse-append (take left trail) (drop left trail))
@@ -81,13 +85,16 @@ rule-left held trail left r s =
 -- ---- one more document
 
 -- a document with no grade cuts no group
-pub grouped_ungraded : (held : Holds) (docs : List Judged) (judged : Judged) (members : List Member) → judged.relevant ≡ None → AreGrouped held docs members → AreGrouped held (judged ∷ docs) members
+pub grouped_ungraded : (held : HoldingRule) (docs : List Judged) (judged : Judged) (members : List Member) → judged.relevant ≡ None
+    → AreGrouped held docs members → AreGrouped held (judged ∷ docs) members
 grouped_ungraded held docs judged members ungraded was i d h j e l =
     was i d h j e l
     ∙ sym (then_nothing (docs_cmp held docs (get_or members i d).run (get_or members j e).run))
-    ∙ sym (ap (λ g. ordering_then (docs_cmp held docs (get_or members i d).run (get_or members j e).run) (nat_cmp (side g (held (get_or members i d).run judged.doc)) (side g (held (get_or members j e).run judged.doc)))) ungraded)
+    ∙ sym (ap (λ g. ordering_then (docs_cmp held docs (get_or members i d).run (get_or members j e).run)
+    (nat_cmp (side g (held (get_or members i d).run judged.doc)) (side g (held (get_or members j e).run judged.doc)))) ungraded)
 
-module _ (held : Holds) (docs : List Judged) (doc : DocId) (relevant : Bool) (holders : List RunId) (same : (run : RunId) → has_id run holders ≡ held run doc) where
+module _ (held : HoldingRule) (docs : List Judged) (doc : DocId) (relevant : Bool) (holders : List RunId)
+    (same : (run : RunId) → has_id run holders ≡ held run doc) where
   abbrev judged_now : Judged
   judged_now = record { doc = doc; relevant = Some relevant }
 
@@ -111,7 +118,8 @@ module _ (held : Holds) (docs : List Judged) (doc : DocId) (relevant : Bool) (ho
       (subst (Q (half_of holders relevant (get_or members i d))) (sym (get_or-map (half_of holders relevant) members j e e within'))
       (one_halved (get_or members i d) (get_or members j e) (was i d within j e within')))
 
-pub grouped_permuted : (held : Holds) (docs : List Judged) (members sorted : List Member) → IsPermutation members sorted → AreGrouped held docs members → AreGrouped held docs sorted
+pub grouped_permuted : (held : HoldingRule) (docs : List Judged) (members sorted : List Member) → IsPermutation members sorted
+    → AreGrouped held docs members → AreGrouped held docs sorted
 grouped_permuted held docs members sorted permuted was =
     let R : Member → Member → Type 0 = λ p q. nat_cmp p.group q.group ≡ docs_cmp held docs p.run q.run in
     All-permutation (λ p. All (R p) sorted) members sorted permuted
@@ -119,17 +127,18 @@ grouped_permuted held docs members sorted permuted was =
 
 -- ---- from runs to members, and back
 
-pub pairs_of_runs : (R : RunId → RunId → Type 0) (members : List Member) → AllPairs R (map run_of members) → AllPairs (λ p q. R p.run q.run) members
+pub pairs_of_runs : (R : RunId → RunId → Type 0) (members : List Member) → AllPairs R (map member_run members) → AllPairs (λ p q. R p.run q.run) members
 pairs_of_runs R members pairs i j d l m =
-    subst (λ r. R r (get_or members j d).run) (get_or-map run_of members i d d.run (omega arith))
-    (subst (R (get_or (map run_of members) i d.run)) (get_or-map run_of members j d d.run m) (pairs i j d.run l (omega (arith, length-map members run_of))))
+    subst (λ r. R r (get_or members j d).run) (get_or-map member_run members i d d.run (omega arith))
+    (subst (R (get_or (map member_run members) i d.run)) (get_or-map member_run members j d d.run m)
+    (pairs i j d.run l (omega (arith, length-map members member_run))))
 
-pub runs_of_pairs : (R : RunId → RunId → Type 0) (members : List Member) → AllPairs (λ p q. R p.run q.run) members → AllPairs R (map run_of members)
+pub runs_of_pairs : (R : RunId → RunId → Type 0) (members : List Member) → AllPairs (λ p q. R p.run q.run) members → AllPairs R (map member_run members)
 runs_of_pairs R members pairs i j d l m =
     let none : Member = record { group = 0; run = d } in
-    let within : j < length members = omega (arith, length-map members run_of) in
-    subst (λ r. R r (get_or (map run_of members) j d)) (sym (get_or-map run_of members i none d (omega arith)))
-    (subst (R (get_or members i none).run) (sym (get_or-map run_of members j none d within)) (pairs i j none l within))
+    let within : j < length members = omega (arith, length-map members member_run) in
+    subst (λ r. R r (get_or (map member_run members) j d)) (sym (get_or-map member_run members i none d (omega arith)))
+    (subst (R (get_or members i none).run) (sym (get_or-map member_run members j none d within)) (pairs i j none l within))
 
 -- ---- the order of a sort
 
@@ -156,8 +165,10 @@ sorted_pairs members sorted i j d l m =
     (sorted_far (λ p q. is_lt (member_cmp p q)) (ranks_by member_total (λ m. m)) members sorted i j d (omega arith) m)
 
 -- members of one group are sorted by run
-pub sorted_by_run : (members : List Member) → All (λ member. member.group ≡ 0) members → AreSorted members → AreByRun members
-sorted_by_run members none sorted = runs_of_pairs (λ r s. r.0 ≤ s.0) members (λ i j d l m. later (get_or members i d) (get_or members j d) (none i d (omega arith)) (none j d m) (sorted i j d l m))
+pub sorted_by_run : (members : List Member) → All (λ member. member.group ≡ 0) members → AreSorted members → AreMembersByRun members
+sorted_by_run members none sorted =
+    runs_of_pairs (λ r s. r.0 ≤ s.0) members
+    (λ i j d l m. later (get_or members i d) (get_or members j d) (none i d (omega arith)) (none j d m) (sorted i j d l m))
   where
     later : (p q : Member) → p.group ≡ 0 → q.group ≡ 0 → (p.group < q.group) ⊎ ((p.group ≡ q.group) × (p.run.0 ≤ q.run.0)) → p.run.0 ≤ q.run.0
     later p q first second (inl less) = absurd (omega (arith, first, second))
@@ -165,14 +176,16 @@ sorted_by_run members none sorted = runs_of_pairs (λ r s. r.0 ≤ s.0) members 
 
 -- ---- groups that are numbered anew
 
-run_at : (old new : List Member) (k : ℕ) (d : Member) → map run_of new ≡ map run_of old → length new ≡ length old → k < length old → (get_or new k d).run ≡ (get_or old k d).run
+run_at : (old new : List Member) (k : ℕ) (d : Member) → map member_run new ≡ map member_run old → length new ≡ length old
+    → k < length old → (get_or new k d).run ≡ (get_or old k d).run
 run_at old new k d same len h =
-    sym (get_or-map run_of new k d d.run (omega arith)) ∙ ap (λ runs. get_or runs k d.run) same ∙ get_or-map run_of old k d d.run h
+    sym (get_or-map member_run new k d d.run (omega arith)) ∙ ap (λ runs. get_or runs k d.run) same ∙ get_or-map member_run old k d d.run h
 
-pub same_length : (old new : List Member) → map run_of new ≡ map run_of old → length new ≡ length old
-same_length old new same = sym (length-map new run_of) ∙ ap length same ∙ length-map old run_of
+pub same_length : (old new : List Member) → map member_run new ≡ map member_run old → length new ≡ length old
+same_length old new same = sym (length-map new member_run) ∙ ap length same ∙ length-map old member_run
 
-pub grouped_numbered : (held : Holds) (docs : List Judged) (old new : List Member) → map run_of new ≡ map run_of old → StandAlike old new → AreGrouped held docs old → AreGrouped held docs new
+pub grouped_numbered : (held : HoldingRule) (docs : List Judged) (old new : List Member) → map member_run new ≡ map member_run old
+    → StandAlike old new → AreGrouped held docs old → AreGrouped held docs new
 grouped_numbered held docs old new same alike was i d h j e l =
     let len = same_length old new same in
     let within : i < length old = omega arith in
@@ -186,12 +199,15 @@ grouped_numbered held docs old new same alike was i d h j e l =
 
 -- ---- a document that cuts
 
-pub runs_halved : (holders : List RunId) (relevant : Bool) (members : List Member) → map run_of (map (half_of holders relevant) members) ≡ map run_of members
+pub runs_halved : (holders : List RunId) (relevant : Bool) (members : List Member)
+    → map member_run (map (half_of holders relevant) members) ≡ map member_run members
 runs_halved holders relevant [] = refl
 runs_halved holders relevant (member ∷ members) = ap (λ runs. member.run ∷ runs) (runs_halved holders relevant members)
 
-pub grouped_cut : (held : Holds) (docs : List Judged) (doc : DocId) (relevant : Bool) (holders : List RunId) → ((run : RunId) → has_id run holders ≡ held run doc)
-    → (members halves numbered : List Member) → halves ≡ map (half_of holders relevant) members → map run_of numbered ≡ map run_of halves → StandAlike halves numbered
+pub grouped_cut : (held : HoldingRule) (docs : List Judged) (doc : DocId) (relevant : Bool) (holders : List RunId)
+    → ((run : RunId) → has_id run holders ≡ held run doc)
+    → (members halves numbered : List Member) → halves ≡ map (half_of holders relevant) members
+    → map member_run numbered ≡ map member_run halves → StandAlike halves numbered
     → AreGrouped held docs members → AreGrouped held (record { doc = doc; relevant = Some relevant } ∷ docs) numbered
 grouped_cut held docs doc relevant holders same members halves numbered is runs alike was =
     let docs_now : List Judged = record { doc = doc; relevant = Some relevant } ∷ docs in
@@ -203,13 +219,16 @@ grouped_cut held docs doc relevant holders same members halves numbered is runs 
 same_number : (a b : ℕ) → a ≤ b → ltb a b ≡ false → a ≡ b
 same_number a b h e = grind (arith, nat_tests)
 
-in_order_pair : (held : Holds) (trail : List Judged) (left : ℕ) (p q : Member) → nat_cmp p.group q.group ≡ docs_cmp held (drop left trail) p.run q.run → p.run ≢ q.run
+in_order_pair : (held : HoldingRule) (trail : List Judged) (left : ℕ) (p q : Member)
+    → nat_cmp p.group q.group ≡ docs_cmp held (drop left trail) p.run q.run → p.run ≢ q.run
     → (p.group < q.group) ⊎ ((p.group ≡ q.group) × (p.run.0 ≤ q.run.0)) → (left ≡ 0) ⊎ (p.group < q.group) → IsBefore held trail p.run q.run
 in_order_pair held trail left p q grouped differ (inl less) ends = before_from_less held trail p.run q.run
-    (rule-left held trail left p.run q.run ∙ ap (λ o. ordering_then o (rule_cmp held (reverse (take left trail)) p.run q.run)) (sym grouped ∙ cmp_less p.group q.group less))
+    (rule-left held trail left p.run q.run
+    ∙ ap (λ o. ordering_then o (rule_cmp held (reverse (take left trail)) p.run q.run)) (sym grouped ∙ cmp_less p.group q.group less))
 in_order_pair held trail left p q grouped differ (inr tied) (inr less) = absurd (omega (arith, tied.0))
 in_order_pair held trail left p q grouped differ (inr tied) (inl none) = before_from_less held trail p.run q.run
-    (rule-left held trail left p.run q.run ∙ ap (λ o. ordering_then o (rule_cmp held (reverse (take left trail)) p.run q.run)) (sym grouped ∙ cmp_same p.group q.group tied.0)
+    (rule-left held trail left p.run q.run
+    ∙ ap (λ o. ordering_then o (rule_cmp held (reverse (take left trail)) p.run q.run)) (sym grouped ∙ cmp_same p.group q.group tied.0)
     ∙ ap (λ n. rule_cmp held (reverse (take n trail)) p.run q.run) none ∙ cmp_less p.run.0 q.run.0 (below p.run q.run tied.1 differ))
   where
     below : (r s : RunId) → r.0 ≤ s.0 → r ≢ s → r.0 < s.0
@@ -222,13 +241,16 @@ in_order_pair held trail left p q grouped differ (inr tied) (inl none) = before_
         step true e = ltb-true r.0 s.0 e
         step false e = absurd (apart (ap number (same_number r.0 s.0 h e)))
 
-pub in_order_grouped : (held : Holds) (trail : List Judged) (left : ℕ) (members : List Member) → AreGrouped held (drop left trail) members → AreSorted members
+pub in_order_grouped : (held : HoldingRule) (trail : List Judged) (left : ℕ) (members : List Member)
+    → AreGrouped held (drop left trail) members → AreSorted members
     → (left ≡ 0) ⊎ AreToldApart members → AllPairs (λ p q. p.run ≢ q.run) members → AllPairs (λ p q. IsBefore held trail p.run q.run) members
 in_order_grouped held trail left members grouped sorted ends differ i j d l m =
-    in_order_pair held trail left (get_or members i d) (get_or members j d) (grouped i d (omega arith) j d m) (differ i j d l m) (sorted i j d l m) (end ends (sorted i j d l m))
+    in_order_pair held trail left (get_or members i d) (get_or members j d) (grouped i d (omega arith) j d m)
+    (differ i j d l m) (sorted i j d l m) (end ends (sorted i j d l m))
   where
     end : (left ≡ 0) ⊎ AreToldApart members
-        → ((get_or members i d).group < (get_or members j d).group) ⊎ (((get_or members i d).group ≡ (get_or members j d).group) × ((get_or members i d).run.0 ≤ (get_or members j d).run.0))
+        → ((get_or members i d).group < (get_or members j d).group)
+        ⊎ (((get_or members i d).group ≡ (get_or members j d).group) × ((get_or members i d).run.0 ≤ (get_or members j d).run.0))
         → (left ≡ 0) ⊎ ((get_or members i d).group < (get_or members j d).group)
     end (inl none) stand = inl none
     end (inr apart) (inl less) = inr less
@@ -242,21 +264,23 @@ told_apart_permuted members sorted permuted was =
 
 -- ---- all runs in one group
 
-pub runs_first : (order : List RunId) → map run_of (map first_group order) ≡ order
+pub runs_first : (order : List RunId) → map member_run (map first_group order) ≡ order
 runs_first [] = refl
 runs_first (run ∷ order) = ap (λ runs. run ∷ runs) (runs_first order)
 
 pub first_groups : (order : List RunId) → All (λ member. member.group ≡ 0) (map first_group order)
 first_groups order k d h = ap (λ (m : Member). m.group) (get_or-map first_group order k d.run d (omega (arith, length-map order first_group)))
 
-pub one_group : (held : Holds) (members : List Member) → All (λ member. member.group ≡ 0) members → AreGrouped held [] members
+pub one_group : (held : HoldingRule) (members : List Member) → All (λ member. member.group ≡ 0) members → AreGrouped held [] members
 one_group held members none i d h j e l = cmp_same (get_or members i d).group (get_or members j e).group (none i d h ∙ sym (none j e l))
 
-pub one_few : (members : List Member) → All (λ member. member.group ≡ 0) members → AreFew members
+pub one_few : (members : List Member) → All (λ member. member.group ≡ 0) members → AreFewGroups members
 one_few members none k d h = omega (arith, none k d h)
 
 -- the runs of the groups are those of the order
-pub sorted_runs : (order slice : List RunId) (put cut : List Member) → slice ≡ order → IsPermutation (map first_group slice) put → IsPermutation (map run_of put) (map run_of cut) → IsPermutation order (map run_of cut)
+pub sorted_runs : (order slice : List RunId) (put cut : List Member) → slice ≡ order → IsPermutation (map first_group slice) put
+    → IsPermutation (map member_run put) (map member_run cut) → IsPermutation order (map member_run cut)
 sorted_runs order slice put cut same filled permuted =
-    IsPermutation-trans order (map run_of put) (map run_of cut)
-    (subst (λ runs. IsPermutation runs (map run_of put)) (runs_first slice ∙ same) (IsPermutation-map run_of (map first_group slice) put filled)) permuted
+    IsPermutation-trans order (map member_run put) (map member_run cut)
+    (subst (λ runs. IsPermutation runs (map member_run put)) (runs_first slice ∙ same) (IsPermutation-map member_run (map first_group slice) put filled))
+    permuted

@@ -1,8 +1,8 @@
-pub mod Comparing
-pub mod Grouping
+pub mod RunComparisons
+pub mod GroupMoves
 pub mod GroupOrder
 pub mod HolderWalks
 pub mod MemberLoops
-pub mod Keeping
-pub mod First
-pub mod Numbering
+pub mod OrderedQueues
+pub mod FirstRuns
+pub mod GroupNumbers

@@ -1,14 +1,14 @@
 //! Runs sorted by the rule, from the newest document of the trail back. Runs that no document told
-//! apart so far are a group. Each document that is looked at cuts groups in two, until each run is a
-//! group of its own or no document is left. Meanwhile the runs stand by number, as the holders of a
-//! document do, so that a cut is one walk along both; at the end they are sorted by their groups.
+//! apart so far are a group. Each document that is looked at cuts groups in two, until each run is
+//! a group of its own or no document is left. Meanwhile the runs stand by number, as the holders of
+//! a document do, so that a cut is one walk along both; at the end they are sorted by their groups.
 ghost use Rattle.std.specs.Prelude.{◌≡◌, ◌≢◌, ◌*◌, ◌<◌, ◌≤◌, ◌^◌, ◌∷◌, [], All, AllPairs, IsPermutation, List, Some, ℕ, drop, false, length, map, reverse, sum, vec_len, vec_capacity};
 ghost use Rattle.std.specs.Ordering.{nat_cmp};
 ghost use Rattle.decimal_rank.specs.declared.naming.DocId.{DocId};
 ghost use Rattle.depth_pool.specs.declared.runs.RunId.{RunId};
-ghost use Rattle.depth_pool.specs.Holdings.{has_id, holds};
-ghost use Rattle.mtf_queue.specs.Groups.{AreByRun, AreFew, AreGrouped, AreSizes, AreSumsBefore, AreToldApart, KeepsFrom, StandAlike, first_group, half_of, numbered_by, run_of};
-ghost use Rattle.mtf_queue.specs.Rule.{Holds, IsBefore};
+ghost use Rattle.depth_pool.specs.Holdings.{has_id, pool_holds};
+ghost use Rattle.mtf_queue.specs.Groups.{AreFewGroups, AreGrouped, AreMembersByRun, AreSizes, AreSumsBefore, AreToldApart, KeepsFrom, StandAlike, first_group, half_of, member_run, numbered_by};
+ghost use Rattle.mtf_queue.specs.Rule.{HoldingRule, IsBefore};
 ghost use Rattle.mtf_queue.specs.declared.rule.Judged.{Judged};
 
 use crate::rule::Judged;
@@ -36,7 +36,8 @@ pub(crate) fn sort_by_rule(
     requires room { vec_len order.old ≤ vec_capacity members.old }
     requires room_for_sizes { 2 * vec_len order.old ≤ vec_capacity sizes.old }
     ensures runs { IsPermutation order.old.items order.new.items }
-    ensures pairwise { AllPairs (λ r s. r ≢ s) order.old.items → AllPairs (IsBefore (holds pool.now.runs) trail.now) order.new.items }
+    ensures pairwise { AllPairs (λ r s. r ≢ s) order.old.items
+        → AllPairs (IsBefore (pool_holds pool.now.runs) trail.now) order.new.items }
     ensures len { vec_len order.new ≡ vec_len order.old }
     ensures room_stays { vec_capacity members.new ≡ vec_capacity members.old }
     ensures room_for_sizes_stays { vec_capacity sizes.old ≤ vec_capacity sizes.new }
@@ -50,7 +51,7 @@ pub(crate) fn sort_by_rule(
 fn put_in_one_group(members: &mut Vec<Member>, order: &[RunId])
     requires { length order.now ≤ vec_capacity members.old }
     ensures runs { IsPermutation (map first_group order.now) members.new.items }
-    ensures by_run { AreByRun members.new.items }
+    ensures by_run { AreMembersByRun members.new.items }
     ensures capacity { vec_capacity members.new ≡ vec_capacity members.old }
 {
     fill(members, order);
@@ -76,7 +77,7 @@ fn fill(members: &mut Vec<Member>, order: &[RunId])
 // The runs of the members, in their order.
 fn take_runs(order: &mut Vec<RunId>, members: &[Member])
     requires { length members.now ≤ vec_len order.old }
-    ensures { order.new.items ≡ map run_of members.now }
+    ensures { order.new.items ≡ map member_run members.now }
 {
     order.clear();
     for member in members {
@@ -97,9 +98,11 @@ fn cut_groups<L: Ledger>(
     requires some { 0 < L.parts }
     requires room { 2 * vec_len members.old ≤ vec_capacity sizes.old }
     requires one_group { All (λ member. member.group ≡ 0) members.old.items }
-    requires by_run { AreByRun members.old.items }
-    ensures runs { IsPermutation (map run_of members.old.items) (map run_of members.new.items) }
-    ensures pairwise { AllPairs (λ p q. p.run ≢ q.run) members.new.items → AllPairs (λ p q. IsBefore (holds pool.now.runs) trail.now p.run q.run) members.new.items }
+    requires by_run { AreMembersByRun members.old.items }
+    ensures runs { IsPermutation (map member_run members.old.items)
+        (map member_run members.new.items) }
+    ensures pairwise { AllPairs (λ p q. p.run ≢ q.run) members.new.items → AllPairs
+        (λ p q. IsBefore (pool_holds pool.now.runs) trail.now p.run q.run) members.new.items }
     ensures capacity { vec_capacity members.new ≡ vec_capacity members.old }
     ensures room_stays { vec_capacity sizes.old ≤ vec_capacity sizes.new }
 {
@@ -122,11 +125,13 @@ fn cut_by<L: Ledger>(
     steps: &mut Steps<L>,
 ) -> bool
     requires room { 2 * vec_len members.old ≤ vec_capacity sizes.old }
-    requires by_run { AreByRun members.old.items }
-    requires few { AreFew members.old.items }
-    ensures runs { map run_of members.new.items ≡ map run_of members.old.items }
-    ensures grouped { (docs : List Judged) → AreGrouped (holds pool.now.runs) docs members.old.items → AreGrouped (holds pool.now.runs) (judged ∷ docs) members.new.items }
-    ensures few { AreFew members.new.items }
+    requires by_run { AreMembersByRun members.old.items }
+    requires few { AreFewGroups members.old.items }
+    ensures runs { map member_run members.new.items ≡ map member_run members.old.items }
+    ensures grouped { (docs : List Judged)
+        → AreGrouped (pool_holds pool.now.runs) docs members.old.items
+        → AreGrouped (pool_holds pool.now.runs) (judged ∷ docs) members.new.items }
+    ensures few { AreFewGroups members.new.items }
     ensures told_apart { result ≡ false → AreToldApart members.new.items }
     ensures capacity { vec_capacity members.new ≡ vec_capacity members.old }
     ensures room_stays { vec_capacity sizes.old ≤ vec_capacity sizes.new }
@@ -137,16 +142,19 @@ fn cut_by<L: Ledger>(
     }
 }
 
-// Cuts each group in two by a document, its first side and the others. Tells whether some runs are still in one group.
+// Cuts each group in two by a document, its first side and the others. Tells whether some runs are
+// still in one group.
 fn cut(members: &mut Vec<Member>, sizes: &mut Vec<usize>, holders: &[RunId], relevant: bool) -> bool
     requires room { 2 * vec_len members.old ≤ vec_capacity sizes.old }
     requires ascending { AllPairs (λ a b. a.0 < b.0) holders.now }
-    requires by_run { AreByRun members.old.items }
-    requires few { AreFew members.old.items }
-    ensures runs { map run_of members.new.items ≡ map run_of members.old.items }
-    ensures grouped { (held : Holds) (docs : List Judged) (doc : DocId) → ((run : RunId) → has_id run holders.now ≡ held run doc) → AreGrouped held docs members.old.items
-        → AreGrouped held (record { doc = doc; relevant = Some relevant } ∷ docs) members.new.items }
-    ensures few { AreFew members.new.items }
+    requires by_run { AreMembersByRun members.old.items }
+    requires few { AreFewGroups members.old.items }
+    ensures runs { map member_run members.new.items ≡ map member_run members.old.items }
+    ensures grouped { (held : HoldingRule) (docs : List Judged) (doc : DocId)
+        → ((run : RunId) → has_id run holders.now ≡ held run doc)
+        → AreGrouped held docs members.old.items → AreGrouped held
+        (record { doc = doc; relevant = Some relevant } ∷ docs) members.new.items }
+    ensures few { AreFewGroups members.new.items }
     ensures told_apart { result ≡ false → AreToldApart members.new.items }
     ensures capacity { vec_capacity members.new ≡ vec_capacity members.old }
     ensures room_stays { vec_capacity sizes.old ≤ vec_capacity sizes.new }
@@ -155,11 +163,12 @@ fn cut(members: &mut Vec<Member>, sizes: &mut Vec<usize>, holders: &[RunId], rel
     number(members, sizes)
 }
 
-// Gives each run the number of its half: the lower one on the first side of a document with these holders.
+// Gives each run the number of its half: the lower one on the first side of a document with these
+// holders.
 fn halve(members: &mut Vec<Member>, holders: &[RunId], relevant: bool)
     requires ascending { AllPairs (λ a b. a.0 < b.0) holders.now }
-    requires by_run { AreByRun members.old.items }
-    requires few { AreFew members.old.items }
+    requires by_run { AreMembersByRun members.old.items }
+    requires few { AreFewGroups members.old.items }
     ensures halves { members.new.items ≡ map (half_of holders.now relevant) members.old.items }
     ensures capacity { vec_capacity members.new ≡ vec_capacity members.old }
 {
@@ -197,13 +206,15 @@ fn is_at(holders: &[RunId], index: usize, run: RunId) -> bool
     }
 }
 
-// Numbers the groups anew, each by how many runs stand in lower ones. Tells whether some runs are in one group.
+// Numbers the groups anew, each by how many runs stand in lower ones. Tells whether some runs are
+// in one group.
 fn number(members: &mut Vec<Member>, sizes: &mut Vec<usize>) -> bool
     requires room { 2 * vec_len members.old ≤ vec_capacity sizes.old }
-    requires within { All (λ member. member.group < 2 * length members.old.items) members.old.items }
-    ensures runs { map run_of members.new.items ≡ map run_of members.old.items }
+    requires within { All (λ member. member.group
+        < 2 * length members.old.items) members.old.items }
+    ensures runs { map member_run members.new.items ≡ map member_run members.old.items }
     ensures alike { StandAlike members.old.items members.new.items }
-    ensures few { AreFew members.new.items }
+    ensures few { AreFewGroups members.new.items }
     ensures told_apart { result ≡ false → AreToldApart members.new.items }
     ensures capacity { vec_capacity members.new ≡ vec_capacity members.old }
     ensures room_stays { vec_capacity sizes.old ≤ vec_capacity sizes.new }

@@ -1,7 +1,8 @@
-//! The changes of a queue: a group of runs goes first, a run is put in or taken out, a grade changes.
+//! The changes of a queue: a group of runs goes first, a run is put in or taken out, a grade
+//! changes.
 ghost use Rattle.std.specs.Prelude.{◌≡◌, ◌<◌, ◌≤◌, ◌==◌, AllPairs, false, not, filter, vec_len, vec_capacity};
 ghost use Rattle.depth_pool.specs.Holdings.{has_id};
-ghost use Rattle.mtf_queue.specs.Rule.{moved, regraded};
+ghost use Rattle.mtf_queue.specs.Rule.{moved_runs, trail_regraded};
 
 use crate::rule::Judged;
 use depth_pool::{RunId, is_among};
@@ -16,7 +17,8 @@ pub(crate) fn move_group(
 )
     requires room { vec_len order.old ≤ vec_capacity behind.old }
     requires ascending { AllPairs (λ a b. a.0 < b.0) holders.now }
-    ensures { order.new.items ≡ moved (λ run. has_id run holders.now) relevant order.old.items }
+    ensures { order.new.items
+        ≡ moved_runs (λ run. has_id run holders.now) relevant order.old.items }
 {
     behind.clear();
     let mut front = 0;
@@ -45,7 +47,7 @@ pub(crate) fn remove_run(order: &mut Vec<RunId>, run: RunId)
 // Gives the document at an index another grade. Tells whether it had another one.
 pub(crate) fn set_grade(trail: &mut Vec<Judged>, index: usize, relevant: Option<bool>) -> bool
     requires { index < vec_len trail.old }
-    ensures trail { trail.new.items ≡ regraded trail.old.items index relevant }
+    ensures trail { trail.new.items ≡ trail_regraded trail.old.items index relevant }
     ensures same { result ≡ false → trail.new.items ≡ trail.old.items }
 {
     let is_other = trail[index].relevant != relevant;

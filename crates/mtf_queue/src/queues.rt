@@ -1,7 +1,8 @@
-//! The runs of a topic in judging order: a first grade moves the runs that hold its document to the front or back.
+//! The runs of a topic in judging order: a first grade moves the runs that hold its document to the
+//! front or back.
 ghost use Rattle.std.specs.Prelude.{◌≡◌, ◌+◌, ◌-◌, ◌≤◌, ◌==◌, [], ◌∷◌, ◌++◌, All, Contains, IsPermutation, IsTrue, OnOk, Some, filter, length, not};
 ghost use Rattle.depth_pool.specs.Holdings.{has_run};
-ghost use Rattle.mtf_queue.specs.Rule.{IsInOrder, regraded};
+ghost use Rattle.mtf_queue.specs.Rule.{IsInOrder, trail_regraded};
 
 use crate::groups::{Member, sort_by_rule};
 use crate::moves::{move_group, remove_run, set_grade};
@@ -36,11 +37,14 @@ impl Model for Queue {
     ghost view = { λ queue. record {
       order = queue.order.items;
       trail = queue.trail.items;
-      spare = min (min (vec_capacity queue.order - vec_len queue.order) (vec_capacity queue.trail - vec_len queue.trail))
-          (min (vec_capacity queue.behind - vec_len queue.order) (min (vec_capacity queue.members) (vec_capacity queue.sizes / 2) - vec_len queue.order));
+      spare = min (min (vec_capacity queue.order - vec_len queue.order)
+          (vec_capacity queue.trail - vec_len queue.trail))
+          (min (vec_capacity queue.behind - vec_len queue.order) (min (vec_capacity queue.members)
+          (vec_capacity queue.sizes / 2) - vec_len queue.order));
     } };
 
-    ghost invariant = { λ queue. vec_len queue.order ≤ min (vec_capacity queue.members) (vec_capacity queue.sizes / 2) };
+    ghost invariant = { λ queue. vec_len queue.order ≤ min (vec_capacity queue.members)
+        (vec_capacity queue.sizes / 2) };
 }
 
 impl Queue {
@@ -117,7 +121,8 @@ impl Queue {
         requires in_order { IsInOrder pool.now.runs self.old.trail self.old.order }
         ensures runs { IsPermutation self.old.order self.new.order }
         ensures in_order { IsInOrder pool.now.runs self.new.trail self.new.order }
-        ensures trail { self.new.trail ≡ self.old.trail ++ record { doc = doc; relevant = Some relevant } ∷ [] }
+        ensures trail { self.new.trail
+            ≡ self.old.trail ++ record { doc = doc; relevant = Some relevant } ∷ [] }
         ensures cost { steps.new ≤ steps.old + length self.old.order + 1 }
     {
         let judged = Judged {
@@ -137,7 +142,7 @@ impl Queue {
         requires in_order { IsInOrder pool.now.runs self.old.trail self.old.order }
         ensures runs { IsPermutation self.old.order self.new.order }
         ensures in_order { IsInOrder pool.now.runs self.new.trail self.new.order }
-        ensures trail { self.new.trail ≡ regraded self.old.trail (place - 1) relevant }
+        ensures trail { self.new.trail ≡ trail_regraded self.old.trail (place - 1) relevant }
     {
         let is_other = set_grade(&mut self.trail, place as usize - 1, relevant);
         if !is_other {

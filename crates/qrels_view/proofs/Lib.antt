@@ -1,4 +1,4 @@
-pub mod Grading
+pub mod NewGrades
 pub mod Places
-pub mod Placing
-pub mod Sorting
+pub mod TrailPlaces
+pub mod SortedDocs

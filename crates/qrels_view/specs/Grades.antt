@@ -5,8 +5,8 @@ use Rattle.decimal_rank.specs.declared.naming.DocId.{DocId}
 use Rattle.qrels_view.specs.declared.grades.Graded.{Graded}
 
 -- the documents, in their order
-abbrev pub docs_of : List Graded → List DocId
-docs_of graded = map (λ one. one.doc) graded
+abbrev pub graded_docs : List Graded → List DocId
+graded_docs graded = map (λ one. one.doc) graded
 
 -- the grade of a document: none where it isn't listed
 abbrev pub effective_in : List Graded → DocId → Option ℕ
@@ -21,7 +21,8 @@ first_grade doc (Some grade) = record { doc = doc; grade = Some grade } ∷ []
 -- the documents after one of them gets a grade, or none: it keeps its place, and goes last where it wasn't listed
 abbrev pub with_grade : DocId → Option ℕ → List Graded → List Graded
 with_grade doc grade [] = first_grade doc grade
-with_grade doc grade (graded ∷ later) = if doc.0 == graded.doc.0 then record { doc = graded.doc; grade = grade } ∷ later else graded ∷ with_grade doc grade later
+with_grade doc grade (graded ∷ later) =
+    if doc.0 == graded.doc.0 then record { doc = graded.doc; grade = grade } ∷ later else graded ∷ with_grade doc grade later
 
 -- 1 for what counts, and 0 for what doesn't
 abbrev pub as_number : Bool → ℕ

@@ -1,4 +1,5 @@
+pub mod CountedGrades
 pub mod Grades
 pub mod Lines
 pub mod Places
-pub mod Seen
+pub mod GradeViews

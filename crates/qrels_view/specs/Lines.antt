@@ -5,7 +5,7 @@ use Rattle.std.specs.List.{flat_map}
 use Rattle.std.specs.Ordering.{nat_cmp, is_lt}
 use Rattle.std.specs.declared.cmp.Ordering.{Ordering}
 use Rattle.decimal_rank.specs.Names.{docno_of}
-use Rattle.decimal_rank.specs.QrelLines.{qrel_line}
+use Rattle.decimal_rank.specs.Texts.QrelLines.{qrel_line}
 use Rattle.decimal_rank.specs.declared.naming.DocId.{DocId}
 use Rattle.qrels_view.specs.declared.grades.Graded.{Graded}
 
@@ -28,9 +28,9 @@ abbrev pub line_if_graded : List ℕ → List ℕ → Option ℕ → List ℕ
 line_if_graded topic docno None = []
 line_if_graded topic docno (Some grade) = qrel_line topic docno grade
 
-abbrev pub line_of : List ℕ → List (List ℕ) → Graded → List ℕ
-line_of topic names one = line_if_graded topic (docno_of names one.doc.0) one.grade
+abbrev pub qrels_line : List ℕ → List (List ℕ) → Graded → List ℕ
+qrels_line topic names one = line_if_graded topic (docno_of names one.doc.0) one.grade
 
 -- the lines of the documents that have a grade, by docno
 abbrev pub qrels_text : List ℕ → List (List ℕ) → List Graded → List ℕ
-qrels_text topic names graded = flat_map (line_of topic names) (by_docno names graded)
+qrels_text topic names graded = flat_map (qrels_line topic names) (by_docno names graded)

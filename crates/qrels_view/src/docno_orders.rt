@@ -1,7 +1,8 @@
 //! The order of a view's documents by docno, which is kept from one reading to the next.
 //!
-//! It has the place of each document in the trail, from 0. A reading puts the documents that came since behind the
-//! others and sorts all by docno: where none came, that is one comparison a document.
+//! It has the place of each document in the trail, from 0. A reading puts the documents that came
+//! since behind the others and sorts all by docno: where none came, that is one comparison a
+//! document.
 ghost use Rattle.std.specs.Prelude.{◌≡◌, ◌<◌, ◌≤◌, ◌^◌, All, IfOk, OnOk, length, map};
 ghost use Rattle.qrels_view.specs.Grades.{graded_of};
 ghost use Rattle.qrels_view.specs.Lines.{by_docno};
@@ -14,7 +15,8 @@ use indexmap::IndexMap;
 use std::alloc::Global;
 use std::marker::Model;
 
-/// The order by docno in which a reading left the documents of a view. Contracts see how many documents it has.
+/// The order by docno in which a reading left the documents of a view. Contracts see how many
+/// documents it has.
 #[derive(Drop)]
 pub struct DocnoOrder {
     places: Vec<u32>,
@@ -48,9 +50,11 @@ impl DocnoOrder {
         names: &Names,
     ) -> Result<Vec<Placed>, Memory>
         requires few { length grades.now.entries < 2 ^ 32 }
-        requires docs_named { All (λ graded. graded.doc.0 < length names.now) (graded_of grades.now.entries) }
+        requires docs_named { All (λ graded. graded.doc.0 < length names.now)
+            (graded_of grades.now.entries) }
         ensures len { OnOk result (self.new ≡ length grades.now.entries) }
-        ensures placed { IfOk result (λ placed. map (λ one. one.graded) placed.items ≡ by_docno names.now (graded_of grades.now.entries)) }
+        ensures placed { IfOk result (λ placed. map (λ one. one.graded) placed.items
+            ≡ by_docno names.now (graded_of grades.now.entries)) }
     {
         arranged(&mut self.places, grades, names)
     }
@@ -64,10 +68,12 @@ fn arranged(
 ) -> Result<Vec<Placed>, Memory>
     requires each_once { HasFirstPlaces places.old.items }
     requires few { length grades.now.entries < 2 ^ 32 }
-    requires docs_named { All (λ graded. graded.doc.0 < length names.now) (graded_of grades.now.entries) }
+    requires docs_named { All (λ graded. graded.doc.0 < length names.now)
+        (graded_of grades.now.entries) }
     ensures each_once { HasFirstPlaces places.new.items }
     ensures len { OnOk result (length places.new.items ≡ length grades.now.entries) }
-    ensures placed { IfOk result (λ placed. map (λ one. one.graded) placed.items ≡ by_docno names.now (graded_of grades.now.entries)) }
+    ensures placed { IfOk result (λ placed. map (λ one. one.graded) placed.items
+        ≡ by_docno names.now (graded_of grades.now.entries)) }
 {
     // names tell with their length that no name stands twice, and grades that no document does
     let _ = names.len();
@@ -110,7 +116,8 @@ fn placed(
     grades: &IndexMap<u32, Option<u8>>,
     places: &[u32],
 ) -> Result<Vec<Placed>, Memory>
-    ensures { IfOk result (λ placed. placed.items ≡ map (placed_at (graded_of grades.now.entries)) places.now) }
+    ensures { IfOk result
+        (λ placed. placed.items ≡ map (placed_at (graded_of grades.now.entries)) places.now) }
 {
     let mut placed = Vec::with_capacity(alloc, places.len())?;
     for place in places {

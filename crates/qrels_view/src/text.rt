@@ -1,8 +1,8 @@
 //! The qrels lines of a topic.
 ghost use Rattle.std.specs.Prelude.{◌≡◌, ◌++◌, OnOk, OnErr};
 ghost use Rattle.std.specs.List.{flat_map};
-ghost use Rattle.decimal_rank.specs.Additions.{Adds};
-ghost use Rattle.qrels_view.specs.Lines.{docno_cmp, line_of};
+ghost use Rattle.decimal_rank.specs.Texts.Additions.{Adds};
+ghost use Rattle.qrels_view.specs.Lines.{docno_cmp, qrels_line};
 
 use crate::grades::{Graded, Placed};
 use decimal_rank::{DocId, Memory, Names, append_qrel};
@@ -22,7 +22,8 @@ pub(crate) fn write_lines(
     placed: &[Placed],
     out: &mut Vec<u8>,
 ) -> Result<(), Memory>
-    ensures ok { OnOk result (out.new.items ≡ out.old.items ++ flat_map (λ one. line_of topic.now names.now one.graded) placed.now) }
+    ensures ok { OnOk result (out.new.items
+        ≡ out.old.items ++ flat_map (λ one. qrels_line topic.now names.now one.graded) placed.now) }
     ensures err { OnErr result (out.new.items ≡ out.old.items) }
 {
     let before = out.len();
@@ -37,7 +38,7 @@ pub(crate) fn write_lines(
 
 // Appends the line of a document that has a grade.
 fn write_line(topic: &[u8], names: &Names, one: Graded, out: &mut Vec<u8>) -> Result<(), Memory>
-    ensures { Adds out.old out.new (line_of topic.now names.now one) result }
+    ensures { Adds out.old out.new (qrels_line topic.now names.now one) result }
 {
     match one.grade {
         Some(grade) => append_qrel(topic, names.name_or_empty(one.doc), grade, out),

@@ -1,14 +1,14 @@
 //! The effective grades of one topic, in the order of the first grades.
 ghost use Rattle.std.specs.Prelude.{◌≡◌, ◌+◌, ◌<◌, ◌≤◌, ◌^◌, ◌++◌, ◌||◌, [], true, All, IfOk, IfSome, OnErr, OnOk, count_by, is_some, length, vec_capacity, vec_len};
 ghost use Rattle.indexmap.specs.IndexMap.{spare};
-ghost use Rattle.decimal_rank.specs.Places.{AreDistinct, place_in};
-ghost use Rattle.qrels_view.specs.Grades.{docs_of, effective_in, graded_of, is_non_relevant, is_relevant, with_grade};
+ghost use Rattle.decimal_rank.specs.Rankings.Places.{AreDistinct, place_in};
+ghost use Rattle.qrels_view.specs.Grades.{effective_in, graded_docs, graded_of, is_non_relevant, is_relevant, with_grade};
 ghost use Rattle.qrels_view.specs.Lines.{qrels_text};
 
-use crate::counts::recount;
+use crate::counts::Counts;
 use crate::docno_orders::DocnoOrder;
 use crate::text::write_lines;
-use decimal_rank::{DocId, Memory, Names, is_non_relevant, is_relevant};
+use decimal_rank::{DocId, Memory, Names};
 use indexmap::IndexMap;
 use std::alloc::Global;
 use std::marker::Model;
@@ -22,17 +22,16 @@ pub struct View {
     trail: Vec<DocId>,
     // by the number of the document, in the order of the trail
     grades: IndexMap<u32, Option<u8>>,
-    relevant: u32,
-    non_relevant: u32,
+    counts: Counts,
 }
 
 impl Model for View {
     ghost use Rattle.std.specs.Prelude.{◌-◌, min, vec_len, vec_capacity};
     ghost use Rattle.indexmap.specs.IndexMap.{spare};
-    ghost use Rattle.qrels_view.specs.Seen.{IsKept, Seen};
+    ghost use Rattle.qrels_view.specs.GradeViews.{GradeView, IsKept};
     ghost use Rattle.qrels_view.specs.Grades.{graded_of};
 
-    ghost Value = { Seen };
+    ghost Value = { GradeView };
 
     ghost view = { λ view. record {
       level = view.level;
@@ -40,7 +39,8 @@ impl Model for View {
       spare = min (vec_capacity view.trail - vec_len view.trail) (spare view.grades);
     } };
 
-    ghost invariant = { λ view. IsKept view.level view.trail.items (graded_of view.grades.entries) view.relevant view.non_relevant };
+    ghost invariant = { λ view.
+        IsKept view.level view.trail.items (graded_of view.grades.entries) view.counts };
 }
 
 impl View {
@@ -53,8 +53,7 @@ impl View {
             level,
             trail: Vec::new(alloc),
             grades: IndexMap::new(alloc),
-            relevant: 0,
-            non_relevant: 0,
+            counts: Counts::none(),
         }
     }
 
@@ -81,17 +80,7 @@ impl View {
         if old.is_none() && new.is_none() {
             return;
         }
-        let level = self.level;
-        self.relevant = recount(
-            self.relevant,
-            is_relevant(level, old),
-            is_relevant(level, new),
-        );
-        self.non_relevant = recount(
-            self.non_relevant,
-            is_non_relevant(level, old),
-            is_non_relevant(level, new),
-        );
+        self.counts = self.counts.regraded(self.level, old, new);
         put_grade(&mut self.trail, &mut self.grades, doc, new);
     }
 
@@ -111,21 +100,23 @@ impl View {
 
     /// How many documents are relevant.
     pub fn relevant(&self) -> u32
-        ensures { result ≡ count_by (λ graded. is_relevant self.now.level graded.grade) self.now.graded }
+        ensures { result
+            ≡ count_by (λ graded. is_relevant self.now.level graded.grade) self.now.graded }
     {
-        self.relevant
+        self.counts.relevant
     }
 
     /// How many documents have a grade and aren't relevant.
     pub fn non_relevant(&self) -> u32
-        ensures { result ≡ count_by (λ graded. is_non_relevant self.now.level graded.grade) self.now.graded }
+        ensures { result
+            ≡ count_by (λ graded. is_non_relevant self.now.level graded.grade) self.now.graded }
     {
-        self.non_relevant
+        self.counts.non_relevant
     }
 
     /// The documents in the order of their first grades, each once.
     pub fn trail(&self) -> &[DocId]
-        ensures docs { result.now ≡ docs_of self.now.graded }
+        ensures docs { result.now ≡ graded_docs self.now.graded }
         ensures len { length result.now ≡ length self.now.graded }
         ensures once { AreDistinct result.now }
     {
@@ -136,7 +127,7 @@ impl View {
 
     /// The place of a document in the trail, from 1.
     pub fn place(&self, doc: DocId) -> Option<u32>
-        ensures place { result ≡ place_in (docs_of self.now.graded) doc }
+        ensures place { result ≡ place_in (graded_docs self.now.graded) doc }
         ensures within { IfSome result (λ place. (1 ≤ place) × (place ≤ length self.now.graded)) }
     {
         let index = self.grades.get_index_of(&doc.0)?;
@@ -147,14 +138,15 @@ impl View {
     pub fn write(&self, topic: &[u8], names: &Names, out: &mut Vec<u8>) -> Result<(), Memory>
         requires docs_named { All (λ graded. graded.doc.0 < length names.now) self.now.graded }
         ensures err { OnErr result (out.new.items ≡ out.old.items) }
-        ensures ok { OnOk result (out.new.items ≡ out.old.items ++ qrels_text topic.now names.now self.now.graded) }
+        ensures ok { OnOk result
+            (out.new.items ≡ out.old.items ++ qrels_text topic.now names.now self.now.graded) }
     {
         let mut order = DocnoOrder::new(*self.trail.allocator());
         self.write_by(topic, names, &mut order, out)
     }
 
-    /// The same, and keeps the order by docno for the next reading of this view, which then sorts no more than the
-    /// documents that came since. Any order serves.
+    /// The same, and keeps the order by docno for the next reading of this view, which then sorts
+    /// no more than the documents that came since. Any order serves.
     pub fn write_by(
         &self,
         topic: &[u8],
@@ -164,7 +156,8 @@ impl View {
     ) -> Result<(), Memory>
         requires docs_named { All (λ graded. graded.doc.0 < length names.now) self.now.graded }
         ensures err { OnErr result (out.new.items ≡ out.old.items) }
-        ensures ok { OnOk result (out.new.items ≡ out.old.items ++ qrels_text topic.now names.now self.now.graded) }
+        ensures ok { OnOk result
+            (out.new.items ≡ out.old.items ++ qrels_text topic.now names.now self.now.graded) }
         ensures order { OnOk result (order.new ≡ length self.now.graded) }
     {
         let placed = order.arrange(&self.grades, names)?;
@@ -181,10 +174,12 @@ fn put_grade(
 )
     requires trail_room { vec_len trail.old < vec_capacity trail.old }
     requires grades_room { 1 ≤ spare grades.old }
-    requires trail_is { trail.old.items ≡ docs_of (graded_of grades.old.entries) }
-    requires not_none_twice { is_some grade || is_some (effective_in (graded_of grades.old.entries) doc) ≡ true }
-    ensures trail_is { trail.new.items ≡ docs_of (graded_of grades.new.entries) }
-    ensures graded { graded_of grades.new.entries ≡ with_grade doc grade (graded_of grades.old.entries) }
+    requires trail_is { trail.old.items ≡ graded_docs (graded_of grades.old.entries) }
+    requires not_none_twice { is_some grade
+        || is_some (effective_in (graded_of grades.old.entries) doc) ≡ true }
+    ensures trail_is { trail.new.items ≡ graded_docs (graded_of grades.new.entries) }
+    ensures graded { graded_of grades.new.entries
+        ≡ with_grade doc grade (graded_of grades.old.entries) }
 {
     let before = grades.insert(doc.0, grade).unwrap();
     if before.is_none() {

@@ -8,11 +8,11 @@ use Rattle.std.proofs.lemmas.List.{drop_all, get_or-drop, get_or-take, length-ta
 use Rattle.std.proofs.lemmas.List.Sums.{count_by-le-length, sum_by-cons, sum_by-set, sum_by-take-drop, sum_by-take-le}
 use Rattle.std.proofs.lemmas.Option.{slice_get-get_or}
 use Rattle.rank_trees.specs.Blocks.{AreSummed, count_from}
-use Rattle.rank_trees.specs.Marks.{IsSelected, count_on}
+use Rattle.rank_trees.specs.PlacesOn.{IsSelected, count_on}
 use Rattle.rank_trees.specs.SumTrees.{IsReached}
-use Rattle.rank_trees.specs.Words.{IsNth, number_of}
+use Rattle.rank_trees.specs.Words.{IsNth, number_of_bits}
 use Rattle.rank_trees.proofs.Blocks.{block-is, sums-all, sums-before, sums-length}
-use Rattle.rank_trees.proofs.Summed.{before-is, len-is, place-read, places-before}
+use Rattle.rank_trees.proofs.SummedPlaces.{before-is, len-is, place-read, places-before}
 use Rattle.rank_trees.proofs.Words.{number-head, number-tail}
 
 pub count-none : (place : ℕ) → count_from place [] ≡ 0
@@ -32,7 +32,8 @@ byte-is false = refl
 pub one-off : (place : ℕ) → one_if place false ≡ 0
 one-off place = refl
 
-pub count-one : (place i : ℕ) (on : List Bool) (b : Bool) → i < length on → count_from place (set on i b) + one_if (place + i) (get_or on i false) ≡ count_from place on + one_if (place + i) b
+pub count-one : (place i : ℕ) (on : List Bool) (b : Bool) → i < length on
+    → count_from place (set on i b) + one_if (place + i) (get_or on i false) ≡ count_from place on + one_if (place + i) b
 count-one place i on b within = omega (arith, sum_by-set (λ t. cond t 1 0) on i b false within, byte-is b, byte-is (get_or on i false))
 
 pub count-few : (place : ℕ) (on : List Bool) → 1 ≤ place → count_from place on ≤ length on * 1
@@ -54,7 +55,7 @@ count-more on i = let e : i + 1 ≡ suc i = omega arith in ap (λ n. count_on (t
 
 -- ---- the place of a word that has so many before it
 
-module _ (on : List Bool) (number place bits rest : ℕ) (left : number_of (drop place on) ≡ bits) (counted : count_on (take place on) + rest ≡ number) where
+module _ (on : List Bool) (number place bits rest : ℕ) (left : number_of_bits (drop place on) ≡ bits) (counted : count_on (take place on) + rest ≡ number) where
   here : bits % 2 ≡ cond (get_or on place false) 1 0
   here = ap (λ n. n % 2) (sym left) ∙ number-head on place
 
@@ -73,27 +74,30 @@ module _ (on : List Bool) (number place bits rest : ℕ) (left : number_of (drop
       set-bit false e = absurd (omega (arith, e, odd))
 
       past : length on ≤ place → ⊥
-      past h = let empty = ap number_of (drop_all place on h) in omega (arith, empty, left, odd)
+      past h = let empty = ap number_of_bits (drop_all place on h) in omega (arith, empty, left, odd)
 
   pub nth-more : (bit : ℕ) → bit ≡ bits % 2 → bit ≤ rest → count_on (take (place + 1) on) + (rest - bit) ≡ number
   nth-more bit is few = omega (arith, count-more on place, here, is, few, counted)
 
-  pub nth-left : number_of (drop (place + 1) on) ≡ bits / 2
+  pub nth-left : number_of_bits (drop (place + 1) on) ≡ bits / 2
   nth-left = sym (number-tail on place) ∙ ap (λ n. n / 2) left
 
 -- ---- a tree of counts
 
-module _ (len : ℕ) (places : List Bool) (counts : List ℕ) (are : AreSummed count_from 64 (len / 64 + 1) len places counts) (on : List Bool) (view : take len places ≡ on) where
+module _ (len : ℕ) (places : List Bool) (counts : List ℕ) (are : AreSummed count_from 64 (len / 64 + 1) len places counts)
+    (on : List Bool) (view : take len places ≡ on) where
   pub counts-long : length counts ≡ len / 64 + 1
   counts-long = ap length are.sums_are ∙ sums-length count_from count-none count-split 64 (len / 64 + 1) 1 places
 
   pub counts-few : (block : ℕ) → block < len / 64 + 1 → sum (take block counts) ≤ 64 * block
   counts-few block within =
-      let before = ap (λ list. sum (take block list)) are.sums_are ∙ sums-before count_from count-none count-split 64 (len / 64 + 1) block 1 places (omega (arith, within)) in
+      let before = ap (λ list. sum (take block list)) are.sums_are
+      ∙ sums-before count_from count-none count-split 64 (len / 64 + 1) block 1 places (omega (arith, within)) in
       omega (arith, before, count_by-le-length (λ b. b) (take (64 * block) places), length-take (64 * block) places)
 
   -- what the tree tells before a block, and a word tells in it, is what there is before a place
-  pub count-before : (block k : ℕ) → block < len / 64 + 1 → k ≤ 64 → sum (take block counts) + count_on (take k (take (64 - 64 * block % 64) (drop (64 * block) places))) ≡ count_on (take (64 * block + k) places)
+  pub count-before : (block k : ℕ) → block < len / 64 + 1 → k ≤ 64
+      → sum (take block counts) + count_on (take k (take (64 - 64 * block % 64) (drop (64 * block) places))) ≡ count_on (take (64 * block + k) places)
   count-before block k within few =
       let tree = ap (λ list. sum (take block list)) are.sums_are in
       let all = before-is count_from count-none count-split 64 (len / 64 + 1) block k places (omega (arith, within)) in
@@ -122,7 +126,8 @@ module _ (len : ℕ) (places : List Bool) (counts : List ℕ) (are : AreSummed c
       short = omega (arith, nth.within, length-take (64 - 64 * block % 64) (drop (64 * block) places))
 
       stands : get_or places (64 * block + at) false ≡ true
-      stands = sym (get_or-take (64 - 64 * block % 64) (drop (64 * block) places) at false (omega (arith, short)) ∙ get_or-drop (64 * block) places at false) ∙ nth.is_on
+      stands = sym (get_or-take (64 - 64 * block % 64) (drop (64 * block) places) at false (omega (arith, short)) ∙ get_or-drop (64 * block) places at false)
+          ∙ nth.is_on
 
       pub selected-within : 64 * block + at < len
       selected-within = lt_of_not-le (λ past. false≢true (sym (are.rest (64 * block + at) past) ∙ stands))
@@ -132,11 +137,13 @@ module _ (len : ℕ) (places : List Bool) (counts : List ℕ) (are : AreSummed c
           let long = len-is count_from 64 (len / 64 + 1) len places counts are on view in
           let back : 64 * block + at + 1 - 1 ≡ 64 * block + at = omega arith in
           let before = count-before block at block-within (omega (arith, short)) in
-          let same = ap count_on (places-before count_from 64 (len / 64 + 1) len places counts are on view (64 * block + at) (omega (arith, selected-within, long))) in
+          let same = ap count_on
+          (places-before count_from 64 (len / 64 + 1) len places counts are on view (64 * block + at) (omega (arith, selected-within, long))) in
           let counted : count_on (take (64 * block + at) on) ≡ j = omega (arith, before, same, nth.before, reached.before) in
           record {
             from_one = omega arith;
             is_on = ap (slice_get on) back ∙ slice_get-get_or on (64 * block + at) false (omega (arith, selected-within, long))
-                ∙ ap Some (sym (place-read count_from 64 (len / 64 + 1) len places counts are on view (64 * block + at) (omega (arith, selected-within, long))) ∙ stands);
+                ∙ ap Some (sym (place-read count_from 64 (len / 64 + 1) len places counts are on view (64 * block + at) (omega (arith, selected-within, long)))
+                ∙ stands);
             before = ap (λ n. count_on (take n on)) back ∙ counted;
           }

@@ -4,11 +4,12 @@ use Rattle.std.specs.Int.Digits.{digits_of}
 use Rattle.std.proofs.Math.Nat.{pow-succ'}
 use Rattle.std.proofs.Math.Pow.{pow_mono}
 use Rattle.std.proofs.lemmas.Int.Digits.{length-digits_of_step, length-digits_of-le, number_lt, number_digits_of, all_below_base_digits_of}
-use Rattle.decimal_rank.specs.Places.{levels}
+use Rattle.decimal_rank.specs.Rankings.Places.{levels}
 
 pub below_levels : (n : ℕ) → n < 2 ^ levels n
 unfolding levels
-below_levels n = subst (λ m. m < 2 ^ length (digits_of 2 n)) (number_digits_of 2 n (omega arith)) (number_lt 2 (digits_of 2 n) (all_below_base_digits_of 2 n (omega arith)))
+below_levels n =
+    subst (λ m. m < 2 ^ length (digits_of 2 n)) (number_digits_of 2 n (omega arith)) (number_lt 2 (digits_of 2 n) (all_below_base_digits_of 2 n (omega arith)))
 
 -- a number below a power of two has as few digits
 pub levels-under : (n k : ℕ) → n < 2 ^ k → levels n ≤ k

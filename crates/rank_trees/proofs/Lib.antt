@@ -2,7 +2,7 @@ pub mod Blocks
 pub mod Counts
 pub mod Levels
 pub mod Spans
-pub mod Summed
+pub mod SummedPlaces
 pub mod Sums
 pub mod Updates
 pub mod Weights

@@ -1,27 +1,28 @@
 -- The sums of nodes that stand side by side.
-use Rattle.std.proofs.Common.{◌≡◌, ℕ, zero, suc, ◌+◌, ◌-◌, ◌*◌, ◌^◌, ◌<◌, ◌≤◌, List, length, get_or, take, drop, sum, refl, sym, ap, ◌∙◌, arith, zero-add, set, ◌≢◌, subst, Bool, true, false, nat_lt, replicate, Option, None, Some, MatchOption}
+use Rattle.std.proofs.Common.{◌≡◌, ℕ, zero, suc, ◌+◌, ◌-◌, ◌*◌, ◌^◌, ◌<◌, ◌≤◌, List, length, get_or, take, drop, sum, refl, sym, ap, ◌∙◌, arith, zero-add, set, ◌≢◌, subst, replicate, Option, None, Some, MatchOption}
 use Rattle.std.proofs.Math.Nat.{lt_of_not-le, one-le-pow, pow-succ'}
 use Rattle.std.proofs.Math.Pow.{pow_mono}
 use Rattle.std.proofs.lemmas.List.{get_or-drop, get_or-set_other, get_or-take, length-drop, take-take, take_all, take_more, length-take}
 use Rattle.std.proofs.Math.Seq.{take-set-lt}
-use Rattle.std.proofs.Math.ListN.{get_or-eq_default}
-use Rattle.std.proofs.lemmas.Bool.{ltb-true}
-use Rattle.std.proofs.lemmas.Bool.Decides.{nat_tests}
-use Rattle.std.proofs.lemmas.List.{drop-replicate, get_or-replicate, length-replicate, take-replicate}
+use Rattle.std.proofs.lemmas.List.{drop-replicate, length-replicate, take-replicate}
 use Rattle.std.proofs.lemmas.List.Sums.{sum_by_push, sum_by-take-drop}
-use Rattle.decimal_rank.specs.Places.{levels}
-use Rattle.rank_trees.specs.SumTrees.{AreSums, IsReached, IsSumTree, leaves_of, span}
+use Rattle.decimal_rank.specs.Rankings.Places.{levels}
+use Rattle.decimal_rank.proofs.Lists.{get_or-repeated}
+use Rattle.rank_trees.specs.SumTrees.{AreNodeSums, IsReached, IsSumTree, leaves_of, span}
 use Rattle.rank_trees.proofs.Levels.{below_levels}
 
 -- the nodes under so many nodes side by side have the same sum
-pub span-under : (depth : ℕ) (nodes : List ℕ) → AreSums depth nodes → (start count : ℕ) → 1 ≤ start → start + count ≤ 2 ^ depth → span nodes (2 * start) (2 * count) ≡ span nodes start count
+pub span-under : (depth : ℕ) (nodes : List ℕ) → AreNodeSums depth nodes → (start count : ℕ) → 1 ≤ start
+    → start + count ≤ 2 ^ depth → span nodes (2 * start) (2 * count) ≡ span nodes start count
 span-under depth nodes are start zero some within = refl
 span-under depth nodes are start (suc count) some within =
     let e : 2 * suc count ≡ suc (suc (2 * count)) = omega arith in
     let rest = span-under depth nodes are start count some (omega arith) in
     let here = are.sums (start + count) (omega arith) (omega arith) in
-    let left : get_or nodes (2 * (start + count)) 0 ≡ get_or nodes (2 * start + 2 * count) 0 = ap (λ k. get_or nodes k 0) (let k : 2 * (start + count) ≡ 2 * start + 2 * count = omega arith in k) in
-    let right : get_or nodes (2 * (start + count) + 1) 0 ≡ get_or nodes (2 * start + suc (2 * count)) 0 = ap (λ k. get_or nodes k 0) (let k : 2 * (start + count) + 1 ≡ 2 * start + suc (2 * count) = omega arith in k) in
+    let left : get_or nodes (2 * (start + count)) 0 ≡ get_or nodes (2 * start + 2 * count) 0 =
+    ap (λ k. get_or nodes k 0) (let k : 2 * (start + count) ≡ 2 * start + 2 * count = omega arith in k) in
+    let right : get_or nodes (2 * (start + count) + 1) 0 ≡ get_or nodes (2 * start + suc (2 * count)) 0 =
+    ap (λ k. get_or nodes k 0) (let k : 2 * (start + count) + 1 ≡ 2 * start + suc (2 * count) = omega arith in k) in
     ap (span nodes (2 * start)) e ∙ omega (arith, rest, here, left, right)
 
 pub span-more : (nodes : List ℕ) (start few more : ℕ) → span nodes start few ≤ span nodes start (few + more)
@@ -41,7 +42,7 @@ span-le nodes start few many less =
     omega (arith, same, span-more nodes start few (many - few))
 
 -- a level has the sum of the root
-pub span-level : (depth : ℕ) (nodes : List ℕ) → AreSums depth nodes → (level : ℕ) → level ≤ depth → span nodes (2 ^ level) (2 ^ level) ≡ get_or nodes 1 0
+pub span-level : (depth : ℕ) (nodes : List ℕ) → AreNodeSums depth nodes → (level : ℕ) → level ≤ depth → span nodes (2 ^ level) (2 ^ level) ≡ get_or nodes 1 0
 span-level depth nodes are zero within = zero-add (get_or nodes 1 0)
 span-level depth nodes are (suc level) within =
     let twice = pow-succ' 2 level in
@@ -56,34 +57,19 @@ span-sum nodes start (suc count) within =
     let e : suc count ≡ count + 1 = omega arith in
     let inside : count < length (drop start nodes) = omega (arith, length-drop start nodes) in
     let rest = span-sum nodes start count (omega arith) in
-    let more = ap sum (ap (λ n. take n (drop start nodes)) e ∙ take_more (drop start nodes) count 0 inside) ∙ sum_by_push (λ x. x) (take count (drop start nodes)) (get_or (drop start nodes) count 0) in
+    let more = ap sum (ap (λ n. take n (drop start nodes)) e ∙ take_more (drop start nodes) count 0 inside)
+    ∙ sum_by_push (λ x. x) (take count (drop start nodes)) (get_or (drop start nodes) count 0) in
     let here = get_or-drop start nodes count 0 in
     omega (arith, rest, more, here)
 
 -- ---- leaves
 
 pub all_zero : (n k : ℕ) → ◌≡◌ {A = ℕ} (get_or (replicate n 0) k 0) 0
-all_zero n k = step (nat_lt k n) refl
-  where
-    step : (t : Bool) → nat_lt k n ≡ t → ◌≡◌ {A = ℕ} (get_or (replicate n 0) k 0) 0
-    step true e = get_or-replicate n k 0 0 (ltb-true k n e)
-    step false e = get_or-eq_default (replicate n 0) 0 (omega (arith, length-replicate {A = ℕ} n 0, past e))
-      where
-        past : nat_lt k n ≡ false → n ≤ k
-        past e = grind (arith, nat_tests)
-
-pub all_off : (n k : ℕ) → get_or (replicate n false) k false ≡ false
-all_off n k = step (nat_lt k n) refl
-  where
-    step : (t : Bool) → nat_lt k n ≡ t → get_or (replicate n false) k false ≡ false
-    step true e = get_or-replicate n k false false (ltb-true k n e)
-    step false e = get_or-eq_default (replicate n false) false (omega (arith, length-replicate {A = Bool} n false, past e))
-      where
-        past : nat_lt k n ≡ false → n ≤ k
-        past e = grind (arith, nat_tests)
+all_zero n k = get_or-repeated {X = ℕ} n k 0
 
 -- where none is, the sum stays
-span-rest : (nodes : List ℕ) (start count more : ℕ) → ((k : ℕ) → start + count ≤ k → get_or nodes k 0 ≡ 0) → span nodes start (count + more) ≡ span nodes start count
+span-rest : (nodes : List ℕ) (start count more : ℕ) → ((k : ℕ) → start + count ≤ k → get_or nodes k 0 ≡ 0)
+    → span nodes start (count + more) ≡ span nodes start count
 span-rest nodes start count zero none = let e : count + 0 ≡ count = omega arith in ap (span nodes start) e
 span-rest nodes start count (suc more) none =
     let e : count + suc more ≡ suc (count + more) = omega arith in
@@ -126,10 +112,12 @@ module _ (len depth : ℕ) (nodes : List ℕ) (is : IsSumTree len depth nodes) w
   pub leaf-at : (index : ℕ) → index < len → get_or nodes (2 ^ depth + index) 0 ≡ get_or (leaves_of len depth nodes) index 0
   leaf-at index within = sym (get_or-take len (drop (2 ^ depth) nodes) index 0 within ∙ get_or-drop (2 ^ depth) nodes index 0)
 
-  pub leaf-is : (list : List ℕ) → leaves_of len depth nodes ≡ list → (index : ℕ) → index < length list → get_or nodes (2 ^ depth + index) 0 ≡ get_or list index 0
+  pub leaf-is : (list : List ℕ) → leaves_of len depth nodes ≡ list → (index : ℕ) → index < length list
+      → get_or nodes (2 ^ depth + index) 0 ≡ get_or list index 0
   leaf-is list view index within = leaf-at index (omega (arith, within, list-long list view)) ∙ ap (λ leaves. get_or leaves index 0) view
 
-  pub leaf-reached : (number index rest : ℕ) → span nodes (2 ^ depth) index + rest ≡ number → rest < get_or nodes (2 ^ depth + index) 0 → IsReached (leaves_of len depth nodes) number index rest
+  pub leaf-reached : (number index rest : ℕ) → span nodes (2 ^ depth) index + rest ≡ number → rest < get_or nodes (2 ^ depth + index) 0
+      → IsReached (leaves_of len depth nodes) number index rest
   leaf-reached number index rest before reached = record {
     within = omega (arith, within, leaves-length);
     before = omega (arith, before, leaves-before index (omega (arith, within)));
@@ -143,7 +131,8 @@ module _ (len depth : ℕ) (nodes : List ℕ) (is : IsSumTree len depth nodes) w
       within = lt_of_not-le past
 
   pub found-leaf : (list : List ℕ) → leaves_of len depth nodes ≡ list → (number : ℕ) (found : Option (ℕ × ℕ))
-      → MatchOption found (span nodes (2 ^ depth) (2 ^ depth) ≤ number) (λ found. (found.0 < 2 ^ depth) × (span nodes (2 ^ depth) found.0 + found.1 ≡ number) × (found.1 < get_or nodes (2 ^ depth + found.0) 0))
+      → MatchOption found (span nodes (2 ^ depth) (2 ^ depth) ≤ number)
+      (λ found. (found.0 < 2 ^ depth) × (span nodes (2 ^ depth) found.0 + found.1 ≡ number) × (found.1 < get_or nodes (2 ^ depth + found.0) 0))
       → MatchOption found (sum list ≤ number) (λ found. IsReached list number found.0 found.1)
   found-leaf list view number None h =
       let root = leaves-root in
@@ -154,7 +143,7 @@ module _ (len depth : ℕ) (nodes : List ℕ) (is : IsSumTree len depth nodes) w
 
 -- ---- a tree whose leaves are 0
 
-pub new-sums : (depth : ℕ) → depth ≤ 6 → AreSums depth (replicate (2 * 2 ^ depth) 0)
+pub new-sums : (depth : ℕ) → depth ≤ 6 → AreNodeSums depth (replicate (2 * 2 ^ depth) 0)
 new-sums depth low = record {
   low = low;
   size = length-replicate {A = ℕ} (2 * 2 ^ depth) 0;
@@ -177,8 +166,9 @@ new-leaves len depth within =
 
 -- ---- a leaf that is written
 
-module _ (len depth : ℕ) (was : List ℕ) (is : IsSumTree len depth was) (now : List ℕ) (index value : ℕ) (within : index < len) (leaves : drop (2 ^ depth) now ≡ set (drop (2 ^ depth) was) index value) where
-  pub set-tree : AreSums depth now → IsSumTree len depth now
+module _ (len depth : ℕ) (was : List ℕ) (is : IsSumTree len depth was) (now : List ℕ) (index value : ℕ) (within : index < len)
+    (leaves : drop (2 ^ depth) now ≡ set (drop (2 ^ depth) was) index value) where
+  pub set-tree : AreNodeSums depth now → IsSumTree len depth now
   set-tree sums = record {
     some = is.some;
     few = is.few;

@@ -1,14 +1,14 @@
 -- The walks through a tree of sums: up from a leaf, and down to the leaf where a number is exceeded.
 use Rattle.std.proofs.Common.{◌≡◌, ℕ, zero, suc, ◌+◌, ◌-◌, ◌*◌, ◌/◌, ◌%◌, ◌^◌, ◌<◌, ◌≤◌, List, get_or, refl, ap, ◌∙◌, arith, zero-add}
 use Rattle.std.proofs.Math.Pow.{pow_mono}
-use Rattle.rank_trees.specs.SumTrees.{AreSums, span}
+use Rattle.rank_trees.specs.SumTrees.{AreNodeSums, span}
 use Rattle.rank_trees.proofs.Levels.{pow-half, pow-twice}
 use Rattle.rank_trees.proofs.Spans.{span-le, span-level, span-under}
 
 -- ---- bounds
 
 -- the sums are small enough for a word
-pub node-small : (depth : ℕ) (nodes : List ℕ) → AreSums depth nodes → (k : ℕ) → 1 ≤ k → get_or nodes k 0 ≤ 2048 * 10 ^ 15
+pub node-small : (depth : ℕ) (nodes : List ℕ) → AreNodeSums depth nodes → (k : ℕ) → 1 ≤ k → get_or nodes k 0 ≤ 2048 * 10 ^ 15
 node-small depth nodes are k some = let small = are.small k in let most = mul-le-mul-one k (get_or nodes k 0) some in omega (arith, small, most)
   where
     mul-le-mul-one : (k x : ℕ) → 1 ≤ k → x ≤ k * x
@@ -41,7 +41,8 @@ left_is nodes start at odd =
     let node = ap (λ k. get_or nodes k 0) place in
     omega (arith, same, node)
 
-pub summed-fits : (depth : ℕ) (nodes : List ℕ) (index level start at sum : ℕ) → AreSums depth nodes → index < 2 ^ depth → IsSummed nodes depth index level start at sum → at % 2 ≡ 1
+pub summed-fits : (depth : ℕ) (nodes : List ℕ) (index level start at sum : ℕ) → AreNodeSums depth nodes
+    → index < 2 ^ depth → IsSummed nodes depth index level start at sum → at % 2 ≡ 1
     → sum + get_or nodes (start + at - 1) 0 ≤ 2048 * 10 ^ 15
 summed-fits depth nodes index level start at sum are inside summed odd =
     let left = left_is nodes start at odd in
@@ -51,7 +52,8 @@ summed-fits depth nodes index level start at sum are inside summed odd =
     let is = summed.summed in
     omega (arith, left, all, root, small, is)
 
-module _ (depth : ℕ) (nodes : List ℕ) (index level start at sum : ℕ) (are : AreSums depth nodes) (less : level < depth) (summed : IsSummed nodes depth index level start at sum) where
+module _ (depth : ℕ) (nodes : List ℕ) (index level start at sum : ℕ) (are : AreNodeSums depth nodes) (less : level < depth)
+    (summed : IsSummed nodes depth index level start at sum) where
   half : start ≡ 2 * 2 ^ (depth - (level + 1))
   half = summed.on_level ∙ pow-half depth level less
 
@@ -60,7 +62,8 @@ module _ (depth : ℕ) (nodes : List ℕ) (index level start at sum : ℕ) (are 
       let inside = summed.inside in
       let high = summed.high in
       let e : start ≡ 2 * (start / 2) = omega (arith, half) in
-      ap (λ s. span nodes s (2 * (at / 2))) e ∙ span-under depth nodes are (start / 2) (at / 2) (omega (arith, half, inside)) (omega (arith, half, inside, high))
+      ap (λ s. span nodes s (2 * (at / 2))) e
+      ∙ span-under depth nodes are (start / 2) (at / 2) (omega (arith, half, inside)) (omega (arith, half, inside, high))
 
   goes : (after : ℕ) → after + span nodes start (2 * (at / 2)) ≡ sum + span nodes start at → IsSummed nodes depth index (level + 1) (start / 2) (at / 2) after
   goes after is =
@@ -79,7 +82,8 @@ module _ (depth : ℕ) (nodes : List ℕ) (index level start at sum : ℕ) (are 
   pub summed-right : (at % 2 ≡ 1 → ⊥) → IsSummed nodes depth index (level + 1) (start / 2) (at / 2) sum
   summed-right even = let e : 2 * (at / 2) ≡ at = omega (arith, even) in goes sum (ap (λ n. sum + span nodes start n) e)
 
-pub summed-all : (depth : ℕ) (nodes : List ℕ) (index level start at sum : ℕ) → depth ≤ level → IsSummed nodes depth index level start at sum → sum ≡ span nodes (2 ^ depth) index
+pub summed-all : (depth : ℕ) (nodes : List ℕ) (index level start at sum : ℕ) → depth ≤ level
+    → IsSummed nodes depth index level start at sum → sum ≡ span nodes (2 ^ depth) index
 summed-all depth nodes index level start at sum past summed =
     let e : depth - level ≡ 0 = omega arith in
     let top : start ≡ 1 = summed.on_level ∙ ap (λ n. 2 ^ n) e in
@@ -104,7 +108,8 @@ near-root nodes depth number less = record {
   exceeds = less;
 }
 
-module _ (depth : ℕ) (nodes : List ℕ) (number level start at rest : ℕ) (are : AreSums depth nodes) (less : level < depth) (near : IsNear nodes depth number level start at rest) where
+module _ (depth : ℕ) (nodes : List ℕ) (number level start at rest : ℕ) (are : AreNodeSums depth nodes)
+    (less : level < depth) (near : IsNear nodes depth number level start at rest) where
   twice : start * 2 ≡ 2 ^ (level + 1)
   twice = let on_level = near.on_level in let e = pow-twice level in omega (arith, on_level, e)
 
@@ -117,7 +122,8 @@ module _ (depth : ℕ) (nodes : List ℕ) (number level start at rest : ℕ) (ar
       let high = near-high in
       let s : start * 2 ≡ 2 * start = omega arith in
       let a : at * 2 ≡ 2 * at = omega arith in
-      ap (λ n. span nodes n (at * 2)) s ∙ ap (span nodes (2 * start)) a ∙ span-under depth nodes are start at (omega (arith, inside)) (omega (arith, inside, high))
+      ap (λ n. span nodes n (at * 2)) s ∙ ap (span nodes (2 * start)) a
+      ∙ span-under depth nodes are start at (omega (arith, inside)) (omega (arith, inside, high))
 
   under : get_or nodes (start + at) 0 ≡ get_or nodes (start * 2 + at * 2) 0 + get_or nodes (start * 2 + (at * 2 + 1)) 0
   under =
@@ -130,7 +136,8 @@ module _ (depth : ℕ) (nodes : List ℕ) (number level start at rest : ℕ) (ar
       let right = ap (λ k. get_or nodes k 0) r in
       omega (arith, here, left, right)
 
-  pub near-right : get_or nodes (start * 2 + at * 2) 0 ≤ rest → IsNear nodes depth number (level + 1) (start * 2) (at * 2 + 1) (rest - get_or nodes (start * 2 + at * 2) 0)
+  pub near-right : get_or nodes (start * 2 + at * 2) 0 ≤ rest
+      → IsNear nodes depth number (level + 1) (start * 2) (at * 2 + 1) (rest - get_or nodes (start * 2 + at * 2) 0)
   near-right past =
       let inside = near.inside in
       let e : at * 2 + 1 ≡ suc (at * 2) = omega arith in

@@ -3,7 +3,7 @@ use Rattle.std.proofs.Common.{◌≡◌, ◌≢◌, ℕ, zero, suc, ◌+◌, ◌
 use Rattle.std.proofs.Math.Nat.{mul-le-mul, one-le-pow}
 use Rattle.std.proofs.lemmas.Bool.Decides.{eqb_tells}
 use Rattle.std.proofs.lemmas.List.{drop-set-add, drop-set-lt, get_or-set_other, get_or-set_same, length-set}
-use Rattle.rank_trees.specs.SumTrees.{AreSums}
+use Rattle.rank_trees.specs.SumTrees.{AreNodeSums}
 use Rattle.rank_trees.proofs.Levels.{leaves-few, pow-half}
 
 -- up to this node the nodes are up to date; `before` are the nodes before the leaf had its new value
@@ -23,7 +23,8 @@ pub record IsUpdated (before now : List ℕ) (depth index value less more level 
 pub same_or : (P : Type 0) (m n : ℕ) → (m ≡ n → P) → (m ≢ n → P) → P
 same_or P m n same other = elim (eqb_tells m n) [ inl h ↦ same h.1 | inr h ↦ other h.1 ]
 
-module _ (depth : ℕ) (before : List ℕ) (index value less more : ℕ) (are : AreSums depth before) (inside : index < 2 ^ depth) (is : value ≡ get_or before (2 ^ depth + index) 0 - less + more) (least : less ≤ get_or before (2 ^ depth + index) 0) (little : value ≤ 16 * 10 ^ 15) where
+module _ (depth : ℕ) (before : List ℕ) (index value less more : ℕ) (are : AreNodeSums depth before) (inside : index < 2 ^ depth)
+    (is : value ≡ get_or before (2 ^ depth + index) 0 - less + more) (least : less ≤ get_or before (2 ^ depth + index) 0) (little : value ≤ 16 * 10 ^ 15) where
   pub updated-leaf : IsUpdated before (set before (2 ^ depth + index) value) depth index value less more 0 (2 ^ depth + index)
   updated-leaf =
       let size = are.size in
@@ -45,7 +46,8 @@ module _ (depth : ℕ) (before : List ℕ) (index value less more : ℕ) (are : 
       }
     where
       apart_sums : (k : ℕ) → 1 ≤ k → k < 2 ^ depth → k ≢ (2 ^ depth + index) / 2
-          → get_or (set before (2 ^ depth + index) value) k 0 ≡ get_or (set before (2 ^ depth + index) value) (2 * k) 0 + get_or (set before (2 ^ depth + index) value) (2 * k + 1) 0
+          → get_or (set before (2 ^ depth + index) value) k 0
+          ≡ get_or (set before (2 ^ depth + index) value) (2 * k) 0 + get_or (set before (2 ^ depth + index) value) (2 * k + 1) 0
       apart_sums k some under apart =
           let a : k ≢ 2 ^ depth + index = omega (arith, under) in
           let b : 2 * k ≢ 2 ^ depth + index = λ e. apart (omega (arith, e)) in
@@ -63,13 +65,16 @@ module _ (depth : ℕ) (before : List ℕ) (index value less more : ℕ) (are : 
               let few = leaves-few depth are.low in
               let size = are.size in
               let within : 2 ^ depth + index < length before = omega (arith, size, inside) in
-              let read : get_or (set before (2 ^ depth + index) value) k 0 ≡ value = ap (λ n. get_or (set before (2 ^ depth + index) value) n 0) e ∙ get_or-set_same before (2 ^ depth + index) value 0 within in
-              subst (λ x. k * x ≤ 2048 * 10 ^ 15) (sym read) (mul-le-mul {n₁ = k} {m₁ = value} {n₂ = 128} {m₂ = 16 * 10 ^ 15} (omega (arith, e, few, inside)) little)
+              let read : get_or (set before (2 ^ depth + index) value) k 0 ≡ value =
+              ap (λ n. get_or (set before (2 ^ depth + index) value) n 0) e ∙ get_or-set_same before (2 ^ depth + index) value 0 within in
+              subst (λ x. k * x ≤ 2048 * 10 ^ 15) (sym read)
+              (mul-le-mul {n₁ = k} {m₁ = value} {n₂ = 128} {m₂ = 16 * 10 ^ 15} (omega (arith, e, few, inside)) little)
 
           elsewhere : k ≢ 2 ^ depth + index → k * get_or (set before (2 ^ depth + index) value) k 0 ≤ 2048 * 10 ^ 15
           elsewhere apart = subst (λ x. k * x ≤ 2048 * 10 ^ 15) (sym (get_or-set_other before (2 ^ depth + index) k value 0 apart)) (are.small k)
 
-module _ (depth : ℕ) (before now : List ℕ) (index value less more level node : ℕ) (are : AreSums depth before) (under : level < depth) (updated : IsUpdated before now depth index value less more level node) where
+module _ (depth : ℕ) (before now : List ℕ) (index value less more level node : ℕ) (are : AreNodeSums depth before)
+    (under : level < depth) (updated : IsUpdated before now depth index value less more level node) where
   half : 2 ^ (depth - level) ≡ 2 * 2 ^ (depth - (level + 1))
   half = pow-half depth level under
 
@@ -107,7 +112,8 @@ module _ (depth : ℕ) (before now : List ℕ) (index value less more level node
           omega (arith, was, other, a, b, updated.here)
 
   pub above-least : less ≤ get_or before (node / 2) 0
-  above-least = same_or _ node (2 * (node / 2)) (λ e. from (ap (λ k. get_or before k 0) e)) (λ apart. let e : node ≡ 2 * (node / 2) + 1 = omega (arith, apart) in from_other (ap (λ k. get_or before k 0) e))
+  above-least = same_or _ node (2 * (node / 2)) (λ e. from (ap (λ k. get_or before k 0) e))
+      (λ apart. let e : node ≡ 2 * (node / 2) + 1 = omega (arith, apart) in from_other (ap (λ k. get_or before k 0) e))
     where
       was : get_or before (node / 2) 0 ≡ get_or before (2 * (node / 2)) 0 + get_or before (2 * (node / 2) + 1) 0
       was = are.sums (node / 2) above-some above-within
@@ -128,7 +134,9 @@ module _ (depth : ℕ) (before now : List ℕ) (index value less more level node
   sum_is = omega (arith, pair, above-now, above-enough)
 
   sum-small : (node / 2) * (get_or now (node / 2) 0 - less + more) ≤ 2048 * 10 ^ 15
-  sum-small = subst (λ x. (node / 2) * x ≤ 2048 * 10 ^ 15) (sym sum_is) (halves (node / 2) (get_or now (2 * (node / 2)) 0) (get_or now (2 * (node / 2) + 1) 0) (updated.small (2 * (node / 2))) (updated.small (2 * (node / 2) + 1)))
+  sum-small = subst (λ x. (node / 2) * x ≤ 2048 * 10 ^ 15) (sym sum_is)
+      (halves (node / 2) (get_or now (2 * (node / 2)) 0) (get_or now (2 * (node / 2) + 1) 0)
+      (updated.small (2 * (node / 2))) (updated.small (2 * (node / 2) + 1)))
     where
       halves : (k x y : ℕ) → 2 * k * x ≤ 2048 * 10 ^ 15 → (2 * k + 1) * y ≤ 2048 * 10 ^ 15 → k * (x + y) ≤ 2048 * 10 ^ 15
       halves k x y a b = omega (arith, a, b)
@@ -154,8 +162,11 @@ module _ (depth : ℕ) (before now : List ℕ) (index value less more level node
         at_most = omega (arith, half, at_most);
         high = omega (arith, half, high);
         sums = λ k some under apart. same_or _ k (node / 2) (at_above k within) (elsewhere k some under apart);
-        small = λ k. same_or _ k (node / 2) (small_above k within) (λ apart. subst (λ x. k * x ≤ 2048 * 10 ^ 15) (sym (get_or-set_other now (node / 2) k (get_or now (node / 2) 0 - less + more) 0 apart)) (updated.small k));
-        left = λ k fewer apart. get_or-set_other now (node / 2) k (get_or now (node / 2) 0 - less + more) 0 apart ∙ updated.left k (omega (arith, fewer)) (omega (arith, fewer, above-some));
+        small = λ k. same_or _ k (node / 2) (small_above k within)
+            (λ apart. subst (λ x. k * x ≤ 2048 * 10 ^ 15) (sym (get_or-set_other now (node / 2) k (get_or now (node / 2) 0 - less + more) 0 apart))
+            (updated.small k));
+        left = λ k fewer apart. get_or-set_other now (node / 2) k (get_or now (node / 2) 0 - less + more) 0 apart
+            ∙ updated.left k (omega (arith, fewer)) (omega (arith, fewer, above-some));
         here = omega (arith, same, above-now, above-enough);
         least = above-least;
       }
@@ -184,7 +195,8 @@ module _ (depth : ℕ) (before now : List ℕ) (index value less more level node
           let here = ap (λ n. get_or after n 0) e ∙ get_or-set_same now (node / 2) (get_or now (node / 2) 0 - less + more) 0 within in
           subst (λ x. k * x ≤ 2048 * 10 ^ 15) (sym here) (subst (λ n. n * (get_or now (node / 2) 0 - less + more) ≤ 2048 * 10 ^ 15) (sym e) sum-small)
 
-pub updated-all : (depth : ℕ) (before now : List ℕ) (index value less more level node : ℕ) → AreSums depth before → depth ≤ level → IsUpdated before now depth index value less more level node → AreSums depth now
+pub updated-all : (depth : ℕ) (before now : List ℕ) (index value less more level node : ℕ) → AreNodeSums depth before
+    → depth ≤ level → IsUpdated before now depth index value less more level node → AreNodeSums depth now
 updated-all depth before now index value less more level node are past updated =
     let e : depth - level ≡ 0 = omega arith in
     let top : 2 ^ (depth - level) ≡ 1 = ap (λ n. 2 ^ n) e in

@@ -3,10 +3,10 @@ use Rattle.std.proofs.Common.{◌≡◌, ℕ, zero, suc, ◌+◌, ◌-◌, ◌*�
 use Rattle.std.proofs.lemmas.List.{drop-drop, drop-take, get_or-drop, take-take}
 use Rattle.std.proofs.lemmas.Nat.{div-add-mod'}
 use Rattle.rank_trees.specs.Blocks.{AreSummed}
-use Rattle.rank_trees.specs.Marks.{weight, weights_above, weights_from}
-use Rattle.rank_trees.specs.Words.{number_of}
+use Rattle.rank_trees.specs.PlacesOn.{weight, weights_above, weights_from}
+use Rattle.rank_trees.specs.Words.{number_of_bits}
 use Rattle.rank_trees.proofs.Blocks.{sums-from, sums-length}
-use Rattle.rank_trees.proofs.Summed.{len-is}
+use Rattle.rank_trees.proofs.SummedPlaces.{len-is}
 use Rattle.rank_trees.proofs.Words.{number-head, number-tail, odd-bit}
 
 pub weights-none : (place : ℕ) → weights_from place [] ≡ 0
@@ -35,7 +35,8 @@ weights-cons : (place : ℕ) (b : Bool) (on : List Bool) → weights_from place 
 weights-cons place true on = refl
 weights-cons place false on = sym (zero-add (weights_from (place + 1) on))
 
-pub weights-one : (place i : ℕ) (on : List Bool) (b : Bool) → i < length on → weights_from place (set on i b) + weight_of (place + i) (get_or on i false) ≡ weights_from place on + weight_of (place + i) b
+pub weights-one : (place i : ℕ) (on : List Bool) (b : Bool) → i < length on
+    → weights_from place (set on i b) + weight_of (place + i) (get_or on i false) ≡ weights_from place on + weight_of (place + i) b
 weights-one place i [] b within = absurd (omega (arith, within))
 weights-one place zero (a ∷ on) b within =
     let e : place + 0 ≡ place = omega arith in
@@ -64,7 +65,8 @@ pub weights-off : (place n : ℕ) → weights_from place (replicate n false) ≡
 weights-off place zero = refl
 weights-off place (suc n) = weights-off (place + 1) n
 
-weights-one-more : (place : ℕ) (on : List Bool) (i : ℕ) → weights_from place (take (suc i) on) ≡ weights_from place (take i on) + weight_of (place + i) (get_or on i false)
+weights-one-more : (place : ℕ) (on : List Bool) (i : ℕ)
+    → weights_from place (take (suc i) on) ≡ weights_from place (take i on) + weight_of (place + i) (get_or on i false)
 weights-one-more place [] zero = refl
 weights-one-more place [] (suc i) = refl
 weights-one-more place (b ∷ on) zero =
@@ -76,16 +78,17 @@ weights-one-more place (b ∷ on) (suc i) =
     let here = ap (λ p. weight_of p (get_or on i false)) e in
     omega (arith, weights-cons place b (take (suc i) on), weights-cons place b (take i on), weights-one-more (place + 1) on i, here)
 
-weights-more : (place : ℕ) (on : List Bool) (i : ℕ) → weights_from place (take (i + 1) on) ≡ weights_from place (take i on) + weight_of (place + i) (get_or on i false)
+weights-more : (place : ℕ) (on : List Bool) (i : ℕ)
+    → weights_from place (take (i + 1) on) ≡ weights_from place (take i on) + weight_of (place + i) (get_or on i false)
 weights-more place on i = let e : i + 1 ≡ suc i = omega arith in ap (λ n. weights_from place (take n on)) e ∙ weights-one-more place on i
 
 -- ---- the weights of a word
 
-module _ (on : List Bool) (first i bits sum : ℕ) (left : number_of (drop i on) ≡ bits) (weighed : sum ≡ weights_from first (take i on)) where
+module _ (on : List Bool) (first i bits sum : ℕ) (left : number_of_bits (drop i on) ≡ bits) (weighed : sum ≡ weights_from first (take i on)) where
   here : bits % 2 ≡ cond (get_or on i false) 1 0
   here = ap (λ n. n % 2) (sym left) ∙ number-head on i
 
-  pub weighed-left : number_of (drop (i + 1) on) ≡ bits / 2
+  pub weighed-left : number_of_bits (drop (i + 1) on) ≡ bits / 2
   weighed-left = sym (number-tail on i) ∙ ap (λ n. n / 2) left
 
   pub weighed-more : (more : ℕ) → more ≡ weight_of (first + i) (bits % 2 == 1) → sum + more ≡ weights_from first (take (i + 1) on)
@@ -101,11 +104,14 @@ weights-rest place zero on off = nothing place on (λ i. off i (omega arith))
   where
     nothing : (place : ℕ) (on : List Bool) → ((i : ℕ) → get_or on i false ≡ false) → 0 ≡ weights_from place on
     nothing place [] off = refl
-    nothing place (b ∷ on) off = let here = ap (weight_of place) (off 0) in omega (arith, weights-cons place b on, here, nothing (place + 1) on (λ i. off (suc i)))
+    nothing place (b ∷ on) off = let here = ap (weight_of place) (off 0) in
+        omega (arith, weights-cons place b on, here, nothing (place + 1) on (λ i. off (suc i)))
 weights-rest place (suc m) [] off = refl
-weights-rest place (suc m) (b ∷ on) off = omega (arith, weights-cons place b (take m on), weights-cons place b on, weights-rest (place + 1) m on (λ i past. off (suc i) (omega (arith, past))))
+weights-rest place (suc m) (b ∷ on) off =
+    omega (arith, weights-cons place b (take m on), weights-cons place b on, weights-rest (place + 1) m on (λ i past. off (suc i) (omega (arith, past))))
 
-module _ (len : ℕ) (places : List Bool) (weights : List ℕ) (are : AreSummed weights_from 16 (len / 16 + 1) len places weights) (on : List Bool) (view : take len places ≡ on) where
+module _ (len : ℕ) (places : List Bool) (weights : List ℕ) (are : AreSummed weights_from 16 (len / 16 + 1) len places weights)
+    (on : List Bool) (view : take len places ≡ on) where
   pub weights-long : length weights ≡ len / 16 + 1
   weights-long = ap length are.sums_are ∙ sums-length weights_from weights-none weights-split 16 (len / 16 + 1) 1 places
 
@@ -130,15 +136,19 @@ module _ (len : ℕ) (places : List Bool) (weights : List ℕ) (are : AreSummed 
   above-block place block within is =
       let long = len-is weights_from 16 (len / 16 + 1) len places weights are on view in
       let e : 1 + 16 * block ≡ place + 1 = omega (arith, is) in
-      from-block block (omega (arith, within, long, is)) ∙ ap (λ p. weights_from p (drop (16 * block) places)) e ∙ ap (λ n. weights_from (place + 1) (drop n places)) (sym is) ∙ sym (above-is place within)
+      from-block block (omega (arith, within, long, is)) ∙ ap (λ p. weights_from p (drop (16 * block) places)) e
+      ∙ ap (λ n. weights_from (place + 1) (drop n places)) (sym is) ∙ sym (above-is place within)
 
   -- what the tree tells from a block on is what a word tells of it, and what there is behind a place
-  pub above-part : (place block k : ℕ) → place ≤ length on → place ≡ 16 * block + k → k ≤ 16 → sum (drop block weights) ≡ weights_from (16 * block + 1) (take k (take (64 - 16 * block % 64) (drop (16 * block) places))) + weights_above on place
+  pub above-part : (place block k : ℕ) → place ≤ length on → place ≡ 16 * block + k → k ≤ 16
+      → sum (drop block weights) ≡ weights_from (16 * block + 1) (take k (take (64 - 16 * block % 64) (drop (16 * block) places))) + weights_above on place
   above-part place block k within is few =
       let long = len-is weights_from 16 (len / 16 + 1) len places weights are on view in
       let first : 1 + 16 * block ≡ 16 * block + 1 = omega arith in
       let e : 1 + 16 * block + k ≡ place + 1 = omega (arith, is) in
       let whole = weights-split (1 + 16 * block) k (drop (16 * block) places) in
-      let word = ap (λ p. weights_from p (take k (drop (16 * block) places))) first ∙ ap (weights_from (16 * block + 1)) (sym (take-take k (64 - 16 * block % 64) (drop (16 * block) places) (omega (arith, few)))) in
-      let rest = ap (λ p. weights_from p (drop k (drop (16 * block) places))) e ∙ ap (weights_from (place + 1)) (drop-drop k (16 * block) places ∙ ap (λ n. drop n places) (sym is)) ∙ sym (above-is place within) in
+      let word = ap (λ p. weights_from p (take k (drop (16 * block) places))) first
+      ∙ ap (weights_from (16 * block + 1)) (sym (take-take k (64 - 16 * block % 64) (drop (16 * block) places) (omega (arith, few)))) in
+      let rest = ap (λ p. weights_from p (drop k (drop (16 * block) places))) e
+      ∙ ap (weights_from (place + 1)) (drop-drop k (16 * block) places ∙ ap (λ n. drop n places) (sym is)) ∙ sym (above-is place within) in
       omega (arith, from-block block (omega (arith, within, long, is)), whole, word, rest)

@@ -8,12 +8,12 @@ use Rattle.std.proofs.lemmas.List.Sums.{sum_by-cons}
 use Rattle.std.proofs.lemmas.Nat.{div-add-mod', mod-mul-add, mod_below, shr-shr}
 use Rattle.std.proofs.lemmas.Simd.{ones-mask_l_cons}
 use lib.Lanes.{mask_l}
-use Rattle.rank_trees.specs.Marks.{count_on}
-use Rattle.rank_trees.specs.Words.{bits, number_of, places_in}
+use Rattle.rank_trees.specs.PlacesOn.{count_on}
+use Rattle.rank_trees.specs.Words.{bits, number_of_bits, places_in}
 
 -- ---- numbers
 
-number-mask : (on : List Bool) → number_of on ≡ mask_l on
+number-mask : (on : List Bool) → number_of_bits on ≡ mask_l on
 number-mask [] = refl
 number-mask (true ∷ on) = ap (λ n. 1 + 2 * n) (number-mask on)
 number-mask (false ∷ on) = ap (λ n. 0 + 2 * n) (number-mask on)
@@ -23,7 +23,7 @@ unfolding count_ones
 ones-mask [] = refl
 ones-mask (b ∷ on) = ones-mask_l_cons b on ∙ ap (λ n. cond b 1 0 + n) (ones-mask on) ∙ sym (sum_by-cons (λ t. cond t 1 0) b on)
 
-pub ones-number : (on : List Bool) → count_ones (number_of on) ≡ count_on on
+pub ones-number : (on : List Bool) → count_ones (number_of_bits on) ≡ count_on on
 ones-number on = ap count_ones (number-mask on) ∙ ones-mask on
 
 half : (b : Bool) (n : ℕ) → (cond b 1 0 + 2 * n) / 2 ≡ n
@@ -37,40 +37,41 @@ odd false n = omega arith
 nothing-over : (k : ℕ) → 0 / 2 ^ k ≡ 0
 nothing-over k = search arith
 
-pub number-drop : (k : ℕ) (on : List Bool) → number_of (drop k on) ≡ number_of on / 2 ^ k
+pub number-drop : (k : ℕ) (on : List Bool) → number_of_bits (drop k on) ≡ number_of_bits on / 2 ^ k
 number-drop zero on = omega arith
 number-drop (suc k) [] = sym (nothing-over (suc k))
 number-drop (suc k) (b ∷ on) =
     let e : 1 + k ≡ suc k = omega arith in
-    number-drop k on ∙ ap (λ n. n / 2 ^ k) (sym (half b (number_of on))) ∙ shr-shr (number_of (b ∷ on)) 1 k ∙ ap (λ n. number_of (b ∷ on) / 2 ^ n) e
+    number-drop k on ∙ ap (λ n. n / 2 ^ k) (sym (half b (number_of_bits on))) ∙ shr-shr (number_of_bits (b ∷ on)) 1 k
+    ∙ ap (λ n. number_of_bits (b ∷ on) / 2 ^ n) e
 
-pub number-head : (on : List Bool) (i : ℕ) → number_of (drop i on) % 2 ≡ cond (get_or on i false) 1 0
+pub number-head : (on : List Bool) (i : ℕ) → number_of_bits (drop i on) % 2 ≡ cond (get_or on i false) 1 0
 number-head [] zero = refl
 number-head [] (suc i) = refl
-number-head (b ∷ on) zero = odd b (number_of on)
+number-head (b ∷ on) zero = odd b (number_of_bits on)
 number-head (b ∷ on) (suc i) = number-head on i
 
-number-behind : (on : List Bool) (i : ℕ) → number_of (drop i on) / 2 ≡ number_of (drop (suc i) on)
+number-behind : (on : List Bool) (i : ℕ) → number_of_bits (drop i on) / 2 ≡ number_of_bits (drop (suc i) on)
 number-behind [] zero = refl
 number-behind [] (suc i) = refl
-number-behind (b ∷ on) zero = half b (number_of on)
+number-behind (b ∷ on) zero = half b (number_of_bits on)
 number-behind (b ∷ on) (suc i) = number-behind on i
 
-pub number-tail : (on : List Bool) (i : ℕ) → number_of (drop i on) / 2 ≡ number_of (drop (i + 1) on)
-number-tail on i = let e : suc i ≡ i + 1 = omega arith in number-behind on i ∙ ap (λ n. number_of (drop n on)) e
+pub number-tail : (on : List Bool) (i : ℕ) → number_of_bits (drop i on) / 2 ≡ number_of_bits (drop (i + 1) on)
+number-tail on i = let e : suc i ≡ i + 1 = omega arith in number-behind on i ∙ ap (λ n. number_of_bits (drop n on)) e
 
 one_more : (b : Bool) (r m : ℕ) → r < m → cond b 1 0 + 2 * r < 2 * m
 one_more true r m less = omega (arith, less)
 one_more false r m less = omega (arith, less)
 
-pub number-take : (k : ℕ) (on : List Bool) → number_of (take k on) ≡ number_of on % 2 ^ k
+pub number-take : (k : ℕ) (on : List Bool) → number_of_bits (take k on) ≡ number_of_bits on % 2 ^ k
 number-take zero on = omega arith
 number-take (suc k) [] = search arith
 number-take (suc k) (b ∷ on) =
     let rest = number-take k on in
     let twice = pow-succ' 2 k in
     let some = one-le-pow k 2 (omega arith) in
-    ap (λ n. cond b 1 0 + 2 * n) rest ∙ lower b (number_of on) (2 ^ k) some ∙ ap (λ m. (cond b 1 0 + 2 * number_of on) % m) (sym twice)
+    ap (λ n. cond b 1 0 + 2 * n) rest ∙ lower b (number_of_bits on) (2 ^ k) some ∙ ap (λ m. (cond b 1 0 + 2 * number_of_bits on) % m) (sym twice)
   where
     lower : (b : Bool) (n m : ℕ) → 1 ≤ m → cond b 1 0 + 2 * (n % m) ≡ (cond b 1 0 + 2 * n) % (2 * m)
     lower b n m some =
@@ -89,7 +90,7 @@ bits-length (suc width) word = ap suc (bits-length width (word / 2))
 bit-number : (n : ℕ) → cond (n % 2 == 1) 1 0 + 2 * (n / 2) ≡ n
 bit-number n = grind (arith, nat_tests)
 
-pub bits-number : (width word : ℕ) → word < 2 ^ width → number_of (bits width word) ≡ word
+pub bits-number : (width word : ℕ) → word < 2 ^ width → number_of_bits (bits width word) ≡ word
 bits-number zero word less = omega (arith, less)
 bits-number (suc width) word less =
     let twice = pow-succ' 2 width in
@@ -171,7 +172,8 @@ places-length width [] = omega arith
 places-length width (word ∷ words) = omega (arith, length-append (bits width word) (places_in width words), bits-length width word, places-length width words)
 
 -- the places of one word
-pub places-word : (width : ℕ) (words : List ℕ) (i : ℕ) → i < length words → take width (drop (width * i) (places_in width words)) ≡ bits width (get_or words i 0)
+pub places-word : (width : ℕ) (words : List ℕ) (i : ℕ) → i < length words
+    → take width (drop (width * i) (places_in width words)) ≡ bits width (get_or words i 0)
 places-word width [] i within = absurd (omega (arith, within))
 places-word width (word ∷ words) zero within =
     let e : width * 0 ≡ 0 = omega arith in
@@ -183,10 +185,13 @@ places-word width (word ∷ words) (suc i) within =
     let long = bits-length width word in
     ap (λ n. take width (drop n (bits width word ++ places_in width words))) e
     ∙ ap (take width) (sym (drop-drop (width * i) width (bits width word ++ places_in width words)))
-    ∙ ap (λ on. take width (drop (width * i) on)) (drop-append-le width (bits width word) (places_in width words) (omega (arith, long)) ∙ ap (λ on. on ++ places_in width words) (drop_all width (bits width word) (omega (arith, long))))
+    ∙ ap (λ on. take width (drop (width * i) on))
+    (drop-append-le width (bits width word) (places_in width words) (omega (arith, long))
+    ∙ ap (λ on. on ++ places_in width words) (drop_all width (bits width word) (omega (arith, long))))
     ∙ places-word width words i (omega (arith, within))
 
-pub places-set : (width : ℕ) (words : List ℕ) (i k word : ℕ) (b : Bool) → i < length words → k < width → bits width word ≡ set (bits width (get_or words i 0)) k b
+pub places-set : (width : ℕ) (words : List ℕ) (i k word : ℕ) (b : Bool) → i < length words → k < width
+    → bits width word ≡ set (bits width (get_or words i 0)) k b
     → places_in width (set words i word) ≡ set (places_in width words) (width * i + k) b
 places-set width [] i k word b within less is = absurd (omega (arith, within))
 places-set width (old ∷ words) zero k word b within less is =
@@ -213,26 +218,29 @@ places-none width (suc count) =
 
 -- the places of a word from one on
 pub places-from : (words : List ℕ) (index word : ℕ) → index / 64 < length words → get_or words (index / 64) 0 ≡ word → word < 2 ^ 64
-    → number_of (take (64 - index % 64) (drop index (places_in 64 words))) ≡ word / 2 ^ (index % 64)
+    → number_of_bits (take (64 - index % 64) (drop index (places_in 64 words))) ≡ word / 2 ^ (index % 64)
 places-from words index word within is less =
     let e : 64 * (index / 64) + index % 64 ≡ index = omega arith in
     let n : index % 64 + (64 - index % 64) ≡ 64 = omega arith in
     let on = places_in 64 words in
-    ap (λ k. number_of (take (64 - index % 64) (drop k on))) (sym e)
-    ∙ ap (λ xs. number_of (take (64 - index % 64) xs)) (sym (drop-drop (index % 64) (64 * (index / 64)) on))
-    ∙ ap number_of (sym (drop-take (index % 64) (64 - index % 64) (drop (64 * (index / 64)) on)) ∙ ap (λ k. drop (index % 64) (take k (drop (64 * (index / 64)) on))) n)
+    ap (λ k. number_of_bits (take (64 - index % 64) (drop k on))) (sym e)
+    ∙ ap (λ xs. number_of_bits (take (64 - index % 64) xs)) (sym (drop-drop (index % 64) (64 * (index / 64)) on))
+    ∙ ap number_of_bits
+    (sym (drop-take (index % 64) (64 - index % 64) (drop (64 * (index / 64)) on)) ∙ ap (λ k. drop (index % 64) (take k (drop (64 * (index / 64)) on))) n)
     ∙ number-drop (index % 64) (take 64 (drop (64 * (index / 64)) on))
-    ∙ ap (λ xs. number_of xs / 2 ^ (index % 64)) (places-word 64 words (index / 64) within)
+    ∙ ap (λ xs. number_of_bits xs / 2 ^ (index % 64)) (places-word 64 words (index / 64) within)
     ∙ ap (λ k. k / 2 ^ (index % 64)) (bits-number 64 (get_or words (index / 64) 0) (subst (λ k. k < 2 ^ 64) (sym is) less) ∙ is)
 
-pub places-put : (words : List ℕ) (index word after : ℕ) (b : Bool) → index / 64 < length words → get_or words (index / 64) 0 ≡ word → bits 64 after ≡ set (bits 64 word) (index % 64) b
+pub places-put : (words : List ℕ) (index word after : ℕ) (b : Bool) → index / 64 < length words
+    → get_or words (index / 64) 0 ≡ word → bits 64 after ≡ set (bits 64 word) (index % 64) b
     → places_in 64 (set words (index / 64) after) ≡ set (places_in 64 words) index b
 places-put words index word after b within is put =
     let e : 64 * (index / 64) + index % 64 ≡ index = omega arith in
     places-set 64 words (index / 64) (index % 64) after b within (omega arith) (put ∙ ap (λ n. set (bits 64 n) (index % 64) b) (sym is))
     ∙ ap (λ n. set (places_in 64 words) n b) e
 
-pub place-on : (words : List ℕ) (index word : ℕ) → index / 64 < length words → get_or words (index / 64) 0 ≡ word → get_or (places_in 64 words) index false ≡ (word / 2 ^ (index % 64) % 2 == 1)
+pub place-on : (words : List ℕ) (index word : ℕ) → index / 64 < length words → get_or words (index / 64) 0 ≡ word
+    → get_or (places_in 64 words) index false ≡ (word / 2 ^ (index % 64) % 2 == 1)
 place-on words index word within is =
     let e : 64 * (index / 64) + index % 64 ≡ index = omega arith in
     let on = places_in 64 words in
@@ -246,5 +254,5 @@ odd-bit true n is = ap (λ m. m == 1) is
 odd-bit false n is = ap (λ m. m == 1) is
 
 -- the lowest bit is the first place
-pub head-on : (on : List Bool) → (number_of on % 2 == 1) ≡ get_or on 0 false
-head-on on = odd-bit (get_or on 0 false) (number_of on % 2) (number-head on 0)
+pub head-on : (on : List Bool) → (number_of_bits on % 2 == 1) ≡ get_or on 0 false
+head-on on = odd-bit (get_or on 0 false) (number_of_bits on % 2) (number-head on 0)

@@ -1,11 +1,11 @@
 -- Sums over places, block by block: each leaf of a tree is the sum of a block.
 use Rattle.std.specs.Prelude.{◌≡◌, ℕ, zero, suc, ◌+◌, ◌*◌, ◌/◌, ◌≤◌, Bool, false, List, [], ◌∷◌, drop, length, slice_index_or, take}
-use Rattle.rank_trees.specs.Marks.{count_on}
+use Rattle.rank_trees.specs.PlacesOn.{count_on}
 
 -- what each of so many blocks of a size comes to, where the list begins at a place
-abbrev pub sums_of : (ℕ → List Bool → ℕ) → ℕ → ℕ → ℕ → List Bool → List ℕ
-sums_of measure size zero place on = []
-sums_of measure size (suc blocks) place on = measure place (take size on) ∷ sums_of measure size blocks (place + size) (drop size on)
+abbrev pub block_sums : (ℕ → List Bool → ℕ) → ℕ → ℕ → ℕ → List Bool → List ℕ
+block_sums measure size zero place on = []
+block_sums measure size (suc blocks) place on = measure place (take size on) ∷ block_sums measure size blocks (place + size) (drop size on)
 
 -- how many are on, wherever the list begins
 abbrev pub count_from : ℕ → List Bool → ℕ
@@ -16,4 +16,4 @@ pub record AreSummed (measure : ℕ → List Bool → ℕ) (size blocks len : �
   pub few : len ≤ 1000
   pub long : length places ≡ 64 * (len / 64 + 1)
   pub rest : (i : ℕ) → len ≤ i → slice_index_or places i false ≡ false
-  pub sums_are : sums ≡ sums_of measure size blocks 1 places
+  pub sums_are : sums ≡ block_sums measure size blocks 1 places

@@ -1,4 +1,4 @@
 pub mod Blocks
-pub mod Marks
+pub mod PlacesOn
 pub mod SumTrees
 pub mod Words

@@ -1,6 +1,6 @@
 -- A complete binary tree of sums as one list: under node k stand 2k and 2k + 1, and the leaves begin at 2 ^ depth.
 use Rattle.std.specs.Prelude.{◌≡◌, ℕ, zero, suc, ◌+◌, ◌-◌, ◌*◌, ◌^◌, ◌<◌, ◌≤◌, List, drop, length, slice_index, sum, take}
-use Rattle.decimal_rank.specs.Places.{levels}
+use Rattle.decimal_rank.specs.Rankings.Places.{levels}
 
 -- the sum of so many nodes from a node on
 abbrev pub span : List ℕ → ℕ → ℕ → ℕ
@@ -8,7 +8,7 @@ span nodes start zero = 0
 span nodes start (suc count) = span nodes start count + slice_index nodes (start + count)
 
 -- each node above the leaves is the sum of the two under it; the greater its number is, the less it can be
-pub record AreSums (depth : ℕ) (nodes : List ℕ) : Type 0 where
+pub record AreNodeSums (depth : ℕ) (nodes : List ℕ) : Type 0 where
   pub low : depth ≤ 6
   pub size : length nodes ≡ 2 * 2 ^ depth
   pub sums : (k : ℕ) → 1 ≤ k → k < 2 ^ depth → slice_index nodes k ≡ slice_index nodes (2 * k) + slice_index nodes (2 * k + 1)
@@ -23,7 +23,7 @@ pub record IsSumTree (len depth : ℕ) (nodes : List ℕ) : Type 0 where
   pub some : 1 ≤ len
   pub few : len ≤ 64
   pub deep : depth ≡ levels (len - 1)
-  pub sums : AreSums depth nodes
+  pub sums : AreNodeSums depth nodes
   pub rest : (k : ℕ) → 2 ^ depth + len ≤ k → slice_index nodes k ≡ 0
 
 -- the first leaf with which the sum of the leaves exceeds a number, and what the leaves before it leave of the number

@@ -1,11 +1,11 @@
 -- Places as numbers: a place that is on is a bit, the first of them the lowest.
 use Rattle.std.specs.Prelude.{◌≡◌, ℕ, zero, suc, ◌+◌, ◌*◌, ◌/◌, ◌%◌, ◌<◌, ◌==◌, Bool, true, false, List, [], ◌∷◌, ◌++◌, cond, length, slice_index_or, take}
-use Rattle.rank_trees.specs.Marks.{count_on}
+use Rattle.rank_trees.specs.PlacesOn.{count_on}
 
 -- the number whose bits are these places
-abbrev pub number_of : List Bool → ℕ
-number_of [] = 0
-number_of (b ∷ on) = cond b 1 0 + 2 * number_of on
+abbrev pub number_of_bits : List Bool → ℕ
+number_of_bits [] = 0
+number_of_bits (b ∷ on) = cond b 1 0 + 2 * number_of_bits on
 
 -- so many places of a word
 abbrev pub bits : ℕ → ℕ → List Bool

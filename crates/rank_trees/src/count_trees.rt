@@ -1,9 +1,9 @@
-//! Places that are on or off, and a tree of how many are on in each block of 64, which counts those on
-//! before a place and finds one by its number.
+//! Places that are on or off, and a tree of how many are on in each block of 64, which counts those
+//! on before a place and finds one by its number.
 ghost use Rattle.std.specs.Prelude.{◌≡◌, ℕ, ◌+◌, ◌-◌, ◌*◌, ◌/◌, ◌≤◌, ◌<◌, Bool, List, false, IfOk, MatchOption, length, replicate, slice_index_or, slice_set, take};
-ghost use Rattle.decimal_rank.specs.Places.{levels};
-ghost use Rattle.rank_trees.specs.Marks.{IsSelected, count_below, count_on};
-ghost use Rattle.rank_trees.specs.Words.{IsNth, number_of};
+ghost use Rattle.decimal_rank.specs.Rankings.Places.{levels};
+ghost use Rattle.rank_trees.specs.PlacesOn.{IsSelected, count_on, count_on_below};
+ghost use Rattle.rank_trees.specs.Words.{IsNth, number_of_bits};
 
 use crate::place_words::PlaceWords;
 use crate::sum_trees::SumTree;
@@ -31,7 +31,8 @@ impl Model for CountTree {
 
     ghost view = { λ tree. take tree.len tree.places };
 
-    ghost invariant = { λ tree. AreSummed count_from 64 (tree.len / 64 + 1) tree.len tree.places tree.counts };
+    ghost invariant = { λ tree.
+        AreSummed count_from 64 (tree.len / 64 + 1) tree.len tree.places tree.counts };
 }
 
 impl CountTree {
@@ -76,7 +77,7 @@ impl CountTree {
     pub fn below<L: Ledger>(&self, place: u32, steps: &mut Steps<L>) -> u32
         requires from_one { 1 ≤ place }
         requires within { place ≤ length self.now + 1 }
-        ensures count { result ≡ count_below self.now place }
+        ensures count { result ≡ count_on_below self.now place }
         ensures cost { steps.new ≤ steps.old + levels (length self.now) + 1 }
     {
         let block = (place - 1) / 64;
@@ -105,7 +106,8 @@ impl CountTree {
 // How many of so many first places of a word are on.
 fn count_of(word: u64, count: u32) -> u32
     requires { count < 64 }
-    ensures count { (on : List Bool) → word ≡ number_of on → result ≡ count_on (take count on) }
+    ensures count { (on : List Bool) → word ≡ number_of_bits on
+        → result ≡ count_on (take count on) }
     ensures few { result ≤ 64 }
 {
     (word & ((1u64 << count) - 1)).count_ones()
@@ -113,7 +115,8 @@ fn count_of(word: u64, count: u32) -> u32
 
 // The place of a word, from 0, that is on and has so many before it that are.
 fn nth_on(word: u64, number: u32) -> u32
-    ensures place { (on : List Bool) → word ≡ number_of on → length on ≤ 64 → number < count_on on → IsNth on number result }
+    ensures place { (on : List Bool) → word ≡ number_of_bits on → length on ≤ 64
+        → number < count_on on → IsNth on number result }
     ensures few { result ≤ 64 }
 {
     let mut bits = word;

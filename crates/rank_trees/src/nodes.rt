@@ -51,7 +51,8 @@ impl Nodes {
         requires within { node < length self.old }
         requires least { less ≤ slice_index self.old node }
         requires most { slice_index self.old node - less + more < 2 ^ 64 }
-        ensures nodes { self.new ≡ slice_set self.old node (slice_index self.old node - less + more) }
+        ensures nodes { self.new
+            ≡ slice_set self.old node (slice_index self.old node - less + more) }
         ensures cost { steps.new ≡ steps.old + 1 }
     {
         self.items[node] = self.read(node, steps) - less + more;

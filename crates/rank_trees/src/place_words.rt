@@ -1,15 +1,15 @@
 //! Places that are on or off, 64 in a word, the first of them its lowest bit. Words are read and
 //! changed beside a tick alone, so that the steps of a call count what it visits.
 ghost use Rattle.std.specs.Prelude.{◌≡◌, ℕ, ◌+◌, ◌-◌, ◌*◌, ◌/◌, ◌%◌, ◌<◌, ◌≤◌, ◌^◌, ◌==◌, true, false, IfOk, drop, length, replicate, slice_index, slice_index_or, slice_set, take};
-ghost use Rattle.rank_trees.specs.Words.{bits, number_of};
+ghost use Rattle.rank_trees.specs.Words.{bits, number_of_bits};
 
 use decimal_rank::{Memory, Steps};
 use std::alloc::Global;
 use std::marker::Model;
 use std::sync::ledger::Ledger;
 
-/// Words that nothing reads but `from` and `put`. Contracts see the list of the places, counted from
-/// 0, to the end of the last word.
+/// Words that nothing reads but `from` and `put`. Contracts see the list of the places, counted
+/// from 0, to the end of the last word.
 #[derive(Drop)]
 pub struct PlaceWords {
     words: Vec<u64>,
@@ -36,7 +36,7 @@ impl PlaceWords {
     // The places from one on to the end of its word, in one step.
     pub(crate) fn from<L: Ledger>(&self, index: u32, steps: &mut Steps<L>) -> u64
         requires { index < length self.now }
-        ensures places { result ≡ number_of (take (64 - index % 64) (drop index self.now)) }
+        ensures places { result ≡ number_of_bits (take (64 - index % 64) (drop index self.now)) }
         ensures cost { steps.new ≡ steps.old + 1 }
     {
         word_of(&self.words, index, steps) >> (index % 64)
@@ -85,7 +85,8 @@ fn is_on(word: u64, place: u32) -> bool
 // A word with a place put on or off.
 fn with_place(word: u64, place: u32, on: bool) -> u64
     requires { place < 64 }
-    ensures { (width : ℕ) → place < width → bits width result ≡ slice_set (bits width word) place on }
+    ensures { (width : ℕ) → place < width
+        → bits width result ≡ slice_set (bits width word) place on }
 {
     if on {
         return with_place_on(word, place);
@@ -95,7 +96,8 @@ fn with_place(word: u64, place: u32, on: bool) -> u64
 
 fn with_place_on(word: u64, place: u32) -> u64
     requires { place < 64 }
-    ensures { (width : ℕ) → place < width → bits width result ≡ slice_set (bits width word) place true }
+    ensures { (width : ℕ) → place < width
+        → bits width result ≡ slice_set (bits width word) place true }
 {
     if is_on(word, place) {
         return word;
@@ -105,7 +107,8 @@ fn with_place_on(word: u64, place: u32) -> u64
 
 fn with_place_off(word: u64, place: u32) -> u64
     requires { place < 64 }
-    ensures { (width : ℕ) → place < width → bits width result ≡ slice_set (bits width word) place false }
+    ensures { (width : ℕ) → place < width
+        → bits width result ≡ slice_set (bits width word) place false }
 {
     if is_on(word, place) {
         return word - (1u64 << place);

@@ -1,8 +1,8 @@
 //! A complete binary tree of sums: the root is node 1, under node k stand 2k and 2k + 1, and the
 //! leaves begin at 2 to the power of the depth, which is at least their number.
 ghost use Rattle.std.specs.Prelude.{◌≡◌, ℕ, ◌+◌, ◌-◌, ◌*◌, ◌<◌, ◌≤◌, ◌^◌, IfOk, List, MatchOption, drop, length, replicate, slice_index, slice_set, sum, take};
-ghost use Rattle.decimal_rank.specs.Places.{levels};
-ghost use Rattle.rank_trees.specs.SumTrees.{AreSums, IsReached, leaves_of, span};
+ghost use Rattle.decimal_rank.specs.Rankings.Places.{levels};
+ghost use Rattle.rank_trees.specs.SumTrees.{AreNodeSums, IsReached, leaves_of, span};
 
 use crate::nodes::Nodes;
 use decimal_rank::{Memory, Steps};
@@ -55,7 +55,8 @@ impl SumTree {
         requires within { index < length self.old }
         requires least { less ≤ slice_index self.old index }
         requires small { slice_index self.old index - less + more ≤ 16 * 10 ^ 15 }
-        ensures leaves { self.new ≡ slice_set self.old index (slice_index self.old index - less + more) }
+        ensures leaves { self.new
+            ≡ slice_set self.old index (slice_index self.old index - less + more) }
         ensures cost { steps.new ≤ steps.old + levels (length self.old - 1) + 1 }
     {
         change_leaf(&mut self.nodes, self.depth, index, less, more, steps);
@@ -79,10 +80,11 @@ impl SumTree {
         self.nodes.read(1, steps) - sum_before(&self.nodes, self.depth, index, steps)
     }
 
-    // The leaf at which the sum of the leaves first exceeds a number, and what those before it leave
-    // of the number.
+    // The leaf at which the sum of the leaves first exceeds a number, and what those before it
+    // leave of the number.
     pub(crate) fn find<L: Ledger>(&self, number: u64, steps: &mut Steps<L>) -> Option<(u32, u64)>
-        ensures leaf { MatchOption result (sum self.now ≤ number) (λ found. IsReached self.now number found.0 found.1) }
+        ensures leaf { MatchOption result (sum self.now ≤ number)
+            (λ found. IsReached self.now number found.0 found.1) }
         ensures cost { steps.new ≤ steps.old + levels (length self.now - 1) + 1 }
     {
         find_leaf(&self.nodes, self.depth, number, steps)
@@ -113,12 +115,13 @@ fn change_leaf<L: Ledger>(
     more: u64,
     steps: &mut Steps<L>,
 )
-    requires sums { AreSums depth nodes.old }
+    requires sums { AreNodeSums depth nodes.old }
     requires within { index < 2 ^ depth }
     requires least { less ≤ slice_index nodes.old (2 ^ depth + index) }
     requires small { slice_index nodes.old (2 ^ depth + index) - less + more ≤ 16 * 10 ^ 15 }
-    ensures sums { AreSums depth nodes.new }
-    ensures leaves { drop (2 ^ depth) nodes.new ≡ slice_set (drop (2 ^ depth) nodes.old) index (slice_index nodes.old (2 ^ depth + index) - less + more) }
+    ensures sums { AreNodeSums depth nodes.new }
+    ensures leaves { drop (2 ^ depth) nodes.new ≡ slice_set (drop (2 ^ depth) nodes.old) index
+        (slice_index nodes.old (2 ^ depth + index) - less + more) }
     ensures cost { steps.new ≡ steps.old + depth + 1 }
 {
     let mut node = 2usize.pow(depth) + index as usize;
@@ -129,10 +132,10 @@ fn change_leaf<L: Ledger>(
     }
 }
 
-// The sum of the leaves before an index, from the leaves up: where a path comes from the right, what
-// stands to its left is added.
+// The sum of the leaves before an index, from the leaves up: where a path comes from the right,
+// what stands to its left is added.
 fn sum_before<L: Ledger>(nodes: &Nodes, depth: u32, index: u32, steps: &mut Steps<L>) -> u64
-    requires sums { AreSums depth nodes.now }
+    requires sums { AreNodeSums depth nodes.now }
     requires within { index < 2 ^ depth }
     ensures sum { result ≡ span nodes.now (2 ^ depth) index }
     ensures cost { steps.new ≤ steps.old + depth }
@@ -150,17 +153,18 @@ fn sum_before<L: Ledger>(nodes: &Nodes, depth: u32, index: u32, steps: &mut Step
     sum
 }
 
-// The leaf at which the sum of the leaves first exceeds a number, from the root down, and what those
-// before it leave of the number.
+// The leaf at which the sum of the leaves first exceeds a number, from the root down, and what
+// those before it leave of the number.
 fn find_leaf<L: Ledger>(
     nodes: &Nodes,
     depth: u32,
     number: u64,
     steps: &mut Steps<L>,
 ) -> Option<(u32, u64)>
-    requires { AreSums depth nodes.now }
+    requires { AreNodeSums depth nodes.now }
     ensures leaf { MatchOption result (span nodes.now (2 ^ depth) (2 ^ depth) ≤ number)
-        (λ found. (found.0 < 2 ^ depth) × (span nodes.now (2 ^ depth) found.0 + found.1 ≡ number) × (found.1 < slice_index nodes.now (2 ^ depth + found.0))) }
+        (λ found. (found.0 < 2 ^ depth) × (span nodes.now (2 ^ depth) found.0 + found.1 ≡ number)
+        × (found.1 < slice_index nodes.now (2 ^ depth + found.0))) }
     ensures cost { steps.new ≤ steps.old + depth + 1 }
 {
     let all = nodes.read(1, steps);

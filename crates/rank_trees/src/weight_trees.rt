@@ -1,10 +1,10 @@
 //! Places that are on or off, and a tree of what those that are on weigh in each block of 16, which
 //! sums the weights of those that are on past a place.
 ghost use Rattle.std.specs.Prelude.{◌≡◌, ℕ, ◌+◌, ◌-◌, ◌*◌, ◌≤◌, ◌<◌, ◌^◌, Bool, List, false, IfOk, if◌then◌else◌, length, replicate, slice_set, take};
-ghost use Rattle.decimal_rank.specs.Places.{levels};
-ghost use Rattle.decimal_rank.specs.Weights.{weight};
-ghost use Rattle.rank_trees.specs.Marks.{weights_above, weights_from};
-ghost use Rattle.rank_trees.specs.Words.{number_of};
+ghost use Rattle.decimal_rank.specs.Rankings.Places.{levels};
+ghost use Rattle.decimal_rank.specs.Rankings.Weights.{weight};
+ghost use Rattle.rank_trees.specs.PlacesOn.{weights_above, weights_from};
+ghost use Rattle.rank_trees.specs.Words.{number_of_bits};
 
 use crate::place_words::PlaceWords;
 use crate::sum_trees::SumTree;
@@ -13,10 +13,10 @@ use std::alloc::Global;
 use std::marker::Model;
 use std::sync::ledger::Ledger;
 
-/// Places, counted from 1, each on or off, and the sums of the weights of those that are on: a place
-/// weighs one over itself, in units of 10^-15 and rounded down. Contracts see the list of the
-/// places. A step is a node of the tree or a word of 64 places visited, in each call at most one for
-/// each binary digit of the number of places and one more.
+/// Places, counted from 1, each on or off, and the sums of the weights of those that are on: a
+/// place weighs one over itself, in units of 10^-15 and rounded down. Contracts see the list of the
+/// places. A step is a node of the tree or a word of 64 places visited, in each call at most one
+/// for each binary digit of the number of places and one more.
 #[derive(Drop)]
 pub struct WeightTree {
     len: u32,
@@ -28,13 +28,14 @@ pub struct WeightTree {
 impl Model for WeightTree {
     ghost use Rattle.std.specs.Prelude.{◌+◌, ◌/◌, Bool, List, take};
     ghost use Rattle.rank_trees.specs.Blocks.{AreSummed};
-    ghost use Rattle.rank_trees.specs.Marks.{weights_from};
+    ghost use Rattle.rank_trees.specs.PlacesOn.{weights_from};
 
     ghost Value = { List Bool };
 
     ghost view = { λ tree. take tree.len tree.places };
 
-    ghost invariant = { λ tree. AreSummed weights_from 16 (tree.len / 16 + 1) tree.len tree.places tree.weights };
+    ghost invariant = { λ tree.
+        AreSummed weights_from 16 (tree.len / 16 + 1) tree.len tree.places tree.weights };
 }
 
 impl WeightTree {
@@ -95,7 +96,8 @@ fn weights_of(word: u64, first: u32, count: u32) -> u64
     requires from_one { 1 ≤ first }
     requires few { first ≤ 1000 }
     requires within { count ≤ 16 }
-    ensures { (on : List Bool) → word ≡ number_of on → result ≡ weights_from first (take count on) }
+    ensures { (on : List Bool) → word ≡ number_of_bits on
+        → result ≡ weights_from first (take count on) }
 {
     let mut bits = word;
     let mut sum = 0;

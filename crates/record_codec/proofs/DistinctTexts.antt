@@ -6,8 +6,8 @@ use Rattle.std.proofs.lemmas.Bool.{and_from, and_parts, and_right, and_left, or_
 use Rattle.std.proofs.lemmas.Cmp.{nat_list_eq_equiv}
 use Rattle.std.proofs.lemmas.List.{map-append, take-append-drop, drop_more, take_all, map_more}
 use denote.Ref.{Bor}
-use Rattle.decimal_rank.specs.declared.secrets.Secret.{Secret}
-use Rattle.record_codec.specs.declared.text_orders.TextKey.{TextKey}
+use Rattle.decimal_rank.specs.declared.tables.secrets.Secret.{Secret}
+use Rattle.record_codec.specs.declared.entries.text_orders.TextKey.{TextKey}
 use Rattle.rulebook.specs.Spelling.{differ}
 use Rattle.rulebook.specs.Words.{Text, contains_text}
 

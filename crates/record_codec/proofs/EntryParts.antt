@@ -5,33 +5,33 @@ use Rattle.std.specs.List.{list_all}
 use Rattle.std.proofs.lemmas.Bool.{and_from, and_parts, lt-ltb, ltb-true}
 use Rattle.trec_formats.specs.declared.TopicList.{TopicList}
 use Rattle.trec_formats.specs.Names.{is_between, is_docno, is_name}
-use Rattle.rulebook.specs.Limits.{max_moment}
+use Rattle.rulebook.specs.Requests.Limits.{max_moment}
 use Rattle.rulebook.specs.declared.rules.Rules.{Rules}
 use Rattle.rulebook.specs.declared.rules.TopicLevel.{TopicLevel}
 use Rattle.rulebook.specs.declared.entry.EntryCore.{EntryCore}
-use Rattle.rulebook.specs.Spelling.{are_rules, are_settings, differ, has_spelling, is_ascending, is_number, is_plain, is_plain_list, is_topic_level, found_bytes, level_bytes, listed, rules_bytes}
+use Rattle.rulebook.specs.Spelling.{are_rules, are_settings, differ, has_spelling, is_ascending, is_number, is_plain, is_plain_list, is_topic_level, found_bytes, level_bytes, spelled_list, rules_bytes}
 use Rattle.rulebook.specs.Words.{Text}
-use Rattle.record_codec.specs.Items.{is_short, is_short_level}
+use Rattle.record_codec.specs.Items.{has_byte_length, is_short_level}
 use Rattle.record_codec.specs.Readings.{are_in_range, few_doubles, is_length}
-use Rattle.record_codec.proofs.ListCodes.{rules_parts}
+use Rattle.record_codec.proofs.FieldCodes.ListCodes.{rules_parts}
 use Rattle.record_codec.proofs.ShortTexts.{docno_short, name_short}
 
 abbrev pub AreShort : List Text → Type 0
-AreShort texts = IsTrue (list_all is_short texts)
+AreShort texts = IsTrue (list_all has_byte_length texts)
 
 all_short : (test : Text → Bool) → ((text : Text) → test text ≡ true → length text < 256) → (texts : List Text)
     → list_all test texts ≡ true → AreShort texts
 all_short test short [] all = refl
 all_short test short (text ∷ texts) all =
     let parts = and_parts (test text) (list_all test texts) all in
-    and_from (is_short text) (list_all is_short texts) (lt-ltb (length text) 256 (short text parts.0)) (all_short test short texts parts.1)
+    and_from (has_byte_length text) (list_all has_byte_length texts) (lt-ltb (length text) 256 (short text parts.0)) (all_short test short texts parts.1)
 
 -- each of short texts is short
 pub short_at : (texts : List Text) (place : ℕ) (other : Text) → AreShort texts → place < length texts → length (get_or texts place other) < 256
 short_at [] place other are less = absurd (omega (arith, less))
-short_at (text ∷ texts) zero other are less = ltb-true (length text) 256 (and_parts (is_short text) (list_all is_short texts) are).0
+short_at (text ∷ texts) zero other are less = ltb-true (length text) 256 (and_parts (has_byte_length text) (list_all has_byte_length texts) are).0
 short_at (text ∷ texts) (suc place) other are less =
-    short_at texts place other (and_parts (is_short text) (list_all is_short texts) are).1 (omega (arith, less))
+    short_at texts place other (and_parts (has_byte_length text) (list_all has_byte_length texts) are).1 (omega (arith, less))
 
 pub doubles_short : (r : Rules) → IsTrue (are_settings r) → AreShort r.doubles
 doubles_short r is =
@@ -55,11 +55,11 @@ levels_short r are = levels_short_from r.top_grade r.levels (rules_parts r are).
 
 -- the rules behind their kind, and the levels behind them
 pub found_joined : (text : Text) (r : Rules) (levels : List TopicLevel) → 0 < length levels
-    → ((text ++ 12 ∷ []) ++ rules_bytes r) ++ listed level_bytes levels ≡ text ++ found_bytes r levels
+    → ((text ++ 12 ∷ []) ++ rules_bytes r) ++ spelled_list level_bytes levels ≡ text ++ found_bytes r levels
 found_joined text r [] some = absurd (omega (arith, some))
 found_joined text r (own ∷ levels) some =
-    append_assoc (text ++ 12 ∷ []) (rules_bytes r) (listed level_bytes (own ∷ levels))
-    ∙ append_assoc text (12 ∷ []) (rules_bytes r ++ listed level_bytes (own ∷ levels))
+    append_assoc (text ++ 12 ∷ []) (rules_bytes r) (spelled_list level_bytes (own ∷ levels))
+    ∙ append_assoc text (12 ∷ []) (rules_bytes r ++ spelled_list level_bytes (own ∷ levels))
 
 pub docs_short : (l : TopicList) → IsTrue (is_plain_list l) → AreShort l.docs
 docs_short l is =

@@ -1,5 +1,5 @@
 -- Bundles: several entries as one payload, with a table of their callers and one of their texts.
-use Rattle.std.specs.Prelude.{◌≡◌, ℕ, ◌+◌, ◌-◌, ◌&&◌, Bool, true, false, List, [], ◌∷◌, ◌++◌, length, Option, Some, None, nat_le, bytes_eq, IsTrue}
+use Rattle.std.specs.Prelude.{◌≡◌, ℕ, ◌+◌, ◌-◌, ◌&&◌, Bool, true, List, [], ◌∷◌, ◌++◌, length, Option, Some, None, is_some, unwrap_or, nat_le, bytes_eq, IsTrue}
 use Rattle.std.specs.List.{list_all, flat_map}
 use Rattle.trec_formats.specs.Names.{is_between}
 use Rattle.rulebook.specs.declared.rules.Caller.{Caller}
@@ -8,15 +8,15 @@ use Rattle.rulebook.specs.declared.ask.Command.TheVariants.{Found, Topics, Submi
 use Rattle.rulebook.specs.declared.entry.EntryCore.{EntryCore}
 use Rattle.rulebook.specs.Spelling.{short, role_byte, has_spelling}
 use Rattle.rulebook.specs.Words.{Text}
-use Rattle.record_codec.specs.declared.bundle_items.Brief.{Brief}
-use Rattle.record_codec.specs.declared.bundle_items.Brief.TheVariants as brief
-use Rattle.record_codec.specs.declared.bundle_items.BundleItem.{BundleItem}
+use Rattle.record_codec.specs.declared.bundles.bundle_items.Brief.{Brief}
+use Rattle.record_codec.specs.declared.bundles.bundle_items.Brief.TheVariants as brief
+use Rattle.record_codec.specs.declared.bundles.bundle_items.BundleItem.{BundleItem}
 use Rattle.record_codec.specs.Varints.{varint}
-use Rattle.record_codec.specs.Tables.{callers_of, index_of, same_caller, texts_of}
+use Rattle.record_codec.specs.Tables.{callers_of, index_of, same_caller, table_of}
 
 -- The parts of a bundle, and their bytes
 
-pub record Parts : Type 0 where
+pub record BundleParts : Type 0 where
   pub callers : List Caller
   pub texts : List Text
   pub items : List BundleItem
@@ -39,31 +39,52 @@ abbrev pub caller_bytes : Caller → Text
 caller_bytes c = short c.name ++ role_byte c.role ∷ []
 
 -- a count, and so many items
-abbrev pub counted : {X : Type 0} → (X → Text) → List X → Text
-counted spell items = varint (length items) ++ flat_map spell items
+abbrev pub counted_items : {X : Type 0} → (X → Text) → List X → Text
+counted_items spell items = varint (length items) ++ flat_map spell items
 
-abbrev pub parts_bytes : Parts → Text
-parts_bytes p = 0 ∷ (counted caller_bytes p.callers ++ (counted short p.texts ++ counted item_bytes p.items))
+abbrev pub parts_bytes : BundleParts → Text
+parts_bytes p = 0 ∷ (counted_items caller_bytes p.callers ++ (counted_items short p.texts ++ counted_items item_bytes p.items))
 
 -- The parts of entries
+
+-- the texts that a command uses, a topic before a document
+abbrev pub texts_in : Command → List Text
+texts_in (Found rules) = []
+texts_in (Topics topics) = []
+texts_in (Submit run lists) = []
+texts_in Open = []
+texts_in (Lease topic) = topic ∷ []
+texts_in (Grade lease grade) = []
+texts_in (Release lease) = []
+texts_in (Amend topic doc grade) = topic ∷ doc ∷ []
+texts_in (Rule topic doc grade) = topic ∷ doc ∷ []
+texts_in (Withdraw run) = run ∷ []
+texts_in Publish = []
+
+abbrev pub texts_of : List EntryCore → List Text
+texts_of cores = table_of bytes_eq (flat_map (λ c. texts_in c.command) cores)
 
 module _ (texts : List Text) where
   abbrev pub index_in : Text → ℕ
   index_in text = index_of bytes_eq texts text
 
-  -- a command, with indices in place of its texts; what no bundle may have is of no account
+  -- a command that a bundle may have, with indices in place of its texts
+  abbrev pub brief_in : Command → Option Brief
+  brief_in (Found rules) = None
+  brief_in (Topics topics) = None
+  brief_in (Submit run lists) = None
+  brief_in Open = Some brief.Open
+  brief_in (Lease topic) = Some (brief.Lease (index_in topic))
+  brief_in (Grade lease grade) = Some (brief.Grade lease grade)
+  brief_in (Release lease) = Some (brief.Release lease)
+  brief_in (Amend topic doc grade) = Some (brief.Amend (index_in topic) (index_in doc) grade)
+  brief_in (Rule topic doc grade) = Some (brief.Rule (index_in topic) (index_in doc) grade)
+  brief_in (Withdraw run) = Some (brief.Withdraw (index_in run))
+  brief_in Publish = Some brief.Publish
+
+  -- what no bundle may have is of no account
   abbrev pub brief_of : Command → Brief
-  brief_of (Found rules) = brief.Open
-  brief_of (Topics topics) = brief.Open
-  brief_of (Submit run lists) = brief.Open
-  brief_of Open = brief.Open
-  brief_of (Lease topic) = brief.Lease (index_in topic)
-  brief_of (Grade lease grade) = brief.Grade lease grade
-  brief_of (Release lease) = brief.Release lease
-  brief_of (Amend topic doc grade) = brief.Amend (index_in topic) (index_in doc) grade
-  brief_of (Rule topic doc grade) = brief.Rule (index_in topic) (index_in doc) grade
-  brief_of (Withdraw run) = brief.Withdraw (index_in run)
-  brief_of Publish = brief.Publish
+  brief_of c = unwrap_or (brief_in c) brief.Open
 
 -- 0, or the number and 1
 abbrev pub number_code : Option ℕ → ℕ
@@ -73,13 +94,19 @@ number_code (Some n) = n + 1
 module _ (callers : List Caller) (texts : List Text) where
   -- an entry, the moment before it being given
   abbrev pub item_of : ℕ → EntryCore → BundleItem
-  item_of earlier core = record { caller = index_of same_caller callers core.caller; number = number_code core.number; passed = core.moment - earlier; command = brief_of texts core.command }
+  item_of earlier core =
+      record {
+        caller = index_of same_caller callers core.caller;
+        number = number_code core.number;
+        passed = core.moment - earlier;
+        command = brief_of texts core.command;
+      }
 
   abbrev pub items_of : ℕ → List EntryCore → List BundleItem
   items_of earlier [] = []
   items_of earlier (core ∷ cores) = item_of earlier core ∷ items_of core.moment cores
 
-abbrev pub parts_of : List EntryCore → Parts
+abbrev pub parts_of : List EntryCore → BundleParts
 parts_of cores = record { callers = callers_of cores; texts = texts_of cores; items = items_of (callers_of cores) (texts_of cores) 0 cores }
 
 abbrev pub bundle_bytes : List EntryCore → Text
@@ -89,17 +116,7 @@ bundle_bytes cores = parts_bytes (parts_of cores)
 
 -- a command of the kinds 4 to 11
 abbrev pub is_brief : Command → Bool
-is_brief (Found rules) = false
-is_brief (Topics topics) = false
-is_brief (Submit run lists) = false
-is_brief Open = true
-is_brief (Lease topic) = true
-is_brief (Grade lease grade) = true
-is_brief (Release lease) = true
-is_brief (Amend topic doc grade) = true
-is_brief (Rule topic doc grade) = true
-is_brief (Withdraw run) = true
-is_brief Publish = true
+is_brief c = is_some (brief_in [] c)
 
 abbrev pub is_packable : EntryCore → Bool
 is_packable core = has_spelling core && is_brief core.command
@@ -109,9 +126,13 @@ abbrev pub are_rising : ℕ → List EntryCore → Bool
 are_rising earlier [] = true
 are_rising earlier (core ∷ cores) = nat_le earlier core.moment && are_rising core.moment cores
 
+-- the most entries of a bundle
+abbrev pub most_bundled : ℕ
+most_bundled = 4096
+
 -- entries that may stand in one bundle
 abbrev pub have_bundle : List EntryCore → Bool
-have_bundle cores = is_between 1 4096 (length cores) && list_all is_packable cores && are_rising 0 cores
+have_bundle cores = is_between 1 most_bundled (length cores) && list_all is_packable cores && are_rising 0 cores
 
 -- the bytes are the entries' bundle
 abbrev pub IsBundle : Text → List EntryCore → Type 0

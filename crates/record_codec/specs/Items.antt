@@ -4,9 +4,9 @@ use Rattle.rulebook.specs.declared.rules.TopicLevel.{TopicLevel}
 use Rattle.rulebook.specs.Words.{Text}
 
 -- its length is a byte
-abbrev pub is_short : Text → Bool
-is_short text = nat_lt (length text) 256
+abbrev pub has_byte_length : Text → Bool
+has_byte_length text = nat_lt (length text) 256
 
 -- the length of its topic is a byte
 abbrev pub is_short_level : TopicLevel → Bool
-is_short_level own = is_short own.topic
+is_short_level own = has_byte_length own.topic

@@ -1,4 +1,4 @@
-pub mod BundleReading
+pub mod BundleGrammar
 pub mod Bundles
 pub mod Items
 pub mod Laws

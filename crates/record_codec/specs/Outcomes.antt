@@ -11,15 +11,15 @@ OnNoEntry NoEntry P = P
 OnNoEntry Memory P = Unit {0}
 
 -- what a call returned, seen by view, with the bytes that it left, is what was to be read
-abbrev pub GivesBy : {X Y : Type 0} → (X → Y) → Result X CodecFault → Text → Read Y → Type 0
-GivesBy view r left read = MatchResult r (λ x. read ≡ Some (view x, left)) (λ fault. OnNoEntry fault (read ≡ None))
+abbrev pub GivesReadBy : {X Y : Type 0} → (X → Y) → Result X CodecFault → Text → Read Y → Type 0
+GivesReadBy view r left read = MatchResult r (λ x. read ≡ Some (view x, left)) (λ fault. OnNoEntry fault (read ≡ None))
 
-abbrev pub Gives : {X : Type 0} → Result X CodecFault → Text → Read X → Type 0
-Gives r left read = GivesBy (λ x. x) r left read
+abbrev pub GivesRead : {X : Type 0} → Result X CodecFault → Text → Read X → Type 0
+GivesRead r left read = GivesReadBy (λ x. x) r left read
 
 -- what a call returned, seen by view, is what was to be found
-abbrev pub FindsBy : {X Y : Type 0} → (X → Y) → Result X CodecFault → Option Y → Type 0
-FindsBy view r found = MatchResult r (λ x. found ≡ Some (view x)) (λ fault. OnNoEntry fault (found ≡ None))
+abbrev pub FindsWholeBy : {X Y : Type 0} → (X → Y) → Result X CodecFault → Option Y → Type 0
+FindsWholeBy view r found = MatchResult r (λ x. found ≡ Some (view x)) (λ fault. OnNoEntry fault (found ≡ None))
 
-abbrev pub Finds : {X : Type 0} → Result X CodecFault → Option X → Type 0
-Finds r found = FindsBy (λ x. x) r found
+abbrev pub FindsWhole : {X : Type 0} → Result X CodecFault → Option X → Type 0
+FindsWhole r found = FindsWholeBy (λ x. x) r found

@@ -1,19 +1,27 @@
-//! Bundles to bytes: the byte 0, the table of the callers, the table of the texts, and the entries, each table and
-//! the entries behind their count.
-ghost use Rattle.std.specs.Prelude.{◌≡◌, ◌<◌, ◌≤◌, ◌++◌, ◌∷◌, [], IfOk, IsTrue, List, OnOk, length, map, true};
-ghost use Rattle.std.specs.List.{All, flat_map, list_all};
+//! Bundles to bytes: the byte 0, the table of the callers, the table of the texts, and the entries,
+//! each table and the entries behind their count.
+ghost use Rattle.std.specs.Prelude.{◌≡◌, ◌<◌, ◌≤◌, ◌++◌, IfOk, IsTrue, List, OnOk, length, map};
+ghost use Rattle.std.specs.List.{All, list_all};
 ghost use Rattle.rulebook.specs.declared.rules.Caller.{Caller};
 ghost use Rattle.rulebook.specs.Spelling.{is_number, short};
-ghost use Rattle.record_codec.specs.Bundles.{are_rising, brief_bytes, brief_of, bundle_bytes, caller_bytes, counted, have_bundle, is_packable, item_bytes, item_of, items_of, number_code};
-ghost use Rattle.record_codec.specs.Varints.{varint};
+ghost use Rattle.record_codec.specs.Bundles.{are_rising, bundle_bytes, caller_bytes, counted_items, have_bundle, is_packable, item_bytes, item_of, items_of, number_code};
 
-use crate::bundle_items::{Brief, BundleItem};
-use crate::bundle_tables::{caller_index, callers_in, index, texts_in};
-use crate::layout::{AMEND, BUNDLE, GRADE, LEASE, OPEN, PUBLISH, RELEASE, RULE, WITHDRAW};
+pub(crate) mod briefs;
+mod bundle_items;
+pub(crate) mod bundle_reading;
+mod bundle_tables;
+pub(crate) mod packing;
+mod varint_reading;
+mod varints;
+
+use crate::bundles::briefs::{brief_of, put_brief};
+use crate::bundles::bundle_items::BundleItem;
+use crate::bundles::bundle_tables::{caller_index, callers_in, texts_in};
+use crate::bundles::varints::put_varint;
+use crate::layout::BUNDLE;
 use crate::spelling::put_text;
-use crate::varints::put_varint;
 use decimal_rank::{DocId, Memory, Names, append};
-use rulebook::{Command, EntryCore};
+use rulebook::EntryCore;
 
 /// Appends the bundle of the entries.
 pub fn write_bundle(cores: &[EntryCore], out: &mut Vec<u8>) -> Result<(), Memory>
@@ -31,7 +39,8 @@ pub fn write_bundle(cores: &[EntryCore], out: &mut Vec<u8>) -> Result<(), Memory
 
 /// A table of callers, which are spelled already.
 fn put_callers(callers: &Names, out: &mut Vec<u8>) -> Result<(), Memory>
-    ensures { OnOk result (out.new.items ≡ out.old.items ++ counted (λ caller. caller) callers.now) }
+    ensures { OnOk result
+        (out.new.items ≡ out.old.items ++ counted_items (λ caller. caller) callers.now) }
 {
     put_varint(callers.len() as u64, out)?;
     for place in 0..callers.len() {
@@ -43,7 +52,7 @@ fn put_callers(callers: &Names, out: &mut Vec<u8>) -> Result<(), Memory>
 /// A table of texts.
 fn put_texts(texts: &Names, out: &mut Vec<u8>) -> Result<(), Memory>
     requires { All (λ text. length text < 256) texts.now }
-    ensures { OnOk result (out.new.items ≡ out.old.items ++ counted short texts.now) }
+    ensures { OnOk result (out.new.items ≡ out.old.items ++ counted_items short texts.now) }
 {
     put_varint(texts.len() as u64, out)?;
     for place in 0..texts.len() {
@@ -62,7 +71,8 @@ fn put_items(
     requires packable { IsTrue (list_all is_packable cores.now) }
     requires rising { IsTrue (are_rising 0 cores.now) }
     ensures { (table : List Caller) → callers.now ≡ map caller_bytes table
-        → OnOk result (out.new.items ≡ out.old.items ++ counted item_bytes (items_of table texts.now 0 cores.now)) }
+        → OnOk result (out.new.items
+        ≡ out.old.items ++ counted_items item_bytes (items_of table texts.now 0 cores.now)) }
 {
     put_varint(cores.len() as u64, out)?;
     let mut spelled = Vec::new(*out.allocator());
@@ -75,7 +85,8 @@ fn put_items(
     Ok(())
 }
 
-/// The entry with its indices, behind one at the moment `earlier`; the buffer is for its caller's bytes.
+/// The entry with its indices, behind one at the moment `earlier`; the buffer is for its caller's
+/// bytes.
 fn item_of(
     core: &EntryCore,
     callers: &Names,
@@ -107,39 +118,6 @@ fn number_code(number: Option<u64>) -> u64
     }
 }
 
-fn brief_of(command: &Command, texts: &Names) -> Brief
-    ensures { result ≡ brief_of texts.now command.now }
-{
-    match command {
-        Command::Found { .. } => Brief::Open,
-        Command::Topics { .. } => Brief::Open,
-        Command::Submit { .. } => Brief::Open,
-        Command::Open => Brief::Open,
-        Command::Lease { topic } => Brief::Lease {
-            topic: index(texts, topic.bytes()),
-        },
-        Command::Grade { lease, grade } => Brief::Grade {
-            lease: *lease,
-            grade: *grade,
-        },
-        Command::Release { lease } => Brief::Release { lease: *lease },
-        Command::Amend { topic, doc, grade } => Brief::Amend {
-            topic: index(texts, topic.bytes()),
-            doc: index(texts, doc.bytes()),
-            grade: *grade,
-        },
-        Command::Rule { topic, doc, grade } => Brief::Rule {
-            topic: index(texts, topic.bytes()),
-            doc: index(texts, doc.bytes()),
-            grade: *grade,
-        },
-        Command::Withdraw { run } => Brief::Withdraw {
-            run: index(texts, run.bytes()),
-        },
-        Command::Publish => Brief::Publish,
-    }
-}
-
 fn put_item(item: &BundleItem, out: &mut Vec<u8>) -> Result<(), Memory>
     ensures { OnOk result (out.new.items ≡ out.old.items ++ item_bytes item.now) }
 {
@@ -147,39 +125,4 @@ fn put_item(item: &BundleItem, out: &mut Vec<u8>) -> Result<(), Memory>
     put_varint(item.number, out)?;
     put_varint(item.passed, out)?;
     put_brief(item.command, out)
-}
-
-fn put_brief(command: Brief, out: &mut Vec<u8>) -> Result<(), Memory>
-    ensures { OnOk result (out.new.items ≡ out.old.items ++ brief_bytes command) }
-{
-    match command {
-        Brief::Open => Ok(out.push(OPEN)?),
-        Brief::Lease { topic } => put_kind(LEASE, topic, out),
-        Brief::Grade { lease, grade } => {
-            put_kind(GRADE, lease as u64, out)?;
-            Ok(out.push(grade)?)
-        }
-        Brief::Release { lease } => put_kind(RELEASE, lease as u64, out),
-        Brief::Amend { topic, doc, grade } => put_graded(AMEND, topic, doc, grade, out),
-        Brief::Rule { topic, doc, grade } => put_graded(RULE, topic, doc, grade, out),
-        Brief::Withdraw { run } => put_kind(WITHDRAW, run, out),
-        Brief::Publish => Ok(out.push(PUBLISH)?),
-    }
-}
-
-/// A kind and the number behind it.
-fn put_kind(kind: u8, number: u64, out: &mut Vec<u8>) -> Result<(), Memory>
-    ensures { OnOk result (out.new.items ≡ out.old.items ++ kind ∷ varint number) }
-{
-    out.push(kind)?;
-    put_varint(number, out)
-}
-
-/// A kind, a topic, a document and its grade.
-fn put_graded(kind: u8, topic: u64, doc: u64, grade: u8, out: &mut Vec<u8>) -> Result<(), Memory>
-    ensures { OnOk result (out.new.items ≡ out.old.items ++ kind ∷ varint topic ++ (varint doc ++ grade ∷ [])) }
-{
-    put_kind(kind, topic, out)?;
-    put_varint(doc, out)?;
-    Ok(out.push(grade)?)
 }

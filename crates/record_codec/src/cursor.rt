@@ -1,13 +1,13 @@
 //! The bytes that are not read yet, and numbers and runs of bytes from their front.
 ghost use Rattle.std.specs.Prelude.{◌≡◌, ◌==◌, length};
 ghost use Rattle.std.specs.Int.{w16, w32, w64};
-ghost use Rattle.record_codec.specs.Outcomes.{Gives, GivesBy};
-ghost use Rattle.record_codec.specs.Readings.{byte_at, bytes_at, number_at};
+ghost use Rattle.record_codec.specs.Outcomes.{GivesRead, GivesReadBy};
+ghost use Rattle.record_codec.specs.Readings.{byte_read, bytes_read, number_read};
 
 use crate::faults::CodecFault;
 
-/// The bytes that are not read yet. Each call takes what it reads from their front; what stands there
-/// after a fault is not said.
+/// The bytes that are not read yet. Each call takes what it reads from their front; what stands
+/// there after a fault is not said.
 #[derive(Clone, Copy)]
 pub(crate) struct Cursor<'a> {
     bytes: &'a [u8],
@@ -27,7 +27,7 @@ impl<'a> Cursor<'a> {
     }
 
     pub(crate) fn byte(&mut self) -> Result<u8, CodecFault>
-        ensures { Gives result self.new.bytes.now (byte_at self.old.bytes.now) }
+        ensures { GivesRead result self.new.bytes.now (byte_read self.old.bytes.now) }
     {
         let [first, rest @ ..] = self.bytes else {
             return Err(CodecFault::NoEntry);
@@ -37,9 +37,10 @@ impl<'a> Cursor<'a> {
     }
 
     /// So many bytes.
-    #[tactic(auto, unfolding(crate::specs::Readings::bytes_at))]
+    #[tactic(auto, unfolding(crate::specs::Readings::bytes_read))]
     pub(crate) fn run(&mut self, len: usize) -> Result<&'a [u8], CodecFault>
-        ensures { GivesBy (λ run. run.now) result self.new.bytes.now (bytes_at len self.old.bytes.now) }
+        ensures { GivesReadBy (λ run. run.now) result self.new.bytes.now
+            (bytes_read len self.old.bytes.now) }
     {
         if self.bytes.len() < len {
             return Err(CodecFault::NoEntry);
@@ -50,9 +51,9 @@ impl<'a> Cursor<'a> {
     }
 
     /// Bytes of a fixed number.
-    #[tactic(auto, unfolding(crate::specs::Readings::bytes_at))]
+    #[tactic(auto, unfolding(crate::specs::Readings::bytes_read))]
     fn front<const N: usize>(&mut self) -> Result<[u8; N], CodecFault>
-        ensures { Gives result self.new.bytes.now (bytes_at N self.old.bytes.now) }
+        ensures { GivesRead result self.new.bytes.now (bytes_read N self.old.bytes.now) }
     {
         let Some((front, rest)) = self.bytes.split_first_chunk::<N>() else {
             return Err(CodecFault::NoEntry);
@@ -61,23 +62,23 @@ impl<'a> Cursor<'a> {
         Ok(*front)
     }
 
-    #[tactic(auto, unfolding(crate::specs::Readings::number_at, crate::specs::Readings::bytes_at))]
+    #[tactic(auto, unfolding(crate::specs::Readings::number_read, crate::specs::Readings::bytes_read))]
     pub(crate) fn number16(&mut self) -> Result<u16, CodecFault>
-        ensures { Gives result self.new.bytes.now (number_at w16 self.old.bytes.now) }
+        ensures { GivesRead result self.new.bytes.now (number_read w16 self.old.bytes.now) }
     {
         Ok(u16::from_le_bytes(self.front()?))
     }
 
-    #[tactic(auto, unfolding(crate::specs::Readings::number_at, crate::specs::Readings::bytes_at))]
+    #[tactic(auto, unfolding(crate::specs::Readings::number_read, crate::specs::Readings::bytes_read))]
     pub(crate) fn number32(&mut self) -> Result<u32, CodecFault>
-        ensures { Gives result self.new.bytes.now (number_at w32 self.old.bytes.now) }
+        ensures { GivesRead result self.new.bytes.now (number_read w32 self.old.bytes.now) }
     {
         Ok(u32::from_le_bytes(self.front()?))
     }
 
-    #[tactic(auto, unfolding(crate::specs::Readings::number_at, crate::specs::Readings::bytes_at))]
+    #[tactic(auto, unfolding(crate::specs::Readings::number_read, crate::specs::Readings::bytes_read))]
     pub(crate) fn number64(&mut self) -> Result<u64, CodecFault>
-        ensures { Gives result self.new.bytes.now (number_at w64 self.old.bytes.now) }
+        ensures { GivesRead result self.new.bytes.now (number_read w64 self.old.bytes.now) }
     {
         Ok(u64::from_le_bytes(self.front()?))
     }

@@ -2,20 +2,25 @@
 ghost use Rattle.std.specs.Prelude.{◌≡◌, IfErr, IfOk};
 ghost use Rattle.rulebook.specs.declared.entry.EntryCore.{EntryCore};
 ghost use Rattle.rulebook.specs.Spelling.{IsSpelling};
-ghost use Rattle.record_codec.specs.Outcomes.{Finds, Gives, OnNoEntry};
-ghost use Rattle.record_codec.specs.Readings.{entry_at, entry_of};
+ghost use Rattle.record_codec.specs.Outcomes.{FindsWhole, GivesRead, OnNoEntry};
+ghost use Rattle.record_codec.specs.Readings.{entry_of, entry_read};
 
-use crate::commands::command;
+mod commands;
+pub(crate) mod fields;
+pub(crate) mod lists;
+mod text_orders;
+
 use crate::cursor::Cursor;
+use crate::entries::commands::command;
+use crate::entries::fields::{caller, moment, request};
 use crate::faults::CodecFault;
-use crate::fields::{caller, moment, request};
 use rulebook::EntryCore;
 use std::alloc::Global;
 
 /// An entry, behind which bytes may stand.
-#[tactic(auto, unfolding(crate::specs::Readings::entry_at))]
+#[tactic(auto, unfolding(crate::specs::Readings::entry_read))]
 fn entry(alloc: Global, left: &mut Cursor) -> Result<EntryCore, CodecFault>
-    ensures { Gives result left.new.bytes.now (entry_at left.old.bytes.now) }
+    ensures { GivesRead result left.new.bytes.now (entry_read left.old.bytes.now) }
 {
     let caller = caller(alloc, left)?;
     let number = request(left)?;
@@ -32,7 +37,7 @@ fn entry(alloc: Global, left: &mut Cursor) -> Result<EntryCore, CodecFault>
 /// The entry that is all of the bytes.
 #[tactic(auto, unfolding(crate::specs::Readings::entry_of))]
 pub(crate) fn whole_entry(alloc: Global, bytes: &[u8]) -> Result<EntryCore, CodecFault>
-    ensures { Finds result (entry_of bytes.now) }
+    ensures { FindsWhole result (entry_of bytes.now) }
 {
     let mut left = Cursor::new(bytes);
     let core = entry(alloc, &mut left)?;
@@ -45,7 +50,8 @@ pub(crate) fn whole_entry(alloc: Global, bytes: &[u8]) -> Result<EntryCore, Code
 /// The entry whose spelling the bytes are. `NoEntry` where they are the spelling of no entry.
 pub fn read_entry(alloc: Global, bytes: &[u8]) -> Result<EntryCore, CodecFault>
     ensures entry { IfOk result (λ core. IsSpelling bytes.now core) }
-    ensures none { IfErr result (λ fault. OnNoEntry fault ((core : EntryCore) → IsSpelling bytes.now core → ⊥)) }
+    ensures none { IfErr result (λ fault. OnNoEntry fault ((core : EntryCore)
+        → IsSpelling bytes.now core → ⊥)) }
 {
     whole_entry(alloc, bytes)
 }

@@ -5,7 +5,8 @@ ghost use Rattle.record_codec.specs.declared.faults.CodecFault.TheVariants as fa
 use decimal_rank::Memory;
 use std::alloc::{AllocError, AllocFailed};
 
-/// Why bytes aren't read: they are the spelling of no entry, or there was no memory for what they spell.
+/// Why bytes aren't read: they are the spelling of no entry, or there was no memory for what they
+/// spell.
 #[derive(Clone, Copy, Debug, PartialEq, Eq)]
 pub enum CodecFault {
     NoEntry,

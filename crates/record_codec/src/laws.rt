@@ -1,5 +1,5 @@
 //! What holds of entries, their spellings and their bundles.
-ghost use Rattle.record_codec.specs.BundleReading.{PayloadsAreRead};
+ghost use Rattle.record_codec.specs.BundleGrammar.{PayloadsAreRead};
 ghost use Rattle.record_codec.specs.Laws.{BriefsFit, BundlesFit, OneBundle, OnePayload, OneSpelling, ThreeEntriesBundled};
 
 /// No entry has two spellings, and no two entries share one.

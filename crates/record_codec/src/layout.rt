@@ -1,5 +1,31 @@
-//! The numbers of the format. An entry is its caller's name, the role, the number, the moment, the kind
-//! of its command and the fields of that kind, little-endian and one behind the other.
+//! The numbers of the format. Numbers are little-endian, of the bytes that are told here, and one
+//! field stands behind the other. A short text has its length in one byte before it, a long text in
+//! two, and a list its count in four.
+//!
+//!     an entry     the caller's name, short | role 1 | 0, or 1 and its number 8 | moment 8 | kind
+//!                  1 | fields
+//!
+//!     kind         fields
+//!      1 Found     depth 2 | term 8 | hold 1 | level 1 | top_grade 1 | doubles, a list of short
+//!                  names
+//!      2 Topics    a list of: id, short | title, desc, narr, long
+//!      3 Submit    run, short | a list of: topic, short | line 4 | a list of short docnos
+//!      4 Open
+//!      5 Lease     topic, short
+//!      6 Grade     lease 4 | grade 1
+//!      7 Release   lease 4
+//!      8 Amend     topic, short | docno, short | grade 1
+//!      9 Rule      as Amend
+//!     10 Withdraw  run, short
+//!     11 Publish
+//!     12 Found     as 1 | a list of: topic, short | level 1, where topics have levels of their own
+//!
+//!     a bundle     0 | callers, each the name, short, and role 1 | texts, short | entries
+//!     its entry    caller | 0, or its number and 1 | seconds since the entry before it | kind 1 |
+//!                  fields
+//!
+//! In a bundle counts, numbers but of one byte, and the indices that stand for callers and texts
+//! have groups of 7 bits (`varints`).
 
 /// What a bundle begins with, and no spelling of an entry.
 pub(crate) const BUNDLE: u8 = 0;
@@ -41,9 +67,6 @@ pub(crate) const UNNUMBERED: u8 = 0;
 
 pub(crate) const NUMBERED: u8 = 1;
 
-/// Numbers of requests are below this.
-pub(crate) const NUMBER_BOUND: u64 = 1 << 63;
-
 /// Leases are below this.
 pub(crate) const LEASE_BOUND: u64 = 1 << 32;
 
@@ -52,15 +75,8 @@ pub(crate) const FIRST_PRINTABLE: u8 = 0x20;
 
 pub(crate) const LAST_PRINTABLE: u8 = 0x7E;
 
-/// The most bytes of a topic's texts.
-pub(crate) const MOST_TITLE: usize = 1000;
+/// How many entries a bundle has at most.
+pub const MOST_BUNDLED: usize = 4096;
 
-pub(crate) const MOST_DESC: usize = 8192;
-
-pub(crate) const MOST_NARR: usize = 8192;
-
-/// How many documents a list has at most.
-pub(crate) const MOST_DOCS: u32 = 1000;
-
-/// How many callers, texts or entries a bundle has at most: an entry uses two texts, and there are 4,096.
+/// How many callers, texts or entries a bundle has at most: an entry uses two texts at most.
 pub(crate) const MOST_USES: u64 = 8192;

@@ -1,25 +1,25 @@
-//! Payloads from bytes: the one entry, or the entries of a bundle. A bundle is read loosely, and its entries are
-//! written again: bytes that differ from these are no bundle.
+//! Payloads from bytes: the one entry, or the entries of a bundle. A bundle is read loosely, and
+//! its entries are written again: bytes that differ from these are no bundle.
 ghost use Rattle.std.specs.Prelude.{◌≡◌, IfErr, IfOk, List};
 ghost use Rattle.rulebook.specs.declared.entry.EntryCore.{EntryCore};
 ghost use Rattle.std.specs.Option.{option_map};
-ghost use Rattle.record_codec.specs.BundleReading.{alone, bundle_of, payload_of};
+ghost use Rattle.record_codec.specs.BundleGrammar.{alone, bundle_of, payload_of};
 ghost use Rattle.record_codec.specs.Readings.{entry_of};
-ghost use Rattle.record_codec.specs.Outcomes.{FindsBy, OnNoEntry};
+ghost use Rattle.record_codec.specs.Outcomes.{FindsWholeBy, OnNoEntry};
 ghost use Rattle.record_codec.specs.Payloads.{IsPayload};
 
-use crate::bundle_reading::loose_entries;
+use crate::bundles::bundle_reading::loose_entries;
+use crate::bundles::packing::can_pack;
 use crate::bundles::write_bundle;
 use crate::cursor::Cursor;
 use crate::entries::whole_entry;
 use crate::faults::CodecFault;
-use crate::packing::can_pack;
 use rulebook::EntryCore;
 use std::alloc::Global;
 
-#[tactic(auto, unfolding(crate::specs::BundleReading::bundle_of))]
+#[tactic(auto, unfolding(crate::specs::BundleGrammar::bundle_of))]
 fn bundle(alloc: Global, bytes: &[u8]) -> Result<Vec<EntryCore>, CodecFault>
-    ensures { FindsBy (λ cores. cores.items) result (bundle_of bytes.now) }
+    ensures { FindsWholeBy (λ cores. cores.items) result (bundle_of bytes.now) }
 {
     let cores = loose_entries(alloc, bytes)?;
     if !can_pack(&cores) {
@@ -35,16 +35,16 @@ fn bundle(alloc: Global, bytes: &[u8]) -> Result<Vec<EntryCore>, CodecFault>
 
 /// The entry that is all of the bytes, alone.
 fn lone_entry(alloc: Global, bytes: &[u8]) -> Result<Vec<EntryCore>, CodecFault>
-    ensures { FindsBy (λ cores. cores.items) result (option_map alone (entry_of bytes.now)) }
+    ensures { FindsWholeBy (λ cores. cores.items) result (option_map alone (entry_of bytes.now)) }
 {
     let mut cores = Vec::with_capacity(alloc, 1)?;
     cores.push(whole_entry(alloc, bytes)?)?;
     Ok(cores)
 }
 
-#[tactic(auto, unfolding(crate::specs::BundleReading::payload_of))]
+#[tactic(auto, unfolding(crate::specs::BundleGrammar::payload_of))]
 fn payload(alloc: Global, bytes: &[u8]) -> Result<Vec<EntryCore>, CodecFault>
-    ensures { FindsBy (λ cores. cores.items) result (payload_of bytes.now) }
+    ensures { FindsWholeBy (λ cores. cores.items) result (payload_of bytes.now) }
 {
     // a spelling never begins with 0
     if Cursor::new(bytes).byte()? == 0 {
@@ -53,10 +53,12 @@ fn payload(alloc: Global, bytes: &[u8]) -> Result<Vec<EntryCore>, CodecFault>
     lone_entry(alloc, bytes)
 }
 
-/// The entries whose bundle the bytes are, or the one whose spelling they are. `NoEntry` where they are neither.
+/// The entries whose bundle the bytes are, or the one whose spelling they are. `NoEntry` where they
+/// are neither.
 pub fn read_payload(alloc: Global, bytes: &[u8]) -> Result<Vec<EntryCore>, CodecFault>
     ensures entries { IfOk result (λ cores. IsPayload bytes.now cores.items) }
-    ensures none { IfErr result (λ fault. OnNoEntry fault ((cores : List EntryCore) → IsPayload bytes.now cores → ⊥)) }
+    ensures none { IfErr result (λ fault. OnNoEntry fault ((cores : List EntryCore)
+        → IsPayload bytes.now cores → ⊥)) }
 {
     payload(alloc, bytes)
 }

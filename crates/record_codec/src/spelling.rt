@@ -2,9 +2,9 @@
 ghost use Rattle.std.specs.Prelude.{◌≡◌, ℕ, ◌++◌, ◌∷◌, ◌≤◌, ◌<◌, ◌^◌, Bool, IsTrue, List, OnOk, OnErr, [], length, true};
 ghost use Rattle.std.specs.List.{list_all};
 ghost use Rattle.std.specs.Int.{to_le_bytes, w16, w32, w64};
-ghost use Rattle.rulebook.specs.Spelling.{command_bytes, entry_bytes, has_spelling, is_plain, is_plain_list, is_plain_topic, are_rules, are_settings, found_bytes, level_bytes, list_bytes, listed, long, number_bytes, role_byte, rules_bytes, short, topic_bytes};
+ghost use Rattle.rulebook.specs.Spelling.{command_bytes, entry_bytes, has_spelling, is_plain, is_plain_list, is_plain_topic, are_rules, are_settings, found_bytes, level_bytes, list_bytes, spelled_list, long, number_bytes, role_byte, rules_bytes, short, topic_bytes};
 ghost use Rattle.trec_formats.specs.Names.{is_docno, is_name};
-ghost use Rattle.record_codec.specs.Items.{is_short, is_short_level};
+ghost use Rattle.record_codec.specs.Items.{has_byte_length, is_short_level};
 
 use crate::layout::{
     AMEND, ASSESSOR, FOUND, FOUND_WITH_LEVELS, GRADE, GROUP, LEASE, NUMBERED, OPEN, ORGANISER,
@@ -55,7 +55,7 @@ trait Spelled {
 impl Spelled for Text {
     ghost spelling = { short };
 
-    ghost is_spelled = { is_short };
+    ghost is_spelled = { has_byte_length };
 
     fn put(&self, out: &mut Vec<u8>) -> Result<(), Memory> {
         put_short(self, out)
@@ -104,7 +104,7 @@ impl Spelled for TopicLevel {
 fn put_items<T: Spelled>(items: &Rows<T>, out: &mut Vec<u8>) -> Result<(), Memory>
     requires few { length items.now < 2 ^ 32 }
     requires plain { IsTrue (list_all T.is_spelled items.now) }
-    ensures { OnOk result (out.new.items ≡ out.old.items ++ listed T.spelling items.now) }
+    ensures { OnOk result (out.new.items ≡ out.old.items ++ spelled_list T.spelling items.now) }
 {
     append(out, &(items.items().len() as u32).to_le_bytes())?;
     for item in items.items() {
@@ -116,8 +116,8 @@ fn put_items<T: Spelled>(items: &Rows<T>, out: &mut Vec<u8>) -> Result<(), Memor
 /// A count of four bytes, and the docnos.
 fn put_docnos(docs: &Docnos, out: &mut Vec<u8>) -> Result<(), Memory>
     requires few { length docs.now < 2 ^ 32 }
-    requires plain { IsTrue (list_all is_short docs.now) }
-    ensures { OnOk result (out.new.items ≡ out.old.items ++ listed short docs.now) }
+    requires plain { IsTrue (list_all has_byte_length docs.now) }
+    ensures { OnOk result (out.new.items ≡ out.old.items ++ spelled_list short docs.now) }
 {
     let count = docs.len();
     append(out, &(count as u32).to_le_bytes())?;
@@ -130,7 +130,8 @@ fn put_docnos(docs: &Docnos, out: &mut Vec<u8>) -> Result<(), Memory>
 #[tactic(auto, using(crate::proofs::ShortTexts::name_short))]
 pub(crate) fn put_caller(caller: &Caller, out: &mut Vec<u8>) -> Result<(), Memory>
     requires { IsTrue (is_name caller.now.name) }
-    ensures { OnOk result (out.new.items ≡ out.old.items ++ short caller.now.name ++ role_byte caller.now.role ∷ []) }
+    ensures { OnOk result
+        (out.new.items ≡ out.old.items ++ short caller.now.name ++ role_byte caller.now.role ∷ []) }
 {
     put_short(&caller.name, out)?;
     let role = match caller.role {
@@ -156,7 +157,8 @@ fn put_number(number: Option<u64>, out: &mut Vec<u8>) -> Result<(), Memory>
 /// The rules, with their kind, and levels of topics behind them where there are any.
 fn put_found(rules: &Rules, out: &mut Vec<u8>) -> Result<(), Memory>
     requires { IsTrue (are_rules rules.now) }
-    ensures { OnOk result (out.new.items ≡ out.old.items ++ found_bytes rules.now rules.now.levels) }
+    ensures { OnOk result
+        (out.new.items ≡ out.old.items ++ found_bytes rules.now rules.now.levels) }
 {
     if rules.levels.items().is_empty() {
         out.push(FOUND)?;
@@ -189,7 +191,8 @@ fn put_graded_doc(
 ) -> Result<(), Memory>
     requires topic { IsTrue (is_name topic.now) }
     requires doc { IsTrue (is_docno doc.now) }
-    ensures { OnOk result (out.new.items ≡ out.old.items ++ (kind ∷ short topic.now ++ short doc.now ++ grade ∷ [])) }
+    ensures { OnOk result
+        (out.new.items ≡ out.old.items ++ (kind ∷ short topic.now ++ short doc.now ++ grade ∷ [])) }
 {
     out.push(kind)?;
     put_short(topic, out)?;

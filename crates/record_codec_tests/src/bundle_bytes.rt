@@ -18,10 +18,12 @@ pub(crate) const ITS_ENTRIES: &str = "\
 036f72670101050000000000000000000000000100000b
 ";
 
-/// An organiser's Open, an assessor's Lease and its Grade.
+/// org's Open, p's Lease on topic 1 and p's Grade of lease 1 with 2 under number 7, all at moment
+/// 1000.
 pub(crate) const THREE: &str = "0002036f726701017003010131030000e807040100000500010800060102";
 
-/// Each what is wrong, and bytes that are no payload; most differ from the three entries in this alone.
+/// Each what is wrong, and bytes that are no payload; most differ from the three entries in this
+/// alone.
 pub(crate) const NO_PAYLOADS: &str = "\
 the first byte alone: 00
 another first byte: 0102036f726701017003010131030000e807040100000500010800060102

@@ -67,7 +67,8 @@ fn a_bundle_that_is_cut_is_none(rt: HostRuntime) -> Result<(), Fail> {
     Ok(())
 }
 
-// The front of a bundle, an assessor's Lease the first of its entries, and behind it so many Grades.
+// The front of a bundle, an assessor's Lease the first of its entries, and behind it so many
+// Grades.
 fn with_grades(alloc: Global, front: &str, grades: u32) -> Result<Vec<u8>, Fail> {
     let mut bytes = hex::decode(alloc, front)?;
     for _ in 0..grades {

@@ -1,5 +1,5 @@
-//! Tries spellings of entries: each command's is read and written again as it was, other and cut bytes are none, and
-//! lists and texts are as many and as long as they may be.
+//! Tries spellings of entries: each command's is read and written again as it was, other and cut
+//! bytes are none, and lists and texts are as many and as long as they may be.
 use crate::spellings::{NO_SPELLINGS, SPELLINGS};
 use decimal_rank::Text;
 use record_codec::{CodecFault, read_entry, write_entry};
@@ -76,7 +76,7 @@ fn the_fields_of_a_grade(rt: HostRuntime) -> Result<(), Fail> {
     assert_eq!(rt; core.caller.role, Role::Assessor);
     assert_eq!(rt; core.number, Some(7));
     assert_eq!(rt; core.moment, 1000);
-    assert!(rt; matches!(&core.command, Command::Grade { lease: 1, grade: 2 }));
+    assert!(rt; core.command.is_same(&Command::Grade { lease: 1, grade: 2 }));
     Ok(())
 }
 
@@ -108,7 +108,8 @@ fn digits(number: u32) -> [u8; 3] {
     ]
 }
 
-// Bytes, and behind them a count of so many short texts, which differ and ascend below 1,001 of them.
+// Bytes, and behind them a count of so many short texts, which differ and ascend below 1,001 of
+// them.
 fn with_texts(alloc: Global, front: &str, count: u32) -> Result<Vec<u8>, Fail> {
     let mut bytes = hex::decode(alloc, front)?;
     bytes.extend_from_slice(&count.to_le_bytes())?;

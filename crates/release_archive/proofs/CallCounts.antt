@@ -2,11 +2,11 @@
 use Rattle.std.proofs.Common.{◌≡◌, ◌≤◌, inl, ℕ, List, Some, Bool, true, false, refl, sym, subst, arith}
 use Rattle.std.specs.Prelude.{Result, Ok, Err, if◌then◌else◌}
 use Rattle.decimal_rank.specs.Causes.{Rose}
-use Rattle.decimal_rank.specs.FailurePlans.{count_more, fails_next}
+use Rattle.decimal_rank.specs.Outputs.FailurePlans.{count_more, fails_next}
 use Rattle.release_archive.specs.declared.kept.Kept.{Kept}
 use Rattle.release_archive.specs.declared.ends.KeepEnd.{KeepEnd}
 use Rattle.release_archive.specs.declared.ends.KeepEnd.TheVariants.{Failed, Memory}
-use Rattle.release_archive.specs.Keepers.{Leaves, MemoryKeeperState, after_keep, with_added}
+use Rattle.release_archive.specs.Keepers.{LeavesKept, MemoryKeeperState, after_keep, with_added}
 
 pub later-call : (keeper : MemoryKeeperState) (releases : List Kept) → keeper.faults ≤ (after_keep keeper releases).faults
 later-call keeper releases = step (fails_next keeper.plan)
@@ -22,7 +22,8 @@ failed-call keeper releases fails =
     rose : (n : ℕ) → Rose n (count_more n)
     rose n = grind arith
 
-pub leaves-added : (releases : List Kept) (kept : Kept) (result : Result (Unit {0}) KeepEnd) → Leaves (Some releases) kept result (Some (with_added releases kept result))
+pub leaves-added : (releases : List Kept) (kept : Kept) (result : Result (Unit {0}) KeepEnd)
+    → LeavesKept (Some releases) kept result (Some (with_added releases kept result))
 leaves-added releases kept (Ok done) = refl
 leaves-added releases kept (Err Failed) = inl refl
 leaves-added releases kept (Err Memory) = refl

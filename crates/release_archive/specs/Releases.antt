@@ -5,7 +5,7 @@ use Rattle.std.specs.List.{list_all}
 use Rattle.measures.specs.declared.means.Summary.{Summary}
 use Rattle.trec_formats.specs.Names.{is_name}
 use Rattle.rulebook.specs.Spelling.{differ}
-use Rattle.rulebook.specs.Systems.{are_sound_systems}
+use Rattle.rulebook.specs.Reports.Systems.{are_sound_systems}
 use Rattle.rulebook.specs.Words.{Text}
 use Rattle.rulebook.specs.declared.systems.System.{System}
 use Rattle.release_archive.specs.declared.kept.Kept.{Kept}
@@ -14,12 +14,12 @@ use Rattle.release_archive.specs.declared.kept.Kept.{Kept}
 abbrev pub is_sound : Kept → Bool
 is_sound kept = is_name kept.name && are_sound_systems kept.systems
 
-abbrev pub names_of : List Kept → List Text
-names_of releases = map (λ kept. kept.name) releases
+abbrev pub release_names : List Kept → List Text
+release_names releases = map (λ kept. kept.name) releases
 
 -- the releases of an archive: each is sound, and no two have one name
 abbrev pub are_kept : List Kept → Bool
-are_kept releases = list_all is_sound releases && differ (names_of releases)
+are_kept releases = list_all is_sound releases && differ (release_names releases)
 
 abbrev pub release_named : List Kept → Text → Option Kept
 release_named releases name = find (λ kept. bytes_eq name kept.name) releases

@@ -2,7 +2,7 @@
 ghost use Rattle.std.specs.Prelude.{◌≡◌, IfOk, bytes_eq, option_copied};
 ghost use Rattle.std.specs.List.{list_all, list_any};
 ghost use Rattle.rulebook.specs.Spelling.{differ};
-ghost use Rattle.rulebook.specs.Systems.{are_means, is_mean, is_sound_system, runs_of};
+ghost use Rattle.rulebook.specs.Reports.Systems.{are_means, is_mean, is_sound_system, runs_of};
 ghost use Rattle.release_archive.specs.Releases.{is_sound as sound, release_named as named, same_kept};
 
 use decimal_rank::{Memory, ONE, Rows, Text};
@@ -64,8 +64,8 @@ fn copied_systems(alloc: Global, systems: &[System]) -> Result<Rows<System>, Mem
     Ok(Rows::new(copies))
 }
 
-/// Whether a release is sound: its name and those of its runs and groups are names, it has at most 256
-/// systems, no two of one run name, and no mean is above 1.
+/// Whether a release is sound: its name and those of its runs and groups are names, it has at most
+/// 256 systems, no two of one run name, and no mean is above 1.
 pub fn is_sound(kept: &Kept) -> bool
     ensures { result ≡ sound kept.now }
 {

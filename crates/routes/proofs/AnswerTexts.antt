@@ -1,3 +1,3 @@
 -- The texts of answers, and how long they are.
 pub mod AnswerSizes
-pub mod Growing
+pub mod ByteParts

@@ -1,3 +1,3 @@
 -- What a JSON body says.
-pub mod Matching
+pub mod TextMatches
 pub mod Members

@@ -1,7 +1,7 @@
 -- What is read of a request, and that it may be answered.
-pub mod Addressed
+pub mod AddressedRequests
 pub mod AskFeeds
-pub mod OneReading
+pub mod SingleReadings
 pub mod RunLines
 pub mod RunRequests
 pub mod TopicSizes

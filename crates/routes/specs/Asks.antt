@@ -4,14 +4,14 @@ use Rattle.std.specs.Option.{option_map}
 use Rattle.std.specs.Str.Parse.{digits_value}
 use Rattle.http_wire.specs.declared.messages.HttpRequest.{HttpRequest}
 use Rattle.http_wire.specs.Heads.{is_filled}
-use Rattle.trec_formats.specs.Lists.{IsRankedRun, IsRankedRunFault}
+use Rattle.trec_formats.specs.RunFormat.Lists.{IsRankedRun, IsRankedRunFault}
 use Rattle.trec_formats.specs.declared.faults.FormatFault.{FormatFault}
 use Rattle.trec_formats.specs.declared.faults.FormatEnd.{FormatEnd}
 use Rattle.trec_formats.specs.declared.faults.FormatEnd.TheVariants as ends
-use Rattle.trec_formats.specs.declared.lists.TopicList.{TopicList}
+use Rattle.trec_formats.specs.declared.runs.lists.TopicList.{TopicList}
 use Rattle.trec_formats.specs.declared.topics.Topic.{Topic}
-use Rattle.trec_formats.specs.SoundTopics.{AreSoundTopics}
-use Rattle.trec_formats.specs.Topics.{IsTopics, IsTopicsFault}
+use Rattle.trec_formats.specs.TopicsFormat.SoundTopics.{AreSoundTopics}
+use Rattle.trec_formats.specs.TopicsFormat.Topics.{IsTopics, IsTopicsFault}
 use Rattle.rulebook.specs.declared.ask.Ask.{Ask}
 use Rattle.rulebook.specs.declared.ask.Ask.TheVariants.{Act, See}
 use Rattle.rulebook.specs.declared.ask.Command.TheVariants as command
@@ -20,13 +20,13 @@ use Rattle.rulebook.specs.declared.rules.Caller.{Caller}
 use Rattle.routes.specs.declared.faults.RouteFault.{RouteFault}
 use Rattle.routes.specs.declared.faults.RouteFault.TheVariants as faults
 use Rattle.routes.specs.declared.keys.KeyRow.{KeyRow}
-use Rattle.routes.specs.declared.places.Question.{Question}
-use Rattle.routes.specs.declared.places.Question.TheVariants as question
-use Rattle.routes.specs.Bodies.{json_of, Judgement, grade_in, judgement_in}
+use Rattle.routes.specs.declared.route_table.Question.{Question}
+use Rattle.routes.specs.declared.route_table.Question.TheVariants as question
+use Rattle.routes.specs.Json.Bodies.{json_of, Judgement, grade_in, judgement_in}
 use Rattle.routes.specs.Faults.{or_fault}
 use Rattle.routes.specs.Keys.{caller}
 use Rattle.routes.specs.Openings.{Opening, opening_of}
-use Rattle.routes.specs.Places.{parameter}
+use Rattle.routes.specs.RouteTable.{parameter}
 
 -- the fault of a text that isn't of its format
 abbrev pub fault_of : FormatEnd → RouteFault
@@ -38,8 +38,8 @@ abbrev pub with_nothing : List ℕ → Ask → Result Ask RouteFault
 with_nothing body ask = if is_filled body then Err faults.Body else Ok ask
 
 -- the ask with the grade of a JSON body
-abbrev pub with_grade : List ℕ → (ℕ → Ask) → Result Ask RouteFault
-with_grade body ask = or_fault faults.Body (option_map ask (option_and_then grade_in (json_of body)))
+abbrev pub with_body_grade : List ℕ → (ℕ → Ask) → Result Ask RouteFault
+with_body_grade body ask = or_fault faults.Body (option_map ask (option_and_then grade_in (json_of body)))
 
 -- the ask with the document and the grade of a JSON body
 abbrev pub with_judgement : List ℕ → (Judgement → Ask) → Result Ask RouteFault
@@ -61,7 +61,7 @@ Asks question.Topics text body result = AsksTopics body result
 Asks question.Submit run body result = AsksSubmit run body result
 Asks question.Open text body result = result ≡ with_nothing body (Act command.Open)
 Asks question.Lease topic body result = result ≡ with_nothing body (Act (command.Lease topic))
-Asks question.Grade lease body result = result ≡ with_grade body (λ grade. Act (command.Grade (digits_value 10 lease) grade))
+Asks question.Grade lease body result = result ≡ with_body_grade body (λ grade. Act (command.Grade (digits_value 10 lease) grade))
 Asks question.Release lease body result = result ≡ with_nothing body (Act (command.Release (digits_value 10 lease)))
 Asks question.Amend topic body result = result ≡ with_judgement body (λ given. Act (command.Amend topic given.doc given.grade))
 Asks question.Rule topic body result = result ≡ with_judgement body (λ given. Act (command.Rule topic given.doc given.grade))
@@ -80,13 +80,14 @@ Asks question.ReleaseScores release body result = result ≡ Ok (See (query.Rele
 abbrev pub Asked : Type 0
 Asked = Caller × Option ℕ × Ask
 
-abbrev pub asking : Opening → Ask → Asked
-asking opening ask = (caller opening.row, opening.number, ask)
+abbrev pub asked_at : Opening → Ask → Asked
+asked_at opening ask = (caller opening.row, opening.number, ask)
 
 -- what is read where this opening comes before the body
 abbrev pub ReadsBehind : Result Opening RouteFault → HttpRequest → Result Asked RouteFault → Type 0
 ReadsBehind (Err cause) request result = result ≡ Err cause
-ReadsBehind (Ok opening) request (Ok asked) = (ask : Ask) × Asks opening.place.question (parameter request.path) request.body (Ok ask) × (asked ≡ asking opening ask)
+ReadsBehind (Ok opening) request (Ok asked) = (ask : Ask) × Asks opening.place.question (parameter request.path) request.body (Ok ask)
+    × (asked ≡ asked_at opening ask)
 ReadsBehind (Ok opening) request (Err cause) = Asks opening.place.question (parameter request.path) request.body (Err cause)
 
 -- what a request is read as: who asks, with which number, and what; or its first fault

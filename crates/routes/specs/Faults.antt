@@ -19,22 +19,22 @@ abbrev pub demand : {A : Type 0} → RouteFault → Bool → A → Result A Rout
 demand cause test x = if test then Ok x else Err cause
 
 -- P holds of the fault. Nothing is said of want of memory.
-abbrev pub OfFault : RouteFault → (RouteFault → Type 0) → Type 0
-OfFault faults.Memory P = Unit {0}
-OfFault faults.Route P = P faults.Route
-OfFault faults.Method P = P faults.Method
-OfFault faults.Key P = P faults.Key
-OfFault faults.Role P = P faults.Role
-OfFault faults.Number P = P faults.Number
-OfFault faults.Body P = P faults.Body
-OfFault (faults.Format at) P = P (faults.Format at)
+abbrev pub OfRouteFault : RouteFault → (RouteFault → Type 0) → Type 0
+OfRouteFault faults.Memory P = Unit {0}
+OfRouteFault faults.Route P = P faults.Route
+OfRouteFault faults.Method P = P faults.Method
+OfRouteFault faults.Key P = P faults.Key
+OfRouteFault faults.Role P = P faults.Role
+OfRouteFault faults.Number P = P faults.Number
+OfRouteFault faults.Body P = P faults.Body
+OfRouteFault (faults.Format at) P = P (faults.Format at)
 
 -- what a call gave is so, unless there was no memory
 abbrev pub IsRead : {A : Type 0} → (Result A RouteFault → Type 0) → Result A RouteFault → Type 0
 IsRead P (Ok x) = P (Ok x)
-IsRead P (Err cause) = OfFault cause (λ told. P (Err told))
+IsRead P (Err cause) = OfRouteFault cause (λ told. P (Err told))
 
 -- what a call gave, seen by the view, is what was read, unless there was no memory
-abbrev pub Gives : {X A : Type 0} → (X → A) → Result X RouteFault → Result A RouteFault → Type 0
-Gives view (Ok x) read = read ≡ Ok (view x)
-Gives view (Err cause) read = OfFault cause (λ told. read ≡ Err told)
+abbrev pub GivesOrFaults : {X A : Type 0} → (X → A) → Result X RouteFault → Result A RouteFault → Type 0
+GivesOrFaults view (Ok x) read = read ≡ Ok (view x)
+GivesOrFaults view (Err cause) read = OfRouteFault cause (λ told. read ≡ Err told)

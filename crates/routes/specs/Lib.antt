@@ -1,12 +1,10 @@
-pub mod AnswerParts
 pub mod Answers
-pub mod AskStates
+pub mod AskReading
 pub mod Asks
-pub mod Bodies
+pub mod Json
+pub mod Bytes
 pub mod Faults
-pub mod FoundJudgements
-pub mod FoundOpenings
 pub mod Keys
 pub mod Openings
-pub mod Places
+pub mod RouteTable
 pub mod RoleRules

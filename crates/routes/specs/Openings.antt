@@ -1,35 +1,36 @@
 -- Who asks, and where: what is read of a request before its body.
-use Rattle.std.specs.Prelude.{ℕ, Bool, ◌&&◌, ◌^◌, List, [], ◌∷◌, Option, None, Some, Result, Ok, Err, codes, bytes_eq, length, nat_le, nat_lt}
+use Rattle.std.specs.Prelude.{ℕ, Bool, ◌&&◌, List, [], ◌∷◌, Option, None, Some, Result, Ok, Err, codes, bytes_eq, length, nat_le, nat_lt}
 use Rattle.std.specs.Str.Parse.{digits_value}
-use Rattle.decimal_rank.specs.DecimalText.{are_digits}
+use Rattle.decimal_rank.specs.Decimals.DecimalText.{are_digits}
 use Rattle.http_wire.specs.declared.messages.HttpField.{HttpField}
 use Rattle.http_wire.specs.Heads.{values_named}
+use Rattle.rulebook.specs.Requests.Limits.{number_bound}
 use Rattle.routes.specs.declared.faults.RouteFault.{RouteFault}
 use Rattle.routes.specs.declared.faults.RouteFault.TheVariants as faults
 use Rattle.routes.specs.declared.keys.KeyRow.{KeyRow}
-use Rattle.routes.specs.declared.places.Method.{Method}
-use Rattle.routes.specs.declared.places.Method.TheVariants as methods
-use Rattle.routes.specs.declared.places.Place.{Place}
+use Rattle.routes.specs.declared.route_table.Method.{Method}
+use Rattle.routes.specs.declared.route_table.Method.TheVariants as methods
+use Rattle.routes.specs.declared.route_table.Route.{Route}
 use Rattle.routes.specs.Faults.{◌>>=◌, or_fault, demand}
 use Rattle.routes.specs.Keys.{row_of}
-use Rattle.routes.specs.Places.{matched, parameter, fits, method_name, may_ask}
+use Rattle.routes.specs.RouteTable.{matched_route, parameter, fits, method_name, may_ask}
 
 -- who asks at which row, and with which number
 pub record Opening : Type 0 where
-  pub place : Place
+  pub place : Route
   pub row : KeyRow
   pub number : Option ℕ
 
 -- The faults before the body, in their order: the route, its method, the key, the role of the key's caller, and the number.
 
-abbrev pub with_parameter : List ℕ → Place → Result Place RouteFault
+abbrev pub with_parameter : List ℕ → Route → Result Route RouteFault
 with_parameter text place = demand faults.Route (fits place.parameter text) place
 
 -- the row of a path
-abbrev pub place_of : List ℕ → Result Place RouteFault
-place_of path = or_fault faults.Route (matched path) >>= with_parameter (parameter path)
+abbrev pub route_of : List ℕ → Result Route RouteFault
+route_of path = or_fault faults.Route (matched_route path) >>= with_parameter (parameter path)
 
-abbrev pub with_method : List ℕ → Place → Result Place RouteFault
+abbrev pub with_method : List ℕ → Route → Result Route RouteFault
 with_method method place = demand faults.Method (bytes_eq method (method_name place.method)) place
 
 -- the row of the one key that is given
@@ -38,34 +39,34 @@ row_at keys [] = Err faults.Key
 row_at keys (key ∷ []) = or_fault faults.Key (row_of keys key)
 row_at keys (_ ∷ _ ∷ _) = Err faults.Key
 
-abbrev pub with_role : Place → KeyRow → Result KeyRow RouteFault
+abbrev pub with_role : Route → KeyRow → Result KeyRow RouteFault
 with_role place row = demand faults.Role (may_ask row.role place.askers) row
 
 -- the number of a command: 1 to 19 digits, below 2^63
 abbrev pub is_request_number : List ℕ → Bool
-is_request_number text = are_digits text && nat_le (length text) 19 && nat_lt (digits_value 10 text) (2 ^ 63)
+is_request_number text = are_digits text && nat_le (length text) 19 && nat_lt (digits_value 10 text) number_bound
 
 abbrev pub with_number : List ℕ → Result (Option ℕ) RouteFault
 with_number text = demand faults.Number (is_request_number text) (Some (digits_value 10 text))
 
 -- the one number that is given, or none
-abbrev pub number_of : List (List ℕ) → Result (Option ℕ) RouteFault
-number_of [] = Ok None
-number_of (text ∷ []) = with_number text
-number_of (_ ∷ _ ∷ _) = Err faults.Number
+abbrev pub one_number : List (List ℕ) → Result (Option ℕ) RouteFault
+one_number [] = Ok None
+one_number (text ∷ []) = with_number text
+one_number (_ ∷ _ ∷ _) = Err faults.Number
 
-abbrev pub number_in : List HttpField → Result (Option ℕ) RouteFault
-number_in fields = number_of (values_named (codes "x-request-number") fields)
+abbrev pub number_in_fields : List HttpField → Result (Option ℕ) RouteFault
+number_in_fields fields = one_number (values_named (codes "x-request-number") fields)
 
 -- the number of a command; at a query the field isn't looked at
-abbrev pub number_at : Method → List HttpField → Result (Option ℕ) RouteFault
-number_at methods.Post fields = number_in fields
-number_at methods.Get fields = Ok None
+abbrev pub number_by_method : Method → List HttpField → Result (Option ℕ) RouteFault
+number_by_method methods.Post fields = number_in_fields fields
+number_by_method methods.Get fields = Ok None
 
 -- what is read of a request's method, path and fields, or the first fault
 unfoldable pub opening_of : List ℕ → List ℕ → List HttpField → List KeyRow → Result Opening RouteFault
 opening_of method path fields keys = do
-  place ← place_of path >>= with_method method
+  place ← route_of path >>= with_method method
   row ← row_at keys (values_named (codes "x-campaign-key") fields) >>= with_role place
-  number ← number_at place.method fields
+  number ← number_by_method place.method fields
   Ok (record { place = place; row = row; number = number })

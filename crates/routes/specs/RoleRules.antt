@@ -3,10 +3,10 @@ use Rattle.std.specs.Prelude.{◌≡◌, ℕ, Bool, List, Ok}
 use Rattle.rulebook.specs.declared.ask.Ask.{Ask}
 use Rattle.rulebook.specs.declared.ask.Ask.TheVariants.{Act, See}
 use Rattle.rulebook.specs.declared.rules.Role.{Role}
-use Rattle.rulebook.specs.Roles.{may_give, may_see}
-use Rattle.routes.specs.declared.places.Place.{Place}
+use Rattle.rulebook.specs.Requests.Roles.{may_give, may_see}
+use Rattle.routes.specs.declared.route_table.Route.{Route}
 use Rattle.routes.specs.Asks.{Asks}
-use Rattle.routes.specs.Places.{IsRow, may_ask}
+use Rattle.routes.specs.RouteTable.{IsRow, may_ask}
 
 -- whether the rules let a role ask this
 abbrev pub rules_let : Role → Ask → Bool
@@ -16,5 +16,5 @@ rules_let role (See q) = may_see role q
 -- what is asked at a row of the table may be asked there by the roles that the rules let ask it, and by no others
 abbrev pub RolesAreTheRules : Type 0
 RolesAreTheRules =
-    (place : Place) (text body : List ℕ) (ask : Ask) (role : Role) → IsRow place → Asks place.question text body (Ok ask)
+    (place : Route) (text body : List ℕ) (ask : Ask) (role : Role) → IsRow place → Asks place.question text body (Ok ask)
     → may_ask role place.askers ≡ rules_let role ask

@@ -1,26 +1,27 @@
-//! A request read as its body comes. Who asks and where is read of the head alone; a run's body goes to its
-//! reader, the body of a query is passed over, and another one is gathered.
+//! A request read as its body comes. Who asks and where is read of the head alone; a run's body
+//! goes to its reader, the body of a GET is passed over, and another one is gathered.
 ghost use Rattle.std.specs.Prelude.{◌≡◌, ◌≤◌, ◌+◌, ◌++◌, ℕ, List, [], IsTrue, IfOk, OnOk, OnErr, IsErr, Ok, Err, Result, length};
 ghost use Rattle.http_wire.specs.Messages.{request_with};
 ghost use Rattle.routes.specs.declared.keys.KeyRow.{KeyRow};
-ghost use Rattle.routes.specs.declared.places.Question.TheVariants as question;
-ghost use Rattle.routes.specs.AskStates.{BeginsBody, HasFailed, HasRoom, IsAddressable, IsAsking, IsAt, IsFew, IsHeld, IsOpened, KeepsBody, MayGo, SuitsBody};
+ghost use Rattle.routes.specs.declared.route_table.Question.TheVariants as question;
+ghost use Rattle.routes.specs.AskReading.AskStates.{BeginsBody, BodyHasRoom, HasAskFailed, IsAddressable, IsAskAt, IsAskHeld, IsAskOpened, IsAsking, IsFew, KeepsBody, MayGo, SuitsBody};
 ghost use Rattle.routes.specs.Asks.{Asks, HasSoundTopics, Reads, ReadsBehind};
 ghost use Rattle.routes.specs.Faults.{IsRead};
-ghost use Rattle.routes.specs.FoundOpenings.{opening_shown};
+ghost use Rattle.routes.specs.AskReading.FoundOpenings.{opening_shown};
 ghost use Rattle.routes.specs.Openings.{Opening as SeenOpening, opening_of};
-ghost use Rattle.routes.specs.Places.{IsRow, fits, may_ask, parameter};
-ghost use Rattle.rulebook.specs.Limits.{max_moment};
-ghost use Rattle.rulebook.specs.Legal.{is_well_addressed};
+ghost use Rattle.routes.specs.RouteTable.{IsRow, fits, may_ask, parameter};
+ghost use Rattle.rulebook.specs.Requests.Limits.{max_moment};
+ghost use Rattle.rulebook.specs.Histories.Legal.{is_well_addressed};
 ghost use Rattle.rulebook.specs.Spelling.{is_number};
 ghost use Rattle.trec_formats.specs.Names.{is_name};
+ghost use Rattle.trec_formats.specs.RunFormat.RunStates.{IsAfter};
 
 use crate::asks::{ask_at, ask_run};
 use crate::faults::RouteFault;
 use crate::keys::Keys;
 use crate::openings::{Opening, read_opening};
 use crate::paths::parameter;
-use crate::places::{Paths, Place, Question};
+use crate::route_table::{Method, Paths, Question, Route};
 use decimal_rank::{Memory, Text};
 use http_wire::{HttpField, HttpHead};
 use rulebook::{Ask, Caller};
@@ -31,7 +32,7 @@ use trec_formats::RunReader;
 /// What is kept of a body.
 #[derive(Drop)]
 enum Body {
-    /// That of a query isn't looked at.
+    /// That of a GET, which asks a query, isn't looked at.
     Passed,
     /// The reader is large, so it lies apart.
     Run(Box<RunReader>),
@@ -43,14 +44,14 @@ enum Body {
 struct Opened {
     who: Caller,
     number: Option<u64>,
-    place: Place,
+    place: Route,
     text: Text,
     body: Body,
 }
 
 /// How far a request was read.
 #[derive(Drop)]
-enum Progress {
+enum AskProgress {
     Reads(Opened),
     /// The fault of its head.
     Faulty(RouteFault),
@@ -58,16 +59,16 @@ enum Progress {
     Failed,
 }
 
-/// A request that is read as its body comes. Contracts see how many bytes of the body were fed, and what is
-/// kept of it.
+/// A request that is read as its body comes. Contracts see how many bytes of the body were fed, and
+/// what is kept of it.
 pub struct AskReader {
     alloc: Global,
-    progress: Progress,
+    progress: AskProgress,
     fed: usize,
 }
 
 impl Model for AskReader {
-    ghost use Rattle.routes.specs.AskStates.{AskFed, IsSound};
+    ghost use Rattle.routes.specs.AskReading.AskStates.{AskFed, IsSound};
 
     ghost Value = { AskFed };
 
@@ -87,39 +88,34 @@ impl Drop for AskReader {
     }
 }
 
-// What is kept of a body of which nothing came so far.
-fn begin_body(alloc: Global, question: Question) -> Result<Body, Memory>
-    ensures { IfOk result (BeginsBody question) }
+// What is kept of a body of which nothing came so far: nothing of a GET.
+fn begin_body(alloc: Global, place: Route) -> Result<Body, Memory>
+    ensures { IfOk result (BeginsBody place) }
 {
-    match question {
-        Question::Submit => begin_run(alloc),
-        Question::Topics
-        | Question::Open
-        | Question::Lease
-        | Question::Grade
-        | Question::Release
-        | Question::Amend
-        | Question::Rule
-        | Question::Withdraw
-        | Question::Publish => Ok(Body::Gathered(Vec::new(alloc))),
-        Question::Pool
-        | Question::Qrels
-        | Question::Scores
-        | Question::Table
-        | Question::Disagreements
-        | Question::Progress
-        | Question::ReleaseQrels
-        | Question::ReleaseScores => Ok(Body::Passed),
+    match place.method {
+        Method::Get => Ok(Body::Passed),
+        Method::Post => begin_posted(alloc, place),
     }
 }
 
-// What is kept of a run's body of which nothing came so far.
-#[inline(never)]
-fn begin_run(alloc: Global) -> Result<Body, Memory>
-    ensures { IfOk result (BeginsBody question.Submit) }
+// The same at a POST: a run's body goes to its reader, and another one is gathered.
+fn begin_posted(alloc: Global, place: Route) -> Result<Body, Memory>
+    ensures { IfOk result (BeginsBody place) }
 {
-    let reader = Box::new(alloc, RunReader::new(alloc))?;
-    Ok(Body::Run(reader))
+    if let Question::Submit = place.question {
+        Ok(Body::Run(begin_run(alloc)?))
+    } else {
+        Ok(Body::Gathered(Vec::new(alloc)))
+    }
+}
+
+// The reader of a run of which nothing came so far.
+#[inline(never)]
+fn begin_run(alloc: Global) -> Result<Box<RunReader>, Memory>
+    ensures after { IfOk result (λ reader. IsAfter [] reader.value) }
+    ensures fed { IfOk result (λ reader. reader.value.fed ≡ 0) }
+{
+    Ok(Box::new(alloc, RunReader::new(alloc))?)
 }
 
 fn begin_opened(alloc: Global, opening: &Opening, path: &[u8]) -> Result<Opened, Memory>
@@ -128,7 +124,7 @@ fn begin_opened(alloc: Global, opening: &Opening, path: &[u8]) -> Result<Opened,
     requires fitting { IsTrue (fits opening.now.place.parameter (parameter path.now)) }
     requires known { IsRow opening.now.place }
     requires number { IsTrue (is_number opening.now.number) }
-    ensures opened { IfOk result (IsOpened (opening_shown opening.now) path.now []) }
+    ensures opened { IfOk result (IsAskOpened (opening_shown opening.now) path.now []) }
     ensures addressable { IfOk result IsAddressable }
     ensures few { IfOk result (λ opened. IsFew 0 opened.body) }
 {
@@ -137,7 +133,7 @@ fn begin_opened(alloc: Global, opening: &Opening, path: &[u8]) -> Result<Opened,
         number: opening.number,
         place: opening.place,
         text: Text::from_slice(alloc, parameter(path))?,
-        body: begin_body(alloc, opening.place.question)?,
+        body: begin_body(alloc, opening.place)?,
     })
 }
 
@@ -149,23 +145,27 @@ fn begin<'a>(
     path: &'a [u8],
     fields: &'a [HttpField],
     keys: &'a Keys,
-) -> Result<Progress, Memory>
-    ensures at { IfOk result (IsAt (opening_of method.now path.now fields.now keys.now) path.now []) }
-    ensures held { IfOk result (IsHeld 0) }
+) -> Result<AskProgress, Memory>
+    ensures at { IfOk result
+        (IsAskAt (opening_of method.now path.now fields.now keys.now) path.now []) }
+    ensures held { IfOk result (IsAskHeld 0) }
 {
     match read_opening(paths, method, path, fields, keys) {
-        Ok(opening) => Ok(Progress::Reads(begin_opened(alloc, &opening, path)?)),
+        Ok(opening) => Ok(AskProgress::Reads(begin_opened(alloc, &opening, path)?)),
         Err(RouteFault::Memory) => Err(Memory),
-        Err(fault) => Ok(Progress::Faulty(fault)),
+        Err(fault) => Ok(AskProgress::Faulty(fault)),
     }
 }
 
 // Keeps a piece of a body.
 fn keep(body: &mut Body, piece: &[u8]) -> Result<(), Memory>
-    requires { HasRoom body.old (length piece.now) }
-    ensures kept { OnOk result ((told : List ℕ) → KeepsBody told body.old → KeepsBody (told ++ piece.now) body.new) }
-    ensures suits { OnOk result ((asked : Question) → SuitsBody asked body.old → SuitsBody asked body.new) }
-    ensures few { OnOk result ((fed : ℕ) → IsFew fed body.old → IsFew (fed + length piece.now) body.new) }
+    requires { BodyHasRoom body.old (length piece.now) }
+    ensures kept { OnOk result ((told : List ℕ) → KeepsBody told body.old
+        → KeepsBody (told ++ piece.now) body.new) }
+    ensures suits { OnOk result ((place : Route) → SuitsBody place body.old
+        → SuitsBody place body.new) }
+    ensures few { OnOk result ((fed : ℕ) → IsFew fed body.old
+        → IsFew (fed + length piece.now) body.new) }
 {
     match body {
         Body::Passed => Ok(()),
@@ -178,34 +178,37 @@ fn keep(body: &mut Body, piece: &[u8]) -> Result<(), Memory>
 }
 
 // Reads a piece of the body, where the head has no fault.
-fn read_on(progress: &mut Progress, piece: &[u8]) -> Result<(), Memory>
+fn read_on(progress: &mut AskProgress, piece: &[u8]) -> Result<(), Memory>
     requires { MayGo progress.old (length piece.now) }
-    ensures ok { OnOk result ((opening : Result SeenOpening RouteFault) (path body : List ℕ) → IsAt opening path body progress.old
-        → IsAt opening path (body ++ piece.now) progress.new) }
-    ensures err { OnErr result (progress.new ≡ Progress.Failed) }
-    ensures stays { progress.old ≡ Progress.Failed → IsErr result }
-    ensures held { (fed : ℕ) → IsHeld fed progress.old → IsHeld (fed + length piece.now) progress.new }
+    ensures ok { OnOk result ((opening : Result SeenOpening RouteFault) (path body : List ℕ)
+        → IsAskAt opening path body progress.old
+        → IsAskAt opening path (body ++ piece.now) progress.new) }
+    ensures err { OnErr result (progress.new ≡ AskProgress.Failed) }
+    ensures stays { progress.old ≡ AskProgress.Failed → IsErr result }
+    ensures held { (fed : ℕ) → IsAskHeld fed progress.old
+        → IsAskHeld (fed + length piece.now) progress.new }
 {
     match progress {
-        Progress::Reads(opened) => match keep(&mut opened.body, piece) {
+        AskProgress::Reads(opened) => match keep(&mut opened.body, piece) {
             Ok(()) => Ok(()),
             Err(Memory) => {
-                *progress = Progress::Failed;
+                *progress = AskProgress::Failed;
                 Err(Memory)
             }
         },
-        Progress::Faulty(_) => Ok(()),
-        Progress::Failed => Err(Memory),
+        AskProgress::Faulty(_) => Ok(()),
+        AskProgress::Failed => Err(Memory),
     }
 }
 
 // What is asked at a row, by what is kept of the body.
-fn ask_of(alloc: Global, place: Place, text: &[u8], body: Body) -> Result<Ask, RouteFault>
+fn ask_of(alloc: Global, place: Route, text: &[u8], body: Body) -> Result<Ask, RouteFault>
     requires known { IsRow place }
     requires fitting { IsTrue (fits place.parameter text.now) }
-    requires suits { SuitsBody place.question body }
+    requires suits { SuitsBody place body }
     requires few { IsFew 16777216 body }
-    ensures ask { (told : List ℕ) → KeepsBody told body → IsRead (Asks place.question text.now told) result }
+    ensures ask { (told : List ℕ) → KeepsBody told body
+        → IsRead (Asks place.question text.now told) result }
     ensures sound { place.question ≡ question.Topics → IfOk result HasSoundTopics }
 {
     match body {
@@ -219,7 +222,8 @@ fn ask_of(alloc: Global, place: Place, text: &[u8], body: Body) -> Result<Ask, R
 fn end_opened(alloc: Global, opened: Opened) -> Result<(Caller, Option<u64>, Ask), RouteFault>
     requires addressable { IsAddressable opened }
     requires few { IsFew 16777216 opened.body }
-    ensures reading { (opening : SeenOpening) (head : HttpHead) (body : List ℕ) → IsOpened opening head.path body opened
+    ensures reading { (opening : SeenOpening) (head : HttpHead) (body : List ℕ)
+        → IsAskOpened opening head.path body opened
         → IsRead (ReadsBehind (Ok opening) (request_with head body)) result }
     ensures addressed { IfOk result (λ asked. (moment : ℕ) → moment ≤ max_moment
         → IsTrue (is_well_addressed asked.0 asked.1 asked.2 moment)) }
@@ -275,10 +279,10 @@ impl AskReader {
     /// The next bytes of the body. After `Memory` each later call answers `Memory`.
     pub fn feed(&mut self, piece: &[u8]) -> Result<(), Memory>
         requires { self.old.fed + length piece.now ≤ 16777216 }
-        ensures ok { OnOk result ((head : HttpHead) (keys : List KeyRow) (body : List ℕ) → IsAsking head keys body self.old
-            → IsAsking head keys (body ++ piece.now) self.new) }
-        ensures err { OnErr result (HasFailed self.new) }
-        ensures stays { HasFailed self.old → IsErr result }
+        ensures ok { OnOk result ((head : HttpHead) (keys : List KeyRow) (body : List ℕ)
+            → IsAsking head keys body self.old → IsAsking head keys (body ++ piece.now) self.new) }
+        ensures err { OnErr result (HasAskFailed self.new) }
+        ensures stays { HasAskFailed self.old → IsErr result }
         ensures fed { self.new.fed ≡ self.old.fed + length piece.now }
     {
         self.fed += piece.len();
@@ -287,11 +291,11 @@ impl AskReader {
 
     /// What is read of the request of the head and the pieces.
     pub fn finish(self) -> Result<(Caller, Option<u64>, Ask), RouteFault>
-        ensures reading { (head : HttpHead) (keys : List KeyRow) (body : List ℕ) → IsAsking head keys body self
-            → IsRead (Reads (request_with head body) keys) result }
+        ensures reading { (head : HttpHead) (keys : List KeyRow) (body : List ℕ)
+            → IsAsking head keys body self → IsRead (Reads (request_with head body) keys) result }
         ensures addressed { IfOk result (λ asked. (moment : ℕ) → moment ≤ max_moment
             → IsTrue (is_well_addressed asked.0 asked.1 asked.2 moment)) }
-        ensures failed { HasFailed self → result ≡ Err RouteFault.Memory }
+        ensures failed { HasAskFailed self → result ≡ Err RouteFault.Memory }
     {
         let AskReader {
             alloc,
@@ -299,9 +303,9 @@ impl AskReader {
             fed: _,
         } = self;
         match progress {
-            Progress::Reads(opened) => end_opened(alloc, opened),
-            Progress::Faulty(fault) => Err(fault),
-            Progress::Failed => Err(RouteFault::Memory),
+            AskProgress::Reads(opened) => end_opened(alloc, opened),
+            AskProgress::Faulty(fault) => Err(fault),
+            AskProgress::Failed => Err(RouteFault::Memory),
         }
     }
 }

@@ -1,21 +1,21 @@
-//! What a request asks: the row of its path and its method, the path's parameter and the body make a command or a
-//! query, or the first fault.
+//! What a request asks: the row of its path and its method, the path's parameter and the body make
+//! a command or a query, or the first fault.
 ghost use Rattle.std.specs.Prelude.{◌≡◌, ◌≤◌, ℕ, List, IsTrue, IfOk, length};
-ghost use Rattle.routes.specs.declared.places.Question.TheVariants as question;
+ghost use Rattle.routes.specs.declared.route_table.Question.TheVariants as question;
 ghost use Rattle.routes.specs.Asks.{Asks, HasSoundTopics, Reads, fault_of, with_nothing};
 ghost use Rattle.rulebook.specs.declared.ask.Ask.TheVariants.{Act};
-ghost use Rattle.rulebook.specs.Limits.{max_moment};
-ghost use Rattle.rulebook.specs.Legal.{is_well_addressed};
+ghost use Rattle.rulebook.specs.Requests.Limits.{max_moment};
+ghost use Rattle.rulebook.specs.Histories.Legal.{is_well_addressed};
 ghost use Rattle.routes.specs.Faults.{IsRead};
-ghost use Rattle.routes.specs.Places.{IsRow, fits, is_path_number};
-ghost use Rattle.trec_formats.specs.RunStates.{IsAfter};
+ghost use Rattle.routes.specs.RouteTable.{IsRow, fits, is_path_number};
+ghost use Rattle.trec_formats.specs.RunFormat.RunStates.{IsAfter};
 
 use crate::bodies::{rank_read, read_grade, read_judgement};
 use crate::faults::RouteFault;
 use crate::keys::Keys;
 use crate::openings::read_opening;
 use crate::paths::{parameter, path_number};
-use crate::places::{Paths, Place, Question};
+use crate::route_table::{Paths, Question, Route};
 use decimal_rank::{Memory, Rows, Text};
 use http_wire::HttpRequest;
 use rulebook::{Ask, Caller, Command, Query};
@@ -56,7 +56,8 @@ fn ask_submit(alloc: Global, run: &[u8], body: &[u8]) -> Result<Ask, RouteFault>
 
 /// The command of a run whose body was fed to a reader.
 pub(crate) fn ask_run(alloc: Global, run: &[u8], reader: RunReader) -> Result<Ask, RouteFault>
-    ensures { (body : List ℕ) → IsAfter body reader → IsRead (Asks question.Submit run.now body) result }
+    ensures { (body : List ℕ) → IsAfter body reader
+        → IsRead (Asks question.Submit run.now body) result }
 {
     match rank_read(alloc, reader) {
         Ok(lists) => Ok(Ask::Act(Command::Submit {
@@ -154,7 +155,7 @@ fn ask_scores(alloc: Global, run: &[u8]) -> Result<Ask, RouteFault>
 /// What is asked at a row, by the parameter of its path and the body.
 pub(crate) fn ask_at(
     alloc: Global,
-    place: Place,
+    place: Route,
     text: &[u8],
     body: &[u8],
 ) -> Result<Ask, RouteFault>
@@ -190,7 +191,8 @@ pub(crate) fn ask_at(
     }
 }
 
-/// Who sends a request, its number, and what it asks; or its first fault, in the order of `RouteFault`.
+/// Who sends a request, its number, and what it asks; or its first fault, in the order of
+/// `RouteFault`.
 pub fn read_ask(
     alloc: Global,
     request: &HttpRequest,

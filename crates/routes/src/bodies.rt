@@ -1,19 +1,17 @@
-//! The bodies of asks: a JSON object of `grade` alone, or of `doc` and `grade` alone, or the text of a run, which
-//! becomes its ranked lists.
+//! The bodies of asks: a JSON object of `grade` alone, or of `doc` and `grade` alone, or the text
+//! of a run, which becomes its ranked lists.
 ghost use Rattle.std.specs.Prelude.{◌≡◌, ℕ, List, IfOk, option_and_then, option_map};
-ghost use Rattle.std.specs.List.{list_all};
 ghost use Rattle.serde_json.specs.View.{view};
 ghost use Rattle.trec_formats.specs.Faults.{IfFault};
-ghost use Rattle.trec_formats.specs.Lists.{IsRankedRun, IsRankedRunFault};
-ghost use Rattle.trec_formats.specs.RunStates.{IsAfter};
-ghost use Rattle.trec_formats.specs.Names.{is_between, is_docno};
-ghost use Rattle.routes.specs.Bodies.{doc_at, grade_at, grade_in, has_members, json_of, judgement_in};
-ghost use Rattle.routes.specs.FoundJudgements.{judgement_shown};
+ghost use Rattle.trec_formats.specs.RunFormat.Lists.{IsRankedRun, IsRankedRunFault};
+ghost use Rattle.trec_formats.specs.RunFormat.RunStates.{IsAfter};
+ghost use Rattle.routes.specs.Json.Bodies.{doc_at, grade_at, grade_in, has_members, json_of, judgement_in};
+ghost use Rattle.routes.specs.AskReading.FoundJudgements.{judgement_shown};
 
 use decimal_rank::{Memory, Text};
 use serde_json::Value;
 use std::alloc::Global;
-use trec_formats::{FormatEnd, RunReader, TopicList};
+use trec_formats::{FormatEnd, RunReader, TopicList, is_docno};
 
 /// A document and its grade.
 #[derive(Drop)]
@@ -23,7 +21,7 @@ pub(crate) struct Judgement {
 }
 
 // The value of a JSON text.
-#[tactic(auto, using(crate::proofs::JsonBodies::Matching::value_read, crate::proofs::JsonBodies::Matching::no_value))]
+#[tactic(auto, using(crate::proofs::JsonBodies::TextMatches::value_read, crate::proofs::JsonBodies::TextMatches::no_value))]
 fn read_json(alloc: Global, body: &[u8]) -> Result<Option<Value>, Memory>
     ensures { IfOk result (λ found. option_map view found ≡ json_of body.now) }
 {
@@ -55,19 +53,6 @@ fn grade_at(value: &Value) -> Option<u8>
     }
 }
 
-fn are_docno_bytes(text: &[u8]) -> bool
-    ensures { result ≡ list_all (is_between 33 126) text.now }
-{
-    text.iter().all(|byte| 33 <= *byte && *byte <= 126)
-}
-
-#[tactic(auto, unfolding(trec_formats::specs::Names::is_docno))]
-fn is_docno(text: &[u8]) -> bool
-    ensures { result ≡ is_docno text.now }
-{
-    1 <= text.len() && text.len() <= 64 && are_docno_bytes(text)
-}
-
 fn doc_at(value: &Value) -> Option<&[u8]>
     ensures { option_map (λ doc. doc.now) result ≡ doc_at (view value.now) }
 {
@@ -96,7 +81,8 @@ pub(crate) fn read_grade(alloc: Global, body: &[u8]) -> Result<Option<u8>, Memor
 }
 
 fn copy_judgement(alloc: Global, doc: &[u8], grade: u8) -> Result<Judgement, Memory>
-    ensures { IfOk result (λ judgement. judgement_shown judgement ≡ record { doc = doc.now; grade = grade }) }
+    ensures { IfOk result
+        (λ judgement. judgement_shown judgement ≡ record { doc = doc.now; grade = grade }) }
 {
     Ok(Judgement {
         doc: Text::from_slice(alloc, doc)?,
@@ -105,7 +91,8 @@ fn copy_judgement(alloc: Global, doc: &[u8], grade: u8) -> Result<Judgement, Mem
 }
 
 fn judgement_at(alloc: Global, value: &Value) -> Result<Option<Judgement>, Memory>
-    ensures { IfOk result (λ found. option_map judgement_shown found ≡ judgement_in (view value.now)) }
+    ensures { IfOk result
+        (λ found. option_map judgement_shown found ≡ judgement_in (view value.now)) }
 {
     if !has_members(value, 2) {
         return Ok(None);
@@ -118,7 +105,8 @@ fn judgement_at(alloc: Global, value: &Value) -> Result<Option<Judgement>, Memor
 
 /// The document and the grade that a body gives, alone.
 pub(crate) fn read_judgement(alloc: Global, body: &[u8]) -> Result<Option<Judgement>, Memory>
-    ensures { IfOk result (λ found. option_map judgement_shown found ≡ option_and_then judgement_in (json_of body.now)) }
+    ensures { IfOk result (λ found. option_map judgement_shown found
+        ≡ option_and_then judgement_in (json_of body.now)) }
 {
     match read_json(alloc, body)? {
         Some(value) => judgement_at(alloc, &value),
@@ -128,8 +116,10 @@ pub(crate) fn read_judgement(alloc: Global, body: &[u8]) -> Result<Option<Judgem
 
 /// The ranked lists of a run that was read.
 pub(crate) fn rank_read(alloc: Global, reader: RunReader) -> Result<Vec<TopicList>, FormatEnd>
-    ensures lists { IfOk result (λ lists. (body : List ℕ) → IsAfter body reader → IsRankedRun body lists.items) }
-    ensures fault { IfFault result (λ fault. (body : List ℕ) → IsAfter body reader → IsRankedRunFault body fault) }
+    ensures lists { IfOk result (λ lists. (body : List ℕ) → IsAfter body reader
+        → IsRankedRun body lists.items) }
+    ensures fault { IfFault result (λ fault. (body : List ℕ) → IsAfter body reader
+        → IsRankedRunFault body fault) }
 {
     reader.finish_lists()
 }

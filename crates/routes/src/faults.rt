@@ -1,9 +1,10 @@
-//! Why a request asks nothing, in the order in which the causes are looked for: path, method, key, role, number, body.
+//! Why a request asks nothing, in the order in which the causes are looked for: path, method, key,
+//! role, number, body.
 use decimal_rank::Memory;
 use trec_formats::FormatFault;
 
-/// Why a request asks nothing, in the order in which the causes are looked for. Each has a status of
-/// its own.
+/// Why a request asks nothing, in the order in which the causes are looked for. Each has a status
+/// of its own.
 #[derive(Clone, Copy, Debug, PartialEq, Eq)]
 pub enum RouteFault {
     /// No row of the table has this path. Status 404.

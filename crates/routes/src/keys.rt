@@ -1,5 +1,5 @@
-//! The callers of a campaign, each with a name, a role and the key by which it is known. No two have one name or one
-//! key.
+//! The callers of a campaign, each with a name, a role and the key by which it is known. No two
+//! have one name or one key.
 ghost use Rattle.std.specs.Prelude.{◌≡◌, IsTrue, IfOk, bytes_eq, map, option_copied};
 ghost use Rattle.std.specs.List.{list_all, list_any};
 ghost use Rattle.rulebook.specs.Spelling.{differ};
@@ -71,8 +71,8 @@ fn are_named(rows: &[KeyRow]) -> bool
     rows.iter().all(|row| is_name(row.name.bytes()))
 }
 
-/// Whether rows may be the callers of a campaign: each name is a name, and no two rows have one name
-/// or one key.
+/// Whether rows may be the callers of a campaign: each name is a name, and no two rows have one
+/// name or one key.
 pub fn are_rows(rows: &[KeyRow]) -> bool
     ensures { result ≡ are_rows rows.now }
 {

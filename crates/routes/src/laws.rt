@@ -1,4 +1,5 @@
-//! What holds of the readings: the table allows each role what the rules do, and a request is read in one way at most.
+//! What holds of the readings: the table allows each role what the rules do, and a request is read
+//! in one way at most.
 ghost use Rattle.std.specs.Prelude.{◌≡◌, List, Result};
 ghost use Rattle.http_wire.specs.declared.messages.HttpRequest.{HttpRequest};
 ghost use Rattle.routes.specs.declared.faults.RouteFault.{RouteFault};

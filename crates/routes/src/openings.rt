@@ -1,36 +1,34 @@
-//! What a request says in front of its body: the row of its path and method, the caller of its key, and the number of
-//! the field `X-Request-Number`, which a POST may have; or the first fault.
+//! What a request says in front of its body: the row of its path and method, the caller of its key,
+//! and the number of the field `X-Request-Number`, which a POST may have; or the first fault.
 ghost use Rattle.std.specs.Prelude.{◌≡◌, ◌∷◌, [], IsTrue, IfOk, codes};
 ghost use Rattle.http_wire.specs.Heads.{values_named};
-ghost use Rattle.routes.specs.Faults.{Gives};
-ghost use Rattle.routes.specs.Openings.{is_request_number, number_at, number_in, opening_of, place_of, row_at, with_method, with_number, with_parameter, with_role};
-ghost use Rattle.routes.specs.FoundOpenings.{opening_shown};
-ghost use Rattle.routes.specs.Places.{IsRow, fits, may_ask, parameter};
+ghost use Rattle.routes.specs.Faults.{GivesOrFaults};
+ghost use Rattle.routes.specs.Openings.{is_request_number, number_by_method, number_in_fields, opening_of, route_of, row_at, with_method, with_number, with_parameter, with_role};
+ghost use Rattle.routes.specs.AskReading.FoundOpenings.{opening_shown};
+ghost use Rattle.routes.specs.RouteTable.{IsRow, fits, may_ask, parameter};
 ghost use Rattle.rulebook.specs.Spelling.{is_number};
 ghost use Rattle.trec_formats.specs.Names.{is_name};
 
 use crate::faults::RouteFault;
 use crate::keys::{KeyRow, Keys};
 use crate::paths::{fits, parameter};
-use crate::places::{Method, Paths, Place, may_ask, method_name};
+use crate::route_table::{Method, Paths, Route, may_ask, method_name};
 use decimal_rank::{capped_number, is_number as are_digits};
 use http_wire::{HttpField, find_named};
-
-/// The numbers of commands are less than this.
-const NUMBERS: u64 = 1 << 63;
+use rulebook::NUMBER_BOUND;
 
 /// Who asks at which row, and with which number.
 #[derive(Clone, Copy)]
 pub(crate) struct Opening<'a> {
-    pub(crate) place: Place,
+    pub(crate) place: Route,
     pub(crate) row: &'a KeyRow,
     pub(crate) number: Option<u64>,
 }
 
 // The row of a path whose parameter fits.
-#[tactic(auto, using(crate::proofs::JsonBodies::Matching::is_text, crate::proofs::JsonBodies::Matching::is_no_text))]
-fn find_place(paths: &Paths, path: &[u8]) -> Result<Place, RouteFault>
-    ensures place { Gives (λ place. place) result (place_of path.now) }
+#[tactic(auto, using(crate::proofs::JsonBodies::TextMatches::is_text, crate::proofs::JsonBodies::TextMatches::is_no_text))]
+fn find_place(paths: &Paths, path: &[u8]) -> Result<Route, RouteFault>
+    ensures place { GivesOrFaults (λ place. place) result (route_of path.now) }
     ensures fitting { IfOk result (λ place. IsTrue (fits place.parameter (parameter path.now))) }
     ensures known { IfOk result IsRow }
 {
@@ -43,7 +41,7 @@ fn find_place(paths: &Paths, path: &[u8]) -> Result<Place, RouteFault>
     }
 }
 
-fn with_parameter(place: Place, text: &[u8]) -> Result<Place, RouteFault>
+fn with_parameter(place: Route, text: &[u8]) -> Result<Route, RouteFault>
     ensures place { result ≡ with_parameter text.now place }
     ensures fitting { IfOk result (λ found. IsTrue (fits found.parameter text.now)) }
     ensures same { IfOk result (λ found. found ≡ place) }
@@ -55,7 +53,7 @@ fn with_parameter(place: Place, text: &[u8]) -> Result<Place, RouteFault>
     }
 }
 
-fn with_method(place: Place, method: &[u8]) -> Result<Place, RouteFault>
+fn with_method(place: Route, method: &[u8]) -> Result<Route, RouteFault>
     ensures place { result ≡ with_method method.now place }
     ensures same { IfOk result (λ found. found ≡ place) }
 {
@@ -67,7 +65,7 @@ fn with_method(place: Place, method: &[u8]) -> Result<Place, RouteFault>
 }
 
 fn row_of_key<'a>(keys: &'a Keys, key: &[u8]) -> Result<&'a KeyRow, RouteFault>
-    ensures row { Gives (λ row. row.now) result (row_at keys.now (key.now ∷ [])) }
+    ensures row { GivesOrFaults (λ row. row.now) result (row_at keys.now (key.now ∷ [])) }
     ensures named { IfOk result (λ row. IsTrue (is_name row.now.name)) }
 {
     match keys.row_of(key) {
@@ -78,7 +76,8 @@ fn row_of_key<'a>(keys: &'a Keys, key: &[u8]) -> Result<&'a KeyRow, RouteFault>
 
 // The row of the one key of the fields.
 fn find_row<'a>(keys: &'a Keys, fields: &[HttpField]) -> Result<&'a KeyRow, RouteFault>
-    ensures row { Gives (λ row. row.now) result (row_at keys.now (values_named (codes "x-campaign-key") fields.now)) }
+    ensures row { GivesOrFaults (λ row. row.now) result
+        (row_at keys.now (values_named (codes "x-campaign-key") fields.now)) }
     ensures named { IfOk result (λ row. IsTrue (is_name row.now.name)) }
 {
     let Some((key, rest)) = find_named(fields, "x-campaign-key") else {
@@ -90,9 +89,10 @@ fn find_row<'a>(keys: &'a Keys, fields: &[HttpField]) -> Result<&'a KeyRow, Rout
     }
 }
 
-fn with_role(place: Place, row: &KeyRow) -> Result<&KeyRow, RouteFault>
-    ensures row { Gives (λ row. row.now) result (with_role place row.now) }
-    ensures role { IfOk result (λ found. (found.now ≡ row.now) × IsTrue (may_ask found.now.role place.askers)) }
+fn with_role(place: Route, row: &KeyRow) -> Result<&KeyRow, RouteFault>
+    ensures row { GivesOrFaults (λ row. row.now) result (with_role place row.now) }
+    ensures role { IfOk result (λ found. (found.now ≡ row.now)
+        × IsTrue (may_ask found.now.role place.askers)) }
 {
     if may_ask(row.role, place.askers) {
         Ok(row)
@@ -104,7 +104,7 @@ fn with_role(place: Place, row: &KeyRow) -> Result<&KeyRow, RouteFault>
 fn is_request_number(text: &[u8]) -> bool
     ensures { result ≡ is_request_number text.now }
 {
-    are_digits(text) && text.len() <= 19 && capped_number(text, NUMBERS) < NUMBERS
+    are_digits(text) && text.len() <= 19 && capped_number(text, NUMBER_BOUND) < NUMBER_BOUND
 }
 
 fn with_number(text: &[u8]) -> Result<Option<u64>, RouteFault>
@@ -112,7 +112,7 @@ fn with_number(text: &[u8]) -> Result<Option<u64>, RouteFault>
     ensures small { IfOk result (λ number. IsTrue (is_number number)) }
 {
     if is_request_number(text) {
-        Ok(Some(capped_number(text, NUMBERS)))
+        Ok(Some(capped_number(text, NUMBER_BOUND)))
     } else {
         Err(RouteFault::Number)
     }
@@ -120,7 +120,7 @@ fn with_number(text: &[u8]) -> Result<Option<u64>, RouteFault>
 
 // The one number of the fields, or none.
 fn find_number(fields: &[HttpField]) -> Result<Option<u64>, RouteFault>
-    ensures number { result ≡ number_in fields.now }
+    ensures number { result ≡ number_in_fields fields.now }
     ensures small { IfOk result (λ number. IsTrue (is_number number)) }
 {
     let Some((text, rest)) = find_named(fields, "x-request-number") else {
@@ -132,8 +132,8 @@ fn find_number(fields: &[HttpField]) -> Result<Option<u64>, RouteFault>
     }
 }
 
-fn number_at(place: Place, fields: &[HttpField]) -> Result<Option<u64>, RouteFault>
-    ensures number { result ≡ number_at place.method fields.now }
+fn number_at(place: Route, fields: &[HttpField]) -> Result<Option<u64>, RouteFault>
+    ensures number { result ≡ number_by_method place.method fields.now }
     ensures small { IfOk result (λ number. IsTrue (is_number number)) }
 {
     match place.method {
@@ -151,10 +151,13 @@ pub(crate) fn read_opening<'a>(
     fields: &[HttpField],
     keys: &'a Keys,
 ) -> Result<Opening<'a>, RouteFault>
-    ensures opening { Gives opening_shown result (opening_of method.now path.now fields.now keys.now) }
+    ensures opening { GivesOrFaults opening_shown result
+        (opening_of method.now path.now fields.now keys.now) }
     ensures named { IfOk result (λ opening. IsTrue (is_name opening.row.now.name)) }
-    ensures role { IfOk result (λ opening. IsTrue (may_ask opening.row.now.role opening.place.askers)) }
-    ensures fitting { IfOk result (λ opening. IsTrue (fits opening.place.parameter (parameter path.now))) }
+    ensures role { IfOk result
+        (λ opening. IsTrue (may_ask opening.row.now.role opening.place.askers)) }
+    ensures fitting { IfOk result
+        (λ opening. IsTrue (fits opening.place.parameter (parameter path.now))) }
     ensures known { IfOk result (λ opening. IsRow opening.place) }
     ensures number { IfOk result (λ opening. IsTrue (is_number opening.number)) }
 {

@@ -1,12 +1,13 @@
-//! The second part of a path as a parameter: a name, or the number of a lease or a release, at most 4,294,967,295.
+//! The second part of a path as a parameter: a name, or the number of a lease or a release, at most
+//! 4,294,967,295.
 ghost use Rattle.std.specs.Prelude.{◌≡◌, IsTrue, min, position};
 ghost use Rattle.std.specs.List.{list_all, before_first, after_first};
 ghost use Rattle.std.specs.Str.Parse.{digits_value};
-ghost use Rattle.decimal_rank.specs.DecimalText.{is_digit, are_digits};
+ghost use Rattle.decimal_rank.specs.Decimals.DecimalText.{is_digit, are_digits};
 ghost use Rattle.trec_formats.specs.Names.{is_name, is_name_byte};
-ghost use Rattle.routes.specs.Places.{fits, is_path_number, is_slash, parameter};
+ghost use Rattle.routes.specs.RouteTable.{fits, is_path_number, is_slash, parameter};
 
-use crate::places::Parameter;
+use crate::route_table::Parameter;
 use decimal_rank::{capped_number, is_number};
 use trec_formats::is_name;
 

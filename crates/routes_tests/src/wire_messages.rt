@@ -1,11 +1,12 @@
-//! Tries which messages are requests and which faults others have, that it is the same however they are cut, the
-//! limits of a head, the texts of answers, and the search for a field by its name.
+//! Tries which messages are requests and which faults others have, that it is the same however they
+//! are cut, the limits of a head, the texts of answers, and the search for a field by its name.
 use decimal_rank::Memory;
 use http_wire::{HttpHead, Step, Wire, WireFault, find_named, write_answer};
 use std::alloc::Global;
 use std::test::Fail;
 
-// A head, its lines cut by `|`, and what is told of its bytes; a full stop is that the request is whole.
+// A head, its lines cut by `|`, and what is told of its bytes; a full stop is that the request is
+// whole.
 const MESSAGES: &str = "\
 GET /a HTTP/1.1|Host: h| => GET /a.
 GET /a HTTP/1.1|Content-Length: 0|content-length: 0| => 400

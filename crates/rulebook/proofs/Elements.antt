@@ -1,3 +1,4 @@
 -- What holds of the elements of a list, and how many pass a test.
 pub mod AllPass
-pub mod Passing
+pub mod PassingCounts
+pub mod TextLists

@@ -5,7 +5,7 @@ use Rattle.std.specs.Option.{option_map, option_map_or}
 use Rattle.std.specs.Str.{bytes_eq}
 use Rattle.trec_formats.specs.declared.Topic.{Topic}
 use Rattle.trec_formats.specs.declared.TopicList.{TopicList}
-use Rattle.rulebook.specs.Limits.{max_topics, max_runs, max_lines, max_docnos, max_entries}
+use Rattle.rulebook.specs.Requests.Limits.{max_topics, max_runs, max_lines, max_docnos, max_entries}
 use Rattle.rulebook.specs.declared.rules.Caller.{Caller}
 use Rattle.rulebook.specs.declared.rules.Phase.TheVariants.{Collecting, Judging, Published}
 use Rattle.rulebook.specs.declared.ask.Command.{Command}
@@ -23,15 +23,15 @@ use Rattle.rulebook.specs.declared.entry.EntryCore.{EntryCore}
 use Rattle.rulebook.specs.declared.entry.Entry.{Entry}
 use Rattle.rulebook.specs.Words.{Text}
 use Rattle.rulebook.specs.Campaign.{History, has_topics, is_topic, runs, is_taken, is_withdrawn, line_count, lines_with, docnos_with, pool, phase, rules_of, title}
-use Rattle.rulebook.specs.Grades.{is_labelled, is_labelled_by}
-use Rattle.rulebook.specs.JudgingOrder.{named}
-use Rattle.rulebook.specs.Pages.{disagreements_page, progress_page, qrels_page}
-use Rattle.rulebook.specs.Roles.{is_group}
-use Rattle.rulebook.specs.Scores.{is_submitter, run_named, scores_page, table_page}
-use Rattle.rulebook.specs.Leases.{Lease, is_ended, lease_numbered, leases, live_leases_of}
-use Rattle.rulebook.specs.Numbers.{used}
-use Rattle.rulebook.specs.Refusals.{Ruling, ◌when◌, given, is_phase, unless, wrong_phase_unless, wrong_phase_where}
-use Rattle.rulebook.specs.SameCommands.{same_command}
+use Rattle.rulebook.specs.Judgements.Grades.{is_labelled, is_labelled_by}
+use Rattle.rulebook.specs.Judgements.JudgingOrder.{named_document}
+use Rattle.rulebook.specs.Reports.Pages.{disagreements_page, progress_page, qrels_page}
+use Rattle.rulebook.specs.Requests.Roles.{is_group}
+use Rattle.rulebook.specs.Reports.Scores.{is_submitter, run_named, scores_page, table_page}
+use Rattle.rulebook.specs.Judgements.Leases.{Lease, is_ended, lease_numbered, leases, live_leases_of}
+use Rattle.rulebook.specs.Requests.Numbers.{entry_of_number}
+use Rattle.rulebook.specs.Requests.Refusals.{Outcome, ◌when◌, unless_missing, is_phase, unless, wrong_phase_unless, wrong_phase_where}
+use Rattle.rulebook.specs.Requests.SameCommands.{same_command}
 
 -- the least line of a list whose topic isn't a topic of the campaign
 abbrev pub unknown_line : History → List TopicList → Option ℕ
@@ -45,8 +45,8 @@ topics_tests H topics =
     ∷ (refusal.TopicsFixed when has_topics H)
     ∷ (refusal.Limit quantity.Topics when nat_lt max_topics (length topics)) ∷ []
 
-abbrev pub topics_ruling : History → List Topic → Ruling
-topics_ruling H topics = unless (topics_tests H topics) (Ok (reply.Topics (length topics)))
+abbrev pub topics_outcome : History → List Topic → Outcome
+topics_outcome H topics = unless (topics_tests H topics) (Ok (reply.Topics (length topics)))
 
 abbrev pub submit_tests : History → Text → List TopicList → List (Option Refusal)
 submit_tests H run lists =
@@ -57,14 +57,14 @@ submit_tests H run lists =
     ∷ (refusal.Limit quantity.Lines when nat_lt max_lines (lines_with H lists))
     ∷ (refusal.Limit quantity.Docnos when nat_lt max_docnos (length (docnos_with H lists))) ∷ []
 
-abbrev pub submit_ruling : History → Text → List TopicList → Ruling
-submit_ruling H run lists = unless (submit_tests H run lists) (Ok (reply.Submitted run (length lists) (line_count lists)))
+abbrev pub submit_outcome : History → Text → List TopicList → Outcome
+submit_outcome H run lists = unless (submit_tests H run lists) (Ok (reply.Submitted run (length lists) (line_count lists)))
 
 abbrev pub open_tests : History → List (Option Refusal)
 open_tests H = wrong_phase_unless Collecting H ∷ []
 
-abbrev pub open_ruling : History → Ruling
-open_ruling H = unless (open_tests H) (Ok reply.Done)
+abbrev pub open_outcome : History → Outcome
+open_outcome H = unless (open_tests H) (Ok reply.Done)
 
 abbrev pub lease_tests : History → Caller → ℕ → Text → List (Option Refusal)
 lease_tests H who now topic =
@@ -73,12 +73,12 @@ lease_tests H who now topic =
     ∷ (refusal.TooMany (length (live_leases_of H now who.name)) when nat_le (rules_of H).hold (length (live_leases_of H now who.name))) ∷ []
 
 -- the lease of a document, numbered next, up to the rules' term from now
-abbrev pub leased : History → ℕ → Text → Text → Ruling
-leased H now topic doc = Ok (reply.Leased (length (leases H) + 1) topic doc (now + (rules_of H).term) (title H topic))
+abbrev pub lease_outcome_of : History → ℕ → Text → Text → Outcome
+lease_outcome_of H now topic doc = Ok (reply.Leased (length (leases H) + 1) topic doc (now + (rules_of H).term) (title H topic))
 
-abbrev pub lease_ruling : History → Caller → ℕ → Text → Ruling
-lease_ruling H who now topic =
-    unless (lease_tests H who now topic) (given (named H now who.name topic) refusal.NothingLeft (leased H now topic))
+abbrev pub lease_outcome : History → Caller → ℕ → Text → Outcome
+lease_outcome H who now topic =
+    unless (lease_tests H who now topic) (unless_missing (named_document H now who.name topic) refusal.NothingLeft (lease_outcome_of H now topic))
 
 -- The refusals of a request about a lease: it isn't the caller's, it ended, its moment passed.
 abbrev pub lease_refusals : History → Caller → ℕ → Lease → List (Option Refusal)
@@ -95,21 +95,21 @@ abbrev pub judging_tests : History → List (Option Refusal)
 judging_tests H = wrong_phase_unless Judging H ∷ []
 
 -- the grade of a lease that was found
-abbrev pub graded_lease : History → Caller → ℕ → ℕ → Lease → Ruling
+abbrev pub graded_lease : History → Caller → ℕ → ℕ → Lease → Outcome
 graded_lease H who now grade lease =
     unless (lease_refusals H who now lease ++ grade_range H grade ∷ []) (Ok (reply.Graded lease.topic lease.doc grade))
 
-abbrev pub grade_ruling : History → Caller → ℕ → ℕ → ℕ → Ruling
-grade_ruling H who now number grade =
-    unless (judging_tests H) (given (lease_numbered H number) refusal.UnknownLease (graded_lease H who now grade))
+abbrev pub grade_outcome : History → Caller → ℕ → ℕ → ℕ → Outcome
+grade_outcome H who now number grade =
+    unless (judging_tests H) (unless_missing (lease_numbered H number) refusal.UnknownLease (graded_lease H who now grade))
 
 -- the release of a lease that was found
-abbrev pub released_lease : History → Caller → ℕ → Lease → Ruling
+abbrev pub released_lease : History → Caller → ℕ → Lease → Outcome
 released_lease H who now lease = unless (lease_refusals H who now lease) (Ok reply.Done)
 
-abbrev pub release_ruling : History → Caller → ℕ → ℕ → Ruling
-release_ruling H who now number =
-    unless (judging_tests H) (given (lease_numbered H number) refusal.UnknownLease (released_lease H who now))
+abbrev pub release_outcome : History → Caller → ℕ → ℕ → Outcome
+release_outcome H who now number =
+    unless (judging_tests H) (unless_missing (lease_numbered H number) refusal.UnknownLease (released_lease H who now))
 
 abbrev pub amend_tests : History → Caller → Text → Text → ℕ → List (Option Refusal)
 amend_tests H who topic doc grade =
@@ -118,8 +118,8 @@ amend_tests H who topic doc grade =
     ∷ (refusal.NotLabelled when not (is_labelled_by H topic doc who.name))
     ∷ grade_range H grade ∷ []
 
-abbrev pub amend_ruling : History → Caller → Text → Text → ℕ → Ruling
-amend_ruling H who topic doc grade = unless (amend_tests H who topic doc grade) (Ok reply.Done)
+abbrev pub amend_outcome : History → Caller → Text → Text → ℕ → Outcome
+amend_outcome H who topic doc grade = unless (amend_tests H who topic doc grade) (Ok reply.Done)
 
 abbrev pub rule_tests : History → Text → Text → ℕ → List (Option Refusal)
 rule_tests H topic doc grade =
@@ -128,8 +128,8 @@ rule_tests H topic doc grade =
     ∷ (refusal.NotLabelled when not (is_labelled H topic doc))
     ∷ grade_range H grade ∷ []
 
-abbrev pub rule_ruling : History → Text → Text → ℕ → Ruling
-rule_ruling H topic doc grade = unless (rule_tests H topic doc grade) (Ok reply.Done)
+abbrev pub rule_outcome : History → Text → Text → ℕ → Outcome
+rule_outcome H topic doc grade = unless (rule_tests H topic doc grade) (Ok reply.Done)
 
 -- The refusals of a request about a run: a group asks about its own runs alone, and a withdrawn run has no part any more.
 abbrev pub run_refusals : History → Caller → Text → List (Option Refusal)
@@ -140,63 +140,63 @@ run_refusals H who name =
 abbrev pub withdraw_tests : History → List (Option Refusal)
 withdraw_tests H = wrong_phase_where Published H ∷ []
 
-abbrev pub withdraw_ruling : History → Caller → Text → Ruling
-withdraw_ruling H who name =
-    unless (withdraw_tests H) (given (run_named H name) refusal.UnknownRun (λ run. unless (run_refusals H who name) (Ok reply.Done)))
+abbrev pub withdraw_outcome : History → Caller → Text → Outcome
+withdraw_outcome H who name =
+    unless (withdraw_tests H) (unless_missing (run_named H name) refusal.UnknownRun (λ run. unless (run_refusals H who name) (Ok reply.Done)))
 
-abbrev pub publish_ruling : History → Ruling
-publish_ruling H = unless (judging_tests H) (Ok reply.Done)
+abbrev pub publish_outcome : History → Outcome
+publish_outcome H = unless (judging_tests H) (Ok reply.Done)
 
 -- What a caller's command comes to at a moment.
-abbrev pub ruled : History → Caller → ℕ → Command → Ruling
-ruled H who now (command.Topics topics) = topics_ruling H topics
-ruled H who now (command.Submit run lists) = submit_ruling H run lists
-ruled H who now command.Open = open_ruling H
-ruled H who now (command.Lease topic) = lease_ruling H who now topic
-ruled H who now (command.Grade lease grade) = grade_ruling H who now lease grade
-ruled H who now (command.Release lease) = release_ruling H who now lease
-ruled H who now (command.Amend topic doc grade) = amend_ruling H who topic doc grade
-ruled H who now (command.Rule topic doc grade) = rule_ruling H topic doc grade
-ruled H who now (command.Withdraw run) = withdraw_ruling H who run
-ruled H who now command.Publish = publish_ruling H
+abbrev pub command_outcome : History → Caller → ℕ → Command → Outcome
+command_outcome H who now (command.Topics topics) = topics_outcome H topics
+command_outcome H who now (command.Submit run lists) = submit_outcome H run lists
+command_outcome H who now command.Open = open_outcome H
+command_outcome H who now (command.Lease topic) = lease_outcome H who now topic
+command_outcome H who now (command.Grade lease grade) = grade_outcome H who now lease grade
+command_outcome H who now (command.Release lease) = release_outcome H who now lease
+command_outcome H who now (command.Amend topic doc grade) = amend_outcome H who topic doc grade
+command_outcome H who now (command.Rule topic doc grade) = rule_outcome H topic doc grade
+command_outcome H who now (command.Withdraw run) = withdraw_outcome H who run
+command_outcome H who now command.Publish = publish_outcome H
 -- nobody gives this: the founding entry is there from the start
-ruled H who now (command.Found rules) = Err (refusal.WrongPhase (phase H))
+command_outcome H who now (command.Found rules) = Err (refusal.WrongPhase (phase H))
 
 -- What each query comes to.
 
 abbrev pub pool_tests : History → Text → List (Option Refusal)
 pool_tests H topic = (refusal.UnknownTopic when not (is_topic H topic)) ∷ []
 
-abbrev pub pool_ruling : History → Text → Ruling
-pool_ruling H topic = unless (pool_tests H topic) (Ok (reply.Pool topic (pool H topic)))
+abbrev pub pool_outcome : History → Text → Outcome
+pool_outcome H topic = unless (pool_tests H topic) (Ok (reply.Pool topic (pool H topic)))
 
 -- A page is told to everyone who may ask for it.
-abbrev pub paged : Text → Ruling
-paged text = Ok (reply.Page text)
+abbrev pub page_outcome : Text → Outcome
+page_outcome text = Ok (reply.Page text)
 
-abbrev pub scores_ruling : History → Caller → Text → Ruling
-scores_ruling H who name =
-    given (run_named H name) refusal.UnknownRun (λ run. unless (run_refusals H who name) (paged (scores_page H run)))
+abbrev pub scores_outcome : History → Caller → Text → Outcome
+scores_outcome H who name =
+    unless_missing (run_named H name) refusal.UnknownRun (λ run. unless (run_refusals H who name) (page_outcome (scores_page H run)))
 
 -- The one release is what the campaign published.
 abbrev pub release_tests : History → ℕ → List (Option Refusal)
 release_tests H release = (refusal.UnknownRelease when not (is_phase Published (phase H) && release == 1)) ∷ []
 
-abbrev pub released : History → ℕ → Text → Ruling
-released H release text = unless (release_tests H release) (paged text)
+abbrev pub release_outcome_of : History → ℕ → Text → Outcome
+release_outcome_of H release text = unless (release_tests H release) (page_outcome text)
 
 -- What a caller's query comes to at a moment.
-abbrev pub told : History → Caller → ℕ → Query → Ruling
-told H who now (query.Pool topic) = pool_ruling H topic
-told H who now query.Qrels = paged (qrels_page H)
-told H who now (query.Scores run) = scores_ruling H who run
-told H who now query.Table = paged (table_page H)
-told H who now query.Disagreements = paged (disagreements_page H)
-told H who now query.Progress = paged (progress_page H now)
-told H who now (query.ReleaseQrels release) = released H release (qrels_page H)
-told H who now (query.ReleaseScores release) = released H release (table_page H)
+abbrev pub query_outcome : History → Caller → ℕ → Query → Outcome
+query_outcome H who now (query.Pool topic) = pool_outcome H topic
+query_outcome H who now query.Qrels = page_outcome (qrels_page H)
+query_outcome H who now (query.Scores run) = scores_outcome H who run
+query_outcome H who now query.Table = page_outcome (table_page H)
+query_outcome H who now query.Disagreements = page_outcome (disagreements_page H)
+query_outcome H who now query.Progress = page_outcome (progress_page H now)
+query_outcome H who now (query.ReleaseQrels release) = release_outcome_of H release (qrels_page H)
+query_outcome H who now (query.ReleaseScores release) = release_outcome_of H release (table_page H)
 
-abbrev pub reply_of : Ruling → Reply
+abbrev pub reply_of : Outcome → Reply
 reply_of (Ok r) = r
 reply_of (Err r) = reply.Refused r
 
@@ -209,29 +209,30 @@ abbrev pub adding_nothing : Reply → Answer
 adding_nothing r = record { reply = r; added = [] }
 
 -- An accepted command is added with its reply.
-abbrev pub acting : EntryCore → Ruling → Answer
-acting core (Err r) = adding_nothing (reply.Refused r)
-acting core (Ok r) = record { reply = r; added = record { core = core; reply = r } ∷ [] }
+abbrev pub answer_of_outcome : EntryCore → Outcome → Answer
+answer_of_outcome core (Err r) = adding_nothing (reply.Refused r)
+answer_of_outcome core (Ok r) = record { reply = r; added = record { core = core; reply = r } ∷ [] }
 
 -- the greater of the moment that was handed in and that of the last entry
 abbrev pub moment_after : History → ℕ → ℕ
 moment_after H moment = max moment (option_map_or (λ e. e.core.moment) (slice_get H (length H - 1)) 0)
 
 -- what a command comes to that wasn't accepted before under its number
-abbrev pub acted : History → EntryCore → Answer
-acted H core =
+abbrev pub command_answer : History → EntryCore → Answer
+command_answer H core =
     if length H == max_entries then adding_nothing (reply.Refused (refusal.Limit quantity.Entries))
-    else acting core (ruled H core.caller core.moment core.command)
+    else answer_of_outcome core (command_outcome H core.caller core.moment core.command)
 
 -- The same command under the same number gets the reply that was kept, and another command none.
-abbrev pub repeated : Command → ℕ × Entry → Answer
-repeated c placed = adding_nothing (if same_command c placed.1.core.command then placed.1.reply else reply.Refused (refusal.Reused placed.0))
+abbrev pub repeat_answer : Command → ℕ × Entry → Answer
+repeat_answer c placed = adding_nothing (if same_command c placed.1.core.command then placed.1.reply else reply.Refused (refusal.Reused placed.0))
 
 -- The answer, by cases in their order:
 -- a query is told and adds nothing, whatever its number;
 -- a command whose caller used its number before gets the kept reply or is refused, and adds nothing;
 -- another command is refused where H is full, by the first refusal of its kind that holds, or accepted.
 abbrev pub answer : History → Caller → Option ℕ → Ask → ℕ → Answer
-answer H who number (See q) moment = adding_nothing (reply_of (told H who (moment_after H moment) q))
+answer H who number (See q) moment = adding_nothing (reply_of (query_outcome H who (moment_after H moment) q))
 answer H who number (Act c) moment =
-    option_map_or (repeated c) (used H who.name number) (acted H (record { caller = who; number = number; moment = moment_after H moment; command = c }))
+    option_map_or (repeat_answer c) (entry_of_number H who.name number)
+    (command_answer H (record { caller = who; number = number; moment = moment_after H moment; command = c }))

@@ -1,4 +1,4 @@
--- Rules, phase, topics, runs and pools of a campaign whose list of accepted entries is H.
+-- What commands tell; rules, phase, topics, runs and pools of a campaign whose list of accepted entries is H.
 use Rattle.std.specs.Prelude.{ℕ, Bool, true, false, not, filter, map, if◌then◌else◌, ◌+◌, List, [], ◌++◌, Option, None, Some, ◌∷◌, take, length, unwrap_or, is_some, slice_get, sum_by}
 use Rattle.std.specs.List.{list_any, filter_map, find, flat_map, enumerate_from}
 use Rattle.std.specs.Option.{option_map_or}
@@ -17,20 +17,68 @@ use Rattle.rulebook.specs.Words.{Text, contains_text, each_once, in_order}
 abbrev pub History : Type 0
 History = List Entry
 
+-- What a command tells
+
+-- a run as it was submitted
+pub record Run : Type 0 where
+  pub name : Text
+  pub lists : List TopicList
+
+-- a lease that ends, with the grade of its document, if it gets one
+pub record EndedLease : Type 0 where
+  pub number : ℕ
+  pub grade : Option ℕ
+
+-- a grade of a document of a topic
+pub record DocGrade : Type 0 where
+  pub topic : Text
+  pub doc : Text
+  pub grade : ℕ
+
+-- what an accepted command tells of the campaign: each fact, where it tells one
+pub record CommandFacts : Type 0 where
+  pub rules : Option Rules
+  pub topics : Option (List Topic)
+  pub run : Option Run
+  pub opens : Bool
+  pub asks_lease : Bool
+  pub lease_end : Option EndedLease
+  pub amendment : Option DocGrade
+  pub ruling : Option DocGrade
+  pub withdrawal : Option Text
+  pub publishes : Bool
+
+abbrev pub no_facts : CommandFacts
+no_facts = record {
+  rules = None;
+  topics = None;
+  run = None;
+  opens = false;
+  asks_lease = false;
+  lease_end = None;
+  amendment = None;
+  ruling = None;
+  withdrawal = None;
+  publishes = false;
+}
+
+abbrev pub tells : Command → CommandFacts
+tells (command.Found rules) = record no_facts { rules = Some rules }
+tells (command.Topics topics) = record no_facts { topics = Some topics }
+tells (command.Submit name lists) = record no_facts { run = Some (record { name = name; lists = lists }) }
+tells command.Open = record no_facts { opens = true }
+tells (command.Lease topic) = record no_facts { asks_lease = true }
+tells (command.Grade lease grade) = record no_facts { lease_end = Some (record { number = lease; grade = Some grade }) }
+tells (command.Release lease) = record no_facts { lease_end = Some (record { number = lease; grade = None }) }
+tells (command.Amend topic doc grade) = record no_facts { amendment = Some (record { topic = topic; doc = doc; grade = grade }) }
+tells (command.Rule topic doc grade) = record no_facts { ruling = Some (record { topic = topic; doc = doc; grade = grade }) }
+tells (command.Withdraw run) = record no_facts { withdrawal = Some run }
+tells command.Publish = record no_facts { publishes = true }
+
 -- Rules
 
 abbrev pub rules_in : Command → Option Rules
-rules_in (command.Found rules) = Some rules
-rules_in (command.Topics topics) = None
-rules_in (command.Submit name lists) = None
-rules_in command.Open = None
-rules_in (command.Lease topic) = None
-rules_in (command.Grade lease grade) = None
-rules_in (command.Release lease) = None
-rules_in (command.Amend topic doc grade) = None
-rules_in (command.Rule topic doc grade) = None
-rules_in (command.Withdraw run) = None
-rules_in command.Publish = None
+rules_in c = (tells c).rules
 
 abbrev pub no_rules : Rules
 no_rules = record { depth = 0; term = 0; hold = 0; level = 0; top_grade = 0; doubles = []; levels = [] }
@@ -43,30 +91,10 @@ rules_of (e ∷ _) = unwrap_or (rules_in e.core.command) no_rules
 -- Phase
 
 abbrev pub opens : Command → Bool
-opens (command.Found rules) = false
-opens (command.Topics topics) = false
-opens (command.Submit name lists) = false
-opens command.Open = true
-opens (command.Lease topic) = false
-opens (command.Grade lease grade) = false
-opens (command.Release lease) = false
-opens (command.Amend topic doc grade) = false
-opens (command.Rule topic doc grade) = false
-opens (command.Withdraw run) = false
-opens command.Publish = false
+opens c = (tells c).opens
 
 abbrev pub publishes : Command → Bool
-publishes (command.Found rules) = false
-publishes (command.Topics topics) = false
-publishes (command.Submit name lists) = false
-publishes command.Open = false
-publishes (command.Lease topic) = false
-publishes (command.Grade lease grade) = false
-publishes (command.Release lease) = false
-publishes (command.Amend topic doc grade) = false
-publishes (command.Rule topic doc grade) = false
-publishes (command.Withdraw run) = false
-publishes command.Publish = true
+publishes c = (tells c).publishes
 
 -- Collecting from the founding on, Judging from an Open entry on, Published from a Publish entry on
 abbrev pub phase : History → Phase
@@ -77,17 +105,7 @@ phase H =
 -- Topics
 
 abbrev pub topics_in : Command → Option (List Topic)
-topics_in (command.Found rules) = None
-topics_in (command.Topics topics) = Some topics
-topics_in (command.Submit name lists) = None
-topics_in command.Open = None
-topics_in (command.Lease topic) = None
-topics_in (command.Grade lease grade) = None
-topics_in (command.Release lease) = None
-topics_in (command.Amend topic doc grade) = None
-topics_in (command.Rule topic doc grade) = None
-topics_in (command.Withdraw run) = None
-topics_in command.Publish = None
+topics_in c = (tells c).topics
 
 abbrev pub has_topics : History → Bool
 has_topics H = list_any (λ e. is_some (topics_in e.core.command)) H
@@ -103,11 +121,11 @@ abbrev pub title : History → Text → Text
 title H topic = option_map_or (λ t. t.title) (find (λ t. bytes_eq t.id topic) (topics H)) []
 
 -- how many labels a document of the topic needs
-abbrev pub needed : Rules → Text → ℕ
-needed rules topic = if contains_text rules.doubles topic then 2 else 1
+abbrev pub needed_labels : Rules → Text → ℕ
+needed_labels rules topic = if contains_text rules.doubles topic then 2 else 1
 
 abbrev pub need : History → Text → ℕ
-need H topic = needed (rules_of H) topic
+need H topic = needed_labels (rules_of H) topic
 
 -- the grade from which on a document of the topic is relevant: the topic's own, or else that of the rules
 abbrev pub level_in : Rules → Text → ℕ
@@ -118,23 +136,8 @@ level H topic = level_in (rules_of H) topic
 
 -- Runs
 
--- a run as it was submitted
-pub record Run : Type 0 where
-  pub name : Text
-  pub lists : List TopicList
-
 abbrev pub run_in : Command → Option Run
-run_in (command.Found rules) = None
-run_in (command.Topics topics) = None
-run_in (command.Submit name lists) = Some (record { name = name; lists = lists })
-run_in command.Open = None
-run_in (command.Lease topic) = None
-run_in (command.Grade lease grade) = None
-run_in (command.Release lease) = None
-run_in (command.Amend topic doc grade) = None
-run_in (command.Rule topic doc grade) = None
-run_in (command.Withdraw run) = None
-run_in command.Publish = None
+run_in c = (tells c).run
 
 -- the submitted runs, in order
 abbrev pub runs : History → List Run
@@ -145,28 +148,18 @@ abbrev pub is_taken : History → Text → Bool
 is_taken H name = list_any (λ run. bytes_eq run.name name) (runs H)
 
 abbrev pub withdraws : Text → Command → Bool
-withdraws name (command.Found rules) = false
-withdraws name (command.Topics topics) = false
-withdraws name (command.Submit run lists) = false
-withdraws name command.Open = false
-withdraws name (command.Lease topic) = false
-withdraws name (command.Grade lease grade) = false
-withdraws name (command.Release lease) = false
-withdraws name (command.Amend topic doc grade) = false
-withdraws name (command.Rule topic doc grade) = false
-withdraws name (command.Withdraw run) = bytes_eq run name
-withdraws name command.Publish = false
+withdraws name c = option_map_or (λ run. bytes_eq run name) (tells c).withdrawal false
 
 -- whether the run of this name was withdrawn
 abbrev pub is_withdrawn : History → Text → Bool
 is_withdrawn H name = list_any (λ e. withdraws name e.core.command) H
 
 -- the live runs, each with its number of submission: those that were submitted and not withdrawn
-abbrev pub numbered : History → List (ℕ × Run)
-numbered H = filter (λ run. not (is_withdrawn H run.1.name)) (enumerate_from 0 (runs H))
+abbrev pub numbered_runs : History → List (ℕ × Run)
+numbered_runs H = filter (λ run. not (is_withdrawn H run.1.name)) (enumerate_from 0 (runs H))
 
 abbrev pub live : History → List Run
-live H = map (λ run. run.1) (numbered H)
+live H = map (λ run. run.1) (numbered_runs H)
 
 abbrev pub line_count : List TopicList → ℕ
 line_count lists = sum_by (λ l. length l.docs) lists
@@ -196,12 +189,12 @@ abbrev pub docs_on : List TopicList → Text → List Text
 docs_on lists topic = option_map_or (λ l. l.docs) (find (λ l. bytes_eq l.topic topic) lists) []
 
 -- the documents that a run holds on a topic: those whose rank is at most the depth
-abbrev pub held : History → Text → Run → List Text
-held H topic run = take (rules_of H).depth (docs_on run.lists topic)
+abbrev pub held_documents : History → Text → Run → List Text
+held_documents H topic run = take (rules_of H).depth (docs_on run.lists topic)
 
-abbrev pub holds : History → Text → Run → Text → Bool
-holds H topic run doc = contains_text (held H topic run) doc
+abbrev pub run_holds : History → Text → Run → Text → Bool
+run_holds H topic run doc = contains_text (held_documents H topic run) doc
 
 -- the documents that some live run holds, by docno
 abbrev pub pool : History → Text → List Text
-pool H topic = in_order (flat_map (held H topic) (live H))
+pool H topic = in_order (flat_map (held_documents H topic) (live H))

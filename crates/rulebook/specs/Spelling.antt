@@ -1,4 +1,5 @@
--- Entries as bytes. Integers are little-endian; a short text is a byte for its length and its bytes, a long text two bytes for its length and its bytes; a list is four bytes for its count and its items.
+-- Entries as bytes. Integers are little-endian; a short text is a byte for its length and its bytes, a long text two
+-- bytes for its length and its bytes; a list is four bytes for its count and its items.
 use Rattle.std.specs.Prelude.{◌≡◌, ℕ, Bool, true, not, ◌&&◌, ◌-◌, ◌^◌, List, [], ◌∷◌, ◌++◌, Option, None, Some, map, length, nat_le, nat_lt}
 use Rattle.std.specs.List.{list_all, flat_map}
 use Rattle.std.specs.Int.{to_le_bytes, w16, w32, w64}
@@ -7,7 +8,7 @@ use Rattle.std.specs.Cmp.Lexicographic.{slice_cmp}
 use Rattle.trec_formats.specs.declared.Topic.{Topic}
 use Rattle.trec_formats.specs.declared.TopicList.{TopicList}
 use Rattle.trec_formats.specs.Names.{is_name, is_docno, is_between}
-use Rattle.rulebook.specs.Limits.{max_depth, max_hold, max_moment, max_term, max_topics}
+use Rattle.rulebook.specs.Requests.Limits.{max_depth, max_desc, max_docs, max_hold, max_moment, max_narr, max_term, max_title, max_top_grade, max_topics, number_bound}
 use Rattle.rulebook.specs.declared.rules.Role.{Role}
 use Rattle.rulebook.specs.declared.rules.Role.TheVariants.{Organiser, Group, Assessor}
 use Rattle.rulebook.specs.declared.rules.Rules.{Rules}
@@ -25,8 +26,8 @@ short text = length text ∷ text
 abbrev pub long : Text → Text
 long text = to_le_bytes w16 (length text) ++ text
 
-abbrev pub listed : {X : Type 0} → (X → Text) → List X → Text
-listed spell items = to_le_bytes w32 (length items) ++ flat_map spell items
+abbrev pub spelled_list : {X : Type 0} → (X → Text) → List X → Text
+spelled_list spell items = to_le_bytes w32 (length items) ++ flat_map spell items
 
 abbrev pub role_byte : Role → ℕ
 role_byte Organiser = 1
@@ -38,7 +39,7 @@ number_bytes None = 0 ∷ []
 number_bytes (Some n) = 1 ∷ to_le_bytes w64 n
 
 abbrev pub rules_bytes : Rules → Text
-rules_bytes r = to_le_bytes w16 r.depth ++ to_le_bytes w64 r.term ++ r.hold ∷ r.level ∷ r.top_grade ∷ listed short r.doubles
+rules_bytes r = to_le_bytes w16 r.depth ++ to_le_bytes w64 r.term ++ r.hold ∷ r.level ∷ r.top_grade ∷ spelled_list short r.doubles
 
 abbrev pub level_bytes : TopicLevel → Text
 level_bytes own = short own.topic ++ own.level ∷ []
@@ -46,18 +47,18 @@ level_bytes own = short own.topic ++ own.level ∷ []
 -- where topics have levels of their own, these stand behind the other rules, and the kind says so
 abbrev pub found_bytes : Rules → List TopicLevel → Text
 found_bytes r [] = 1 ∷ rules_bytes r
-found_bytes r (own ∷ levels) = 12 ∷ rules_bytes r ++ listed level_bytes (own ∷ levels)
+found_bytes r (own ∷ levels) = 12 ∷ rules_bytes r ++ spelled_list level_bytes (own ∷ levels)
 
 abbrev pub topic_bytes : Topic → Text
 topic_bytes t = short t.id ++ long t.title ++ long t.desc ++ long t.narr
 
 abbrev pub list_bytes : TopicList → Text
-list_bytes l = short l.topic ++ to_le_bytes w32 l.line ++ listed short l.docs
+list_bytes l = short l.topic ++ to_le_bytes w32 l.line ++ spelled_list short l.docs
 
 abbrev pub command_bytes : Command → Text
 command_bytes (Found rules) = found_bytes rules rules.levels
-command_bytes (Topics topics) = 2 ∷ listed topic_bytes topics
-command_bytes (Submit run lists) = 3 ∷ short run ++ listed list_bytes lists
+command_bytes (Topics topics) = 2 ∷ spelled_list topic_bytes topics
+command_bytes (Submit run lists) = 3 ∷ short run ++ spelled_list list_bytes lists
 command_bytes Open = 4 ∷ []
 command_bytes (Lease topic) = 5 ∷ short topic
 command_bytes (Grade lease grade) = 6 ∷ to_le_bytes w32 lease ++ grade ∷ []
@@ -92,7 +93,7 @@ is_printable most text = nat_le (length text) most && list_all (is_between 32 12
 abbrev pub are_settings : Rules → Bool
 are_settings r =
     is_between 1 max_depth r.depth && is_between 1 max_term r.term && is_between 1 max_hold r.hold
-    && is_between 1 255 r.top_grade && is_between 1 r.top_grade r.level
+    && is_between 1 max_top_grade r.top_grade && is_between 1 r.top_grade r.level
     && nat_le (length r.doubles) max_topics && list_all is_name r.doubles && is_ascending r.doubles
 
 abbrev pub is_topic_level : ℕ → TopicLevel → Bool
@@ -105,10 +106,10 @@ abbrev pub are_rules : Rules → Bool
 are_rules r = are_settings r && are_levels r
 
 abbrev pub is_plain_topic : Topic → Bool
-is_plain_topic t = is_name t.id && is_printable 1000 t.title && is_printable 8192 t.desc && is_printable 8192 t.narr
+is_plain_topic t = is_name t.id && is_printable max_title t.title && is_printable max_desc t.desc && is_printable max_narr t.narr
 
 abbrev pub is_plain_list : TopicList → Bool
-is_plain_list l = is_name l.topic && nat_lt l.line (2 ^ 32) && is_between 1 1000 (length l.docs) && list_all is_docno l.docs && differ l.docs
+is_plain_list l = is_name l.topic && nat_lt l.line (2 ^ 32) && is_between 1 max_docs (length l.docs) && list_all is_docno l.docs && differ l.docs
 
 abbrev pub is_plain : Command → Bool
 is_plain (Found rules) = are_rules rules
@@ -126,7 +127,7 @@ is_plain Publish = true
 
 abbrev pub is_number : Option ℕ → Bool
 is_number None = true
-is_number (Some n) = nat_lt n (2 ^ 63)
+is_number (Some n) = nat_lt n number_bound
 
 abbrev pub has_spelling : EntryCore → Bool
 has_spelling e = is_name e.caller.name && is_number e.number && nat_le e.moment max_moment && is_plain e.command

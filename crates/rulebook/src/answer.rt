@@ -1,4 +1,5 @@
-//! What a request to a kept campaign is answered: the reply of the rules, or that the disk failed or memory was short.
+//! What a request to a kept campaign is answered: the reply of the rules, or that the disk failed
+//! or memory was short.
 use crate::reply::Reply;
 
 /// What a campaign that is kept somewhere answers a request.

@@ -1,14 +1,17 @@
-//! What a caller asks of a campaign: a command, which adds an entry where it is accepted, or a query, which adds none.
+//! What a caller asks of a campaign: a command, which adds an entry where it is accepted, or a
+//! query, which adds none.
 ghost use Rattle.std.specs.Prelude.{◌≡◌, MatchOption};
 ghost use Rattle.rulebook.specs.declared.ask.Command.TheVariants.{Found};
 ghost use Rattle.rulebook.specs.declared.rules.Rules.{Rules as CampaignRules};
-ghost use Rattle.rulebook.specs.SameCommands.{same_command};
+ghost use Rattle.rulebook.specs.Requests.Roles.{may_give};
+ghost use Rattle.rulebook.specs.Requests.SameCommands.{same_command};
 
-use crate::rules::{Caller, Rules};
+use crate::rules::{Caller, Role, Rules};
 use decimal_rank::{Rows, Text};
 use trec_formats::{Topic, TopicList};
 
-/// A request that adds an entry where it is accepted. Two commands are the same where all their fields are.
+/// A request that adds an entry where it is accepted. Two commands are the same where all their
+/// fields are.
 #[derive(Debug, PartialEq)]
 pub enum Command {
     /// The founding of the campaign, which no request gives.
@@ -43,9 +46,28 @@ impl Command {
         self == other
     }
 
+    /// Whether a role may give it.
+    pub fn is_givable(&self, role: Role) -> bool
+        ensures { result ≡ may_give role self.now }
+    {
+        match self {
+            Command::Topics { .. } | Command::Open | Command::Rule { .. } | Command::Publish => {
+                role == Role::Organiser
+            }
+            Command::Submit { .. } => role == Role::Group,
+            Command::Lease { .. }
+            | Command::Grade { .. }
+            | Command::Release { .. }
+            | Command::Amend { .. } => role == Role::Assessor,
+            Command::Withdraw { .. } => matches!(role, Role::Group | Role::Organiser),
+            Command::Found { .. } => false,
+        }
+    }
+
     /// The rules, where it founds a campaign.
     pub(crate) fn founding_rules(self) -> Option<Rules>
-        ensures { MatchOption result ((rules : CampaignRules) → self ≡ Found rules → ⊥) (λ rules. self ≡ Found rules) }
+        ensures { MatchOption result ((rules : CampaignRules) → self ≡ Found rules → ⊥)
+            (λ rules. self ≡ Found rules) }
     {
         let Command::Found { rules } = self else {
             return None;

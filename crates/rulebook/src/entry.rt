@@ -1,4 +1,5 @@
-//! An entry of a campaign: an accepted command with its caller, its number and its moment, and the reply that it got.
+//! An entry of a campaign: an accepted command with its caller, its number and its moment, and the
+//! reply that it got.
 use crate::ask::Command;
 use crate::reply::Reply;
 use crate::rules::Caller;

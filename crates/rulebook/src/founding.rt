@@ -1,7 +1,7 @@
 //! The founding of a campaign: its first entry, made of the rules, and the rules found in it again.
 ghost use Rattle.std.specs.Prelude.{◌≡◌, IfOk, MatchOption};
 ghost use Rattle.rulebook.specs.declared.rules.Rules.{Rules as CampaignRules};
-ghost use Rattle.rulebook.specs.Legal.{founding};
+ghost use Rattle.rulebook.specs.Histories.Legal.{founding};
 
 use crate::ask::Command;
 use crate::entry::EntryCore;
@@ -30,7 +30,8 @@ pub fn founding_core(alloc: Global, rules: Rules) -> Result<EntryCore, Memory>
 
 /// The rules of the campaign that this entry founds. None is that it founds none.
 pub fn rules_founded(core: EntryCore) -> Option<Rules>
-    ensures { MatchOption result ((rules : CampaignRules) → core ≡ (founding rules).core → ⊥) (λ rules. core ≡ (founding rules).core) }
+    ensures { MatchOption result ((rules : CampaignRules) → core ≡ (founding rules).core → ⊥)
+        (λ rules. core ≡ (founding rules).core) }
 {
     let EntryCore {
         caller,

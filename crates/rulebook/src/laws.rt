@@ -1,12 +1,12 @@
-//! What holds of every campaign by its rules: how labels, rulings and effective grades follow from entries, that a
-//! lease ends once, that a number is used once, that moments don't fall, and that entries have a spelling and room in
-//! the journal.
-ghost use Rattle.rulebook.specs.Additions.{AddedAreAccepted, EntriesAreFew, EntriesAreSpelled, FoundingFits, LegalFit, MomentsAreInTime, MomentsRise, RunsAreFew};
-ghost use Rattle.rulebook.specs.Entries.{GradedAreOnTrail, GradedAreThere, LabelledAreListed, LabelsJoin, QuietEntriesKeepGrades, RulingsJoin};
-ghost use Rattle.rulebook.specs.Facts.{GradesTellTheirLeases, KeptRepliesAreFirst, LabelsAreFew, LabelsAreTheLastGrades, LabelsGoByLeases, LeasesEndOnce, LiveRunsAreNotWithdrawn, NumbersAreUsedOnce, TopicsAreGivenOnce};
-ghost use Rattle.rulebook.specs.Holders.{HoldersHold};
-ghost use Rattle.rulebook.specs.Limits.{LimitsAreTheRules};
-ghost use Rattle.rulebook.specs.Plain.{CommandsAreAnsweredShort, EntriesArePlain, RepliesArePlain};
+//! What holds of every campaign by its rules: how labels, rulings and effective grades follow from
+//! entries, that a lease ends once, that a number is used once, that moments don't fall, and that
+//! entries have a spelling and room in the journal.
+ghost use Rattle.rulebook.specs.Histories.Additions.{AddedAreAccepted, EntriesAreFew, EntriesAreSpelled, FoundingFits, LegalFit, MomentsAreInTime, MomentsRise, RunsAreFew};
+ghost use Rattle.rulebook.specs.Histories.Entries.{GradedAreOnTrail, GradedAreThere, LabelledAreListed, LabelsJoin, QuietEntriesKeepGrades, RulingsJoin};
+ghost use Rattle.rulebook.specs.Histories.Facts.{GradesTellTheirLeases, KeptRepliesAreFirst, LabelsAreFew, LabelsAreTheLastGrades, LabelsGoByLeases, LeasesEndOnce, LiveRunsAreNotWithdrawn, NumbersAreUsedOnce, TopicsAreGivenOnce};
+ghost use Rattle.rulebook.specs.Judgements.Holders.{HoldersHold};
+ghost use Rattle.rulebook.specs.Requests.Limits.{LimitsAreTheRules};
+ghost use Rattle.rulebook.specs.Requests.PlainReplies.{CommandsAreAnsweredShort, EntriesArePlain, RepliesArePlain};
 
 /// An entry that gives no label and no ruling leaves each label, ruling, effective grade and trail.
 pub fn quiet_entries_keep_grades()

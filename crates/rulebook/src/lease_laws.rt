@@ -1,5 +1,6 @@
-//! What holds of leases by the rules: they are the Lease entries, and have an end where an entry ended them.
-ghost use Rattle.rulebook.specs.LeaseEntries.{EndsAreThere, LeasesAreEntries};
+//! What holds of leases by the rules: they are the Lease entries, and have an end where an entry
+//! ended them.
+ghost use Rattle.rulebook.specs.Judgements.LeaseEntries.{EndsAreThere, LeasesAreEntries};
 
 /// Lease number i is what the i-th Lease entry was told.
 pub fn leases_are_entries()

@@ -1,5 +1,22 @@
 //! The campaign's rules. `src/` has what requests, entries and replies are; `specs/` has the rules
 //! themselves, as definitions over the list of accepted entries.
+//!
+//! - Types: `ask` (commands and queries), `entry`, `reply`, `answer`, `rules` (roles, phases,
+//!   settings), `systems` (a run in a release), `limits` (`specs/Requests/Limits.antt`).
+//! - A request: what it is answered `specs/Answers.antt`, who may ask it
+//!   `specs/Requests/Roles.antt`, its number `specs/Requests/Numbers.antt`.
+//! - What there is: topics, runs, phases and pools `specs/Campaign.antt`; leases
+//!   `specs/Judgements/Leases.antt`; labels, rulings, effective grades and the trail
+//!   `specs/Judgements/Grades.antt`.
+//! - The order of the runs, and the named document: `specs/Judgements/JudgingOrder.antt`.
+//! - What is printed: pages `specs/Reports/Pages.antt`; the scores of runs, and their pages
+//!   `specs/Reports/Scores.antt`; a release `specs/Reports/Systems.antt`.
+//! - Lists of entries: which can come about `specs/Histories/Legal.antt`, what one more entry
+//!   changes `specs/Histories/Entries.antt`, the first one `founding` in
+//!   `specs/Histories/Legal.antt` and in `src/founding.rt`.
+//! - On a disk: an entry's bytes `specs/Spelling.antt`, what a journal of the entries rests on
+//!   `specs/Histories/Additions.antt`.
+//! - `laws`, `lease_laws`: what holds of every campaign. Worked rows: `proofs/WorkedRows`.
 #![tactic(auto)]
 
 mod answer;
@@ -28,8 +45,8 @@ pub use laws::{
 };
 pub use lease_laws::{ends_are_there, leases_are_entries};
 pub use limits::{
-    MAX_DEPTH, MAX_DOCNOS, MAX_ENTRIES, MAX_ENTRY_BYTES, MAX_HOLD, MAX_LINES, MAX_MOMENT, MAX_RUNS,
-    MAX_TERM, MAX_TOPICS,
+    MAX_DEPTH, MAX_DESC, MAX_DOCNOS, MAX_DOCS, MAX_ENTRIES, MAX_ENTRY_BYTES, MAX_HOLD, MAX_LINES,
+    MAX_MOMENT, MAX_NARR, MAX_RUNS, MAX_TERM, MAX_TITLE, MAX_TOPICS, NUMBER_BOUND,
 };
 pub use reply::{Quantity, Refusal, Reply};
 pub use rules::{Caller, Phase, Role, Rules, TopicLevel};

@@ -1,8 +1,21 @@
-//! The limits of a campaign as the code looks at them: its topics, runs, lines, docnos, entries and moments, the bytes
-//! of an entry, and the numbers of its rules. `limits_are_the_rules` says that they are those of `specs/Limits.antt`.
+//! The limits of a campaign as the code looks at them: its topics and their texts, runs, documents,
+//! lines, docnos, entries, numbers and moments, the bytes of an entry, and the numbers of its
+//! rules. `limits_are_the_rules` says that they are those of `specs/Requests/Limits.antt`.
 
 /// How many topics a campaign has at most, and how many its rules name.
 pub const MAX_TOPICS: u32 = 250;
+
+/// How many bytes a topic's title has at most.
+pub const MAX_TITLE: usize = 1000;
+
+/// How many bytes a topic's description has at most.
+pub const MAX_DESC: usize = 8192;
+
+/// How many bytes a topic's narrative has at most.
+pub const MAX_NARR: usize = 8192;
+
+/// How many documents a run has on a topic at most.
+pub const MAX_DOCS: u32 = 1000;
 
 /// How many runs are ever submitted at most.
 pub const MAX_RUNS: u32 = 256;
@@ -15,6 +28,9 @@ pub const MAX_DOCNOS: u32 = 2_000_000;
 
 /// How many entries are accepted at most, the founding one included.
 pub const MAX_ENTRIES: u32 = 4_000_000;
+
+/// The numbers of requests are below this.
+pub const NUMBER_BOUND: u64 = 1 << 63;
 
 /// The latest moment of a request, in seconds.
 pub const MAX_MOMENT: u64 = 1 << 40;

@@ -1,4 +1,5 @@
-//! What a request is answered by the rules: that it is done, what came of it, or the cause for which it is refused.
+//! What a request is answered by the rules: that it is done, what came of it, or the cause for
+//! which it is refused.
 ghost use Rattle.std.specs.Prelude.{◌≡◌, IfOk};
 
 use crate::rules::Phase;

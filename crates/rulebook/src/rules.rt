@@ -54,7 +54,8 @@ pub struct Rules {
     pub term: u64,
     /// How many live leases an assessor has at most; 1 to 50.
     pub hold: u8,
-    /// The least grade of a relevant document of a topic without a level of its own; 1 to `top_grade`.
+    /// The least grade of a relevant document of a topic without a level of its own; 1 to
+    /// `top_grade`.
     pub level: u8,
     /// The greatest grade; 1 to 255.
     pub top_grade: u8,

@@ -7,7 +7,7 @@ use Rattle.std.proofs.lemmas.Bool.Decides.{eqb_tells}
 use Rattle.std.proofs.lemmas.List.{get_or_default, length-replicate}
 use Rattle.std.proofs.lemmas.List.Sums.{passes_at_first}
 use Rattle.std.proofs.lemmas.Nat.{mod_below}
-use Rattle.decimal_rank.specs.Places.{place_in}
+use Rattle.decimal_rank.specs.Rankings.Places.{place_in}
 use Rattle.decimal_rank.specs.declared.naming.DocId.{DocId}
 use Rattle.score_index.specs.Filters.{AdmitsAll, Bits, admits}
 
@@ -33,8 +33,10 @@ still-admitted bits index doc within is = elim (eqb_tells (doc.0 % bits.count) i
 ]
 
 -- one more document of a list
-pub one-more : (bits now : Bits) (docs : List DocId) (i : ℕ) (doc : DocId) → ((k : ℕ) (d : DocId) → k < i → k < length docs → admits bits (get_or docs k d) ≡ true) → i < length docs → get_or docs i doc ≡ doc
-    → admits now doc ≡ true → ((other : DocId) → admits bits other ≡ true → admits now other ≡ true) → (k : ℕ) (d : DocId) → k < i + 1 → k < length docs → admits now (get_or docs k d) ≡ true
+pub one-more : (bits now : Bits) (docs : List DocId) (i : ℕ) (doc : DocId)
+    → ((k : ℕ) (d : DocId) → k < i → k < length docs → admits bits (get_or docs k d) ≡ true) → i < length docs → get_or docs i doc ≡ doc
+    → admits now doc ≡ true → ((other : DocId) → admits bits other ≡ true → admits now other ≡ true) → (k : ℕ) (d : DocId)
+    → k < i + 1 → k < length docs → admits now (get_or docs k d) ≡ true
 one-more bits now docs i doc done within here admitted others k d before inside = elim (eqb_tells k i) [
   | inl h ↦ (
       let same : get_or docs k d ≡ doc = ap (λ (n : ℕ). get_or docs n d) h.1 ∙ get_or_default docs i d doc within ∙ here in

@@ -3,4 +3,4 @@ pub mod ByPlaces
 pub mod KeptCells
 pub mod PlaceSums
 pub mod SumSteps
-pub mod Moving
+pub mod MovedSums

@@ -1,4 +1,4 @@
 mod Admissions
 mod Cells
-mod Keeping
-mod Regrading
+mod KeptTopics
+mod GradeChanges

@@ -1,15 +1,15 @@
 -- What is kept of a list beside its places, and what a document's mark says.
 use Rattle.std.specs.Prelude.{◌≡◌, ℕ, ◌+◌, ◌-◌, ◌≤◌, Bool, true, false, List, None, Option, Some, length, map, min, slice_index_or, slice_set, take}
-use Rattle.decimal_rank.specs.Places.{place_in}
+use Rattle.decimal_rank.specs.Rankings.Places.{place_in}
 use Rattle.decimal_rank.specs.declared.naming.DocId.{DocId}
 use Rattle.measures.specs.Cells.{cutoffs}
 use Rattle.measures.specs.declared.cells.Cell.{Cell}
-use Rattle.rank_trees.specs.Marks.{count_on}
+use Rattle.rank_trees.specs.PlacesOn.{count_on}
 use Rattle.score_index.specs.Filters.{AdmitsAll, Bits}
 use Rattle.score_index.specs.Places.{Places, cell_by, precisions, preferences}
 use Rattle.score_index.specs.Scores.{ScoreList}
-use Rattle.score_index.specs.declared.marks.Mark.{Mark}
-use Rattle.score_index.specs.declared.marks.Mark.TheVariants.{Lower, Relevant, Unjudged}
+use Rattle.score_index.specs.declared.relevance.Relevance.{Relevance}
+use Rattle.score_index.specs.declared.relevance.Relevance.TheVariants.{Lower, Relevant, Unjudged}
 use Rattle.score_index.specs.declared.sums.Sums.{Sums}
 
 -- the sums of a list whose topic has a cap
@@ -22,26 +22,26 @@ pub record AreSums (cap : ℕ) (places : Places) (sums : Sums) : Type 0 where
   pub preferences : sums.preferences ≡ preferences cap 0 places.relevant places.lower
 
 -- whether a document with this mark is relevant
-abbrev pub is_relevant_mark : Mark → Bool
-is_relevant_mark Relevant = true
-is_relevant_mark Lower = false
-is_relevant_mark Unjudged = false
+abbrev pub is_relevant_standing : Relevance → Bool
+is_relevant_standing Relevant = true
+is_relevant_standing Lower = false
+is_relevant_standing Unjudged = false
 
 -- whether a document with this mark is judged lower
-abbrev pub is_lower_mark : Mark → Bool
-is_lower_mark Relevant = false
-is_lower_mark Lower = true
-is_lower_mark Unjudged = false
+abbrev pub is_lower_standing : Relevance → Bool
+is_lower_standing Relevant = false
+is_lower_standing Lower = true
+is_lower_standing Unjudged = false
 
 -- a place of the list is on, or off; where the list doesn't have the document nothing is said
-abbrev pub IsAt : Option ℕ → Bool → List Bool → Type 0
-IsAt None b on = Unit {0}
-IsAt (Some place) b on = (1 ≤ place) × (place ≤ length on) × (slice_index_or on (place - 1) false ≡ b)
+abbrev pub IsOnAt : Option ℕ → Bool → List Bool → Type 0
+IsOnAt None b on = Unit {0}
+IsOnAt (Some place) b on = (1 ≤ place) × (place ≤ length on) × (slice_index_or on (place - 1) false ≡ b)
 
 -- a place of the list has this mark
-pub record HasMark (place : Option ℕ) (mark : Mark) (places : Places) : Type 0 where
-  pub relevant : IsAt place (is_relevant_mark mark) places.relevant
-  pub lower : IsAt place (is_lower_mark mark) places.lower
+pub record HasRelevance (place : Option ℕ) (mark : Relevance) (places : Places) : Type 0 where
+  pub relevant : IsOnAt place (is_relevant_standing mark) places.relevant
+  pub lower : IsOnAt place (is_lower_standing mark) places.lower
 
 -- the places where one is relevant, or isn't
 abbrev pub with_relevant : ℕ → Bool → Places → Places
@@ -70,8 +70,8 @@ pub record CanFollow (rel low : ℕ) (list : ScoreList) : Type 0 where
 
 -- a document has these marks in a list, whose topic's counts move by one at most
 pub record CanRemark (doc : DocId) (relevant lower : Bool) (rel low : ℕ) (list : ScoreList) : Type 0 where
-  pub relevant_at : IsAt (place_in list.docs doc) relevant list.relevant
-  pub lower_at : IsAt (place_in list.docs doc) lower list.lower
+  pub relevant_at : IsOnAt (place_in list.docs doc) relevant list.relevant
+  pub lower_at : IsOnAt (place_in list.docs doc) lower list.lower
   pub follows : CanFollow rel low list
 
 -- the filter of a list admits its documents, and its sums and its cell are those of its places

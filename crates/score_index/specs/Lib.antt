@@ -1,6 +1,6 @@
 pub mod Filters
-pub mod Kept
+pub mod KeptBoards
 pub mod KeptSums
 pub mod Places
 pub mod Scores
-pub mod Standing
+pub mod BoardGrades

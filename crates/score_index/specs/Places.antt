@@ -3,7 +3,7 @@ use Rattle.std.specs.Prelude.{ℕ, suc, ◌+◌, ◌-◌, ◌*◌, ◌==◌, Boo
 use Rattle.measures.specs.Cells.{bpref_den, cutoffs, weight}
 use Rattle.measures.specs.declared.cells.Cell.{Cell}
 use Rattle.qrels_view.specs.Grades.{as_number}
-use Rattle.rank_trees.specs.Marks.{count_on, weights_from}
+use Rattle.rank_trees.specs.PlacesOn.{count_on, weights_from}
 
 -- the places of a list, from 1: which are relevant, and which are judged lower
 pub record Places : Type 0 where
@@ -34,11 +34,11 @@ preferences cap lower (true ∷ relevant) (other ∷ others) = (cap - lower) + p
 preferences cap lower (false ∷ relevant) (other ∷ others) = preferences cap (lower + as_number other) relevant others
 
 -- how many relevant places have at most the cap of lower ones above them; so many lower ones stand before the list
-abbrev pub reached : ℕ → ℕ → List Bool → List Bool → ℕ
-reached cap lower [] others = 0
-reached cap lower (r ∷ relevant) [] = 0
-reached cap lower (true ∷ relevant) (other ∷ others) = (1 - (lower - cap)) + reached cap (lower + as_number other) relevant others
-reached cap lower (false ∷ relevant) (other ∷ others) = reached cap (lower + as_number other) relevant others
+abbrev pub cap_reached_places : ℕ → ℕ → List Bool → List Bool → ℕ
+cap_reached_places cap lower [] others = 0
+cap_reached_places cap lower (r ∷ relevant) [] = 0
+cap_reached_places cap lower (true ∷ relevant) (other ∷ others) = (1 - (lower - cap)) + cap_reached_places cap (lower + as_number other) relevant others
+cap_reached_places cap lower (false ∷ relevant) (other ∷ others) = cap_reached_places cap (lower + as_number other) relevant others
 
 -- the numerator of bpref from the sum of what is left of the cap: where the cap is 0 each relevant place counts 1
 abbrev pub bpref_from : List Bool → ℕ → ℕ → ℕ → ℕ

@@ -1,7 +1,7 @@
 -- What contracts see of a board.
 use Rattle.std.specs.Prelude.{◌≡◌, ℕ, ◌+◌, ◌*◌, ◌==◌, Bool, List, [], Option, None, Some, Contains, count_by, find, length, map, slice_index_or, sum_by}
 use Rattle.std.specs.Option.{option_map}
-use Rattle.decimal_rank.specs.Places.{levels}
+use Rattle.decimal_rank.specs.Rankings.Places.{levels}
 use Rattle.decimal_rank.specs.declared.naming.DocId.{DocId}
 use Rattle.depth_pool.specs.declared.runs.RunId.{RunId}
 
@@ -27,8 +27,8 @@ pub record Scores : Type 0 where
   pub rooms : List ℕ
 
 -- the levels of a board's topics
-abbrev pub levels_of : Scores → List ℕ
-levels_of scores = map (λ topic. topic.level) scores.topics
+abbrev pub board_levels : Scores → List ℕ
+board_levels scores = map (λ topic. topic.level) scores.topics
 
 -- a board keeps its topics and their lists: only its room changes
 abbrev pub KeepsScores : Scores → Scores → Type 0
@@ -36,29 +36,29 @@ KeepsScores old new = new.topics ≡ old.topics
 
 -- a board keeps its topics' levels, so as many topics too
 abbrev pub KeepsShape : Scores → Scores → Type 0
-KeepsShape old new = levels_of new ≡ levels_of old
+KeepsShape old new = board_levels new ≡ board_levels old
 
 -- whether a list is a run's
-abbrev pub is_of : RunId → ScoreList → Bool
-is_of run list = list.run.0 == run.0
+abbrev pub is_of_run : RunId → ScoreList → Bool
+is_of_run run list = list.run.0 == run.0
 
 -- the documents of a run by rank: none where it has no list
-abbrev pub docs_in : RunId → TopicScores → Option (List DocId)
-docs_in run topic = option_map (λ list. list.docs) (find (is_of run) topic.lists)
+abbrev pub run_docs : RunId → TopicScores → Option (List DocId)
+run_docs run topic = option_map (λ list. list.docs) (find (is_of_run run) topic.lists)
 
 -- a topic of a level without grades and lists
-abbrev pub new_topic : ℕ → TopicScores
-new_topic level = record { level = level; relevant = 0; non_relevant = 0; lists = [] }
+abbrev pub new_topic_scores : ℕ → TopicScores
+new_topic_scores level = record { level = level; relevant = 0; non_relevant = 0; lists = [] }
 
 abbrev pub no_topic : TopicScores
-no_topic = new_topic 0
+no_topic = new_topic_scores 0
 
-abbrev pub topic_at : Scores → ℕ → TopicScores
-topic_at scores topic = slice_index_or scores.topics topic no_topic
+abbrev pub topic_scores_at : Scores → ℕ → TopicScores
+topic_scores_at scores topic = slice_index_or scores.topics topic no_topic
 
 -- the documents of a run on a topic by rank: none where it has no list there
-abbrev pub docs_at : Scores → RunId → ℕ → Option (List DocId)
-docs_at scores run topic = docs_in run (topic_at scores topic)
+abbrev pub run_docs_at : Scores → RunId → ℕ → Option (List DocId)
+run_docs_at scores run topic = run_docs run (topic_scores_at scores topic)
 
 -- for how many lists of a length there is room
 abbrev pub rooms_for : ℕ → Scores → ℕ
@@ -75,8 +75,8 @@ list_steps (Some docs) = follow_steps (length docs)
 
 -- how many steps the lists of these runs on a topic may take to follow a grade
 abbrev pub steps_of : List RunId → TopicScores → ℕ
-steps_of runs topic = sum_by (λ run. list_steps (docs_in run topic)) runs
+steps_of runs topic = sum_by (λ run. list_steps (run_docs run topic)) runs
 
 -- each run that has a list on a topic is among these
 abbrev pub HasRuns : List RunId → TopicScores → Type 0
-HasRuns runs topic = (run : RunId) (docs : List DocId) → docs_in run topic ≡ Some docs → Contains runs run
+HasRuns runs topic = (run : RunId) (docs : List DocId) → run_docs run topic ≡ Some docs → Contains runs run

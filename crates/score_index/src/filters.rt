@@ -9,8 +9,9 @@ use std::alloc::Global;
 use std::marker::Model;
 use std::sync::ledger::Ledger;
 
-// Bits, of which a document has the one whose place is the remainder of its number by how many there
-// are. Of the documents that weren't admitted, those that share their bits with one that was pass too.
+// Bits, of which a document has the one whose place is the remainder of its number by how many
+// there are. Of the documents that weren't admitted, those that share their bits with one that was
+// pass too.
 #[derive(Drop)]
 pub(crate) struct Filter {
     count: u32,
@@ -43,7 +44,8 @@ impl Filter {
     // Admits a document from now on.
     pub(crate) fn admit<L: Ledger>(&mut self, doc: DocId, steps: &mut Steps<L>)
         ensures admitted { admits self.new doc ≡ true }
-        ensures others { (other : OneDoc) → admits self.old other ≡ true → admits self.new other ≡ true }
+        ensures others { (other : OneDoc) → admits self.old other ≡ true
+            → admits self.new other ≡ true }
     {
         self.bits.put(doc.0 % self.count, true, steps);
     }

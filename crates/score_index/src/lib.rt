@@ -1,6 +1,14 @@
 //! The scores of the runs of a campaign while it goes on: the cell of each run on each topic, and
 //! its summary over the topics, after each change of a grade.
 //!
+//! - `board`: all scores (what contracts see: `specs/Scores.antt`); which grades a board stands
+//!   for, and its cells: `specs/BoardGrades.antt`. `laws`: what follows for each topic.
+//! - `topics`, `lists`: what a changed grade does to a topic, and to one list. `relevance`:
+//!   relevant, judged lower or unjudged.
+//! - `sums`: what one place, or one more of the cap, adds to a sum; the cell by places: `places`,
+//!   `specs/Places.antt`. `trees`: the places of a list.
+//! - `filters`: which documents a list may have (`specs/Filters.antt`). `rooms`: room for lists.
+//!
 //! # What a score costs
 //!
 //! The board keeps of each list three trees over its places, its sums, its cell and a filter of its
@@ -12,7 +20,7 @@
 //!
 //!     node            1:4                     the root: how many are on
 //!                 2:3         3:1
-//!     leaf      4:2   5:1   6:1   7:0         leaf 4 + b: how many are on from place 64b + 1 to 64b + 64
+//!     leaf      4:2   5:1   6:1   7:0         leaf 4 + b: how many of 64b + 1 to 64b + 64 are on
 //!     word       0     1     2     3          the places as bits, the first the lowest
 //!
 //! Under node k stand 2k and 2k + 1, and it has their sum. `below` goes up from the leaf of a
@@ -24,13 +32,16 @@
 //! read in one function each (`read` in `rank_trees/src/nodes.rt`, `word_of` in `place_words.rt`),
 //! which counts a step.
 //!
-//! What one grade changes in a list whose document stands at place k:
+//! What one grade changes in a list whose document stands at place k; the cap is the lesser of R
+//! and N:
 //!
-//! | Sum | A relevant place comes | A place judged lower comes | The cap, the lesser of R and N, grows by one |
-//! |---|---|---|---|
-//! | average precision's | (on above k, and 1) times the weight of k, and the weights on below k | stays | stays |
-//! | bpref's | what the places judged lower above k leave of the cap | less one for each relevant place behind k that the cap reaches | one more for each relevant place that it reaches |
-//! | counts | one more, also within each cutoff from k on | stay | stay |
+//! - Average precision's sum: a relevant place adds (on above k, and 1) times the weight of k, and
+//!   the weights on below k. Nothing else changes it.
+//! - bpref's sum: a relevant place adds what the places judged lower above k leave of the cap. A
+//!   place judged lower takes one for each relevant place behind k that the cap reaches. Where the
+//!   cap grows by one, it adds one for each relevant place that the cap reaches.
+//! - The counts: a relevant place adds one, also within each cutoff from k on. Nothing else changes
+//!   them.
 //!
 //! A place that goes is the same backwards. So `Board::regrade` looks the document up in each list
 //! of its topic, by binary search where the list's filter admits it. A filter has 32 bits for each
@@ -55,8 +66,8 @@ mod board;
 mod filters;
 mod laws;
 mod lists;
-mod marks;
 mod places;
+mod relevance;
 mod rooms;
 mod sums;
 mod topics;

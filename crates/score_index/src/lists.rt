@@ -1,24 +1,24 @@
 //! A run's ranked list on a topic, whose cell follows each change of a grade.
-ghost use Rattle.std.specs.Prelude.{◌≡◌, ◌+◌, ◌*◌, ◌<◌, ◌≤◌, All, Some, false, true, nat_lt, find, length, map, min, sum_by, vec_capacity, vec_len};
+ghost use Rattle.std.specs.Prelude.{◌≡◌, ◌+◌, ◌*◌, ◌<◌, ◌≤◌, All, Some, false, true, nat_lt, find, length, map, sum_by, vec_capacity, vec_len};
 ghost use Rattle.std.specs.List.Sorted.{IsPartitionPoint};
 ghost use Rattle.std.specs.Option.{option_copied};
 ghost use Rattle.std.specs.Ordering.{nat_cmp};
-ghost use Rattle.decimal_rank.specs.Places.{levels, place_in};
+ghost use Rattle.decimal_rank.specs.Rankings.Places.{levels, place_in};
 ghost use Rattle.qrels_view.specs.Grades.{effective_in, is_non_relevant, is_relevant};
-ghost use Rattle.score_index.specs.Kept.{AreByRun, IsRoom, listed_with, recounted, remarked, remarked_at, size_of, without};
-ghost use Rattle.score_index.specs.KeptSums.{AreSums, CanFollow, CanRemark, HasMark, is_lower_mark, is_relevant_mark, list_places};
+ghost use Rattle.score_index.specs.KeptBoards.{AreByRun, IsRoom, list_recounted, list_regraded, listed_with, remarked_at, room_size, without};
+ghost use Rattle.score_index.specs.KeptSums.{AreSums, CanFollow, CanRemark, HasRelevance, is_lower_standing, is_relevant_standing, list_places};
 ghost use Rattle.score_index.specs.Places.{cell_by};
-ghost use Rattle.score_index.specs.Scores.{is_of, list_steps};
+ghost use Rattle.score_index.specs.Scores.{is_of_run, list_steps};
 
 use crate::filters::{Filter, admit_all};
-use crate::marks::{Mark, mark_of};
+use crate::relevance::{Relevance, mark_of};
 use crate::rooms::Room;
-use crate::sums::{Sums, cell_from, follow_cap, follow_counts, no_sums, put_mark, remark};
+use crate::sums::{Sums, cap_of, cell_from, follow_cap, follow_counts, no_sums, put_mark, remark};
 use crate::trees::Trees;
 use decimal_rank::{DocId, Ranking, Steps};
 use depth_pool::RunId;
 use measures::Cell;
-use qrels_view::View;
+use qrels_view::{Counts, View};
 use std::cmp::Ordering;
 use std::marker::Model;
 use std::sync::ledger::{Blank, Ledger};
@@ -31,8 +31,7 @@ use std::sync::ledger::{Blank, Ledger};
 #[derive(Drop)]
 pub(crate) struct RunList {
     filter: Filter,
-    rel: u32,
-    low: u32,
+    counts: Counts,
     cell: Cell,
     sums: Sums,
     trees: Trees,
@@ -52,32 +51,35 @@ impl Model for RunList {
       docs = list.ranking;
       relevant = list.trees.relevant;
       lower = list.trees.lower;
-      rel = list.rel;
-      low = list.low;
+      rel = list.counts.relevant;
+      low = list.counts.non_relevant;
     } };
 
-    ghost invariant = { λ list. IsScoredList list.ranking list.filter list.trees list.sums list.rel list.low list.cell };
+    ghost invariant = { λ list. IsScoredList list.ranking list.filter list.trees list.sums
+        list.counts.relevant list.counts.non_relevant list.cell };
 }
 
 impl RunList {
-    // The list of a run in a room for it, with the grades of a view, where the topic has these counts.
+    // The list of a run in a room for it, with the grades of a view, where the topic has these
+    // counts.
     pub(crate) fn listed<L: Ledger>(
         run: RunId,
         ranking: Ranking,
         room: Room,
         view: &View,
         level: u8,
-        counts: (u32, u32),
+        counts: Counts,
         blank: Blank,
     ) -> RunList
         requires name { blank.name ≡ L.name }
         requires parts { blank.parts ≡ L.parts }
         requires some { 0 < L.parts }
         requires room { IsRoom room.trees }
-        requires as_many { size_of room ≡ length ranking }
-        requires few { counts.0 ≤ 268435456 }
-        requires few_lower { counts.1 ≤ 268435456 }
-        ensures { result ≡ listed_with level view.now.graded run ranking counts.0 counts.1 }
+        requires as_many { room_size room ≡ length ranking }
+        requires few { counts.relevant ≤ 268435456 }
+        requires few_lower { counts.non_relevant ≤ 268435456 }
+        ensures { result
+            ≡ listed_with level view.now.graded run ranking counts.relevant counts.non_relevant }
     {
         let mut steps = Steps::<L>::new(blank);
         let mut filter = room.filter;
@@ -88,18 +90,17 @@ impl RunList {
             &ranking,
             view,
             level,
-            counts.0.min(counts.1),
+            cap_of(counts),
             &mut steps,
         );
-        let cell = cell_from(&trees, sums, counts.0, counts.1, &mut steps);
+        let cell = cell_from(&trees, sums, counts, &mut steps);
         RunList {
             run,
             ranking,
             filter,
             trees,
             sums,
-            rel: counts.0,
-            low: counts.1,
+            counts,
             cell,
         }
     }
@@ -108,15 +109,17 @@ impl RunList {
     pub(crate) fn regrade<L: Ledger>(
         &mut self,
         doc: DocId,
-        old: Mark,
-        new: Mark,
-        counts: (u32, u32),
+        old: Relevance,
+        new: Relevance,
+        counts: Counts,
         steps: &mut Steps<L>,
     )
-        requires can { CanRemark doc (is_relevant_mark old) (is_lower_mark old) counts.0 counts.1 self.old }
-        requires few { counts.0 ≤ 268435456 }
-        requires few_lower { counts.1 ≤ 268435456 }
-        ensures list { self.new ≡ remarked doc (is_relevant_mark new) (is_lower_mark new) counts.0 counts.1 self.old }
+        requires can { CanRemark doc (is_relevant_standing old)
+            (is_lower_standing old) counts.relevant counts.non_relevant self.old }
+        requires few { counts.relevant ≤ 268435456 }
+        requires few_lower { counts.non_relevant ≤ 268435456 }
+        ensures list { self.new ≡ list_regraded doc (is_relevant_standing new)
+            (is_lower_standing new) counts.relevant counts.non_relevant self.old }
         ensures cost { steps.new ≤ steps.old + 20 * (levels (length self.old.docs) + 1) }
     {
         match self.place_of(doc, steps) {
@@ -140,40 +143,32 @@ impl RunList {
     fn remark<L: Ledger>(
         &mut self,
         place: u32,
-        marks: (Mark, Mark),
-        counts: (u32, u32),
+        marks: (Relevance, Relevance),
+        counts: Counts,
         steps: &mut Steps<L>,
     )
-        requires mark { HasMark (Some place) marks.0 (list_places self.old) }
-        requires counts { CanFollow counts.0 counts.1 self.old }
-        ensures list { self.new ≡ remarked_at (Some place) (is_relevant_mark marks.1) (is_lower_mark marks.1) counts.0 counts.1 self.old }
+        requires mark { HasRelevance (Some place) marks.0 (list_places self.old) }
+        requires counts { CanFollow counts.relevant counts.non_relevant self.old }
+        ensures list { self.new ≡ remarked_at (Some place) (is_relevant_standing marks.1)
+            (is_lower_standing marks.1) counts.relevant counts.non_relevant self.old }
         ensures cost { steps.new ≤ steps.old + 14 * (levels (length self.old.docs) + 1) }
     {
-        let caps = (self.rel.min(self.low), counts.0.min(counts.1));
+        let caps = (cap_of(self.counts), cap_of(counts));
         self.sums = remark(&mut self.trees, self.sums, place, marks, caps, steps);
-        self.rel = counts.0;
-        self.low = counts.1;
-        self.cell = cell_from(&self.trees, self.sums, counts.0, counts.1, steps);
+        self.counts = counts;
+        self.cell = cell_from(&self.trees, self.sums, counts, steps);
     }
 
     // Follows the counts of the topic, where another document's mark changed.
-    fn follow<L: Ledger>(&mut self, counts: (u32, u32), steps: &mut Steps<L>)
-        requires counts { CanFollow counts.0 counts.1 self.old }
-        ensures list { self.new ≡ recounted counts.0 counts.1 self.old }
+    fn follow<L: Ledger>(&mut self, counts: Counts, steps: &mut Steps<L>)
+        requires counts { CanFollow counts.relevant counts.non_relevant self.old }
+        ensures list { self.new ≡ list_recounted counts.relevant counts.non_relevant self.old }
         ensures cost { steps.new ≤ steps.old + 3 * (levels (length self.old.docs) + 1) }
     {
-        let caps = (self.rel.min(self.low), counts.0.min(counts.1));
-        follow_cap(&self.trees, &mut self.sums, caps.0, caps.1, steps);
-        self.rel = counts.0;
-        self.low = counts.1;
-        follow_counts(
-            &self.trees,
-            &self.sums,
-            &mut self.cell,
-            counts.0,
-            counts.1,
-            steps,
-        );
+        let before = cap_of(self.counts);
+        follow_cap(&self.trees, &mut self.sums, before, cap_of(counts), steps);
+        self.counts = counts;
+        follow_counts(&self.trees, &self.sums, &mut self.cell, counts, steps);
     }
 
     pub(crate) fn cell(&self) -> &Cell
@@ -184,7 +179,7 @@ impl RunList {
 }
 
 fn is_of(list: &RunList, run: RunId) -> bool
-    ensures { result ≡ is_of run list.now }
+    ensures { result ≡ is_of_run run list.now }
 {
     list.run.0 == run.0
 }
@@ -199,7 +194,7 @@ fn order_of(list: &RunList, run: RunId) -> Ordering
 // The list of a run, among lists by run.
 pub(crate) fn list_of(lists: &[RunList], run: RunId) -> Option<&RunList>
     requires { AreByRun lists.now }
-    ensures { option_copied result ≡ find (is_of run) lists.now }
+    ensures { option_copied result ≡ find (is_of_run run) lists.now }
 {
     match lists.binary_search_by(|list| order_of(list, run)) {
         Ok(place) => Some(&lists[place]),
@@ -218,7 +213,8 @@ fn is_before(list: &RunList, run: RunId) -> bool
 pub(crate) fn place_for(lists: &[RunList], run: RunId) -> usize
     requires { AreByRun lists.now }
     ensures within { result ≤ length lists.now }
-    ensures place { IsPartitionPoint (λ list. nat_lt list.run.0 run.0 ≡ true) (λ list. nat_lt list.run.0 run.0 ≡ false) lists.now result }
+    ensures place { IsPartitionPoint (λ list. nat_lt list.run.0 run.0 ≡ true)
+        (λ list. nat_lt list.run.0 run.0 ≡ false) lists.now result }
 {
     lists.partition_point(|list| is_before(list, run))
 }
@@ -236,15 +232,17 @@ pub(crate) fn drop_lists(lists: &mut Vec<RunList>, run: RunId)
 pub(crate) fn regrade_lists<L: Ledger>(
     lists: &mut [RunList],
     doc: DocId,
-    old: Mark,
-    new: Mark,
-    counts: (u32, u32),
+    old: Relevance,
+    new: Relevance,
+    counts: Counts,
     steps: &mut Steps<L>,
 )
-    requires can { All (CanRemark doc (is_relevant_mark old) (is_lower_mark old) counts.0 counts.1) lists.old }
-    requires few { counts.0 ≤ 268435456 }
-    requires few_lower { counts.1 ≤ 268435456 }
-    ensures lists { lists.new ≡ map (remarked doc (is_relevant_mark new) (is_lower_mark new) counts.0 counts.1) lists.old }
+    requires can { All (CanRemark doc (is_relevant_standing old)
+        (is_lower_standing old) counts.relevant counts.non_relevant) lists.old }
+    requires few { counts.relevant ≤ 268435456 }
+    requires few_lower { counts.non_relevant ≤ 268435456 }
+    ensures lists { lists.new ≡ map (list_regraded doc (is_relevant_standing new)
+        (is_lower_standing new) counts.relevant counts.non_relevant) lists.old }
     ensures cost { steps.new ≤ steps.old + sum_by (λ list. list_steps (Some list.docs)) lists.old }
 {
     for list in lists.iter_mut() {
@@ -264,8 +262,10 @@ fn mark_places<L: Ledger>(
     requires room { IsRoom trees.old }
     requires as_many { length trees.old.relevant ≡ length ranking.now }
     requires few { cap ≤ 268435456 }
-    ensures relevant { trees.new.relevant ≡ map (λ doc. is_relevant level (effective_in view.now.graded doc)) ranking.now }
-    ensures lower { trees.new.lower ≡ map (λ doc. is_non_relevant level (effective_in view.now.graded doc)) ranking.now }
+    ensures relevant { trees.new.relevant
+        ≡ map (λ doc. is_relevant level (effective_in view.now.graded doc)) ranking.now }
+    ensures lower { trees.new.lower
+        ≡ map (λ doc. is_non_relevant level (effective_in view.now.graded doc)) ranking.now }
     ensures sums { AreSums cap trees.new result }
 {
     // trees tell with their length that they are as long as one another

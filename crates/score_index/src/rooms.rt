@@ -1,6 +1,6 @@
 //! Room for lists, so that each is added without memory.
 ghost use Rattle.std.specs.Prelude.{◌≡◌, ℕ, ◌+◌, ◌-◌, ◌<◌, ◌≤◌, ◌==◌, if◌then◌else◌, All, IfOk, false, count_by, length, map, position, replicate};
-ghost use Rattle.score_index.specs.Kept.{IsRoom, size_of};
+ghost use Rattle.score_index.specs.KeptBoards.{IsRoom, room_size};
 
 use crate::filters::Filter;
 use crate::trees::Trees;
@@ -29,12 +29,13 @@ impl Room {
 
 // Takes a room for a list of this length out.
 pub(crate) fn take_room(rooms: &mut Vec<Room>, len: usize) -> Room
-    requires room { 0 < count_by (λ room. room == len) (map size_of rooms.old.items) }
+    requires room { 0 < count_by (λ room. room == len) (map room_size rooms.old.items) }
     requires fresh { All (λ room. IsRoom room.trees) rooms.old.items }
-    ensures room { size_of result ≡ len }
+    ensures room { room_size result ≡ len }
     ensures is_room { IsRoom result.trees }
-    ensures rooms { (other : ℕ) → count_by (λ room. room == other) (map size_of rooms.new.items)
-        ≡ count_by (λ room. room == other) (map size_of rooms.old.items) - (if len == other then 1 else 0) }
+    ensures rooms { (other : ℕ) → count_by (λ room. room == other) (map room_size rooms.new.items)
+        ≡ count_by (λ room. room == other) (map room_size rooms.old.items) -
+        (if len == other then 1 else 0) }
     ensures fresh { All (λ room. IsRoom room.trees) rooms.new.items }
     ensures one { length rooms.new.items + 1 ≡ length rooms.old.items }
 {
@@ -44,7 +45,7 @@ pub(crate) fn take_room(rooms: &mut Vec<Room>, len: usize) -> Room
 
 // The place of the first room for a list of this length.
 fn room_for(rooms: &[Room], len: usize) -> Option<usize>
-    ensures { result ≡ position (λ room. size_of room == len) rooms.now }
+    ensures { result ≡ position (λ room. room_size room == len) rooms.now }
 {
     rooms
         .iter()

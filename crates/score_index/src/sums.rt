@@ -1,23 +1,24 @@
-//! The sums of a list, from which its cell is taken. They follow each place that becomes relevant or
-//! judged lower, or no longer is, and the cap of the topic, which moves by one at a time.
+//! The sums of a list, from which its cell is taken. They follow each place that becomes relevant
+//! or judged lower, or no longer is, and the cap of the topic, which moves by one at a time.
 ghost use Rattle.std.specs.Prelude.{◌≡◌, ℕ, ◌+◌, ◌-◌, ◌*◌, ◌<◌, ◌≤◌, ◌&&◌, Some, false, true, if◌then◌else◌, length, map, min, nat_le, nat_eq, not, slice_index, slice_set, take};
-ghost use Rattle.decimal_rank.specs.Places.{levels};
+ghost use Rattle.decimal_rank.specs.Rankings.Places.{levels};
 ghost use Rattle.measures.specs.Cells.{cutoffs};
 ghost use Rattle.qrels_view.specs.Grades.{as_number};
-ghost use Rattle.score_index.specs.KeptSums.{AreNear, AreSums, HasMark, IsAt, is_lower_mark, is_relevant_mark, with_lower, with_relevant};
-ghost use Rattle.rank_trees.specs.Marks.{count_on};
-ghost use Rattle.score_index.specs.Kept.{IsRoom};
+ghost use Rattle.score_index.specs.KeptSums.{AreNear, AreSums, HasRelevance, IsOnAt, is_lower_standing, is_relevant_standing, with_lower, with_relevant};
+ghost use Rattle.rank_trees.specs.PlacesOn.{count_on};
+ghost use Rattle.score_index.specs.KeptBoards.{IsRoom};
 ghost use Rattle.score_index.specs.Places.{Places, cell_by, first_from};
-ghost use Rattle.score_index.specs.declared.marks.Mark.TheVariants.{Unjudged};
+ghost use Rattle.score_index.specs.declared.relevance.Relevance.TheVariants.{Unjudged};
 
-use crate::marks::Mark;
+use crate::relevance::Relevance;
 use crate::trees::Trees;
 use decimal_rank::Steps;
 use measures::{CUTOFFS, Cell, bpref_den};
+use qrels_view::Counts;
 use std::sync::ledger::Ledger;
 
-// How many places are relevant, in all and within each cutoff; the sum of precisions; and the sum of
-// what each relevant place has left of the cap.
+// How many places are relevant, in all and within each cutoff; the sum of precisions; and the sum
+// of what each relevant place has left of the cap.
 #[derive(Clone, Copy, Debug)]
 pub(crate) struct Sums {
     pub(crate) rel_ret: u32,
@@ -26,9 +27,17 @@ pub(crate) struct Sums {
     pub(crate) preferences: u64,
 }
 
+// The cap of a topic with these counts.
+pub(crate) fn cap_of(counts: Counts) -> u32
+    ensures { result ≡ min counts.relevant counts.non_relevant }
+{
+    counts.relevant.min(counts.non_relevant)
+}
+
 // The sums of a list of which nothing is judged.
 pub(crate) fn no_sums() -> Sums
-    ensures { (cap : ℕ) (places : Places) → IsRoom places → length places.relevant ≤ 1000 → AreSums cap places result }
+    ensures { (cap : ℕ) (places : Places) → IsRoom places → length places.relevant ≤ 1000
+        → AreSums cap places result }
 {
     Sums {
         rel_ret: 0,
@@ -47,7 +56,7 @@ fn moved_relevant<L: Ledger>(
     cap: u32,
     steps: &mut Steps<L>,
 ) -> Sums
-    requires off { IsAt (Some place) false trees.now.relevant }
+    requires off { IsOnAt (Some place) false trees.now.relevant }
     requires few { cap ≤ 268435456 }
     requires sums { AreSums cap (with_relevant place (not on) trees.now) sums }
     ensures sums { AreSums cap (with_relevant place on trees.now) result }
@@ -81,7 +90,7 @@ fn moved_lower<L: Ledger>(
     cap: u32,
     steps: &mut Steps<L>,
 ) -> Sums
-    requires on { IsAt (Some place) true trees.now.lower }
+    requires on { IsOnAt (Some place) true trees.now.lower }
     requires few { cap ≤ 268435456 }
     requires sums { AreSums cap (with_lower place (not on) trees.now) sums }
     ensures sums { AreSums cap (with_lower place on trees.now) result }
@@ -144,7 +153,8 @@ fn with_preferences(sums: Sums, preferences: u64) -> Sums
 // A count within a cutoff after a place is counted, or no longer is, where it is within it.
 fn moved_count(count: u32, place: u32, cutoff: u32, on: bool) -> u32
     requires { count ≤ 1000 }
-    ensures { result ≡ (if on then count + as_number (nat_le place cutoff) else count - as_number (nat_le place cutoff)) }
+    ensures { result ≡ (if on then count + as_number (nat_le place cutoff) else count - as_number
+        (nat_le place cutoff)) }
 {
     let here = u32::from(place <= cutoff);
     if on {
@@ -156,7 +166,9 @@ fn moved_count(count: u32, place: u32, cutoff: u32, on: bool) -> u32
 // The counts within all cutoffs after that.
 fn moved_counts(at: [u32; 9], place: u32, on: bool) -> [u32; 9]
     requires { (i : ℕ) → i < 9 → slice_index at i ≤ 1000 }
-    ensures { (counts : ℕ → ℕ) → at ≡ map (λ k. counts k + as_number (not on && nat_le place k)) cutoffs → result ≡ map (λ k. counts k + as_number (on && nat_le place k)) cutoffs }
+    ensures { (counts : ℕ → ℕ)
+        → at ≡ map (λ k. counts k + as_number (not on && nat_le place k)) cutoffs
+        → result ≡ map (λ k. counts k + as_number (on && nat_le place k)) cutoffs }
 {
     [
         moved_count(at[0], place, CUTOFFS[0], on),
@@ -176,11 +188,11 @@ pub(crate) fn take_mark<L: Ledger>(
     trees: &mut Trees,
     sums: Sums,
     place: u32,
-    mark: Mark,
+    mark: Relevance,
     cap: u32,
     steps: &mut Steps<L>,
 ) -> Sums
-    requires mark { HasMark (Some place) mark trees.old }
+    requires mark { HasRelevance (Some place) mark trees.old }
     requires few { cap ≤ 268435456 }
     requires sums { AreSums cap trees.old sums }
     ensures relevant { trees.new.relevant ≡ slice_set trees.old.relevant (place - 1) false }
@@ -189,16 +201,16 @@ pub(crate) fn take_mark<L: Ledger>(
     ensures cost { steps.new ≤ steps.old + 5 * (levels (length trees.old.relevant) + 1) }
 {
     match mark {
-        Mark::Relevant => {
+        Relevance::Relevant => {
             trees.set_relevant(place, false, steps);
             moved_relevant(trees, sums, place, false, cap, steps)
         }
-        Mark::Lower => {
+        Relevance::Lower => {
             let taken = moved_lower(trees, sums, place, false, cap, steps);
             trees.set_lower(place, false, steps);
             taken
         }
-        Mark::Unjudged => sums,
+        Relevance::Unjudged => sums,
     }
 }
 
@@ -207,29 +219,31 @@ pub(crate) fn put_mark<L: Ledger>(
     trees: &mut Trees,
     sums: Sums,
     place: u32,
-    mark: Mark,
+    mark: Relevance,
     cap: u32,
     steps: &mut Steps<L>,
 ) -> Sums
-    requires unjudged { HasMark (Some place) Unjudged trees.old }
+    requires unjudged { HasRelevance (Some place) Unjudged trees.old }
     requires few { cap ≤ 268435456 }
     requires sums { AreSums cap trees.old sums }
-    ensures relevant { trees.new.relevant ≡ slice_set trees.old.relevant (place - 1) (is_relevant_mark mark) }
-    ensures lower { trees.new.lower ≡ slice_set trees.old.lower (place - 1) (is_lower_mark mark) }
+    ensures relevant { trees.new.relevant
+        ≡ slice_set trees.old.relevant (place - 1) (is_relevant_standing mark) }
+    ensures lower { trees.new.lower
+        ≡ slice_set trees.old.lower (place - 1) (is_lower_standing mark) }
     ensures sums { AreSums cap trees.new result }
     ensures cost { steps.new ≤ steps.old + 5 * (levels (length trees.old.relevant) + 1) }
 {
     match mark {
-        Mark::Relevant => {
+        Relevance::Relevant => {
             let put = moved_relevant(trees, sums, place, true, cap, steps);
             trees.set_relevant(place, true, steps);
             put
         }
-        Mark::Lower => {
+        Relevance::Lower => {
             trees.set_lower(place, true, steps);
             moved_lower(trees, sums, place, true, cap, steps)
         }
-        Mark::Unjudged => sums,
+        Relevance::Unjudged => sums,
     }
 }
 
@@ -238,15 +252,17 @@ pub(crate) fn remark<L: Ledger>(
     trees: &mut Trees,
     sums: Sums,
     place: u32,
-    marks: (Mark, Mark),
+    marks: (Relevance, Relevance),
     caps: (u32, u32),
     steps: &mut Steps<L>,
 ) -> Sums
-    requires mark { HasMark (Some place) marks.0 trees.old }
+    requires mark { HasRelevance (Some place) marks.0 trees.old }
     requires caps { AreNear caps.0 caps.1 }
     requires sums { AreSums caps.0 trees.old sums }
-    ensures relevant { trees.new.relevant ≡ slice_set trees.old.relevant (place - 1) (is_relevant_mark marks.1) }
-    ensures lower { trees.new.lower ≡ slice_set trees.old.lower (place - 1) (is_lower_mark marks.1) }
+    ensures relevant { trees.new.relevant
+        ≡ slice_set trees.old.relevant (place - 1) (is_relevant_standing marks.1) }
+    ensures lower { trees.new.lower
+        ≡ slice_set trees.old.lower (place - 1) (is_lower_standing marks.1) }
     ensures sums { AreSums caps.1 trees.new result }
     ensures cost { steps.new ≤ steps.old + 12 * (levels (length trees.old.relevant) + 1) }
 {
@@ -255,23 +271,23 @@ pub(crate) fn remark<L: Ledger>(
     with_cap(trees, put, caps.0, caps.1, steps)
 }
 
-// The cell of a list whose topic has `relevant` relevant documents and `lower` that are judged lower.
+// The cell of a list whose topic has these counts.
 pub(crate) fn cell_from<L: Ledger>(
     trees: &Trees,
     sums: Sums,
-    relevant: u32,
-    lower: u32,
+    counts: Counts,
     steps: &mut Steps<L>,
 ) -> Cell
-    requires few { relevant ≤ 268435456 }
-    requires few_lower { lower ≤ 268435456 }
-    requires sums { AreSums (min relevant lower) trees.now sums }
-    ensures cell { result ≡ cell_by trees.now.relevant trees.now.lower relevant lower }
+    requires few { counts.relevant ≤ 268435456 }
+    requires few_lower { counts.non_relevant ≤ 268435456 }
+    requires sums { AreSums (min counts.relevant counts.non_relevant) trees.now sums }
+    ensures cell { result
+        ≡ cell_by trees.now.relevant trees.now.lower counts.relevant counts.non_relevant }
     ensures cost { steps.new ≤ steps.old + 2 * (levels (length trees.now.relevant) + 1) }
 {
-    let r_prec = trees.relevant_to(relevant, sums.rel_ret, steps);
+    let r_prec = trees.relevant_to(counts.relevant, sums.rel_ret, steps);
     let first = trees.first_relevant(steps);
-    cell_with(trees, sums, r_prec, first, relevant, lower)
+    cell_with(trees, sums, r_prec, first, counts)
 }
 
 // Has the cell of a list whose places stay follow the topic's counts, of which that of the relevant
@@ -280,22 +296,23 @@ pub(crate) fn follow_counts<L: Ledger>(
     trees: &Trees,
     sums: &Sums,
     cell: &mut Cell,
-    relevant: u32,
-    lower: u32,
+    counts: Counts,
     steps: &mut Steps<L>,
 )
-    requires near { AreNear cell.old.rel relevant }
-    requires few_lower { lower ≤ 268435456 }
-    requires sums { AreSums (min relevant lower) trees.now sums.now }
-    requires cell { (rel : ℕ) × (low : ℕ) × (cell.old ≡ cell_by trees.now.relevant trees.now.lower rel low) }
-    ensures cell { cell.new ≡ cell_by trees.now.relevant trees.now.lower relevant lower }
+    requires near { AreNear cell.old.rel counts.relevant }
+    requires few_lower { counts.non_relevant ≤ 268435456 }
+    requires sums { AreSums (min counts.relevant counts.non_relevant) trees.now sums.now }
+    requires cell { (rel : ℕ) × (low : ℕ)
+        × (cell.old ≡ cell_by trees.now.relevant trees.now.lower rel low) }
+    ensures cell { cell.new
+        ≡ cell_by trees.now.relevant trees.now.lower counts.relevant counts.non_relevant }
     ensures cost { steps.new ≤ steps.old + 1 }
 {
-    let r_prec = moved_r_prec(trees, cell.r_prec, cell.rel, relevant, steps);
-    cell.rel = relevant;
+    let r_prec = moved_r_prec(trees, cell.r_prec, cell.rel, counts.relevant, steps);
+    cell.rel = counts.relevant;
     cell.r_prec = r_prec;
-    cell.bpref_num = bpref_num(sums, relevant, lower);
-    cell.bpref_den = bpref_den(relevant, lower);
+    cell.bpref_num = bpref_num(sums, counts);
+    cell.bpref_den = bpref_den(counts.relevant, counts.non_relevant);
 }
 
 // How many of so many first places are relevant, after that number moved by one at most.
@@ -321,34 +338,36 @@ fn moved_r_prec<L: Ledger>(
     r_prec
 }
 
-fn cell_with(trees: &Trees, sums: Sums, r_prec: u32, first: u32, relevant: u32, lower: u32) -> Cell
-    requires few { relevant ≤ 268435456 }
-    requires few_lower { lower ≤ 268435456 }
-    requires sums { AreSums (min relevant lower) trees.now sums }
-    requires r_prec { r_prec ≡ count_on (take relevant trees.now.relevant) }
+fn cell_with(trees: &Trees, sums: Sums, r_prec: u32, first: u32, counts: Counts) -> Cell
+    requires few { counts.relevant ≤ 268435456 }
+    requires few_lower { counts.non_relevant ≤ 268435456 }
+    requires sums { AreSums (min counts.relevant counts.non_relevant) trees.now sums }
+    requires r_prec { r_prec ≡ count_on (take counts.relevant trees.now.relevant) }
     requires first { first ≡ first_from 1 trees.now.relevant }
-    ensures cell { result ≡ cell_by trees.now.relevant trees.now.lower relevant lower }
+    ensures cell { result
+        ≡ cell_by trees.now.relevant trees.now.lower counts.relevant counts.non_relevant }
 {
     Cell {
         ret: trees.len(),
-        rel: relevant,
+        rel: counts.relevant,
         rel_ret: sums.rel_ret,
         at: sums.at,
         r_prec,
         first,
         ap_sum: sums.ap_sum,
-        bpref_num: bpref_num(&sums, relevant, lower),
-        bpref_den: bpref_den(relevant, lower),
+        bpref_num: bpref_num(&sums, counts),
+        bpref_den: bpref_den(counts.relevant, counts.non_relevant),
     }
 }
 
-fn bpref_num(sums: &Sums, relevant: u32, lower: u32) -> u64
-    ensures { result ≡ (if nat_eq relevant 0 then 0 else (if nat_eq (min relevant lower) 0 then sums.now.rel_ret else sums.now.preferences)) }
+fn bpref_num(sums: &Sums, counts: Counts) -> u64
+    ensures { result ≡ (if nat_eq counts.relevant 0 then 0 else (if nat_eq (min counts.relevant
+        counts.non_relevant) 0 then sums.now.rel_ret else sums.now.preferences)) }
 {
-    if relevant == 0 {
+    if counts.relevant == 0 {
         return 0;
     }
-    if relevant.min(lower) == 0 {
+    if cap_of(counts) == 0 {
         return u64::from(sums.rel_ret);
     }
     sums.preferences

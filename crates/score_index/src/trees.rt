@@ -1,9 +1,9 @@
 //! The places of a list as trees: which are relevant, which are judged lower, and what the relevant
 //! ones weigh.
 ghost use Rattle.std.specs.Prelude.{◌≡◌, ◌+◌, ◌-◌, ◌*◌, ◌≤◌, ◌<◌, false, IfOk, length, replicate, slice_set, take};
-ghost use Rattle.decimal_rank.specs.Places.{levels};
-ghost use Rattle.rank_trees.specs.Marks.{count_on};
-ghost use Rattle.score_index.specs.Places.{first_from, precision_gain, reached};
+ghost use Rattle.decimal_rank.specs.Rankings.Places.{levels};
+ghost use Rattle.rank_trees.specs.PlacesOn.{count_on};
+ghost use Rattle.score_index.specs.Places.{cap_reached_places, first_from, precision_gain};
 
 use decimal_rank::{Memory, Steps, weight};
 use rank_trees::{CountTree, WeightTree};
@@ -28,7 +28,8 @@ impl Model for Trees {
 
     ghost view = { λ trees. record { relevant = trees.relevant; lower = trees.lower } };
 
-    ghost invariant = { λ trees. (trees.len ≤ 1000) × (length trees.relevant ≡ trees.len) × (length trees.lower ≡ trees.len) × (trees.weights ≡ trees.relevant) };
+    ghost invariant = { λ trees. (trees.len ≤ 1000) × (length trees.relevant ≡ trees.len)
+        × (length trees.lower ≡ trees.len) × (trees.weights ≡ trees.relevant) };
 }
 
 impl Trees {
@@ -99,11 +100,11 @@ impl Trees {
         u64::from(cap.saturating_sub(self.lower.below(place, steps)))
     }
 
-    // How many relevant places, of which there are `all`, have at most the cap of places judged lower
-    // above them.
+    // How many relevant places, of which there are `all`, have at most the cap of places judged
+    // lower above them.
     pub(crate) fn reached<L: Ledger>(&self, cap: u32, all: u32, steps: &mut Steps<L>) -> u32
         requires { all ≡ count_on self.now.relevant }
-        ensures reached { result ≡ reached cap 0 self.now.relevant self.now.lower }
+        ensures reached { result ≡ cap_reached_places cap 0 self.now.relevant self.now.lower }
         ensures few { result ≤ 1000 }
         ensures cost { steps.new ≤ steps.old + 2 * (levels (length self.now.relevant) + 1) }
     {
@@ -123,14 +124,17 @@ impl Trees {
     ) -> u64
         requires within { place ≤ length self.now.relevant }
         requires all { all ≡ count_on self.now.relevant }
-        ensures reached { result ≡ reached cap 0 self.now.relevant self.now.lower - count_on (take place self.now.relevant) }
+        ensures reached { result
+            ≡ cap_reached_places cap 0 self.now.relevant self.now.lower - count_on
+            (take place self.now.relevant) }
         ensures cost { steps.new ≤ steps.old + 3 * (levels (length self.now.relevant) + 1) }
     {
         let reached = self.reached(cap, all, steps);
         u64::from(reached.saturating_sub(self.relevant.below(place + 1, steps)))
     }
 
-    // How many of the first places are relevant, where `all` are: past the last place these are all.
+    // How many of the first places are relevant, where `all` are: past the last place these are
+    // all.
     pub(crate) fn relevant_to<L: Ledger>(&self, rank: u32, all: u32, steps: &mut Steps<L>) -> u32
         requires { all ≡ count_on self.now.relevant }
         ensures count { result ≡ count_on (take rank self.now.relevant) }
@@ -145,7 +149,8 @@ impl Trees {
     // How many relevant places have this rank: 1, or none.
     pub(crate) fn relevant_at<L: Ledger>(&self, rank: u32, steps: &mut Steps<L>) -> u32
         requires { 1 ≤ rank }
-        ensures more { count_on (take rank self.now.relevant) ≡ count_on (take (rank - 1) self.now.relevant) + result }
+        ensures more { count_on (take rank self.now.relevant)
+            ≡ count_on (take (rank - 1) self.now.relevant) + result }
         ensures one { result ≤ 1 }
         ensures cost { steps.new ≤ steps.old + 1 }
     {

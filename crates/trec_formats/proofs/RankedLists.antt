@@ -1,8 +1,8 @@
 -- The lines of a run by topic, and the documents of each topic by rank.
 pub mod CountIn
-pub mod Grouping
+pub mod TopicGroups
 pub mod KeptDocnos
-pub mod Listing
+pub mod GroupLists
 pub mod NewestPlace
-pub mod Ranked
+pub mod RankOrder
 pub mod TopicOrder

@@ -1,5 +1,5 @@
 -- Which lines name one document of a topic.
-pub mod Differing
+pub mod DifferentDocuments
 pub mod JudgedLines
 pub mod Repeats
-pub mod Viewed
+pub mod ShownLines

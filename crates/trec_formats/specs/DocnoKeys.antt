@@ -1,8 +1,8 @@
 -- The keys of docnos in a table: equal docnos have equal keys.
 use Rattle.std.specs.Prelude.{ℕ, zero, suc, ◌+◌, ◌-◌, ◌*◌, ◌/◌, ◌%◌, ◌^◌, if◌then◌else◌, List, [], ◌∷◌, length, nat_le, nat_lt, slice_index}
 use Rattle.std.specs.Int.{from_le_bytes, w32}
-use Rattle.decimal_rank.specs.TextKeys.{text_key}
-use Rattle.trec_formats.specs.declared.document_keys.DocumentKeys.{DocumentKeys}
+use Rattle.decimal_rank.specs.Tables.TextKeys.{text_key}
+use Rattle.trec_formats.specs.declared.documents.document_keys.DocumentKeys.{DocumentKeys}
 
 abbrev pub word : ℕ → ℕ → ℕ → ℕ → ℕ
 word a b c d = from_le_bytes w32 (a ∷ b ∷ c ∷ d ∷ [])

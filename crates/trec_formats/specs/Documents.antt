@@ -1,8 +1,8 @@
 -- Lines that name documents of topics, and the keys of documents.
 use Rattle.std.specs.Prelude.{◌≡◌, ℕ, ◌+◌, ◌%◌, ◌^◌, ◌&&◌, Bool, List, map, bytes_eq}
-use Rattle.decimal_rank.specs.Buckets.{Buckets}
-use Rattle.decimal_rank.specs.TextKeys.{text_key}
-use Rattle.trec_formats.specs.declared.document_keys.DocumentKeys.{DocumentKeys}
+use Rattle.decimal_rank.specs.Tables.Buckets.{Buckets}
+use Rattle.decimal_rank.specs.Tables.TextKeys.{text_key}
+use Rattle.trec_formats.specs.declared.documents.document_keys.DocumentKeys.{DocumentKeys}
 use Rattle.trec_formats.specs.DocnoKeys.{docno_key}
 
 -- whether a line names a document

@@ -16,7 +16,8 @@ Stand read rows lines = map read rows ≡ map (λ line. Ok line) lines
 
 -- The row is the first with a fault, of this kind. The rows before it stand for good lines.
 -- `next lines row` is what the row is read as behind these lines.
-pub record IsFirstFault {X L : Type 0} (Good : List (ℕ × X) → List L → Type 0) (next : List L → ℕ × X → Result L Kind) (rows : List (ℕ × X)) (fault : FormatFault) : Type 0 where
+pub record IsFirstFault {X L : Type 0} (Good : List (ℕ × X) → List L → Type 0) (next : List L → ℕ × X → Result L Kind)
+    (rows : List (ℕ × X)) (fault : FormatFault) : Type 0 where
   pub before : List (ℕ × X)
   pub row : ℕ × X
   pub after : List (ℕ × X)

@@ -1,9 +1,13 @@
 -- A text as numbered lines of fields.
 use Rattle.std.specs.Prelude.{◌==◌, ℕ, Bool, true, false, if◌then◌else◌, ◌||◌, List, [], ◌∷◌, map, filter}
 use Rattle.std.specs.List.{slice_split, onto_first, enumerate_from}
+use Rattle.decimal_rank.specs.Bytes.{carriage_return, form_feed, line_feed, space, tab, vertical_tab}
 
 abbrev pub is_white_space : ℕ → Bool
-is_white_space b = b == 9 || b == 11 || b == 12 || b == 13 || b == 32
+is_white_space b = b == tab || b == vertical_tab || b == form_feed || b == carriage_return || b == space
+
+abbrev pub is_line_feed : ℕ → Bool
+is_line_feed b = b == line_feed
 
 abbrev pub is_filled : {X : Type 0} → List X → Bool
 is_filled [] = false
@@ -12,7 +16,7 @@ is_filled (_ ∷ _) = true
 -- A text is cut at each line feed. A last part that isn't empty is a line too.
 unfoldable pub lines_of : List ℕ → List (List ℕ)
 lines_of [] = []
-lines_of (b ∷ bytes) = if b == 10 then [] ∷ lines_of bytes else onto_first b (lines_of bytes)
+lines_of (b ∷ bytes) = if is_line_feed b then [] ∷ lines_of bytes else onto_first b (lines_of bytes)
 
 -- the longest stretches of bytes that are no white space
 unfoldable pub fields_of : List ℕ → List (List ℕ)

@@ -1,5 +1,5 @@
-//! A field that is to be a docno: its end is looked for among the bytes that aren't visible, so that mostly each of
-//! its bytes is read once.
+//! A field that is to be a docno: its end is looked for among the bytes that aren't visible, so
+//! that mostly each of its bytes is read once.
 ghost use Rattle.std.specs.Prelude.{◌≡◌, ◌+◌, ◌<◌, true, not, [], ◌∷◌, length, take, drop, position, IfSome, MatchOption};
 ghost use Rattle.trec_formats.specs.Lines.{fields_of};
 ghost use Rattle.trec_formats.specs.Names.{is_between, is_docno};
@@ -19,7 +19,8 @@ fn visible_end(line: &[u8]) -> Option<usize>
 fn docno_end(line: &[u8]) -> Option<usize>
     ensures within { IfSome result (λ end. end < length line.now) }
     ensures docno { IfSome result (λ end. is_docno (take end line.now) ≡ true) }
-    ensures cut { IfSome result (λ end. fields_of line.now ≡ take end line.now ∷ fields_of (drop (end + 1) line.now)) }
+    ensures cut { IfSome result
+        (λ end. fields_of line.now ≡ take end line.now ∷ fields_of (drop (end + 1) line.now)) }
 {
     let end = visible_end(line)?;
     if !has_docno_length(end) {

@@ -1,12 +1,15 @@
-//! Lines that name a document of a topic, and a table that finds them by a key of both texts, where none
-//! names the document of an earlier one.
+//! Lines that name a document of a topic, and a table that finds them by a key of both texts, where
+//! none names the document of an earlier one.
 ghost use Rattle.std.specs.Prelude.{◌≡◌, ℕ, List, find, IfOk, OnOk};
 ghost use Rattle.std.specs.Option.{option_map};
-ghost use Rattle.decimal_rank.specs.TextKeys.{text_key};
+ghost use Rattle.decimal_rank.specs.Tables.TextKeys.{text_key};
 ghost use Rattle.trec_formats.specs.Documents.{names, same_by, AreByDocument};
 ghost use Rattle.trec_formats.specs.Faults.{IsDistinct, IsTwice, IfFault};
 
-use crate::document_keys::DocumentKeys;
+pub(crate) mod docnos;
+mod document_keys;
+
+use crate::documents::document_keys::DocumentKeys;
 use crate::faults::{FormatEnd, Kind};
 use decimal_rank::{Chains, Sought, first_found};
 use std::alloc::Global;
@@ -55,14 +58,15 @@ pub(crate) struct DocumentTable {
     pub(crate) chains: Chains,
 }
 
-/// The table of lines that name different documents, or the first line that names the topic and docno of
-/// an earlier one. More lines than a table numbers are as want of memory.
+/// The table of lines that name different documents, or the first line that names the topic and
+/// docno of an earlier one. More lines than a table numbers are as want of memory.
 pub(crate) fn table_of<L: DocumentLine>(
     alloc: Global,
     lines: &[L],
 ) -> Result<DocumentTable, FormatEnd>
     ensures distinct { OnOk result (IsDistinct (same_by L.topic_of L.doc_of) lines.now) }
-    ensures found { IfOk result (λ table. AreByDocument L.topic_of L.doc_of table.keys table.chains lines.now) }
+    ensures found { IfOk result
+        (λ table. AreByDocument L.topic_of L.doc_of table.keys table.chains lines.now) }
     ensures fault { IfFault result (IsTwice (same_by L.topic_of L.doc_of) L.number_of lines.now) }
 {
     if lines.len() > MOST_LINES {
@@ -100,14 +104,15 @@ pub(crate) fn line_of<'a, L: DocumentLine>(
 ) -> Option<&'a L>
     requires found { AreByDocument L.topic_of L.doc_of table.now.keys table.now.chains lines.now }
     requires key { topic_key ≡ text_key table.now.keys.secret document.topic.now }
-    ensures { option_map (λ line. line.now) result ≡ find (names L.topic_of L.doc_of document.entry.topic.now document.entry.doc.now) lines.now }
+    ensures { option_map (λ line. line.now) result ≡ find
+        (names L.topic_of L.doc_of document.entry.topic.now document.entry.doc.now) lines.now }
 {
     let key = topic_key.wrapping_add(table.keys.of_docno(document.doc));
     first_found(&table.chains, lines, key, &document)
 }
 
-/// The key of a topic, which is at hand where it's the newest, as mostly, since the lines of a topic
-/// stand together.
+/// The key of a topic, which is at hand where it's the newest, as mostly, since the lines of a
+/// topic stand together.
 fn topic_key(keys: &DocumentKeys, newest: &[u8], newest_key: u64, topic: &[u8]) -> u64
     requires { newest_key ≡ text_key keys.now.secret newest.now }
     ensures { result ≡ text_key keys.now.secret topic.now }

@@ -1,18 +1,22 @@
 //! The lines of a text, and the fields of a line.
-ghost use Rattle.std.specs.Prelude.{◌≡◌, ◌==◌, ◌<◌, ◌≤◌, ◌+◌, List, [], ◌∷◌, length, not, position, MatchOption, IfSome};
-ghost use Rattle.trec_formats.specs.Lines.{is_white_space, is_filled, lines_of, fields_of, rows_from};
+ghost use Rattle.std.specs.Prelude.{◌≡◌, ◌<◌, ◌≤◌, ◌+◌, List, [], ◌∷◌, length, not, position, MatchOption, IfSome};
+ghost use Rattle.trec_formats.specs.Lines.{is_white_space, is_filled, is_line_feed, lines_of, fields_of, rows_from};
 
 use memchr::memchr;
+
+const VERTICAL_TAB: u8 = 11;
+
+const FORM_FEED: u8 = 12;
 
 pub(crate) fn is_white_space(byte: u8) -> bool
     ensures { result ≡ is_white_space byte }
 {
-    byte == 9 || byte == 11 || byte == 12 || byte == 13 || byte == 32
+    byte == b'\t' || byte == VERTICAL_TAB || byte == FORM_FEED || byte == b'\r' || byte == b' '
 }
 
 /// The place of the first line feed.
 pub(crate) fn line_feed(text: &[u8]) -> Option<usize>
-    ensures { result ≡ position (λ b. b == 10) text.now }
+    ensures { result ≡ position is_line_feed text.now }
 {
     memchr(b'\n', text)
 }
@@ -51,7 +55,8 @@ pub(crate) fn has_field(line: &[u8]) -> bool
 
 /// The first field of a line, and the line behind it.
 pub(crate) fn cut_field(line: &[u8]) -> Option<(&[u8], &[u8])>
-    ensures { MatchOption result (fields_of line.now ≡ []) (λ cut. fields_of line.now ≡ cut.0.now ∷ fields_of cut.1.now) }
+    ensures { MatchOption result (fields_of line.now ≡ [])
+        (λ cut. fields_of line.now ≡ cut.0.now ∷ fields_of cut.1.now) }
 {
     let line = &line[field_start(line)?..];
     match field_end(line) {
@@ -73,10 +78,12 @@ pub(crate) struct Row<'a> {
 /// The next line that has a field, in a text behind so many lines.
 pub(crate) fn next_row(before: u32, text: &[u8]) -> Option<Row<'_>>
     requires { before + length text.now ≤ 268435456 }
-    ensures row { MatchOption result (rows_from (before + 1) (lines_of text.now) ≡ []) (λ row.
-        rows_from (before + 1) (lines_of text.now) ≡ (row.number, fields_of row.line.now) ∷ rows_from (row.number + 1) (lines_of row.rest.now)) }
+    ensures row { MatchOption result (rows_from (before + 1) (lines_of text.now) ≡ [])
+        (λ row. rows_from (before + 1) (lines_of text.now) ≡ (row.number, fields_of row.line.now)
+        ∷ rows_from (row.number + 1) (lines_of row.rest.now)) }
     ensures shorter { IfSome result (λ row. length row.rest.now < length text.now) }
-    ensures fits { IfSome result (λ row. row.number + length row.rest.now ≤ before + length text.now) }
+    ensures fits { IfSome result
+        (λ row. row.number + length row.rest.now ≤ before + length text.now) }
 {
     let mut number = before;
     let mut rest = text;

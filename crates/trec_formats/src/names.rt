@@ -1,4 +1,5 @@
-//! Which fields are names (up to 32 bytes), docnos (up to 64 visible bytes) and grades (digits, up to 255).
+//! Which fields are names (up to 32 bytes), docnos (up to 64 visible bytes) and grades (digits, up
+//! to 255).
 ghost use Rattle.std.specs.Prelude.{◌≡◌};
 ghost use Rattle.std.specs.List.{list_all};
 ghost use Rattle.trec_formats.specs.Names.{is_name, is_docno, is_name_byte, is_between, grade_of};

@@ -2,16 +2,19 @@
 ghost use Rattle.std.specs.Prelude.{◌≡◌, ◌≢◌, ◌≤◌, [], ◌∷◌, length, map, Ok, Err, IfOk, MatchOption, MatchResult};
 ghost use Rattle.trec_formats.specs.Lines.{fields_of};
 ghost use Rattle.trec_formats.specs.Faults.{IfFault};
-ghost use Rattle.trec_formats.specs.LineViews.{qrel_shown};
+ghost use Rattle.trec_formats.specs.RunFormat.LineViews.{qrel_shown};
 ghost use Rattle.trec_formats.specs.Names.{is_docno};
-ghost use Rattle.trec_formats.specs.Qrels.{qrel_of, IsEachRead, IsQrels, IsQrelsFault};
+ghost use Rattle.trec_formats.specs.QrelsFormat.Qrels.{qrel_of, IsEachRead, IsQrels, IsQrelsFault};
+
+pub(crate) mod qrel_tables;
+pub(crate) mod qrels_text;
 
 use crate::docno_fields::cut_docno;
 use crate::documents::DocumentLine;
 use crate::faults::{FormatEnd, Kind};
 use crate::lines::{cut_field, next_row};
 use crate::names::{grade_of, is_name};
-use crate::qrel_tables::read_qrel_table;
+use crate::qrels::qrel_tables::read_qrel_table;
 use decimal_rank::{Memory, Text};
 use std::alloc::Global;
 
@@ -57,8 +60,8 @@ impl<'a> DocumentLine for QrelView<'a> {
 
 /// The fields of a line that has exactly four, and whether the third is a docno.
 fn four_fields(line: &[u8]) -> Option<(&[u8], &[u8], &[u8], bool, &[u8])>
-    ensures { MatchOption result (length (fields_of line.now) ≢ 4) (λ f.
-        (fields_of line.now ≡ f.0.now ∷ f.1.now ∷ f.2.now ∷ f.4.now ∷ []) × (f.3 ≡ is_docno f.2.now)) }
+    ensures { MatchOption result (length (fields_of line.now) ≢ 4) (λ f. (fields_of line.now
+        ≡ f.0.now ∷ f.1.now ∷ f.2.now ∷ f.4.now ∷ []) × (f.3 ≡ is_docno f.2.now)) }
 {
     let (first, rest) = cut_field(line)?;
     let (second, rest) = cut_field(rest)?;
@@ -71,7 +74,7 @@ fn four_fields(line: &[u8]) -> Option<(&[u8], &[u8], &[u8], bool, &[u8])>
 }
 
 /// What the line of a number says, or its fault.
-#[tactic(auto, unfolding(crate::specs::Qrels::qrel_of))]
+#[tactic(auto, unfolding(crate::specs::QrelsFormat::Qrels::qrel_of))]
 fn qrel_view(number: u32, line: &[u8]) -> Result<QrelView<'_>, Kind>
     ensures { MatchResult result
         (λ view. qrel_of (number, fields_of line.now) ≡ Ok (qrel_shown view))

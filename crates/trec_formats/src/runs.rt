@@ -1,13 +1,23 @@
-//! The lines of a run's text: topic, docno and score of each retrieved document, or the first fault.
+//! The lines of a run's text: topic, docno and score of each retrieved document, or the first
+//! fault.
 ghost use Rattle.std.specs.Prelude.{◌≡◌, ◌≤◌, ℕ, List, length, map, IfOk};
 ghost use Rattle.std.specs.List.Sorted.{IsStrictlyIncreasing};
 ghost use Rattle.trec_formats.specs.Faults.{IfFault};
-ghost use Rattle.trec_formats.specs.Lists.{IsRankedRun, IsRankedRunFault};
-ghost use Rattle.trec_formats.specs.Runs.{count_on, IsRun, IsRunFault};
+ghost use Rattle.trec_formats.specs.RunFormat.Lists.{IsRankedRun, IsRankedRunFault};
+ghost use Rattle.trec_formats.specs.RunFormat.Runs.{line_count_on, IsRun, IsRunFault};
+
+mod line_views;
+pub(crate) mod lists;
+mod packed_runs;
+mod repeats;
+mod run_fields;
+pub(crate) mod run_reader;
+mod run_views;
+mod topic_counts;
 
 use crate::faults::FormatEnd;
-use crate::lists::TopicList;
-use crate::run_reader::RunReader;
+use crate::runs::lists::TopicList;
+use crate::runs::run_reader::RunReader;
 use decimal_rank::{Decimal, Text};
 use std::alloc::Global;
 
@@ -25,8 +35,10 @@ pub struct RunLine {
 pub fn read_run(alloc: Global, bytes: &[u8]) -> Result<Vec<RunLine>, FormatEnd>
     requires { length bytes.now ≤ 268435456 }
     ensures lines { IfOk result (λ lines. IsRun bytes.now lines.items) }
-    ensures ascending { IfOk result (λ lines. IsStrictlyIncreasing (map (λ line. line.line) lines.items)) }
-    ensures short { IfOk result (λ lines. (topic : List ℕ) → count_on topic lines.items ≤ 1000) }
+    ensures ascending { IfOk result
+        (λ lines. IsStrictlyIncreasing (map (λ line. line.line) lines.items)) }
+    ensures short { IfOk result (λ lines. (topic : List ℕ)
+        → line_count_on topic lines.items ≤ 1000) }
     ensures fault { IfFault result (IsRunFault bytes.now) }
 {
     let mut reader = RunReader::new(alloc);

@@ -5,7 +5,8 @@ ghost use Rattle.decimal_rank.specs.Names.{number_of};
 
 use decimal_rank::{DocId, Names};
 
-/// The number of a topic, where it's there. Mostly it's the newest, since the lines of a topic stand together.
+/// The number of a topic, where it's there. Mostly it's the newest, since the lines of a topic
+/// stand together.
 pub fn topic_number(topics: &Names, topic: &[u8]) -> Option<DocId>
     ensures { option_map (λ number. number.0) result ≡ number_of topics.now topic.now }
 {

@@ -2,17 +2,22 @@
 ghost use Rattle.std.specs.Prelude.{◌≡◌, ◌≤◌, ℕ, List, [], length, map, Ok, Err, IfOk, MatchOption, MatchResult, true};
 ghost use Rattle.std.specs.List.{list_all};
 ghost use Rattle.trec_formats.specs.Faults.{IfFault, OfFault};
-ghost use Rattle.trec_formats.specs.Marks.{Closes};
-ghost use Rattle.trec_formats.specs.MarkViews.{mark_seen};
-ghost use Rattle.trec_formats.specs.SoundTopics.{AreSoundTopics, is_sound};
-ghost use Rattle.trec_formats.specs.TopicBlocks.{finished_as, progress_behind, TellsBy};
-ghost use Rattle.trec_formats.specs.Topics.{Numbered, IsEachBlockRead, IsTopics, IsTopicsFault};
+ghost use Rattle.trec_formats.specs.TopicsFormat.TopicLines.{Closes};
+ghost use Rattle.trec_formats.specs.TopicsFormat.TopicLineViews.{kind_seen};
+ghost use Rattle.trec_formats.specs.TopicsFormat.SoundTopics.{AreSoundTopics, is_sound_topic};
+ghost use Rattle.trec_formats.specs.TopicsFormat.TopicBlocks.{finished_as, progress_behind, TellsBy};
+ghost use Rattle.trec_formats.specs.TopicsFormat.Topics.{NumberedTopic, IsEachBlockRead, IsTopics, IsTopicsFault};
+
+mod topic_blocks;
+mod topic_fields;
+pub(crate) mod topic_laws;
+mod topic_lines;
 
 use crate::documents::{DocumentLine, table_of};
 use crate::faults::{FormatEnd, Kind};
 use crate::lines::cut_line;
-use crate::topic_blocks::Block;
-use crate::topic_marks::{Mark, mark_of, strip};
+use crate::topics::topic_blocks::Block;
+use crate::topics::topic_lines::{LineKind, mark_of, strip};
 use decimal_rank::{Memory, Text};
 use std::alloc::Global;
 
@@ -47,14 +52,17 @@ impl DocumentLine for (u32, Topic) {
 }
 
 /// Reads a line where no block is open.
-fn read_outside(number: u32, mark: Mark) -> Result<Option<Block>, FormatEnd>
-    ensures { (topics : List Numbered) → TellsBy (λ next. (topics, next)) result number (progress_behind topics None (number, mark_seen mark.entry)) }
+fn read_outside(number: u32, mark: LineKind) -> Result<Option<Block>, FormatEnd>
+    ensures { (topics : List NumberedTopic) → TellsBy (λ next. (topics, next)) result number
+        (progress_behind topics None (number, kind_seen mark.entry)) }
 {
     match mark {
-        Mark::Opens => Ok(Some(Block::new())),
-        Mark::Closes | Mark::Numbers(_) | Mark::Begins(_, _) | Mark::Skips | Mark::Says(_) => Err(
-            FormatEnd::at(number, Kind::Tag),
-        ),
+        LineKind::Opens => Ok(Some(Block::new())),
+        LineKind::Closes
+        | LineKind::Numbers(_)
+        | LineKind::Begins(_, _)
+        | LineKind::Skips
+        | LineKind::Says(_) => Err(FormatEnd::at(number, Kind::Tag)),
     }
 }
 
@@ -65,7 +73,8 @@ fn read_end(
     block: Block,
     number: u32,
 ) -> Result<(), FormatEnd>
-    ensures { TellsBy (λ _. (topics.new.items, None)) result number (progress_behind topics.old.items (Some block) (number, Closes)) }
+    ensures { TellsBy (λ _. (topics.new.items, None)) result number
+        (progress_behind topics.old.items (Some block) (number, Closes)) }
 {
     let Some(topic) = block.into_topic(alloc) else {
         return Err(FormatEnd::at(number, Kind::Tag));
@@ -74,20 +83,22 @@ fn read_end(
     Ok(())
 }
 
-/// Reads a line before which this block is open. A block that ends joins the topics. The block that is open then.
+/// Reads a line before which this block is open. A block that ends joins the topics. The block that
+/// is open then.
 fn read_mark(
     alloc: Global,
     topics: &mut Vec<(u32, Topic)>,
     open_block: Option<Block>,
     number: u32,
-    mark: Mark,
+    mark: LineKind,
 ) -> Result<Option<Block>, FormatEnd>
-    ensures { TellsBy (λ next. (topics.new.items, next)) result number (progress_behind topics.old.items open_block (number, mark_seen mark.entry)) }
+    ensures { TellsBy (λ next. (topics.new.items, next)) result number
+        (progress_behind topics.old.items open_block (number, kind_seen mark.entry)) }
 {
     let Some(mut block) = open_block else {
         return read_outside(number, mark);
     };
-    if let Mark::Closes = mark {
+    if let LineKind::Closes = mark {
         read_end(alloc, topics, block, number)?;
         return Ok(None);
     }
@@ -119,7 +130,8 @@ fn finished(
 fn read_blocks(alloc: Global, bytes: &[u8]) -> Result<Vec<(u32, Topic)>, FormatEnd>
     requires { length bytes.now ≤ 268435456 }
     ensures topics { IfOk result (λ topics. IsEachBlockRead bytes.now (Ok topics.items)) }
-    ensures within { IfOk result (λ topics. (list_all (λ topic. is_sound topic.1) topics.items ≡ true) × (length topics.items ≤ length bytes.now)) }
+    ensures within { IfOk result (λ topics. (list_all (λ topic. is_sound_topic topic.1) topics.items
+        ≡ true) × (length topics.items ≤ length bytes.now)) }
     ensures fault { IfFault result (λ fault. IsEachBlockRead bytes.now (Err fault)) }
 {
     let mut topics = Vec::new(alloc);

@@ -1,4 +1,5 @@
-//! Tried are runs that are fed byte by byte: they are read as at once, with the same lines and faults.
+//! Tried are runs that are fed byte by byte: they are read as at once, with the same lines and
+//! faults.
 ghost use Rattle.std.specs.Prelude.{◌+◌, ◌≤◌, length};
 
 use crate::faults::is_fault;

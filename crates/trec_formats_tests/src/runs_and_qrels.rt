@@ -81,7 +81,8 @@ fn runs_are_read(rt: HostRuntime) -> Result<(), Fail> {
     let wanted = [(1, "1", "A", "3"), (2, "1", "B", "2"), (3, "1", "C", "1")];
     assert!(rt; are_run_lines(&lines, &wanted));
 
-    // white space of every kind, lines of it alone, lines of a topic apart, and no line feed at the end
+    // white space of every kind, lines of it alone, lines of a topic apart, and no line feed at the
+    // end
     let lines = run_of(
         rt.alloc(),
         "\n \t\n401\x0bQ0\tFR940-1~\x0c 7  010 x \r\nb.c_D-9 ? ! ? 999999999999999999 ?\r\n\r\n401 0 a 0 0 0",

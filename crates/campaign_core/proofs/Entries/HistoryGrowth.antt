@@ -15,7 +15,8 @@ use Rattle.campaign_core.specs.Growth.{lists_in}
 pub runs-push : (H : History) (e : Entry) → runs (H ++ e ∷ []) ≡ runs H ++ runs (e ∷ [])
 runs-push H e = filter_map-append (λ e. run_in e.core.command) H (e ∷ [])
 
-lines-of-one : (run : Option Run) → sum_by (λ run. line_count run.lists) (filter_map (λ run. run) (run ∷ [])) ≡ line_count (option_map_or (λ run. run.lists) run [])
+lines-of-one : (run : Option Run)
+    → sum_by (λ run. line_count run.lists) (filter_map (λ run. run) (run ∷ [])) ≡ line_count (option_map_or (λ run. run.lists) run [])
 lines-of-one None = refl
 lines-of-one (Some run) = omega arith
 

@@ -9,9 +9,9 @@ use Rattle.rulebook.specs.declared.ask.Ask.TheVariants.{Act}
 use Rattle.rulebook.specs.declared.entry.Entry.{Entry}
 use Rattle.rulebook.specs.declared.entry.EntryCore.{EntryCore}
 use Rattle.rulebook.specs.Campaign.{History}
-use Rattle.rulebook.specs.Answers.{ruled, moment_after}
-use Rattle.rulebook.specs.Numbers.{used}
-use Rattle.rulebook.specs.Legal.{is_well_addressed, IsAccepted, AreAccepted, IsLegal}
+use Rattle.rulebook.specs.Answers.{command_outcome, moment_after}
+use Rattle.rulebook.specs.Requests.Numbers.{entry_of_number}
+use Rattle.rulebook.specs.Histories.Legal.{is_well_addressed, IsAccepted, AreAccepted, IsLegal}
 
 AreAccepted-push : (before later : History) (e : Entry) → AreAccepted before later → IsAccepted (before ++ later) e → AreAccepted before (later ++ e ∷ [])
 AreAccepted-push before [] e earlier accepted = (subst (λ H. IsAccepted H e) (append-nil before) accepted, tt)
@@ -26,10 +26,10 @@ IsLegal-push (first ∷ later) e legal accepted = (legal.0, AreAccepted-push (fi
 -- the entry of a core that the rules accept at its own moment
 pub accepted-by : (H : History) (e : Entry) (core : EntryCore) → e.core ≡ core
     → is_well_addressed core.caller core.number (Act core.command) core.moment ≡ true
-    → used H core.caller.name core.number ≡ None
+    → entry_of_number H core.caller.name core.number ≡ None
     → moment_after H core.moment ≡ core.moment
     → length H < MAX_ENTRIES
-    → ruled H core.caller core.moment core.command ≡ Ok e.reply
+    → command_outcome H core.caller core.moment core.command ≡ Ok e.reply
     → IsAccepted H e
 accepted-by H e core is addressed unused latest entries_fit accepted =
     let room : (length H == MAX_ENTRIES) ≡ false = grind (arith, nat_tests) in

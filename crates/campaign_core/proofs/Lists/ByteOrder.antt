@@ -9,8 +9,10 @@ use Rattle.std.proofs.lemmas.Bool.{false≢true}
 use Rattle.std.proofs.lemmas.Cmp.{nat_list_cmp_total}
 use Rattle.std.proofs.lemmas.Map.Text.{is_eq-slice_cmp}
 use Rattle.std.proofs.lemmas.Slice.Eq.{bytes_eq-Decides}
+use Rattle.decimal_rank.proofs.TruthValues.{or_twice, less_is, or_in_turn}
+use Rattle.decimal_rank.proofs.Lists.{all_head, all_tail}
 use Rattle.rulebook.specs.Words.{Text, contains_text, in_order}
-use Rattle.campaign_core.proofs.Lists.Elements.{all_head, all_tail, all_cons}
+use Rattle.campaign_core.proofs.Lists.Elements.{all_cons}
 
 abbrev pub text_cmp : Text → Text → Ordering
 text_cmp = slice_cmp nat_cmp
@@ -30,12 +32,7 @@ same_text a b is = sym ((bytes_eq-Decides b a).0 (sym (is_eq-slice_cmp b a) ∙ 
     flip o e r = ap is_eq (r ∙ ap ordering_reverse e)
 
 pub less_from : (a b : Text) → below a b ≡ true → text_cmp a b ≡ Less
-less_from a b is = step (text_cmp a b) is
-  where
-    step : (o : Ordering) → is_lt o ≡ true → o ≡ Less
-    step Less e = refl
-    step Equal e = cc e
-    step Greater e = cc e
+less_from a b is = less_is (text_cmp a b) is
 
 pub greater_flips : (a b : Text) → text_cmp a b ≡ Greater → below b a ≡ true
 greater_flips a b is = ap is_lt (nat_list_cmp_total.antisymm b a ∙ ap ordering_reverse is)
@@ -43,7 +40,8 @@ greater_flips a b is = ap is_lt (nat_list_cmp_total.antisymm b a ∙ ap ordering
 below_later : (a b : Text) (xs : List Text) → text_cmp a b ≡ Less → list_all (below b) xs ≡ true → list_all (below a) xs ≡ true
 below_later a b [] less all = refl
 below_later a b (x ∷ xs) less all =
-    all_cons (below a) x xs (ap is_lt (nat_list_cmp_total.trans a b x less (less_from b x (all_head (below b) x xs all)))) (below_later a b xs less (all_tail (below b) x xs all))
+    all_cons (below a) x xs (ap is_lt (nat_list_cmp_total.trans a b x less (less_from b x (all_head (below b) x xs all))))
+    (below_later a b xs less (all_tail (below b) x xs all))
 
 -- A test of all, or of some, with one more text.
 
@@ -51,7 +49,8 @@ pub all_insert : (p : Text → Bool) (xs : List Text) (x : Text) → list_all p 
 all_insert p [] x all here = all_cons p x [] here refl
 all_insert p (y ∷ ys) x all here = step (text_cmp x y) (all_insert p ys x (all_tail p y ys all) here)
   where
-    step : (o : Ordering) → list_all p (insert_key text_cmp ys x) ≡ true → list_all p (match_ordering o (x ∷ y ∷ ys) (y ∷ ys) (y ∷ insert_key text_cmp ys x)) ≡ true
+    step : (o : Ordering) → list_all p (insert_key text_cmp ys x) ≡ true
+        → list_all p (match_ordering o (x ∷ y ∷ ys) (y ∷ ys) (y ∷ insert_key text_cmp ys x)) ≡ true
     step Less rest = all_cons p x (y ∷ ys) here all
     step Equal rest = all
     step Greater rest = all_cons p y (insert_key text_cmp ys x) (all_head p y ys all) rest
@@ -69,19 +68,11 @@ pub any_insert : (p : Text → Bool) (xs : List Text) (x : Text) → list_any p 
 any_insert p [] x = refl
 any_insert p (y ∷ ys) x = step (text_cmp x y) refl (any_insert p ys x)
   where
-    again : (s t : Bool) → (s || t) ≡ (s || (s || t))
-    again true t = refl
-    again false t = refl
-
-    swap : (r s t : Bool) → (s || (r || t)) ≡ (r || (s || t))
-    swap true true t = refl
-    swap true false t = refl
-    swap false s t = refl
-
-    step : (o : Ordering) → text_cmp x y ≡ o → list_any p (insert_key text_cmp ys x) ≡ (p x || list_any p ys) → list_any p (match_ordering o (x ∷ y ∷ ys) (y ∷ ys) (y ∷ insert_key text_cmp ys x)) ≡ (p x || (p y || list_any p ys))
+    step : (o : Ordering) → text_cmp x y ≡ o → list_any p (insert_key text_cmp ys x) ≡ (p x || list_any p ys)
+        → list_any p (match_ordering o (x ∷ y ∷ ys) (y ∷ ys) (y ∷ insert_key text_cmp ys x)) ≡ (p x || (p y || list_any p ys))
     step Less is rest = refl
-    step Equal is rest = again (p y) (list_any p ys) ∙ ap (λ t. p t || (p y || list_any p ys)) (sym (same_text x y is))
-    step Greater is rest = ap (λ t. p y || t) rest ∙ swap (p x) (p y) (list_any p ys)
+    step Equal is rest = or_twice (p y) (list_any p ys) ∙ ap (λ t. p t || (p y || list_any p ys)) (sym (same_text x y is))
+    step Greater is rest = ap (λ t. p y || t) rest ∙ or_in_turn (p y) (p x) (list_any p ys)
 
 abbrev ordered_from : List Text → List Text → List Text
 ordered_from = fold (insert_key text_cmp)
@@ -162,7 +153,8 @@ not_later x xs up = step (contains_text xs x) refl
     step true has = let self = of_all (below x) xs x up.0 has in absurd (one_way x x self self)
     step false has = refl
 
-same_later : (x : Text) (xs ys : List Text) → Rises (x ∷ xs) → Rises (x ∷ ys) → ((t : Text) → contains_text (x ∷ xs) t ≡ contains_text (x ∷ ys) t) → (t : Text) → contains_text xs t ≡ contains_text ys t
+same_later : (x : Text) (xs ys : List Text) → Rises (x ∷ xs) → Rises (x ∷ ys) → ((t : Text) → contains_text (x ∷ xs) t ≡ contains_text (x ∷ ys) t)
+    → (t : Text) → contains_text xs t ≡ contains_text ys t
 same_later x xs ys up also same t = step (bytes_eq t x) refl (same t)
   where
     step : (b : Bool) → bytes_eq t x ≡ b → (b || contains_text xs t) ≡ (b || contains_text ys t) → contains_text xs t ≡ contains_text ys t

@@ -1,53 +1,22 @@
--- Facts of lists.
-use Rattle.std.proofs.Common.{◌≡◌, ◌&&◌, ◌||◌, ◌<◌, ◌+◌, ℕ, cond, not, ltb, suc, zero, ◌≢◌, ◌≤◌, Bool, true, false, List, [], ◌∷◌, ◌++◌, None, Some, filter, length, map, take, set, get_or, refl, sym, subst, ap, ◌∙◌, arith}
-use Rattle.std.specs.Prelude.{All, AllPairs, find, slice_get}
-use Rattle.std.specs.List.{enumerate_from, list_all, list_any, flat_map, position, position_or_len}
+-- What holds of the elements of a list, by a test or by their places, where the list is joined, changed in its place or filtered.
+use Rattle.std.proofs.Common.{◌≡◌, ◌||◌, ◌+◌, ℕ, cond, not, ltb, suc, zero, ◌≢◌, Bool, true, false, List, [], ◌∷◌, ◌++◌, None, Some, filter, length, map, set, get_or, refl, sym, subst, ap, ◌∙◌, arith}
+use Rattle.std.specs.Prelude.{find, slice_get}
+use Rattle.std.specs.List.{list_all, list_any, flat_map, position, position_or_len}
 use Rattle.std.specs.Option.{option_map}
 use Rattle.std.proofs.lemmas.List.{length-map}
 use Rattle.assessment.specs.TopicsFacts.{at_place}
 use Rattle.std.proofs.lemmas.List.Folds.{list_all-append, list_any-append}
-
-pub both_true : (s t : Bool) → s && t ≡ true → (s ≡ true) × (t ≡ true)
-both_true true true e = (refl, refl)
-both_true true false e = cc e
-both_true false t e = cc e
-
-pub and_true : (s t : Bool) → s ≡ true → t ≡ true → s && t ≡ true
-and_true true true e f = refl
-and_true true false e f = cc f
-and_true false t e f = cc e
+use Rattle.std.proofs.lemmas.Bool.{and_parts, and_from}
 
 module _ {X : Type 0} (p : X → Bool) where
-  pub all_head : (x : X) (xs : List X) → list_all p (x ∷ xs) ≡ true → p x ≡ true
-  all_head x xs all = (both_true (p x) (list_all p xs) all).0
-
-  pub all_tail : (x : X) (xs : List X) → list_all p (x ∷ xs) ≡ true → list_all p xs ≡ true
-  all_tail x xs all = (both_true (p x) (list_all p xs) all).1
-
   pub all_cons : (x : X) (xs : List X) → p x ≡ true → list_all p xs ≡ true → list_all p (x ∷ xs) ≡ true
-  all_cons x xs head tail = and_true (p x) (list_all p xs) head tail
+  all_cons x xs head tail = and_from (p x) (list_all p xs) head tail
 
   pub all_front : (xs ys : List X) → list_all p (xs ++ ys) ≡ true → list_all p xs ≡ true
-  all_front xs ys all = (both_true (list_all p xs) (list_all p ys) (sym (list_all-append p xs ys) ∙ all)).0
+  all_front xs ys all = (and_parts (list_all p xs) (list_all p ys) (sym (list_all-append p xs ys) ∙ all)).0
 
   pub all_back : (xs ys : List X) → list_all p (xs ++ ys) ≡ true → list_all p ys ≡ true
-  all_back xs ys all = (both_true (list_all p xs) (list_all p ys) (sym (list_all-append p xs ys) ∙ all)).1
-
-  pub all_take : (n : ℕ) (xs : List X) → list_all p xs ≡ true → list_all p (take n xs) ≡ true
-  all_take zero xs all = refl
-  all_take (suc n) [] all = refl
-  all_take (suc n) (x ∷ xs) all = all_cons x (take n xs) (all_head x xs all) (all_take n xs (all_tail x xs all))
-
-  pub all_at : (xs : List X) (i : ℕ) (d : X) → i < length xs → list_all p xs ≡ true → p (get_or xs i d) ≡ true
-  all_at [] i d within all = absurd (omega (arith, within))
-  all_at (x ∷ xs) zero d within all = all_head x xs all
-  all_at (x ∷ xs) (suc i) d within all = all_at xs i d (omega (arith, within)) (all_tail x xs all)
-
-pub pairs_cons : {X : Type 0} (R : X → X → Type 0) (x : X) (xs : List X) → All (R x) xs → AllPairs R xs → AllPairs R (x ∷ xs)
-pairs_cons R x xs first rest zero zero d less within = absurd (omega arith)
-pairs_cons R x xs first rest zero (suc j) d less within = first j d (omega arith)
-pairs_cons R x xs first rest (suc i) zero d less within = absurd (omega arith)
-pairs_cons R x xs first rest (suc i) (suc j) d less within = rest i j d (omega arith) (omega arith)
+  all_back xs ys all = (and_parts (list_all p xs) (list_all p ys) (sym (list_all-append p xs ys) ∙ all)).1
 
 pub any_flat : {X Y : Type 0} (p : Y → Bool) (f : X → List Y) (xs : List X) → list_any p (flat_map f xs) ≡ list_any (λ x. list_any p (f x)) xs
 any_flat p f [] = refl
@@ -64,28 +33,9 @@ get-map f [] i d = refl
 get-map f (x ∷ xs) zero d = refl
 get-map f (x ∷ xs) (suc i) d = get-map f xs i d
 
-pub get-there : {X : Type 0} (xs : List X) (i : ℕ) (d : X) → i < length xs → slice_get xs i ≡ Some (get_or xs i d)
-get-there [] i d within = absurd (omega (arith, within))
-get-there (x ∷ xs) zero d within = refl
-get-there (x ∷ xs) (suc i) d within = get-there xs i d (omega (arith, within))
-
-pub slice-there : {X : Type 0} (xs : List X) (i : ℕ) (d x : X) → slice_get xs i ≡ Some x → (i < length xs) × (get_or xs i d ≡ x)
-slice-there [] i d x is = cc is
-slice-there (y ∷ xs) zero d x is = (omega arith, (let same : y ≡ x = cc is in same))
-slice-there (y ∷ xs) (suc i) d x is = let rest = slice-there xs i d x is in (omega (arith, rest.0), rest.1)
-
-pub slice-past : {X : Type 0} (xs : List X) (i : ℕ) → length xs ≤ i → slice_get xs i ≡ None
-slice-past [] i past = refl
-slice-past (x ∷ xs) zero past = absurd (omega (arith, past))
-slice-past (x ∷ xs) (suc i) past = slice-past xs i (omega (arith, past))
-
-pub get-past : {X : Type 0} (xs : List X) (i : ℕ) (d : X) → length xs ≤ i → get_or xs i d ≡ d
-get-past [] i d past = refl
-get-past (x ∷ xs) zero d past = absurd (omega (arith, past))
-get-past (x ∷ xs) (suc i) d past = get-past xs i d (omega (arith, past))
-
 -- an element changed in its place
-pub map-at_place : {X Y : Type 0} (f : X → Y) (change : X → X) (xs : List X) (i : ℕ) (d : X) → map f (at_place i change xs) ≡ set (map f xs) i (f (change (get_or xs i d)))
+pub map-at_place : {X Y : Type 0} (f : X → Y) (change : X → X) (xs : List X) (i : ℕ) (d : X)
+    → map f (at_place i change xs) ≡ set (map f xs) i (f (change (get_or xs i d)))
 map-at_place f change [] i d = refl
 map-at_place f change (x ∷ xs) zero d = refl
 map-at_place f change (x ∷ xs) (suc i) d = ap (λ ys. f x ∷ ys) (map-at_place f change xs i d)
@@ -108,20 +58,12 @@ pub find-map : {X Y : Type 0} (p : Y → Bool) (f : X → Y) (xs : List X) → o
 find-map p f [] = refl
 find-map p f (x ∷ xs) = step (p (f x)) (find-map p f xs)
   where
-    step : (t : Bool) → option_map f (find (λ x. p (f x)) xs) ≡ find p (map f xs) → option_map f (cond t (Some x) (find (λ x. p (f x)) xs)) ≡ cond t (Some (f x)) (find p (map f xs))
+    step : (t : Bool) → option_map f (find (λ x. p (f x)) xs) ≡ find p (map f xs)
+        → option_map f (cond t (Some x) (find (λ x. p (f x)) xs)) ≡ cond t (Some (f x)) (find p (map f xs))
     step true rest = refl
     step false rest = rest
 
 -- One more element behind a list.
-
-pub slice-front : {X : Type 0} (xs ys : List X) (i : ℕ) (x : X) → slice_get xs i ≡ Some x → slice_get (xs ++ ys) i ≡ Some x
-slice-front [] ys i x is = cc is
-slice-front (y ∷ xs) ys zero x is = is
-slice-front (y ∷ xs) ys (suc i) x is = slice-front xs ys i x is
-
-pub slice-last : {X : Type 0} (xs : List X) (x : X) → slice_get (xs ++ x ∷ []) (length xs) ≡ Some x
-slice-last [] x = refl
-slice-last (y ∷ xs) x = slice-last xs x
 
 pub slice-other : {X : Type 0} (xs : List X) (x : X) (i : ℕ) → i ≢ length xs → slice_get (xs ++ x ∷ []) i ≡ slice_get xs i
 slice-other [] x zero other = absurd (other refl)
@@ -174,31 +116,27 @@ filter-twice f g [] = refl
 filter-twice f g (x ∷ xs) = step (f x) (g x) refl (filter-twice f g xs)
   where
     step : (s t : Bool) → g x ≡ t → filter (λ x. not (f x || g x)) xs ≡ filter (λ x. not (g x)) (filter (λ x. not (f x)) xs)
-        → cond (not (s || t)) (x ∷ filter (λ x. not (f x || g x)) xs) (filter (λ x. not (f x || g x)) xs) ≡ filter (λ x. not (g x)) (cond (not s) (x ∷ filter (λ x. not (f x)) xs) (filter (λ x. not (f x)) xs))
+        → cond (not (s || t)) (x ∷ filter (λ x. not (f x || g x)) xs) (filter (λ x. not (f x || g x)) xs)
+        ≡ filter (λ x. not (g x)) (cond (not s) (x ∷ filter (λ x. not (f x)) xs) (filter (λ x. not (f x)) xs))
     step true t is rest = rest
-    step false true is rest = rest ∙ ap (λ t. cond (not t) (x ∷ filter (λ x. not (g x)) (filter (λ x. not (f x)) xs)) (filter (λ x. not (g x)) (filter (λ x. not (f x)) xs))) (sym is)
+    step false true is rest = rest
+        ∙ ap (λ t. cond (not t) (x ∷ filter (λ x. not (g x)) (filter (λ x. not (f x)) xs)) (filter (λ x. not (g x)) (filter (λ x. not (f x)) xs))) (sym is)
     step false false is rest =
-        ap (λ ys. x ∷ ys) rest ∙ ap (λ t. cond (not t) (x ∷ filter (λ x. not (g x)) (filter (λ x. not (f x)) xs)) (filter (λ x. not (g x)) (filter (λ x. not (f x)) xs))) (sym is)
+        ap (λ ys. x ∷ ys) rest
+        ∙ ap (λ t. cond (not t) (x ∷ filter (λ x. not (g x)) (filter (λ x. not (f x)) xs)) (filter (λ x. not (g x)) (filter (λ x. not (f x)) xs))) (sym is)
 
 pub filter-map : {X Y : Type 0} (q : Y → Bool) (f : X → Y) (xs : List X) → map f (filter (λ x. q (f x)) xs) ≡ filter q (map f xs)
 filter-map q f [] = refl
 filter-map q f (x ∷ xs) = step (q (f x)) (filter-map q f xs)
   where
-    step : (t : Bool) → map f (filter (λ x. q (f x)) xs) ≡ filter q (map f xs) → map f (cond t (x ∷ filter (λ x. q (f x)) xs) (filter (λ x. q (f x)) xs)) ≡ cond t (f x ∷ filter q (map f xs)) (filter q (map f xs))
+    step : (t : Bool) → map f (filter (λ x. q (f x)) xs) ≡ filter q (map f xs)
+        → map f (cond t (x ∷ filter (λ x. q (f x)) xs) (filter (λ x. q (f x)) xs)) ≡ cond t (f x ∷ filter q (map f xs)) (filter q (map f xs))
     step true rest = ap (λ ys. f x ∷ ys) rest
     step false rest = rest
 
--- the numbers of the elements of a list with one more
-pub enumerate-push : {X : Type 0} (n : ℕ) (xs : List X) (x : X) → enumerate_from n (xs ++ x ∷ []) ≡ enumerate_from n xs ++ (n + length xs, x) ∷ []
-enumerate-push n [] x = ap (λ k. (k, x) ∷ []) (let e : n ≡ n + 0 = omega arith in e)
-enumerate-push n (y ∷ ys) x = ap (λ rest. (n, y) ∷ rest) (enumerate-push (n + 1) ys x ∙ ap (λ k. enumerate_from (n + 1) ys ++ (k, x) ∷ []) (let e : n + 1 + length ys ≡ n + suc (length ys) = omega arith in e))
-
-pub map-each : {X Y : Type 0} (f g : X → Y) (xs : List X) → ((x : X) → f x ≡ g x) → map f xs ≡ map g xs
-map-each f g [] same = refl
-map-each f g (x ∷ xs) same = ap (λ y. y ∷ map f xs) (same x) ∙ ap (λ ys. g x ∷ ys) (map-each f g xs same)
-
 -- two tests that agree but for one place, where the first one passes
-pub map-set_one : {X : Type 0} (f g : X → Bool) (xs : List X) (n : ℕ) → ((i : ℕ) (x : X) → slice_get xs i ≡ Some x → i ≡ n → f x ≡ true) → ((i : ℕ) (x : X) → slice_get xs i ≡ Some x → i ≢ n → f x ≡ g x)
+pub map-set_one : {X : Type 0} (f g : X → Bool) (xs : List X) (n : ℕ) → ((i : ℕ) (x : X) → slice_get xs i ≡ Some x → i ≡ n → f x ≡ true)
+    → ((i : ℕ) (x : X) → slice_get xs i ≡ Some x → i ≢ n → f x ≡ g x)
     → map f xs ≡ set (map g xs) n true
 map-set_one f g [] n here others = refl
 map-set_one {X} f g (x ∷ xs) zero here others =
@@ -209,4 +147,6 @@ map-set_one {X} f g (x ∷ xs) zero here others =
     alike (y ∷ ys) same = ap (λ b. b ∷ map f ys) (same 0 y refl) ∙ ap (λ bs. g y ∷ bs) (alike ys (λ i z there. same (suc i) z there))
 map-set_one f g (x ∷ xs) (suc n) here others =
     ap (λ b. b ∷ map f xs) (others 0 x refl (λ e. absurd (omega (arith, e))))
-    ∙ ap (λ bs. g x ∷ bs) (map-set_one f g xs n (λ i y there same. here (suc i) y there (ap suc same)) (λ i y there differs. others (suc i) y there (λ e. differs (omega (arith, e)))))
+    ∙ ap (λ bs. g x ∷ bs)
+    (map-set_one f g xs n (λ i y there same. here (suc i) y there (ap suc same))
+    (λ i y there differs. others (suc i) y there (λ e. differs (omega (arith, e)))))

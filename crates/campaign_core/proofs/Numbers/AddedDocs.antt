@@ -14,11 +14,12 @@ use Rattle.trec_formats.specs.declared.TopicList.{TopicList}
 use Rattle.rulebook.specs.Campaign.{docnos, docs_on, line_count}
 use Rattle.rulebook.specs.Words.{Text, contains_text}
 use Rattle.campaign_core.specs.Growth.{BeginsWith}
-use Rattle.campaign_core.specs.Numbers.{AreAdded, are_named, doc_in, docs_in}
+use Rattle.campaign_core.specs.Numbering.Numbers.{AreAdded, are_named, doc_in, docs_in}
 use Rattle.campaign_core.proofs.Numbers.DocNumbers.{all_named, docs-kept, new_name, number-some}
 
 -- those of one list and then those of another
-pub added-all : (docs more names now later : List Text) (before middle after : List DocId) → AreAdded docs names now before middle → BeginsWith now later → AreAdded more now later middle after
+pub added-all : (docs more names now later : List Text) (before middle after : List DocId) → AreAdded docs names now before middle
+    → BeginsWith now later → AreAdded more now later middle after
     → AreAdded (docs ++ more) names later before after
 added-all docs more names now later before middle after first grown next = record {
   names_are = next.names_are ∙ ap (λ ns. fold with_name ns more) first.names_are ∙ sym (fold-append with_name names docs more);
@@ -30,7 +31,8 @@ added-all docs more names now later before middle after first grown next = recor
     kept = docs-kept now later docs grown (subst (λ ns. are_named ns docs ≡ true) (sym first.names_are) (all_named names docs))
 
 -- one more
-pub added-one : (names later : List Text) (doc : Text) (number : DocId) (before : List DocId) → later ≡ with_name names doc → number_of later doc ≡ Some number.0
+pub added-one : (names later : List Text) (doc : Text) (number : DocId) (before : List DocId)
+    → later ≡ with_name names doc → number_of later doc ≡ Some number.0
     → AreAdded (doc ∷ []) names later before (before ++ number ∷ [])
 added-one names later doc number before later_is number_is = record {
   names_are = later_is;
@@ -38,18 +40,22 @@ added-one names later doc number before later_is number_is = record {
 }
   where
     same : number.0 ≡ (doc_in later doc).0
-    same = ap (λ (found : Option ℕ). unwrap_or found 0) (sym number_is ∙ number-some later doc (subst (λ ns. contains_text ns doc ≡ true) (sym later_is) (new_name names doc)))
+    same = ap (λ (found : Option ℕ). unwrap_or found 0)
+        (sym number_is ∙ number-some later doc (subst (λ ns. contains_text ns doc ≡ true) (sym later_is) (new_name names doc)))
 
 pub length-docnos : (lists : List TopicList) → length (docnos lists) ≡ line_count lists
 length-docnos [] = refl
-length-docnos (list ∷ lists) = length-append list.docs (docnos lists) ∙ ap (λ n. length list.docs + n) (length-docnos lists) ∙ sym (sum_by-cons (λ (l : TopicList). length l.docs) list lists)
+length-docnos (list ∷ lists) = length-append list.docs (docnos lists) ∙ ap (λ n. length list.docs + n) (length-docnos lists)
+    ∙ sym (sum_by-cons (λ (l : TopicList). length l.docs) list lists)
 
 -- the numbers of a list's documents stand behind those of the lists before it
-pub numbers-within : (names : List Text) (before after : List TopicList) (list : TopicList) (numbers : List DocId) → numbers ≡ docs_in names (docnos (before ++ list ∷ after))
+pub numbers-within : (names : List Text) (before after : List TopicList) (list : TopicList) (numbers : List DocId)
+    → numbers ≡ docs_in names (docnos (before ++ list ∷ after))
     → take (length list.docs) (drop (line_count before) numbers) ≡ docs_in names list.docs
 numbers-within names before after list numbers are =
     ap (λ ds. take (length list.docs) (drop (line_count before) ds)) (are ∙ parts)
-    ∙ ap (λ n. take (length list.docs) (drop n (docs_in names (docnos before) ++ rest))) (sym (length-docnos before) ∙ sym (length-map (docnos before) (doc_in names)))
+    ∙ ap (λ n. take (length list.docs) (drop n (docs_in names (docnos before) ++ rest)))
+    (sym (length-docnos before) ∙ sym (length-map (docnos before) (doc_in names)))
     ∙ ap (take (length list.docs)) (drop-append_seam (docs_in names (docnos before)) rest)
     ∙ ap (λ n. take n rest) (sym (length-map list.docs (doc_in names)))
     ∙ take-append_seam (docs_in names list.docs) (docs_in names (docnos after))

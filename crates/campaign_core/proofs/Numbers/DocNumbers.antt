@@ -8,22 +8,27 @@ use Rattle.std.proofs.lemmas.List.{take-append-drop}
 use Rattle.std.proofs.lemmas.List.Folds.{list_any-append}
 use Rattle.std.proofs.lemmas.List.Sums.{passes_at_first}
 use Rattle.std.proofs.lemmas.Slice.Eq.{bytes_eq-Decides}
+use Rattle.std.proofs.lemmas.Bool.{or_parts, not-true, and_parts}
+use Rattle.std.proofs.lemmas.List.Elements.{All-cons}
+use Rattle.std.proofs.lemmas.List.Kept.{AllPairs-cons}
+use Rattle.std.proofs.Math.Bool.{or-true}
 use Rattle.decimal_rank.specs.Names.{docno_of, number_of, with_name}
 use Rattle.decimal_rank.specs.declared.naming.DocId.{DocId}
-use Rattle.decimal_rank.specs.Places.{AreDistinct}
+use Rattle.decimal_rank.specs.Rankings.Places.{AreDistinct}
+use Rattle.decimal_rank.proofs.Lists.{all_head, all_tail}
 use Rattle.rulebook.specs.Spelling.{differ}
 use Rattle.rulebook.specs.Words.{Text, contains_text, each_once}
 use Rattle.campaign_core.specs.Growth.{BeginsWith}
-use Rattle.campaign_core.specs.Numbers.{are_named, doc_in, docs_in}
-use Rattle.assessment.proofs.ListFacts.{each_cons}
-use Rattle.campaign_core.proofs.Lists.Elements.{all_head, all_tail, all_cons, both_true, pairs_cons}
+use Rattle.campaign_core.specs.Numbering.Numbers.{are_named, doc_in, docs_in}
+use Rattle.campaign_core.proofs.Lists.Elements.{all_cons}
 
 module _ {X : Type 0} (p : X → Bool) where
   first_within : (xs : List X) → list_any p xs ≡ true → position_or_len p xs < length xs
   first_within [] any = cc any
   first_within (x ∷ xs) any = step (p x) any (first_within xs)
     where
-      step : (t : Bool) → (t || list_any p xs) ≡ true → (list_any p xs ≡ true → position_or_len p xs < length xs) → cond (not t) (1 + position_or_len p xs) 0 < suc (length xs)
+      step : (t : Bool) → (t || list_any p xs) ≡ true → (list_any p xs ≡ true → position_or_len p xs < length xs)
+          → cond (not t) (1 + position_or_len p xs) 0 < suc (length xs)
       step true any rest = omega arith
       step false any rest = omega (arith, rest any)
 
@@ -31,7 +36,8 @@ first_stays : {X : Type 0} (p : X → Bool) (xs ys : List X) → list_any p xs �
 first_stays p [] ys any = cc any
 first_stays p (x ∷ xs) ys any = step (p x) any (first_stays p xs ys)
   where
-    step : (t : Bool) → (t || list_any p xs) ≡ true → (list_any p xs ≡ true → position_or_len p (xs ++ ys) ≡ position_or_len p xs) → cond (not t) (1 + position_or_len p (xs ++ ys)) 0 ≡ cond (not t) (1 + position_or_len p xs) 0
+    step : (t : Bool) → (t || list_any p xs) ≡ true → (list_any p xs ≡ true → position_or_len p (xs ++ ys) ≡ position_or_len p xs)
+        → cond (not t) (1 + position_or_len p (xs ++ ys)) 0 ≡ cond (not t) (1 + position_or_len p xs) 0
     step true any rest = refl
     step false any rest = ap (λ n. 1 + n) (rest any)
 
@@ -50,7 +56,8 @@ docno-back names doc named =
     sym ((bytes_eq-Decides doc _).0 (passes_at_first (bytes_eq doc) names [] (number-within names doc named)))
 
 -- docnos with one number are one
-pub number-exact : (names : List Text) (doc other : Text) → contains_text names doc ≡ true → contains_text names other ≡ true → (doc_in names doc).0 ≡ (doc_in names other).0 → doc ≡ other
+pub number-exact : (names : List Text) (doc other : Text) → contains_text names doc ≡ true → contains_text names other ≡ true
+    → (doc_in names doc).0 ≡ (doc_in names other).0 → doc ≡ other
 number-exact names doc other named also same = sym (docno-back names doc named) ∙ ap (docno_of names) same ∙ docno-back names other also
 
 docs-stay : (names more docs : List Text) → are_named names docs ≡ true → docs_in (names ++ more) docs ≡ docs_in names docs
@@ -62,7 +69,8 @@ docs-stay names more (doc ∷ docs) named =
 -- documents keep their numbers where the names grow
 pub docs-kept : (names later docs : List Text) → BeginsWith names later → are_named names docs ≡ true → docs_in later docs ≡ docs_in names docs
 docs-kept names later docs begins named =
-    let cut : later ≡ names ++ drop (length names) later = sym (take-append-drop (length names) later) ∙ ap (λ front. front ++ drop (length names) later) begins in
+    let cut : later ≡ names ++ drop (length names) later =
+    sym (take-append-drop (length names) later) ∙ ap (λ front. front ++ drop (length names) later) begins in
     ap (λ ns. docs_in ns docs) cut ∙ docs-stay names (drop (length names) later) docs named
 
 pub docnos-back : (names docs : List Text) → are_named names docs ≡ true → map (λ doc. docno_of names doc.0) (docs_in names docs) ≡ docs
@@ -73,21 +81,20 @@ docnos-back names (doc ∷ docs) named =
 
 -- What each_once keeps.
 
-kept_name_step : (names : List Text) (name doc : Text) (t : Bool) → contains_text names doc ≡ true → contains_text (if t then names else names ++ name ∷ []) doc ≡ true
+kept_name_step : (names : List Text) (name doc : Text) (t : Bool) → contains_text names doc ≡ true
+    → contains_text (if t then names else names ++ name ∷ []) doc ≡ true
 kept_name_step names name doc true named = named
 kept_name_step names name doc false named = list_any-append (bytes_eq doc) names (name ∷ []) ∙ ap (λ t. t || list_any (bytes_eq doc) (name ∷ [])) named
 
 kept_name : (names : List Text) (name doc : Text) → contains_text names doc ≡ true → contains_text (with_name names name) doc ≡ true
 kept_name names name doc named = kept_name_step names name doc (list_any (bytes_eq name) names) named
 
-or_true : (t : Bool) → (t || (true || false)) ≡ true
-or_true true = refl
-or_true false = refl
-
-new_name_step : (names : List Text) (name : Text) (t : Bool) → list_any (bytes_eq name) names ≡ t → contains_text (if t then names else names ++ name ∷ []) name ≡ true
+new_name_step : (names : List Text) (name : Text) (t : Bool) → list_any (bytes_eq name) names ≡ t
+    → contains_text (if t then names else names ++ name ∷ []) name ≡ true
 new_name_step names name true is = is
 new_name_step names name false is =
-    list_any-append (bytes_eq name) names (name ∷ []) ∙ ap (λ t. list_any (bytes_eq name) names || (t || false)) (nat_list_eq_equiv.refl name) ∙ or_true (list_any (bytes_eq name) names)
+    list_any-append (bytes_eq name) names (name ∷ []) ∙ ap (λ t. list_any (bytes_eq name) names || (t || false)) (nat_list_eq_equiv.refl name)
+    ∙ or-true (list_any (bytes_eq name) names)
 
 pub new_name : (names : List Text) (name : Text) → contains_text (with_name names name) name ≡ true
 new_name names name = new_name_step names name (list_any (bytes_eq name) names) refl
@@ -99,7 +106,8 @@ kept_names names (first ∷ docs) doc named = kept_names (with_name names first)
 pub all_named : (names docs : List Text) → are_named (fold with_name names docs) docs ≡ true
 all_named names [] = refl
 all_named names (doc ∷ docs) =
-    all_cons (contains_text (fold with_name (with_name names doc) docs)) doc docs (kept_names (with_name names doc) docs doc (new_name names doc)) (all_named (with_name names doc) docs)
+    all_cons (contains_text (fold with_name (with_name names doc) docs)) doc docs
+    (kept_names (with_name names doc) docs doc (new_name names doc)) (all_named (with_name names doc) docs)
 
 -- each docno is among all of them
 pub each_named : (docs : List Text) → are_named (each_once docs) docs ≡ true
@@ -107,35 +115,29 @@ each_named docs = all_named [] docs
 
 -- Documents that differ have numbers that differ.
 
-apart : (names : List Text) (doc : Text) (docs : List Text) → contains_text docs doc ≡ false → contains_text names doc ≡ true → are_named names docs ≡ true → All (λ other. doc_in names doc ≢ other) (docs_in names docs)
+apart : (names : List Text) (doc : Text) (docs : List Text) → contains_text docs doc ≡ false → contains_text names doc ≡ true
+    → are_named names docs ≡ true → All (λ other. doc_in names doc ≢ other) (docs_in names docs)
 apart names doc [] absent named all = λ k d within. absurd (omega (arith, within))
 apart names doc (x ∷ docs) absent named all =
-    let parts = neither (bytes_eq doc x) (contains_text docs doc) absent in
-    each_cons (λ other. doc_in names doc ≢ other) (doc_in names x) (docs_in names docs)
+    let parts = or_parts (bytes_eq doc x) (contains_text docs doc) absent in
+    All-cons (λ other. doc_in names doc ≢ other) (doc_in names x) (docs_in names docs)
     (λ same.
     let equal : doc ≡ x = number-exact names doc x named (all_head (contains_text names) x docs all) (ap (λ (d : DocId). d.0) same) in
     let yes : bytes_eq doc x ≡ true = (bytes_eq-Decides doc x).1 equal in
     let no : bytes_eq doc x ≡ false = parts.0 in
     cc (yes, no))
     (apart names doc docs parts.1 named (all_tail (contains_text names) x docs all))
-  where
-    neither : (s t : Bool) → (s || t) ≡ false → (s ≡ false) × (t ≡ false)
-    neither true t e = cc e
-    neither false t e = (refl, e)
-
-not_true : (t : Bool) → not t ≡ true → t ≡ false
-not_true true e = cc e
-not_true false e = refl
 
 pub numbers-differ : (names docs : List Text) → differ docs ≡ true → are_named names docs ≡ true → AreDistinct (docs_in names docs)
 numbers-differ names [] all named = λ i j d less within. absurd (omega (arith, within))
 numbers-differ names (doc ∷ docs) all named =
-    let parts = both_true (not (contains_text docs doc)) (differ docs) all in
-    pairs_cons (λ a b. a ≢ b) (doc_in names doc) (docs_in names docs)
-    (apart names doc docs (not_true _ parts.0) (all_head (contains_text names) doc docs named) (all_tail (contains_text names) doc docs named))
+    let parts = and_parts (not (contains_text docs doc)) (differ docs) all in
+    AllPairs-cons (λ a b. a ≢ b) (doc_in names doc) (docs_in names docs)
+    (apart names doc docs (not-true _ parts.0) (all_head (contains_text names) doc docs named) (all_tail (contains_text names) doc docs named))
     (numbers-differ names docs parts.1 (all_tail (contains_text names) doc docs named))
 
 pub numbers-within : (names docs : List Text) → are_named names docs ≡ true → All (λ doc. doc.0 < length names) (docs_in names docs)
 numbers-within names [] named = λ k d within. absurd (omega (arith, within))
 numbers-within names (doc ∷ docs) named =
-    each_cons (λ d. d.0 < length names) (doc_in names doc) (docs_in names docs) (number-within names doc (all_head (contains_text names) doc docs named)) (numbers-within names docs (all_tail (contains_text names) doc docs named))
+    All-cons (λ d. d.0 < length names) (doc_in names doc) (docs_in names docs) (number-within names doc (all_head (contains_text names) doc docs named))
+    (numbers-within names docs (all_tail (contains_text names) doc docs named))

@@ -6,20 +6,22 @@ use Rattle.std.specs.Option.{option_map_or}
 use Rattle.std.specs.Str.{bytes_eq}
 use Rattle.std.proofs.lemmas.List.{append-nil, drop_more, length-map, map-append}
 use Rattle.std.proofs.lemmas.List.Elements.{filter-append}
+use Rattle.decimal_rank.proofs.Lists.{slice-there, slice-front, slice-last}
 use Rattle.rulebook.specs.declared.ask.Command.TheVariants as command
 use Rattle.rulebook.specs.declared.entry.Entry.{Entry}
 use Rattle.rulebook.specs.declared.reply.Reply.TheVariants as reply
 use Rattle.rulebook.specs.declared.rules.Role.TheVariants.{Organiser}
 use Rattle.rulebook.specs.Campaign.{History, Run, run_in, runs}
-use Rattle.rulebook.specs.Scores.{submits}
+use Rattle.rulebook.specs.Reports.Scores.{submits}
 use Rattle.rulebook.specs.Words.{Text}
-use Rattle.campaign_core.specs.Submissions.{ArePlaces, AreSubmissions, any_at, entry_place, is_submission, is_submitted_by, submissions}
-use Rattle.campaign_core.specs.declared.submissions.Submission.{Submission}
-use Rattle.campaign_core.proofs.Lists.Elements.{get-map, slice-front, slice-last, slice-there}
+use Rattle.campaign_core.specs.Numbering.Submissions.{ArePlaces, AreSubmissions, any_at, entry_place, is_submission, is_submitted_by, submissions}
+use Rattle.campaign_core.specs.declared.campaign.submissions.Submission.{Submission}
+use Rattle.campaign_core.proofs.Lists.Elements.{get-map}
 
 -- Values that are all there.
 
-there-at : {X : Type 0} (os : List (Option X)) (xs : List X) (i : ℕ) (o : Option X) (x : X) → os ≡ map Some xs → i < length os → get_or os i o ≡ Some (get_or xs i x)
+there-at : {X : Type 0} (os : List (Option X)) (xs : List X) (i : ℕ) (o : Option X) (x : X)
+    → os ≡ map Some xs → i < length os → get_or os i o ≡ Some (get_or xs i x)
 there-at [] xs i o x same within = absurd (omega (arith, within))
 there-at (y ∷ os) [] i o x same within = cc same
 there-at (y ∷ os) (z ∷ xs) zero o x same within = let head : y ≡ Some z = cc same in head
@@ -40,12 +42,14 @@ some-within {X} xs i is = step (slice_get xs i) refl is
 
 -- The entries that submit runs, and their runs.
 
-pub run-there : (H : History) (i : ℕ) (e : Entry) (r : Run) → i < length (submissions H) → run_in (get_or (submissions H) i e).core.command ≡ Some (get_or (runs H) i r)
+pub run-there : (H : History) (i : ℕ) (e : Entry) (r : Run) → i < length (submissions H)
+    → run_in (get_or (submissions H) i e).core.command ≡ Some (get_or (runs H) i r)
 run-there [] i e r within = absurd (omega (arith, within))
 run-there (x ∷ H) i e r within = step (run_in x.core.command) refl i within (λ i within. run-there H i e r within)
   where
     step : (o : Option Run) → run_in x.core.command ≡ o → (i : ℕ) → i < length (submissions (x ∷ H))
-        → ((i : ℕ) → i < length (submissions H) → run_in (get_or (submissions H) i e).core.command ≡ Some (get_or (runs H) i r)) → run_in (get_or (submissions (x ∷ H)) i e).core.command ≡ Some (get_or (runs (x ∷ H)) i r)
+        → ((i : ℕ) → i < length (submissions H) → run_in (get_or (submissions H) i e).core.command ≡ Some (get_or (runs H) i r))
+        → run_in (get_or (submissions (x ∷ H)) i e).core.command ≡ Some (get_or (runs (x ∷ H)) i r)
     step None is i within rest = rw is (rest i (rw is at within))
     step (Some run) is zero within rest = rw is is
     step (Some run) is (suc i) within rest = rw is (rest i (omega (arith, rw is at within)))
@@ -68,11 +72,13 @@ pub record IsSubmission (H : History) (number : ℕ) (place : ℕ) (e : Entry) (
   pub entry_is : get_or H place e ≡ get_or (submissions H) number e
   pub run_is : run_in (get_or H place e).core.command ≡ Some (get_or (runs H) number r)
 
-pub submission-at : (H : History) (places : List ℕ) (number : ℕ) (d : ℕ) (e : Entry) (r : Run) → ArePlaces H places → number < length places → IsSubmission H number (get_or places number d) e r
+pub submission-at : (H : History) (places : List ℕ) (number : ℕ) (d : ℕ) (e : Entry) (r : Run) → ArePlaces H places
+    → number < length places → IsSubmission H number (get_or places number d) e r
 submission-at H places number d e r are within =
     let place : ℕ = get_or places number d in
     let long : length places ≡ length (submissions H) = as-long (slice_get H) places (submissions H) are in
-    let there : slice_get H place ≡ Some (get_or (submissions H) number e) = sym (get-map (slice_get H) places number d) ∙ there-at (map (slice_get H) places) (submissions H) number (slice_get H d) e are (mapped (slice_get H) places within) in
+    let there : slice_get H place ≡ Some (get_or (submissions H) number e) = sym (get-map (slice_get H) places number d)
+    ∙ there-at (map (slice_get H) places) (submissions H) number (slice_get H d) e are (mapped (slice_get H) places within) in
     let at = slice-there H place e (get_or (submissions H) number e) there in
     record {
       within = at.0;
@@ -103,7 +109,8 @@ any-submissions : (f : Entry → Bool) (H : History) → ((e : Entry) → f e �
 any-submissions f [] only = refl
 any-submissions f (x ∷ H) only = step (is_submission x) refl (f x) refl (any-submissions f H only)
   where
-    step : (s : Bool) → is_submission x ≡ s → (t : Bool) → f x ≡ t → list_any f (submissions H) ≡ list_any f H → list_any f (cond s (x ∷ submissions H) (submissions H)) ≡ (f x || list_any f H)
+    step : (s : Bool) → is_submission x ≡ s → (t : Bool) → f x ≡ t → list_any f (submissions H) ≡ list_any f H
+        → list_any f (cond s (x ∷ submissions H) (submissions H)) ≡ (f x || list_any f H)
     step true is t test rest = ap (λ b. f x || b) rest
     step false is true test rest = let both : is_submission x ≡ true = only x test in cc (is, both)
     step false is false test rest = rest ∙ ap (λ b. b || list_any f H) (sym test)
@@ -122,7 +129,8 @@ any-mapped p f [] = refl
 any-mapped p f (x ∷ places) = ap (λ b. p (f x) || b) (any-mapped p f places)
 
 -- a test that an entry passes only where it submits a run
-pub any-entry : (f : Entry → Bool) (H : History) (places : List ℕ) → ArePlaces H places → ((e : Entry) → f e ≡ true → is_submission e ≡ true) → any_at f H places ≡ list_any f H
+pub any-entry : (f : Entry → Bool) (H : History) (places : List ℕ) → ArePlaces H places
+    → ((e : Entry) → f e ≡ true → is_submission e ≡ true) → any_at f H places ≡ list_any f H
 any-entry f H places are only =
     any-mapped (λ (o : Option Entry). option_map_or f o false) (slice_get H) places
     ∙ any-there f (map (slice_get H) places) (submissions H) are
@@ -137,23 +145,27 @@ any-from f H places number e are within =
 
 -- One more entry.
 
-still-there : (H : History) (e : Entry) (places : List ℕ) (es : List Entry) → map (slice_get H) places ≡ map Some es → map (slice_get (H ++ e ∷ [])) places ≡ map Some es
+still-there : (H : History) (e : Entry) (places : List ℕ) (es : List Entry) → map (slice_get H) places ≡ map Some es
+    → map (slice_get (H ++ e ∷ [])) places ≡ map Some es
 still-there H e [] es same = same
 still-there H e (p ∷ places) [] same = cc same
 still-there H e (p ∷ places) (x ∷ es) same =
     let head : slice_get H p ≡ Some x = cc same in
     let tail : map (slice_get H) places ≡ map Some es = cc same in
-    ap (λ (o : Option Entry). o ∷ map (slice_get (H ++ e ∷ [])) places) (slice-front H (e ∷ []) p x head) ∙ ap (λ (os : List (Option Entry)). Some x ∷ os) (still-there H e places es tail)
+    ap (λ (o : Option Entry). o ∷ map (slice_get (H ++ e ∷ [])) places) (slice-front H (e ∷ []) p x head)
+    ∙ ap (λ (os : List (Option Entry)). Some x ∷ os) (still-there H e places es tail)
 
 -- an entry that submits no run
 pub places-stay : (H : History) (e : Entry) (places : List ℕ) → run_in e.core.command ≡ None → ArePlaces H places → ArePlaces (H ++ e ∷ []) places
 places-stay H e places none are =
     let one : submissions (e ∷ []) ≡ [] = ap (λ (o : Option Run). cond (is_some o) (e ∷ []) []) none in
-    let same : submissions (H ++ e ∷ []) ≡ submissions H = filter-append is_submission H (e ∷ []) ∙ ap (λ es. submissions H ++ es) one ∙ append-nil (submissions H) in
+    let same : submissions (H ++ e ∷ []) ≡ submissions H =
+    filter-append is_submission H (e ∷ []) ∙ ap (λ es. submissions H ++ es) one ∙ append-nil (submissions H) in
     still-there H e places (submissions H) are ∙ ap (map Some) (sym same)
 
 -- an entry that submits one
-pub places-grow : (H : History) (e : Entry) (places : List ℕ) (run : Run) → run_in e.core.command ≡ Some run → ArePlaces H places → ArePlaces (H ++ e ∷ []) (places ++ length H ∷ [])
+pub places-grow : (H : History) (e : Entry) (places : List ℕ) (run : Run) → run_in e.core.command ≡ Some run
+    → ArePlaces H places → ArePlaces (H ++ e ∷ []) (places ++ length H ∷ [])
 places-grow H e places run some are =
     let one : submissions (e ∷ []) ≡ e ∷ [] = ap (λ (o : Option Run). cond (is_some o) (e ∷ []) []) some in
     let more : submissions (H ++ e ∷ []) ≡ submissions H ++ e ∷ [] = filter-append is_submission H (e ∷ []) ∙ ap (λ es. submissions H ++ es) one in
@@ -171,7 +183,8 @@ named-run e run name is = ap (λ (o : Option Run). option_map_or (λ run. bytes_
 pub submits-only : (caller name : Text) (e : Entry) → is_submitted_by caller name e ≡ true → is_submission e ≡ true
 submits-only caller name e passes = step (run_in e.core.command) refl (bytes_eq e.core.caller.name caller) passes
   where
-    step : (o : Option Run) → run_in e.core.command ≡ o → (t : Bool) → (option_map_or (λ (run : Run). bytes_eq run.name name) (run_in e.core.command) false && t) ≡ true → is_some (run_in e.core.command) ≡ true
+    step : (o : Option Run) → run_in e.core.command ≡ o → (t : Bool)
+        → (option_map_or (λ (run : Run). bytes_eq run.name name) (run_in e.core.command) false && t) ≡ true → is_some (run_in e.core.command) ≡ true
     step None is t passes = cc (rw is at passes)
     step (Some run) is t passes = ap is_some is
 
@@ -181,12 +194,14 @@ pub runs-many : (H : History) (all : List Submission) → AreSubmissions H all �
 runs-many H all are = sym (length-map all entry_place) ∙ as-many H (map entry_place all) are.places_are
 
 -- the entry at a place, and its run
-pub entry-at : (H : History) (all : List Submission) (number : ℕ) (d : Submission) (e : Entry) (r : Run) → AreSubmissions H all → number < length all → IsSubmission H number (get_or all number d).place e r
+pub entry-at : (H : History) (all : List Submission) (number : ℕ) (d : Submission) (e : Entry) (r : Run) → AreSubmissions H all
+    → number < length all → IsSubmission H number (get_or all number d).place e r
 entry-at H all number d e r are within =
     subst (λ place. IsSubmission H number place e r) (get-map entry_place all number d)
     (submission-at H (map entry_place all) number (entry_place d) e r are.places_are (omega (arith, within, length-map all entry_place)))
 
-pub entry-within : (H : History) (all : List Submission) (number : ℕ) (d : Submission) → AreSubmissions H all → number < length all → (get_or all number d).place < length H
+pub entry-within : (H : History) (all : List Submission) (number : ℕ) (d : Submission) → AreSubmissions H all
+    → number < length all → (get_or all number d).place < length H
 entry-within H all number d are within = (entry-at H all number d some_entry no_run are within).within
 
 -- a test of the entries from one of them on, by what it says of that one

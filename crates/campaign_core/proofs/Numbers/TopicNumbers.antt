@@ -8,14 +8,14 @@ use Rattle.std.proofs.lemmas.List.{length-map}
 use Rattle.std.proofs.lemmas.List.Folds.{find_at}
 use Rattle.decimal_rank.specs.Names.{number_of}
 use Rattle.decimal_rank.specs.declared.naming.DocId.{DocId}
+use Rattle.decimal_rank.proofs.TruthValues.{bytes_eq-swap}
 use Rattle.rulebook.specs.Campaign.{History, title, topics}
 use Rattle.rulebook.specs.Words.{Text, contains_text}
-use Rattle.campaign_core.specs.Leasing.{topic_in}
-use Rattle.campaign_core.specs.Numbers.{doc_in}
-use Rattle.campaign_core.specs.Topics.{topic_ids}
+use Rattle.campaign_core.specs.Assessments.DeskLeases.{topic_in}
+use Rattle.campaign_core.specs.Numbering.Numbers.{doc_in}
+use Rattle.campaign_core.specs.Assessments.Topics.{topic_ids}
 use Rattle.assessment.specs.TopicFacts.{TopicFacts}
 use Rattle.trec_formats.specs.declared.Topic.{Topic}
-use Rattle.campaign_core.proofs.Entries.LabelSteps.{bytes-swap}
 use Rattle.campaign_core.proofs.Numbers.DocNumbers.{number-some, number-within}
 
 -- an item with an id is at the place of the id
@@ -23,7 +23,7 @@ same-place : {X : Type 0} (id_of : X → Text) (items : List X) (id : Text)
     → position_or_len (λ x. bytes_eq (id_of x) id) items ≡ position_or_len (bytes_eq id) (map id_of items)
 same-place id_of [] id = refl
 same-place id_of (x ∷ items) id =
-    ap (λ b. cond (not b) (1 + position_or_len (λ x. bytes_eq (id_of x) id) items) 0) (bytes-swap (id_of x) id)
+    ap (λ b. cond (not b) (1 + position_or_len (λ x. bytes_eq (id_of x) id) items) 0) (bytes_eq-swap (id_of x) id)
     ∙ ap (λ n. cond (not (bytes_eq id (id_of x))) (1 + n) 0) (same-place id_of items id)
 
 -- what stands for a topic where there is none
@@ -58,8 +58,10 @@ pub some-there : {X : Type 0} (o : Option X) (x : X) → o ≡ Some x → IsSome
 some-there o x is = subst IsSome (sym is) refl
 
 -- a name that is found has its number
-pub found-number : (names : List Text) (doc : Text) (found : DocId) (o : Option DocId) → contains_text names doc ≡ true → option_map (λ d. d.0) o ≡ number_of names doc → o ≡ Some found → found ≡ doc_in names doc
+pub found-number : (names : List Text) (doc : Text) (found : DocId) (o : Option DocId) → contains_text names doc ≡ true
+    → option_map (λ d. d.0) o ≡ number_of names doc → o ≡ Some found → found ≡ doc_in names doc
 found-number names doc found o named numbers is =
-    let all : ◌≡◌ {A = Option ℕ} (Some found.0) (Some (doc_in names doc).0) = ap (λ (o : Option DocId). option_map (λ d. d.0) o) (sym is) ∙ numbers ∙ number-some names doc named in
+    let all : ◌≡◌ {A = Option ℕ} (Some found.0) (Some (doc_in names doc).0) =
+    ap (λ (o : Option DocId). option_map (λ d. d.0) o) (sym is) ∙ numbers ∙ number-some names doc named in
     let same : found.0 ≡ (doc_in names doc).0 = cc all in
     ap (λ (n : ℕ). let d : DocId = record { 0 = n } in d) same

@@ -2,9 +2,10 @@
 use Rattle.std.proofs.Common.{◌≡◌, ◌||◌, ◌<◌, ◌≤◌, ◌+◌, ◌-◌, ℕ, suc, zero, Bool, true, false, not, List, [], ◌∷◌, ◌++◌, Option, None, Some, Ok, length, map, refl, sym, ap, ◌∙◌, arith}
 use Rattle.std.specs.Prelude.{◌&&◌, ◌^◌, if◌then◌else◌, nat_le, nat_lt, slice_get}
 use Rattle.std.specs.List.{list_all, list_any}
-use Rattle.std.proofs.lemmas.Bool.{ltb-false, ltb-true}
+use Rattle.std.proofs.lemmas.Bool.{ltb-false, ltb-true, not-false, and_parts}
 use Rattle.std.specs.Option.{option_map}
 use Rattle.std.specs.Str.{bytes_eq}
+use Rattle.decimal_rank.proofs.TruthValues.{bytes_eq-swap}
 use Rattle.rulebook.specs.declared.rules.Caller.{Caller}
 use Rattle.rulebook.specs.declared.rules.Phase.{Phase}
 use Rattle.rulebook.specs.declared.rules.Phase.TheVariants.{Collecting, Judging, Published}
@@ -14,33 +15,32 @@ use Rattle.rulebook.specs.declared.reply.Reply.{Reply}
 use Rattle.rulebook.specs.declared.reply.Reply.TheVariants as reply
 use Rattle.trec_formats.specs.declared.Topic.{Topic}
 use Rattle.rulebook.specs.Words.{Text, contains_text}
-use Rattle.rulebook.specs.Refusals.{Ruling, ◌when◌, given, is_phase, unless, wrong_phase_unless, wrong_phase_where}
-use Rattle.rulebook.specs.Answers.{amend_ruling, grade_range, grade_ruling, lease_refusals, lease_ruling, open_ruling, publish_ruling, release_ruling, rule_ruling, run_refusals, submit_ruling, topics_ruling, unknown_line, withdraw_ruling}
+use Rattle.rulebook.specs.Requests.Refusals.{Outcome, ◌when◌, unless_missing, is_phase, unless, wrong_phase_unless, wrong_phase_where}
+use Rattle.rulebook.specs.Answers.{amend_outcome, grade_outcome, grade_range, lease_outcome, lease_refusals, open_outcome, publish_outcome, release_outcome, rule_outcome, run_refusals, submit_outcome, topics_outcome, unknown_line, withdraw_outcome}
 use Rattle.rulebook.specs.Spelling.{differ, is_plain, is_plain_topic}
 use Rattle.rulebook.specs.declared.ask.Command.TheVariants as command
 use Rattle.rulebook.specs.declared.limits.TheConstants.{MAX_DOCNOS, MAX_LINES, MAX_RUNS, MAX_TOPICS}
 use Rattle.rulebook.specs.declared.reply.Quantity.TheVariants as quantity
 use Rattle.trec_formats.specs.declared.TopicList.{TopicList}
-use Rattle.campaign_core.proofs.Lists.Elements.{both_true}
 use Rattle.rulebook.specs.Campaign.{History, Run, docnos_with, has_topics, is_taken, is_topic, is_withdrawn, line_count, lines_with, phase, rules_of, runs, title}
-use Rattle.rulebook.specs.Grades.{is_labelled, is_labelled_by}
-use Rattle.rulebook.specs.JudgingOrder.{named}
-use Rattle.rulebook.specs.Leases.{Lease, is_ended, lease_numbered, leases, live_leases_of}
-use Rattle.rulebook.specs.Roles.{is_group}
-use Rattle.rulebook.specs.Scores.{is_submitter, run_named}
-use Rattle.campaign_core.proofs.Entries.LabelSteps.{bytes-swap}
-use Rattle.campaign_core.proofs.Entries.QuietEntries.{given-ok, unless-ok}
+use Rattle.rulebook.specs.Judgements.Grades.{is_labelled, is_labelled_by}
+use Rattle.rulebook.specs.Judgements.JudgingOrder.{named_document}
+use Rattle.rulebook.specs.Judgements.Leases.{Lease, is_ended, lease_numbered, leases, live_leases_of}
+use Rattle.rulebook.specs.Requests.Roles.{is_group}
+use Rattle.rulebook.specs.Reports.Scores.{is_submitter, run_named}
+use Rattle.campaign_core.proofs.Entries.Judgements.QuietEntries.{given-ok, unless-ok}
 
 judging-from : (p : Phase) → not (is_phase Judging p) ≡ false → p ≡ Judging
 judging-from Judging is = refl
 judging-from Collecting is = cc is
 judging-from Published is = cc is
 
-first-test : (r : Refusal) (t : Bool) (tests : List (Option Refusal)) (ruling : Ruling) (answer : Reply) → unless ((r when t) ∷ tests) ruling ≡ Ok answer → (t ≡ false) × (unless tests ruling ≡ Ok answer)
+first-test : (r : Refusal) (t : Bool) (tests : List (Option Refusal)) (ruling : Outcome) (answer : Reply)
+    → unless ((r when t) ∷ tests) ruling ≡ Ok answer → (t ≡ false) × (unless tests ruling ≡ Ok answer)
 first-test r true tests ruling answer is = cc is
 first-test r false tests ruling answer is = (refl, is)
 
-same-reply : (answer r : Reply) → (let told : Ruling = Ok r in let wanted : Ruling = Ok answer in told ≡ wanted) → answer ≡ r
+same-reply : (answer r : Reply) → (let told : Outcome = Ok r in let wanted : Outcome = Ok answer in told ≡ wanted) → answer ≡ r
 same-reply answer r e = let back : r ≡ answer = cc e in sym back
 
 -- an accepted lease names a document of a topic of the campaign
@@ -48,26 +48,24 @@ pub record LeaseTold (H : History) (who : Caller) (now : ℕ) (topic : Text) (an
   pub judging : phase H ≡ Judging
   pub listed : is_topic H topic ≡ true
   pub doc : Text
-  pub named_is : named H now who.name topic ≡ Some doc
+  pub named_is : named_document H now who.name topic ≡ Some doc
   pub reply_is : answer ≡ reply.Leased (length (leases H) + 1) topic doc (now + (rules_of H).term) (title H topic)
 
-double-not : (t : Bool) → not t ≡ false → t ≡ true
-double-not true is = refl
-double-not false is = cc is
-
-pub lease-told : (H : History) (who : Caller) (now : ℕ) (topic : Text) (answer : Reply) → lease_ruling H who now topic ≡ Ok answer → LeaseTold H who now topic answer
+pub lease-told : (H : History) (who : Caller) (now : ℕ) (topic : Text) (answer : Reply)
+    → lease_outcome H who now topic ≡ Ok answer → LeaseTold H who now topic answer
 lease-told H who now topic answer is =
     let live : ℕ = length (live_leases_of H now who.name) in
     let many : Bool = nat_le (rules_of H).hold live in
-    let follows : Text → Ruling = λ doc. Ok (reply.Leased (length (leases H) + 1) topic doc (now + (rules_of H).term) (title H topic)) in
-    let ruling : Ruling = given (named H now who.name topic) refusal.NothingLeft follows in
+    let follows : Text → Outcome = λ doc. Ok (reply.Leased (length (leases H) + 1) topic doc (now + (rules_of H).term) (title H topic)) in
+    let ruling : Outcome = unless_missing (named_document H now who.name topic) refusal.NothingLeft follows in
     let later : List (Option Refusal) = (refusal.TooMany live when many) ∷ [] in
-    let a = first-test (refusal.WrongPhase (phase H)) (not (is_phase Judging (phase H))) ((refusal.UnknownTopic when not (is_topic H topic)) ∷ later) ruling answer is in
+    let a = first-test (refusal.WrongPhase (phase H)) (not (is_phase Judging (phase H)))
+    ((refusal.UnknownTopic when not (is_topic H topic)) ∷ later) ruling answer is in
     let b = first-test refusal.UnknownTopic (not (is_topic H topic)) later ruling answer a.1 in
-    let found = given-ok (named H now who.name topic) refusal.NothingLeft follows answer (unless-ok later ruling answer b.1) in
+    let found = given-ok (named_document H now who.name topic) refusal.NothingLeft follows answer (unless-ok later ruling answer b.1) in
     record {
       judging = judging-from (phase H) a.0;
-      listed = double-not (is_topic H topic) b.0;
+      listed = not-false (is_topic H topic) b.0;
       doc = found.0;
       named_is = found.1;
       reply_is = same-reply answer (reply.Leased (length (leases H) + 1) topic found.0 (now + (rules_of H).term) (title H topic)) found.2;
@@ -81,27 +79,32 @@ pub record OnLease (H : History) (who : Caller) (number : ℕ) : Type 0 where
   pub mine : bytes_eq lease.assessor who.name ≡ true
   pub unended : is_ended H lease.number ≡ false
 
-on-lease : (H : History) (who : Caller) (now number : ℕ) (more : Lease → List (Option Refusal)) (ruling : Lease → Ruling) (answer : Reply)
-    → unless ((refusal.WrongPhase (phase H) when not (is_phase Judging (phase H))) ∷ []) (given (lease_numbered H number) refusal.UnknownLease (λ lease. unless (lease_refusals H who now lease ++ more lease) (ruling lease))) ≡ Ok answer
+on-lease : (H : History) (who : Caller) (now number : ℕ) (more : Lease → List (Option Refusal)) (ruling : Lease → Outcome) (answer : Reply)
+    → unless ((refusal.WrongPhase (phase H) when not (is_phase Judging (phase H))) ∷ [])
+    (unless_missing (lease_numbered H number) refusal.UnknownLease (λ lease. unless (lease_refusals H who now lease ++ more lease) (ruling lease))) ≡ Ok answer
     → (w : OnLease H who number) × (ruling w.lease ≡ Ok answer)
 on-lease H who now number more ruling answer is =
-    let follows : Lease → Ruling = λ lease. unless (lease_refusals H who now lease ++ more lease) (ruling lease) in
-    let a = first-test (refusal.WrongPhase (phase H)) (not (is_phase Judging (phase H))) [] (given (lease_numbered H number) refusal.UnknownLease follows) answer is in
+    let follows : Lease → Outcome = λ lease. unless (lease_refusals H who now lease ++ more lease) (ruling lease) in
+    let a = first-test (refusal.WrongPhase (phase H)) (not (is_phase Judging (phase H))) []
+    (unless_missing (lease_numbered H number) refusal.UnknownLease follows) answer is in
     let found = given-ok (lease_numbered H number) refusal.UnknownLease follows answer a.1 in
     let l : Lease = found.0 in
-    let b = first-test refusal.NotYours (not (bytes_eq l.assessor who.name)) ((refusal.Ended when is_ended H l.number) ∷ (refusal.Expired l.until when nat_le l.until now) ∷ more l) (ruling l) answer found.2 in
+    let b = first-test refusal.NotYours (not (bytes_eq l.assessor who.name))
+    ((refusal.Ended when is_ended H l.number) ∷ (refusal.Expired l.until when nat_le l.until now) ∷ more l) (ruling l) answer found.2 in
     let c = first-test refusal.Ended (is_ended H l.number) ((refusal.Expired l.until when nat_le l.until now) ∷ more l) (ruling l) answer b.1 in (
-      record { judging = judging-from (phase H) a.0; lease = l; found = found.1; mine = double-not (bytes_eq l.assessor who.name) b.0; unended = c.0 },
+      record { judging = judging-from (phase H) a.0; lease = l; found = found.1; mine = not-false (bytes_eq l.assessor who.name) b.0; unended = c.0 },
       unless-ok ((refusal.Expired l.until when nat_le l.until now) ∷ more l) (ruling l) answer c.1,
     )
 
-pub grade-told : (H : History) (who : Caller) (now number grade : ℕ) (answer : Reply) → grade_ruling H who now number grade ≡ Ok answer
+pub grade-told : (H : History) (who : Caller) (now number grade : ℕ) (answer : Reply) → grade_outcome H who now number grade ≡ Ok answer
     → (w : OnLease H who number) × (answer ≡ reply.Graded w.lease.topic w.lease.doc grade)
 grade-told H who now number grade answer is =
-    let told = on-lease H who now number (λ lease. (refusal.GradeRange when nat_lt (rules_of H).top_grade grade) ∷ []) (λ lease. Ok (reply.Graded lease.topic lease.doc grade)) answer is in
+    let told = on-lease H who now number (λ lease. (refusal.GradeRange when nat_lt (rules_of H).top_grade grade) ∷ [])
+    (λ lease. Ok (reply.Graded lease.topic lease.doc grade)) answer is in
     (told.0, same-reply answer (reply.Graded told.0.lease.topic told.0.lease.doc grade) told.1)
 
-pub release-told : (H : History) (who : Caller) (now number : ℕ) (answer : Reply) → release_ruling H who now number ≡ Ok answer → OnLease H who number × (answer ≡ reply.Done)
+pub release-told : (H : History) (who : Caller) (now number : ℕ) (answer : Reply) → release_outcome H who now number ≡ Ok answer
+    → OnLease H who number × (answer ≡ reply.Done)
 release-told H who now number answer is =
     let told = on-lease H who now number (λ lease. []) (λ lease. Ok reply.Done) answer is in
     (told.0, same-reply answer reply.Done told.1)
@@ -129,7 +132,8 @@ slice-all p (y ∷ xs) (suc i) x all is = slice-all p xs i x (tail (p y) all) is
 pub numbered-at : (H : History) (number : ℕ) (l : Lease) → lease_numbered H number ≡ Some l → (0 < number) × (slice_get (leases H) (number - 1) ≡ Some l)
 numbered-at H number l is = step (nat_lt 0 number) refl is
   where
-    step : (t : Bool) → nat_lt 0 number ≡ t → (if t then slice_get (leases H) (number - 1) else None) ≡ Some l → (0 < number) × (slice_get (leases H) (number - 1) ≡ Some l)
+    step : (t : Bool) → nat_lt 0 number ≡ t → (if t then slice_get (leases H) (number - 1) else None) ≡ Some l
+        → (0 < number) × (slice_get (leases H) (number - 1) ≡ Some l)
     step true some at = (ltb-true 0 number some, at)
     step false none at = cc at
 
@@ -142,21 +146,23 @@ numbered-all p H number l all is = slice-all p (leases H) (number - 1) l all (nu
 -- a topic of the campaign is among the ids
 pub listed-id : (ts : List Topic) (topic : Text) → list_any (λ t. bytes_eq t.id topic) ts ≡ contains_text (map (λ (t : Topic). t.id) ts) topic
 listed-id [] topic = refl
-listed-id (t ∷ ts) topic = ap (λ b. b || list_any (λ t. bytes_eq t.id topic) ts) (bytes-swap t.id topic) ∙ ap (λ b. bytes_eq topic t.id || b) (listed-id ts topic)
+listed-id (t ∷ ts) topic =
+    ap (λ b. b || list_any (λ t. bytes_eq t.id topic) ts) (bytes_eq-swap t.id topic) ∙ ap (λ b. bytes_eq topic t.id || b) (listed-id ts topic)
 
 pub some-same : {X : Type 0} (x y : X) → (let this : Option X = Some x in let that : Option X = Some y in this ≡ that) → x ≡ y
 some-same x y is = cc is
 
 -- Topics, Submit and Open
 
-pub topics-reply : (H : History) (ts : List Topic) (answer : Reply) → topics_ruling H ts ≡ Ok answer → answer ≡ reply.Topics (length ts)
+pub topics-reply : (H : History) (ts : List Topic) (answer : Reply) → topics_outcome H ts ≡ Ok answer → answer ≡ reply.Topics (length ts)
 topics-reply H ts answer is =
     same-reply answer (reply.Topics (length ts))
-    (unless-ok (wrong_phase_unless Collecting H ∷ (refusal.TopicsFixed when has_topics H) ∷ (refusal.Limit quantity.Topics when nat_lt MAX_TOPICS (length ts)) ∷ []) (Ok (reply.Topics (length ts))) answer is)
+    (unless-ok (wrong_phase_unless Collecting H ∷ (refusal.TopicsFixed when has_topics H)
+    ∷ (refusal.Limit quantity.Topics when nat_lt MAX_TOPICS (length ts)) ∷ []) (Ok (reply.Topics (length ts))) answer is)
 
-pub topics-few : (H : History) (ts : List Topic) (answer : Reply) → topics_ruling H ts ≡ Ok answer → length ts ≤ MAX_TOPICS
+pub topics-few : (H : History) (ts : List Topic) (answer : Reply) → topics_outcome H ts ≡ Ok answer → length ts ≤ MAX_TOPICS
 topics-few H ts answer is =
-    let ruling : Ruling = Ok (reply.Topics (length ts)) in
+    let ruling : Outcome = Ok (reply.Topics (length ts)) in
     let last : List (Option Refusal) = (refusal.Limit quantity.Topics when nat_lt MAX_TOPICS (length ts)) ∷ [] in
     let a = first-test (refusal.WrongPhase (phase H)) (not (is_phase Collecting (phase H))) ((refusal.TopicsFixed when has_topics H) ∷ last) ruling answer is in
     let b = first-test refusal.TopicsFixed (has_topics H) last ruling answer a.1 in
@@ -164,19 +170,22 @@ topics-few H ts answer is =
     ltb-false MAX_TOPICS (length ts) c.0
 
 pub topics-plain : (ts : List Topic) → is_plain (command.Topics ts) ≡ true → differ (map (λ (t : Topic). t.id) ts) ≡ true
-topics-plain ts is = (both_true (nat_lt (length ts) (2 ^ 32) && list_all is_plain_topic ts) (differ (map (λ (t : Topic). t.id) ts)) is).1
+topics-plain ts is = (and_parts (nat_lt (length ts) (2 ^ 32) && list_all is_plain_topic ts) (differ (map (λ (t : Topic). t.id) ts)) is).1
 
 abbrev submit_tests : History → Text → List TopicList → List (Option Refusal)
 submit_tests H name lists =
-    (refusal.TagTaken when is_taken H name) ∷ option_map refusal.LineTopic (unknown_line H lists) ∷ (refusal.Limit quantity.Runs when nat_le MAX_RUNS (length (runs H)))
-    ∷ (refusal.Limit quantity.Lines when nat_lt MAX_LINES (lines_with H lists)) ∷ (refusal.Limit quantity.Docnos when nat_lt MAX_DOCNOS (length (docnos_with H lists))) ∷ []
+    (refusal.TagTaken when is_taken H name) ∷ option_map refusal.LineTopic (unknown_line H lists)
+    ∷ (refusal.Limit quantity.Runs when nat_le MAX_RUNS (length (runs H)))
+    ∷ (refusal.Limit quantity.Lines when nat_lt MAX_LINES (lines_with H lists))
+    ∷ (refusal.Limit quantity.Docnos when nat_lt MAX_DOCNOS (length (docnos_with H lists))) ∷ []
 
-pub submit-reply : (H : History) (name : Text) (lists : List TopicList) (answer : Reply) → submit_ruling H name lists ≡ Ok answer → answer ≡ reply.Submitted name (length lists) (line_count lists)
+pub submit-reply : (H : History) (name : Text) (lists : List TopicList) (answer : Reply) → submit_outcome H name lists ≡ Ok answer
+    → answer ≡ reply.Submitted name (length lists) (line_count lists)
 submit-reply H name lists answer is =
     same-reply answer (reply.Submitted name (length lists) (line_count lists))
     (unless-ok (wrong_phase_where Published H ∷ submit_tests H name lists) (Ok (reply.Submitted name (length lists) (line_count lists))) answer is)
 
-pub open-reply : (H : History) (answer : Reply) → open_ruling H ≡ Ok answer → answer ≡ reply.Done
+pub open-reply : (H : History) (answer : Reply) → open_outcome H ≡ Ok answer → answer ≡ reply.Done
 open-reply H answer is = same-reply answer reply.Done (unless-ok (wrong_phase_unless Collecting H ∷ []) (Ok reply.Done) answer is)
 
 -- Amendments and rulings
@@ -192,24 +201,28 @@ pub record OnDoc (H : History) (topic : Text) (labelled : Bool) (answer : Reply)
   pub reply_is : answer ≡ reply.Done
 
 on-doc : (H : History) (topic : Text) (labelled : Bool) (grade : ℕ) (answer : Reply)
-    → unless ((refusal.WrongPhase (phase H) when not (is_phase Judging (phase H))) ∷ (refusal.UnknownTopic when not (is_topic H topic)) ∷ (refusal.NotLabelled when not labelled) ∷ grade_tests H grade) (Ok reply.Done) ≡ Ok answer
+    → unless ((refusal.WrongPhase (phase H) when not (is_phase Judging (phase H))) ∷ (refusal.UnknownTopic when not (is_topic H topic))
+    ∷ (refusal.NotLabelled when not labelled) ∷ grade_tests H grade) (Ok reply.Done) ≡ Ok answer
     → OnDoc H topic labelled answer
 on-doc H topic labelled grade answer is =
-    let ruling : Ruling = Ok reply.Done in
-    let a = first-test (refusal.WrongPhase (phase H)) (not (is_phase Judging (phase H))) ((refusal.UnknownTopic when not (is_topic H topic)) ∷ (refusal.NotLabelled when not labelled) ∷ grade_tests H grade) ruling answer is in
+    let ruling : Outcome = Ok reply.Done in
+    let a = first-test (refusal.WrongPhase (phase H)) (not (is_phase Judging (phase H)))
+    ((refusal.UnknownTopic when not (is_topic H topic)) ∷ (refusal.NotLabelled when not labelled) ∷ grade_tests H grade) ruling answer is in
     let b = first-test refusal.UnknownTopic (not (is_topic H topic)) ((refusal.NotLabelled when not labelled) ∷ grade_tests H grade) ruling answer a.1 in
     let c = first-test refusal.NotLabelled (not labelled) (grade_tests H grade) ruling answer b.1 in
     record {
       judging = judging-from (phase H) a.0;
-      listed = double-not (is_topic H topic) b.0;
-      has_label = double-not labelled c.0;
+      listed = not-false (is_topic H topic) b.0;
+      has_label = not-false labelled c.0;
       reply_is = same-reply answer reply.Done (unless-ok (grade_tests H grade) ruling answer c.1);
     }
 
-pub amend-told : (H : History) (who : Caller) (topic doc : Text) (grade : ℕ) (answer : Reply) → amend_ruling H who topic doc grade ≡ Ok answer → OnDoc H topic (is_labelled_by H topic doc who.name) answer
+pub amend-told : (H : History) (who : Caller) (topic doc : Text) (grade : ℕ) (answer : Reply) → amend_outcome H who topic doc grade ≡ Ok answer
+    → OnDoc H topic (is_labelled_by H topic doc who.name) answer
 amend-told H who topic doc grade answer is = on-doc H topic (is_labelled_by H topic doc who.name) grade answer is
 
-pub rule-told : (H : History) (topic doc : Text) (grade : ℕ) (answer : Reply) → rule_ruling H topic doc grade ≡ Ok answer → OnDoc H topic (is_labelled H topic doc) answer
+pub rule-told : (H : History) (topic doc : Text) (grade : ℕ) (answer : Reply) → rule_outcome H topic doc grade ≡ Ok answer
+    → OnDoc H topic (is_labelled H topic doc) answer
 rule-told H topic doc grade answer is = on-doc H topic (is_labelled H topic doc) grade answer is
 
 -- Withdraw and Publish
@@ -221,15 +234,17 @@ pub record WithdrawTold (H : History) (name : Text) (answer : Reply) : Type 0 wh
   pub live : is_withdrawn H name ≡ false
   pub reply_is : answer ≡ reply.Done
 
-pub withdraw-told : (H : History) (who : Caller) (name : Text) (answer : Reply) → withdraw_ruling H who name ≡ Ok answer → WithdrawTold H name answer
+pub withdraw-told : (H : History) (who : Caller) (name : Text) (answer : Reply) → withdraw_outcome H who name ≡ Ok answer → WithdrawTold H name answer
 withdraw-told H who name answer is =
-    let done : Ruling = Ok reply.Done in
-    let follows : Run → Ruling = λ run. unless (run_refusals H who name) done in
-    let a = first-test (refusal.WrongPhase (phase H)) (is_phase Published (phase H)) [] (given (run_named H name) refusal.UnknownRun follows) answer is in
+    let done : Outcome = Ok reply.Done in
+    let follows : Run → Outcome = λ run. unless (run_refusals H who name) done in
+    let a = first-test (refusal.WrongPhase (phase H)) (is_phase Published (phase H)) []
+    (unless_missing (run_named H name) refusal.UnknownRun follows) answer is in
     let b = given-ok (run_named H name) refusal.UnknownRun follows answer a.1 in
-    let c = first-test refusal.NotYours (is_group who.role && not (is_submitter H who.name name)) ((refusal.Withdrawn when is_withdrawn H name) ∷ []) done answer b.2 in
+    let c = first-test refusal.NotYours (is_group who.role && not (is_submitter H who.name name))
+    ((refusal.Withdrawn when is_withdrawn H name) ∷ []) done answer b.2 in
     let d = first-test refusal.Withdrawn (is_withdrawn H name) [] done answer c.1 in
     record { run = b.0; found = b.1; live = d.0; reply_is = same-reply answer reply.Done d.1 }
 
-pub publish-told : (H : History) (answer : Reply) → publish_ruling H ≡ Ok answer → answer ≡ reply.Done
+pub publish-told : (H : History) (answer : Reply) → publish_outcome H ≡ Ok answer → answer ≡ reply.Done
 publish-told H answer is = same-reply answer reply.Done (unless-ok (wrong_phase_unless Judging H ∷ []) (Ok reply.Done) answer is)

@@ -5,7 +5,7 @@ use Rattle.std.specs.Prelude.{nat_lt}
 use Rattle.std.specs.List.{fold, flat_map}
 use Rattle.std.specs.Int.{to_le_bytes, w32}
 use Rattle.rulebook.specs.declared.ask.Command.TheVariants.{Submit}
-use Rattle.rulebook.specs.Spelling.{short, listed, list_bytes, command_bytes}
+use Rattle.rulebook.specs.Spelling.{short, spelled_list, list_bytes, command_bytes}
 use Rattle.std.proofs.lemmas.List.Sums.{fold-append, sum_by-cons}
 use Rattle.trec_formats.specs.declared.Topic.{Topic}
 use Rattle.trec_formats.specs.declared.TopicList.{TopicList}
@@ -18,9 +18,9 @@ use Rattle.rulebook.specs.Words.{Text, each_once}
 use Rattle.decimal_rank.specs.Names.{with_name}
 use Rattle.rulebook.specs.declared.rules.Phase.{Phase}
 use Rattle.rulebook.specs.declared.rules.Phase.TheVariants.{Collecting, Judging, Published}
-use Rattle.rulebook.specs.Refusals.{is_phase}
+use Rattle.rulebook.specs.Requests.Refusals.{is_phase}
 use Rattle.rulebook.specs.Campaign.{History, phase, has_topics, runs, is_taken, line_count, docnos, submitted_lines, submitted_docnos}
-use Rattle.rulebook.specs.Answers.{topics_ruling, unknown_line, submit_ruling}
+use Rattle.rulebook.specs.Answers.{topics_outcome, unknown_line, submit_outcome}
 
 -- the docnos of the history, and then those of a run
 pub each_once-submitted : (H : History) (lists : List TopicList)
@@ -32,19 +32,23 @@ collecting-from Collecting is = refl
 collecting-from Judging is = cc is
 collecting-from Published is = cc is
 
-pub topics-accepted : (H : History) (given : List Topic) → phase H ≡ Collecting → has_topics H ≡ false → length given ≤ MAX_TOPICS → topics_ruling H given ≡ Ok (reply.Topics (length given))
+pub topics-accepted : (H : History) (given : List Topic) → phase H ≡ Collecting → has_topics H ≡ false
+    → length given ≤ MAX_TOPICS → topics_outcome H given ≡ Ok (reply.Topics (length given))
 topics-accepted H given collecting none few = rw (collecting, none, le-ltb MAX_TOPICS (length given) few) refl
 
-pub submit-taken : (H : History) (run : Text) (lists : List TopicList) → is_phase Published (phase H) ≡ false → is_taken H run ≡ true → submit_ruling H run lists ≡ Err refusal.TagTaken
+pub submit-taken : (H : History) (run : Text) (lists : List TopicList) → is_phase Published (phase H) ≡ false
+    → is_taken H run ≡ true → submit_outcome H run lists ≡ Err refusal.TagTaken
 submit-taken H run lists unpublished taken = rw (unpublished, taken) refl
 
-pub submit-unlisted : (H : History) (run : Text) (lists : List TopicList) (line : ℕ) → is_phase Published (phase H) ≡ false → is_taken H run ≡ false → unknown_line H lists ≡ Some line
-    → submit_ruling H run lists ≡ Err (refusal.LineTopic line)
+pub submit-unlisted : (H : History) (run : Text) (lists : List TopicList) (line : ℕ) → is_phase Published (phase H) ≡ false
+    → is_taken H run ≡ false → unknown_line H lists ≡ Some line
+    → submit_outcome H run lists ≡ Err (refusal.LineTopic line)
 submit-unlisted H run lists line unpublished free unlisted = rw (unpublished, free, unlisted) refl
 
-pub submit-too-many-runs : (H : History) (run : Text) (lists : List TopicList) → is_phase Published (phase H) ≡ false → is_taken H run ≡ false → unknown_line H lists ≡ None → MAX_RUNS ≤ length (runs H)
-    → submit_ruling H run lists ≡ Err (refusal.Limit quantity.Runs)
-submit-too-many-runs H run lists unpublished free listed full = rw (unpublished, free, listed, le-leb MAX_RUNS (length (runs H)) full) refl
+pub submit-too-many-runs : (H : History) (run : Text) (lists : List TopicList) → is_phase Published (phase H) ≡ false
+    → is_taken H run ≡ false → unknown_line H lists ≡ None → MAX_RUNS ≤ length (runs H)
+    → submit_outcome H run lists ≡ Err (refusal.Limit quantity.Runs)
+submit-too-many-runs H run lists unpublished free spelled_list full = rw (unpublished, free, spelled_list, le-leb MAX_RUNS (length (runs H)) full) refl
 
 -- a run that passes the tests before those of its lines and its docnos
 pub record Passes (H : History) (run : Text) (lists : List TopicList) : Type 0 where
@@ -54,17 +58,33 @@ pub record Passes (H : History) (run : Text) (lists : List TopicList) : Type 0 w
   pub runs_fit : length (runs H) < MAX_RUNS
 
 module _ (H : History) (run : Text) (lists : List TopicList) (passes : Passes H run lists) where
-  pub submit-too-many-lines : nat_lt MAX_LINES (submitted_lines H + line_count lists) ≡ true → submit_ruling H run lists ≡ Err (refusal.Limit quantity.Lines)
+  pub submit-too-many-lines : nat_lt MAX_LINES (submitted_lines H + line_count lists) ≡ true → submit_outcome H run lists ≡ Err (refusal.Limit quantity.Lines)
   submit-too-many-lines full = rw (passes.unpublished, passes.free, passes.listed, lt-leb MAX_RUNS (length (runs H)) passes.runs_fit, full) refl
 
   module _ (lines_fit : nat_lt MAX_LINES (submitted_lines H + line_count lists) ≡ false) where
-    pub submit-too-many-docnos : MAX_DOCNOS < length (each_once (submitted_docnos H ++ docnos lists)) → submit_ruling H run lists ≡ Err (refusal.Limit quantity.Docnos)
+    pub submit-too-many-docnos : MAX_DOCNOS < length (each_once (submitted_docnos H ++ docnos lists))
+        → submit_outcome H run lists ≡ Err (refusal.Limit quantity.Docnos)
     submit-too-many-docnos full =
-        rw (passes.unpublished, passes.free, passes.listed, lt-leb MAX_RUNS (length (runs H)) passes.runs_fit, lines_fit, lt-ltb MAX_DOCNOS (length (each_once (submitted_docnos H ++ docnos lists))) full) refl
+        rw (
+          passes.unpublished,
+          passes.free,
+          passes.listed,
+          lt-leb MAX_RUNS (length (runs H)) passes.runs_fit,
+          lines_fit,
+          lt-ltb MAX_DOCNOS (length (each_once (submitted_docnos H ++ docnos lists))) full,
+        ) refl
 
-    pub submit-accepted : length (each_once (submitted_docnos H ++ docnos lists)) ≤ MAX_DOCNOS → submit_ruling H run lists ≡ Ok (reply.Submitted run (length lists) (line_count lists))
+    pub submit-accepted : length (each_once (submitted_docnos H ++ docnos lists)) ≤ MAX_DOCNOS
+        → submit_outcome H run lists ≡ Ok (reply.Submitted run (length lists) (line_count lists))
     submit-accepted docnos_fit =
-        rw (passes.unpublished, passes.free, passes.listed, lt-leb MAX_RUNS (length (runs H)) passes.runs_fit, lines_fit, le-ltb MAX_DOCNOS (length (each_once (submitted_docnos H ++ docnos lists))) docnos_fit) refl
+        rw (
+          passes.unpublished,
+          passes.free,
+          passes.listed,
+          lt-leb MAX_RUNS (length (runs H)) passes.runs_fit,
+          lines_fit,
+          le-ltb MAX_DOCNOS (length (each_once (submitted_docnos H ++ docnos lists))) docnos_fit,
+        ) refl
 
 -- A run's lists and lines are no more than the bytes of their spelling.
 docs-bytes : (docs : List Text) → length docs ≤ length (flat_map short docs)
@@ -73,15 +93,27 @@ docs-bytes (doc ∷ docs) = omega (arith, docs-bytes docs, length-append (short 
 
 list-bytes : (l : TopicList) → suc (length l.docs) ≤ length (list_bytes l)
 list-bytes l =
-    omega (arith, docs-bytes l.docs, length-append (short l.topic ++ to_le_bytes w32 l.line) (listed short l.docs), length-append (short l.topic) (to_le_bytes w32 l.line), length-append (to_le_bytes w32 (length l.docs)) (flat_map short l.docs))
+    omega (
+      arith,
+      docs-bytes l.docs,
+      length-append (short l.topic ++ to_le_bytes w32 l.line) (spelled_list short l.docs),
+      length-append (short l.topic) (to_le_bytes w32 l.line),
+      length-append (to_le_bytes w32 (length l.docs)) (flat_map short l.docs),
+    )
 
 lists-bytes : (lists : List TopicList) → length lists + line_count lists ≤ length (flat_map list_bytes lists)
 lists-bytes [] = omega arith
-lists-bytes (l ∷ lists) = omega (arith, list-bytes l, lists-bytes lists, sum_by-cons (λ l. length l.docs) l lists, length-append (list_bytes l) (flat_map list_bytes lists))
+lists-bytes (l ∷ lists) =
+    omega (arith, list-bytes l, lists-bytes lists, sum_by-cons (λ l. length l.docs) l lists, length-append (list_bytes l) (flat_map list_bytes lists))
 
 pub submit-bytes : (run : Text) (lists : List TopicList) → length lists + line_count lists ≤ length (command_bytes (Submit run lists))
 submit-bytes run lists =
-    omega (arith, lists-bytes lists, length-append (3 ∷ short run) (listed list_bytes lists), length-append (to_le_bytes w32 (length lists)) (flat_map list_bytes lists))
+    omega (
+      arith,
+      lists-bytes lists,
+      length-append (3 ∷ short run) (spelled_list list_bytes lists),
+      length-append (to_le_bytes w32 (length lists)) (flat_map list_bytes lists),
+    )
 
 pub submit-fits : (command : Command) (run : Text) (lists items : List TopicList)
     → command ≡ Submit run lists → length (command_bytes command) ≤ MAX_ENTRY_BYTES → items ≡ lists → length items + line_count items ≤ MAX_ENTRY_BYTES

@@ -7,20 +7,20 @@ use Rattle.std.proofs.lemmas.Bool.{ltb-false, ltb-true}
 use Rattle.std.proofs.lemmas.List.Folds.{find_at}
 use Rattle.std.proofs.lemmas.List.Sums.{passes_at_first}
 use Rattle.std.proofs.lemmas.Slice.Eq.{bytes_eq-Decides}
+use Rattle.std.proofs.lemmas.Option.{slice_get-get_or, slice_get_past}
 use Rattle.rulebook.specs.declared.reply.Refusal.TheVariants as refusal
 use Rattle.rulebook.specs.declared.reply.Reply.TheVariants as reply
 use Rattle.rulebook.specs.declared.rules.Caller.{Caller}
 use Rattle.rulebook.specs.declared.rules.Phase.{Phase}
 use Rattle.rulebook.specs.declared.rules.Phase.TheVariants.{Published}
-use Rattle.rulebook.specs.Answers.{run_refusals, withdraw_ruling}
+use Rattle.rulebook.specs.Answers.{run_refusals, withdraw_outcome}
 use Rattle.rulebook.specs.Campaign.{History, Run, is_taken, is_withdrawn, phase, runs}
-use Rattle.rulebook.specs.Refusals.{Ruling, ◌when◌, given, is_phase, unless}
-use Rattle.rulebook.specs.Roles.{is_group}
-use Rattle.rulebook.specs.Scores.{is_submitter, run_named}
+use Rattle.rulebook.specs.Requests.Refusals.{Outcome, ◌when◌, unless_missing, is_phase, unless}
+use Rattle.rulebook.specs.Requests.Roles.{is_group}
+use Rattle.rulebook.specs.Reports.Scores.{is_submitter, run_named}
 use Rattle.rulebook.specs.Words.{Text}
-use Rattle.campaign_core.specs.Submissions.{IsRunAsked, asked_run}
+use Rattle.campaign_core.specs.Numbering.Submissions.{IsRunAsked, asked_run}
 use Rattle.campaign_core.proofs.Lists.FirstPlaces.{is-there}
-use Rattle.campaign_core.proofs.Lists.Elements.{get-there, slice-past}
 use Rattle.campaign_core.proofs.Numbers.RunPlaces.{no_run}
 
 abbrev is_named : Text → Run → Bool
@@ -39,16 +39,18 @@ place H name = position_or_len (is_named name) (runs H)
 pub run-found : (H : History) (name : Text) (number : ℕ) → Some number ≡ position (is_named name) (runs H) → IsRun H name number (get_or (runs H) number no_run)
 run-found H name number is = step (ltb (place H name) (length (runs H))) refl is
   where
-    step : (t : Bool) → ltb (place H name) (length (runs H)) ≡ t → Some number ≡ cond t (Some (place H name)) None → IsRun H name number (get_or (runs H) number no_run)
+    step : (t : Bool) → ltb (place H name) (length (runs H)) ≡ t → Some number ≡ cond t (Some (place H name)) None
+        → IsRun H name number (get_or (runs H) number no_run)
     step true less some =
         let same : number ≡ place H name = cc some in
         let within : place H name < length (runs H) = ltb-true (place H name) (length (runs H)) less in
         let run : Run = get_or (runs H) number no_run in
-        let passes : is_named name run ≡ true = ap (λ n. is_named name (get_or (runs H) n no_run)) same ∙ passes_at_first (is_named name) (runs H) no_run within in
+        let passes : is_named name run ≡ true =
+        ap (λ n. is_named name (get_or (runs H) n no_run)) same ∙ passes_at_first (is_named name) (runs H) no_run within in
         record {
           within = omega (arith, same, within);
-          there = get-there (runs H) number no_run (omega (arith, same, within));
-          named = find_at (is_named name) (runs H) ∙ ap (slice_get (runs H)) (sym same) ∙ get-there (runs H) number no_run (omega (arith, same, within));
+          there = slice_get-get_or (runs H) number no_run (omega (arith, same, within));
+          named = find_at (is_named name) (runs H) ∙ ap (slice_get (runs H)) (sym same) ∙ slice_get-get_or (runs H) number no_run (omega (arith, same, within));
           name_is = (bytes_eq-Decides run.name name).0 passes;
         }
     step false past some = cc some
@@ -58,7 +60,7 @@ no-run-found H name is = step (ltb (place H name) (length (runs H))) refl is
   where
     step : (t : Bool) → ltb (place H name) (length (runs H)) ≡ t → None ≡ cond t (Some (place H name)) None → run_named H name ≡ None
     step true less none = cc none
-    step false past none = find_at (is_named name) (runs H) ∙ slice-past (runs H) (place H name) (ltb-false (place H name) (length (runs H)) past)
+    step false past none = find_at (is_named name) (runs H) ∙ slice_get_past (runs H) (place H name) (ltb-false (place H name) (length (runs H)) past)
 
 -- a run that is named was submitted, and has a number
 pub place-named : (H : History) (name : Text) (run : Run) → run_named H name ≡ Some run → is_some (position (is_named name) (runs H)) ≡ true
@@ -74,20 +76,23 @@ taken-named H name run found = sym (is-there (is_named name) (runs H)) ∙ place
 -- What a caller is told of a run that is named.
 
 pub asked-unknown : (H : History) (who : Caller) (name : Text) → None ≡ position (is_named name) (runs H) → IsRunAsked H who name (Err refusal.UnknownRun)
-asked-unknown H who name none on = ap (λ (o : Option Run). given o refusal.UnknownRun (λ run. unless (run_refusals H who name) (on run))) (no-run-found H name none)
+asked-unknown H who name none on =
+    ap (λ (o : Option Run). unless_missing o refusal.UnknownRun (λ run. unless (run_refusals H who name) (on run))) (no-run-found H name none)
 
 module _ (H : History) (who : Caller) (name : Text) (number : ℕ) (first : Some number ≡ position (is_named name) (runs H)) where
   abbrev run : Run
   run = get_or (runs H) number no_run
 
-  asked-named : (on : Run → Ruling) → asked_run H who name on ≡ unless (run_refusals H who name) (on run)
-  asked-named on = ap (λ (o : Option Run). given o refusal.UnknownRun (λ run. unless (run_refusals H who name) (on run))) (run-found H name number first).named
+  asked-named : (on : Run → Outcome) → asked_run H who name on ≡ unless (run_refusals H who name) (on run)
+  asked-named on =
+      ap (λ (o : Option Run). unless_missing o refusal.UnknownRun (λ run. unless (run_refusals H who name) (on run))) (run-found H name number first).named
 
   pub asked-another : true ≡ (is_group who.role && not (is_submitter H who.name name)) → IsRunAsked H who name (Err refusal.NotYours)
-  asked-another another on = asked-named on ∙ ap (λ t. unless ((refusal.NotYours when t) ∷ (refusal.Withdrawn when is_withdrawn H name) ∷ []) (on run)) (sym another)
+  asked-another another on =
+      asked-named on ∙ ap (λ t. unless ((refusal.NotYours when t) ∷ (refusal.Withdrawn when is_withdrawn H name) ∷ []) (on run)) (sym another)
 
   module _ (mine : false ≡ (is_group who.role && not (is_submitter H who.name name))) where
-    asked-mine : (on : Run → Ruling) → asked_run H who name on ≡ unless ((refusal.Withdrawn when is_withdrawn H name) ∷ []) (on run)
+    asked-mine : (on : Run → Outcome) → asked_run H who name on ≡ unless ((refusal.Withdrawn when is_withdrawn H name) ∷ []) (on run)
     asked-mine on = asked-named on ∙ ap (λ t. unless ((refusal.NotYours when t) ∷ (refusal.Withdrawn when is_withdrawn H name) ∷ []) (on run)) (sym mine)
 
     pub asked-withdrawn : true ≡ is_withdrawn H name → IsRunAsked H who name (Err refusal.Withdrawn)
@@ -106,6 +111,8 @@ module _ (H : History) (who : Caller) (name : Text) (number : ℕ) (first : Some
         }
 
 -- what is ruled of a withdrawal before the publication
-pub withdraw-asked : (H : History) (who : Caller) (name : Text) (p : Phase) → p ≡ phase H → false ≡ is_phase Published p → withdraw_ruling H who name ≡ asked_run H who name (λ run. Ok reply.Done)
+pub withdraw-asked : (H : History) (who : Caller) (name : Text) (p : Phase) → p ≡ phase H → false ≡ is_phase Published p
+    → withdraw_outcome H who name ≡ asked_run H who name (λ run. Ok reply.Done)
 withdraw-asked H who name p phase_is before =
-    ap (λ t. unless ((refusal.WrongPhase (phase H) when t) ∷ []) (asked_run H who name (λ run. Ok reply.Done))) (ap (is_phase Published) (sym phase_is) ∙ sym before)
+    ap (λ t. unless ((refusal.WrongPhase (phase H) when t) ∷ []) (asked_run H who name (λ run. Ok reply.Done)))
+    (ap (is_phase Published) (sym phase_is) ∙ sym before)

@@ -1,7 +1,7 @@
 //! Amend: an assessor gives a document another grade.
 ghost use Rattle.std.specs.Prelude.{IfOk};
 ghost use Rattle.rulebook.specs.declared.ask.Command.TheVariants as command;
-ghost use Rattle.campaign_core.specs.Decisions.{IsAskedWith, IsDecision};
+ghost use Rattle.campaign_core.specs.Commands.Decisions.{IsAskedWith, IsDecision};
 
 use super::Decision;
 use super::documents::graded_place;
@@ -18,7 +18,8 @@ pub(crate) fn amend_decision(
     doc: &Text,
     grade: u8,
 ) -> Result<Decision, Memory>
-    requires { IsAskedWith campaign.now docnos.now core.now (command.Amend topic.now doc.now grade) }
+    requires { IsAskedWith campaign.now docnos.now core.now
+        (command.Amend topic.now doc.now grade) }
     ensures { IfOk result (IsDecision campaign.now docnos.now core.now) }
 {
     match graded_place(campaign, docnos, Some(&core.caller.name), topic, doc, grade) {

@@ -1,7 +1,7 @@
 //! Grade: an assessor grades a leased document.
 ghost use Rattle.std.specs.Prelude.{IfOk};
 ghost use Rattle.rulebook.specs.declared.ask.Command.TheVariants as command;
-ghost use Rattle.campaign_core.specs.Decisions.{IsAskedWith, IsDecision};
+ghost use Rattle.campaign_core.specs.Commands.Decisions.{IsAskedWith, IsDecision};
 
 use super::leases::{docno, lease_refusal};
 use super::{Decision, is_in, wrong_phase};

@@ -1,7 +1,7 @@
 //! Lease: an assessor asks for a document of a topic.
 ghost use Rattle.std.specs.Prelude.{IfOk};
 ghost use Rattle.rulebook.specs.declared.ask.Command.TheVariants as command;
-ghost use Rattle.campaign_core.specs.Decisions.{IsAskedWith, IsDecision, IsNumberFor};
+ghost use Rattle.campaign_core.specs.Commands.Decisions.{IsAskedWith, IsDecision, IsNumberFor};
 
 use super::leases::docno;
 use super::{Decision, is_in, wrong_phase};

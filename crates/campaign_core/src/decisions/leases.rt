@@ -1,7 +1,7 @@
 //! What the commands about a lease share.
 ghost use Rattle.std.specs.Prelude.{◌≡◌, IfOk};
 ghost use Rattle.decimal_rank.specs.Names.{docno_of};
-ghost use Rattle.campaign_core.specs.Leasing.{first_refusal, refusals_of};
+ghost use Rattle.campaign_core.specs.Assessments.DeskLeases.{first_refusal, refusals_of};
 
 use decimal_rank::{DocId, Memory, Names, Text};
 use lease_desk::Lease;

@@ -1,7 +1,7 @@
 //! Release: an assessor gives a leased document back without a grade.
 ghost use Rattle.rulebook.specs.declared.ask.Command.TheVariants as command;
-ghost use Rattle.campaign_core.specs.Decisions.{IsAskedFor, IsDecision};
-ghost use Rattle.campaign_core.specs.Numbers.{names_of};
+ghost use Rattle.campaign_core.specs.Commands.Decisions.{IsAskedFor, IsDecision};
+ghost use Rattle.campaign_core.specs.Numbering.Numbers.{names_of};
 
 use super::leases::lease_refusal;
 use super::{Decision, is_in, wrong_phase};

@@ -1,6 +1,6 @@
 //! Rule: the organiser settles the grade of a document.
 ghost use Rattle.rulebook.specs.declared.ask.Command.TheVariants as command;
-ghost use Rattle.campaign_core.specs.Decisions.{IsAskedWith, IsDecision};
+ghost use Rattle.campaign_core.specs.Commands.Decisions.{IsAskedWith, IsDecision};
 
 use super::Decision;
 use super::documents::graded_place;

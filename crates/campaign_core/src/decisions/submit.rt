@@ -1,14 +1,14 @@
 //! Submit: a group hands in a run.
 ghost use Rattle.std.specs.Prelude.{◌≡◌, IfOk};
 ghost use Rattle.rulebook.specs.declared.ask.Command.TheVariants as command;
-ghost use Rattle.campaign_core.specs.Decisions.{IsAskedWith, IsDecision, KeepsLimits};
+ghost use Rattle.campaign_core.specs.Commands.Decisions.{IsAskedWith, IsDecision, KeepsLimits};
 ghost use Rattle.campaign_core.specs.Growth.{BeginsWith};
 
 use super::{Decision, is_in, wrong_phase};
 use crate::campaign::Campaign;
-use crate::docnos::add_docnos;
-use crate::submissions::{line_count, run_number};
-use crate::topics::rankings_of;
+use crate::campaign::docnos::add_docnos;
+use crate::campaign::submissions::{line_count, run_number};
+use crate::campaign::topics::rankings_of;
 use assessment::Change;
 use decimal_rank::{Memory, Names, Text};
 use depth_pool::RunId;
@@ -27,7 +27,8 @@ pub(crate) fn submit_decision(
 ) -> Result<Decision, Memory>
     requires { IsAskedWith campaign.now docnos.old core.now (command.Submit run.now lists.now) }
     ensures decision { IfOk result (IsDecision campaign.now docnos.new core.now) }
-    ensures limits { IfOk result (KeepsLimits campaign.now.history.items docnos.new core.now.command) }
+    ensures limits { IfOk result
+        (KeepsLimits campaign.now.history.items docnos.new core.now.command) }
     ensures grown { BeginsWith docnos.old docnos.new }
 {
     if is_in(campaign, Phase::Published) {

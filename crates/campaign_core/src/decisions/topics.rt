@@ -1,12 +1,12 @@
 //! Topics: the organiser gives the campaign its topics.
 ghost use Rattle.std.specs.Prelude.{IfOk};
 ghost use Rattle.rulebook.specs.declared.ask.Command.TheVariants as command;
-ghost use Rattle.campaign_core.specs.Decisions.{IsAskedFor, IsDecision};
-ghost use Rattle.campaign_core.specs.Numbers.{names_of};
+ghost use Rattle.campaign_core.specs.Commands.Decisions.{IsAskedFor, IsDecision};
+ghost use Rattle.campaign_core.specs.Numbering.Numbers.{names_of};
 
 use super::{Decision, is_in, wrong_phase};
 use crate::campaign::Campaign;
-use crate::topics::topic_rules;
+use crate::campaign::topics::topic_rules;
 use assessment::{Change, Topics};
 use decimal_rank::Memory;
 use rulebook::{EntryCore, MAX_TOPICS, Phase, Quantity, Refusal, Reply};

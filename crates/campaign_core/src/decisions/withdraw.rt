@@ -1,11 +1,11 @@
 //! Withdraw: a group, or the organiser, takes a run back.
 ghost use Rattle.rulebook.specs.declared.ask.Command.TheVariants as command;
-ghost use Rattle.campaign_core.specs.Decisions.{IsAskedFor, IsDecision};
-ghost use Rattle.campaign_core.specs.Numbers.{names_of};
+ghost use Rattle.campaign_core.specs.Commands.Decisions.{IsAskedFor, IsDecision};
+ghost use Rattle.campaign_core.specs.Numbering.Numbers.{names_of};
 
 use super::{Decision, is_in, wrong_phase};
 use crate::campaign::Campaign;
-use crate::submissions::run_asked;
+use crate::campaign::submissions::run_asked;
 use assessment::Change;
 use decimal_rank::Text;
 use depth_pool::RunId;

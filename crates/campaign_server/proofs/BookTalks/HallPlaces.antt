@@ -3,27 +3,29 @@ use Rattle.std.proofs.Common.{◌≡◌, ℕ, suc, ◌+◌, ◌≤◌, ◌==◌,
 use Rattle.std.proofs.lemmas.Bool.{eqb-true, eqb-false}
 use Rattle.std.proofs.lemmas.List.{map-append}
 use Rattle.hall.specs.Acts.{Known}
-use Rattle.hall.specs.Places.{added}
+use Rattle.hall.specs.Places.{added_place}
 use Rattle.rulebook.specs.declared.answer.Answer.{Answer}
 use Rattle.rulebook.specs.declared.ask.Addressed.{Addressed}
 use Rattle.rulebook.specs.declared.entry.Entry.{Entry}
 use Rattle.rulebook.specs.Campaign.{History}
-use Rattle.rulebook.specs.Stories.{AtMost, IsTold, Story}
+use Rattle.rulebook.specs.Histories.Stories.{IsPartOf, IsTold, Story}
 use Rattle.book.specs.Halls.{seen_as}
-use Rattle.campaign_server.specs.Stories.{added_since}
-use Rattle.campaign_server.specs.Talks.{Before, IsSeen, place_of}
+use Rattle.campaign_server.specs.Conversations.Stories.{added_since}
+use Rattle.campaign_server.specs.Conversations.Talks.{Before, IsSeen, places_added}
 use Rattle.campaign_server.specs.HallConnections.{TellsInHall}
-use Rattle.campaign_server.proofs.TalkSteps.Chaining.{since_is}
+use Rattle.campaign_server.proofs.TalkSteps.TalkChains.{since_is}
 
 -- a hall's places count from 1, those of a talk from 0
 pub places_are : (before more after : History) → after ≡ before ++ more → length after ≤ length before + 1
-    → added before after ≡ map suc (place_of before (added_since before after))
-places_are before [] after is few = step (length before == length after) refl ∙ sym (ap (λ rest. map suc (place_of before rest)) (since_is before [] after is))
+    → added_place before after ≡ map suc (places_added before (added_since before after))
+places_are before [] after is few =
+    step (length before == length after) refl ∙ sym (ap (λ rest. map suc (places_added before rest)) (since_is before [] after is))
   where
     step : (same : Bool) → (length before == length after) ≡ same → cond same [] (suc (length before) ∷ []) ≡ []
     step true e = refl
     step false e = absurd (eqb-false (length before) (length after) e (omega (arith, ap length is, length-append before [])))
-places_are before (first ∷ []) after is few = step (length before == length after) refl ∙ sym (ap (λ rest. map suc (place_of before rest)) (since_is before (first ∷ []) after is))
+places_are before (first ∷ []) after is few =
+    step (length before == length after) refl ∙ sym (ap (λ rest. map suc (places_added before rest)) (since_is before (first ∷ []) after is))
   where
     step : (same : Bool) → (length before == length after) ≡ same → cond same [] (suc (length before) ∷ []) ≡ suc (length before) ∷ []
     step false e = refl
@@ -46,11 +48,11 @@ module _ {S N : Type 0} (pass : S → Known Entry) (name : S → N) where
   look s = seen_as (pass s).seen
 
   visit_step : (old : S) (asked : Addressed) (answer : Answer) (new : S) → Asks old asked answer new
-      → (b : Story) × Before false (look old) b × IsTold b asked answer (look new) × Gains old (place_of b.list (added_since b.list (look new).list)) new
+      → (b : Story) × Before false (look old) b × IsTold b asked answer (look new) × Gains old (places_added b.list (added_since b.list (look new).list)) new
   visit_step old asked answer new visits =
       let (b, most, grows, told, mine) = visits.0.0 in
       let (rest, is) = grows.0.0 in
-      let most_of : AtMost (look old) (seen_as b) = record { longer = most.0; later = most.1; opening = most.2 } in (
+      let most_of : IsPartOf (look old) (seen_as b) = record { longer = most.0; later = most.1; opening = most.2 } in (
         seen_as b,
         most_of,
         told,

@@ -3,23 +3,23 @@ use Rattle.std.proofs.Common.{◌≡◌, ℕ, List, [], false, length, refl, sym
 use Rattle.hall.specs.Acts.{Known}
 use Rattle.routes.specs.declared.keys.KeyRow.{KeyRow}
 use Rattle.rulebook.specs.declared.entry.Entry.{Entry}
-use Rattle.rulebook.specs.Stories.{AtMost}
+use Rattle.rulebook.specs.Histories.Stories.{IsPartOf}
 use Rattle.campaign_server.specs.declared.ends.End.{End}
 use Rattle.campaign_server.specs.declared.ends.End.TheVariants as end
-use Rattle.campaign_server.specs.Chains.{Chain, Said}
-use Rattle.campaign_server.specs.Connections.{Ends}
+use Rattle.campaign_server.specs.Conversations.Chains.{Chain, Said}
+use Rattle.campaign_server.specs.Connections.{ConnectionEnds}
 use Rattle.campaign_server.specs.Links.{Alike, LinkState}
 use Rattle.campaign_server.specs.HallConnections.{IsTalkAmong, Licensed, Serves, disk_faults}
-use Rattle.campaign_server.proofs.ReadPieces.Hearing.{ends_before}
-use Rattle.campaign_server.proofs.TalkSteps.Chaining.{chain_talks}
-use Rattle.campaign_server.proofs.TalkSteps.TalkFacts.{ends_known}
+use Rattle.campaign_server.proofs.ReadPieces.ConnectionBytes.{ends_before}
+use Rattle.campaign_server.proofs.TalkSteps.TalkChains.{chain_talks}
+use Rattle.campaign_server.proofs.TalkSteps.KnownTalks.{ends_known}
 use Rattle.campaign_server.proofs.TalkSteps.FaultCounts.{talk_licensed}
 use Rattle.campaign_server.proofs.BookTalks.HallPlaces.{Asks, Gains, look, visits_seen}
 
 module _ {S N : Type 0} (pass : S → Known Entry) (name : S → N) (keys : List KeyRow) (old new : S) (was is : LinkState) where
   -- What a pass gained on a connection
   record Came : Type 0 where
-    grown : AtMost (look pass name old) (look pass name new)
+    grown : IsPartOf (look pass name old) (look pass name new)
     places : List ℕ
     gained : Gains pass name old places new
     told : ℕ
@@ -28,7 +28,8 @@ module _ {S N : Type 0} (pass : S → Known Entry) (name : S → N) (keys : List
   -- what is said, with what was gained
   abbrev Talked : Came → List Said → Type 0
   Talked came said =
-      IsTalkAmong keys (length (pass old).seen.list) (pass old).seen.faults was.clock (pass new).seen.list (pass new).seen.faults is.clock came.places came.told said
+      IsTalkAmong keys (length (pass old).seen.list) (pass old).seen.faults was.clock (pass new).seen.list
+      (pass new).seen.faults is.clock came.places came.told said
 
   came_by : (said : List Said) → Chain (Asks pass name) keys old was.clock new is.clock said → (came : Came) × Talked came said
   came_by said chain =
@@ -47,7 +48,7 @@ module _ {S N : Type 0} (pass : S → Known Entry) (name : S → N) (keys : List
       )
 
   -- the caller's pass behind a connection: it is the one that was lent, of the same hall, and what it serves
-  pub connection_serves : (how : End) → Ends (Chain (Asks pass name) keys old was.clock new is.clock) was is how → Alike was is
+  pub connection_serves : (how : End) → ConnectionEnds (Chain (Asks pass name) keys old was.clock new is.clock) was is how → Alike was is
       → (name new ≡ name old) × ((pass new).hall ≡ (pass old).hall) × Serves keys (pass old) (pass new) was is how
   connection_serves how ends alike =
       let (came, come) = ends_known {I = Came} (Chain (Asks pass name) keys old was.clock new is.clock) Talked came_by was is how ends in (

@@ -5,9 +5,9 @@ use Rattle.routes.specs.declared.answers.Answered.{Answered}
 use Rattle.routes.specs.declared.answers.Answered.TheVariants as answered
 use Rattle.routes.specs.declared.keys.KeyRow.{KeyRow}
 use Rattle.rulebook.specs.Campaign.{History}
-use Rattle.campaign_server.specs.Chains.{Said}
+use Rattle.campaign_server.specs.Conversations.Chains.{Said}
 use Rattle.campaign_server.specs.HallConnections.{Licensed, disk_fault, disk_faults}
-use Rattle.campaign_server.specs.Talks.{Talk}
+use Rattle.campaign_server.specs.Conversations.Talks.{Talk}
 
 -- the count rose by one at least, or it stands at its end
 rose_by : (c d : ℕ) → Rose c d → (1 + c ≤ d) ⊎ (2 ^ 64 - 1 ≤ d)
@@ -34,5 +34,8 @@ pub talk_licensed : (alone : Bool) (keys : List KeyRow) (n c : ℕ) (S : History
     → Talk alone keys n c S last places said → (c ≤ last) × Licensed (disk_faults said) c last
 talk_licensed alone keys n c S last places [] (between, small, none) = (small, inl (omega (arith, small)))
 talk_licensed alone keys n c S last places (x ∷ said) (H, more, d, others, stands, are, talk) =
-    let (later, licensed) = talk_licensed alone keys (length (H ++ more)) d S last others said talk in
-    (omega (arith, stands.later, later), licensed_both (disk_fault x.answer) (disk_faults said) c d last later (one_fault x.answer c d stands.later stands.fault) licensed)
+    let (later, licensed) = talk_licensed alone keys (length (H ++ more)) d S last others said talk in (
+      omega (arith, stands.later, later),
+      licensed_both (disk_fault x.answer) (disk_faults said) c d last later
+          (one_fault x.answer c d stands.later stands.fault) licensed,
+    )

@@ -4,8 +4,8 @@ use Rattle.std.specs.List.{slice_get}
 use Rattle.std.specs.Option.{option_map_or}
 use Rattle.std.proofs.lemmas.Bool.{false_from_ne_true}
 use Rattle.std.proofs.lemmas.List.{drop_all, drop_more}
-use Rattle.decimal_rank.specs.Buckets.{Buckets, IsNewest}
-use Rattle.decimal_rank.specs.Searches.{AreUnder}
+use Rattle.decimal_rank.specs.Tables.Buckets.{Buckets, IsNewest}
+use Rattle.decimal_rank.specs.Tables.Searches.{AreUnder}
 
 module _ {X : Type 0} (is : X → Bool) where
   -- no item between two places passes the test
@@ -17,7 +17,8 @@ module _ {X : Type 0} (is : X → Bool) where
   skip (item ∷ items) zero zero le others = refl
   skip (item ∷ items) zero (suc to) le others =
       let first : is item ≡ false = others 0 item (omega arith) (omega arith) refl in
-      let rest : find is (drop 0 items) ≡ find is (drop to items) = skip items zero to (omega arith) (λ i l below above got. others (suc i) l (omega arith) (omega arith) got) in
+      let rest : find is (drop 0 items) ≡ find is (drop to items) =
+      skip items zero to (omega arith) (λ i l below above got. others (suc i) l (omega arith) (omega arith) got) in
       rw first rest
   skip (item ∷ items) (suc from) zero le others = absurd (omega (arith, le))
   skip (item ∷ items) (suc from) (suc to) le others =

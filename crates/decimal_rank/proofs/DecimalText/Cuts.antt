@@ -10,7 +10,8 @@ use Rattle.std.proofs.lemmas.List.Sums.{passes_at_first, fails_before_first}
 within : (p : ℕ → Bool) (xs : List ℕ) (i : ℕ) → position p xs ≡ Some i → (position_or_len p xs < length xs) × (i ≡ position_or_len p xs)
 within p xs i is = by (ltb (position_or_len p xs) (length xs)) refl is
   where
-    by : (t : Bool) → ltb (position_or_len p xs) (length xs) ≡ t → cond t (Some (position_or_len p xs)) None ≡ Some i → (position_or_len p xs < length xs) × (i ≡ position_or_len p xs)
+    by : (t : Bool) → ltb (position_or_len p xs) (length xs) ≡ t → cond t (Some (position_or_len p xs)) None ≡ Some i
+        → (position_or_len p xs < length xs) × (i ≡ position_or_len p xs)
     by true e is = (grind (arith, nat_tests), cc)
     by false e is = absurd (cc)
 

@@ -12,7 +12,7 @@ use Rattle.std.proofs.lemmas.List.Folds.{list_all_at}
 use Rattle.std.proofs.lemmas.List.Sums.{prefix_len_passes, prefix_len_stops}
 use Rattle.std.proofs.lemmas.List.{length-reverse, get_or-reverse}
 use Rattle.std.proofs.lemmas.Str.{digit_value_digit}
-use Rattle.decimal_rank.specs.DecimalText.{is_digit, is_zero, zeros_after}
+use Rattle.decimal_rank.specs.Decimals.DecimalText.{is_digit, is_zero, zeros_after}
 
 pub digit_range : (b : ℕ) → is_digit b ≡ true → IsInRange 48 57 b
 digit_range b is = let p = and_parts _ _ is in (leb-true _ _ p.0, leb-true _ _ p.1)
@@ -22,10 +22,18 @@ pub digit_at : (digits : List ℕ) (i : ℕ) → list_all is_digit digits ≡ tr
 digit_at digits i all inside = true_from_ne_false (is_digit (get_or digits i 0)) (λ other. let wrong = list_all_at is_digit digits i 0 inside other in cc)
 
 -- the capped value with one more digit
-pub capped_more : (digits : List ℕ) (i value next cap : ℕ) → list_all is_digit digits ≡ true → i < length digits → cap < 2 ^ 64 → value ≡ min (digits_value 10 (take i digits)) cap
+pub capped_more : (digits : List ℕ) (i value next cap : ℕ) → list_all is_digit digits ≡ true → i < length digits
+    → cap < 2 ^ 64 → value ≡ min (digits_value 10 (take i digits)) cap
     → next ≡ min (min (min (value * 10) (2 ^ 64 - 1) + (get_or digits i 0 - 48)) (2 ^ 64 - 1)) cap → next ≡ min (digits_value 10 (take (i + 1) digits)) cap
 capped_more digits i value next cap all inside fits was is =
-    omega (arith, fits, was, is, digits_value_more 10 digits i inside, digit_value_digit (get_or digits i 0) (digit_range (get_or digits i 0) (digit_at digits i all inside)))
+    omega (
+      arith,
+      fits,
+      was,
+      is,
+      digits_value_more 10 digits i inside,
+      digit_value_digit (get_or digits i 0) (digit_range (get_or digits i 0) (digit_at digits i all inside)),
+    )
 
 -- ---- zeros at the end
 
@@ -46,7 +54,8 @@ pub other_before_end : (digits : List ℕ) → zeros_after digits < length digit
 other_before_end digits few is =
     let long : length (reverse digits) ≡ length digits = length-reverse digits in
     let stops : is_zero (get_or (reverse digits) (zeros_after digits) 0) ≡ false = prefix_len_stops is_zero (reverse digits) 0 (omega arith) in
-    let same : get_or (reverse digits) (zeros_after digits) 0 ≡ get_or digits (length digits - 1 - zeros_after digits) 0 = get_or-reverse digits (zeros_after digits) 0 few in
+    let same : get_or (reverse digits) (zeros_after digits) 0 ≡ get_or digits (length digits - 1 - zeros_after digits) 0 =
+    get_or-reverse digits (zeros_after digits) 0 few in
     let zero : is_zero (get_or (reverse digits) (zeros_after digits) 0) ≡ true = ap is_zero (same ∙ is) in
     cc
 
@@ -68,7 +77,8 @@ value-kept digits (suc kept) le =
     let one : suc kept ≡ kept + 1 = omega arith in
     let value = digits_value 10 (take n digits) in
     let pushed : digits_value 10 (take (n + kept + 1) digits) ≡ digits_value 10 (take (n + kept) digits) * 10 = omega (arith, more, none) in
-    ap (λ m. digits_value 10 (take m digits)) next ∙ pushed ∙ ap (λ m. m * 10) before ∙ mul_assoc value (10 ^ kept) 10 ∙ ap (λ p. value * p) (sym up) ∙ ap (λ m. value * 10 ^ m) (sym one)
+    ap (λ m. digits_value 10 (take m digits)) next ∙ pushed ∙ ap (λ m. m * 10) before ∙ mul_assoc value (10 ^ kept) 10
+    ∙ ap (λ p. value * p) (sym up) ∙ ap (λ m. value * 10 ^ m) (sym one)
 
 -- the number without the zeros at the end doesn't end with 0
 pub trimmed : (digits : List ℕ) → list_all is_digit digits ≡ true → zeros_after digits < length digits
@@ -81,5 +91,6 @@ trimmed digits all few =
     let other = other_before_end digits few in
     let more = digits_value_more 10 digits i inside in
     let at : i + 1 ≡ length digits - zeros_after digits = omega arith in
-    let is : digits_value 10 (take (length digits - zeros_after digits) digits) ≡ digits_value 10 (take i digits) * 10 + digit_value (get_or digits i 0) = ap (λ n. digits_value 10 (take n digits)) (sym at) ∙ more in
+    let is : digits_value 10 (take (length digits - zeros_after digits) digits) ≡ digits_value 10 (take i digits) * 10 + digit_value (get_or digits i 0) =
+    ap (λ n. digits_value 10 (take n digits)) (sym at) ∙ more in
     omega (arith, is, range.0, range.1, value, other)

@@ -13,10 +13,12 @@ lower_or_higher : (m n : ℕ) → m ≢ n → (m < n) ⊎ (n < m)
 lower_or_higher m n h = grind arith
 
 -- two numbers have two names
-pub names_differ : (names : List (List ℕ)) (m n : ℕ) → IsDistinct bytes_eq names → m ≢ n → m < length names → n < length names → bytes_eq (docno_of names m) (docno_of names n) ≡ false
+pub names_differ : (names : List (List ℕ)) (m n : ℕ) → IsDistinct bytes_eq names → m ≢ n → m < length names
+    → n < length names → bytes_eq (docno_of names m) (docno_of names n) ≡ false
 names_differ names m n distinct apart low high =
     ⊎_elim (λ less. apart_from_distinct bytes_eq names m n [] distinct less high)
-    (λ more. nat_list_eq_equiv.symm (docno_of names m) (docno_of names n) ∙ apart_from_distinct bytes_eq names n m [] distinct more low) (lower_or_higher m n apart)
+    (λ more. nat_list_eq_equiv.symm (docno_of names m) (docno_of names n) ∙ apart_from_distinct bytes_eq names n m [] distinct more low)
+    (lower_or_higher m n apart)
 
 -- what stands neither equal nor behind stands before
 pub strictly : (order : Ordering) → is_eq order ≡ false → is_lt (ordering_reverse order) ≡ false → is_lt order ≡ true

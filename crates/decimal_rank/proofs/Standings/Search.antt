@@ -5,13 +5,14 @@ use Rattle.std.specs.List.Sorted.{IsNonDecreasingBy}
 use Rattle.std.specs.Int.Digits.{digits_of}
 use Rattle.std.proofs.lemmas.Int.Digits.{length-digits_of_step, length-digits_of-le, number_lt, number_digits_of, all_below_base_digits_of}
 use Rattle.decimal_rank.specs.declared.rankings.Entry.{Entry}
-use Rattle.decimal_rank.specs.Places.{levels}
+use Rattle.decimal_rank.specs.Rankings.Places.{levels}
 
 -- ---- levels
 
 below_levels : (n : ℕ) → n < 2 ^ levels n
 unfolding levels
-below_levels n = subst (λ m. m < 2 ^ length (digits_of 2 n)) (number_digits_of 2 n (omega arith)) (number_lt 2 (digits_of 2 n) (all_below_base_digits_of 2 n (omega arith)))
+below_levels n =
+    subst (λ m. m < 2 ^ length (digits_of 2 n)) (number_digits_of 2 n (omega arith)) (number_lt 2 (digits_of 2 n) (all_below_base_digits_of 2 n (omega arith)))
 
 pub levels-le : (m n : ℕ) → m ≤ n → levels m ≤ levels n
 unfolding levels
@@ -38,7 +39,8 @@ halves size rest before now most some le h =
     let less = levels-le rest (size / 2) le in
     omega arith
 
-pub goes_up : (entries : List Entry) (doc low high before now middle : ℕ) (e : Entry) → IsNonDecreasingBy (λ entry. entry.doc) entries → IsNarrowed entries doc low high before now
+pub goes_up : (entries : List Entry) (doc low high before now middle : ℕ) (e : Entry)
+    → IsNonDecreasingBy (λ entry. entry.doc) entries → IsNarrowed entries doc low high before now
     → low < high → middle ≡ low + (high - low) / 2 → (get_or entries middle e).doc < doc → IsNarrowed entries doc (middle + 1) high before (now + 1)
 goes_up entries doc low high before now middle e sorted n lt is less = record {
   ordered = omega arith;
@@ -52,7 +54,8 @@ goes_up entries doc low high before now middle e sorted n lt is less = record {
   cost = halves (high - low) (high - (middle + 1)) before now (levels (length entries)) (omega arith) (omega arith) n.cost;
 }
 
-pub goes_down : (entries : List Entry) (doc low high before now middle : ℕ) (e : Entry) → IsNonDecreasingBy (λ entry. entry.doc) entries → IsNarrowed entries doc low high before now
+pub goes_down : (entries : List Entry) (doc low high before now middle : ℕ) (e : Entry)
+    → IsNonDecreasingBy (λ entry. entry.doc) entries → IsNarrowed entries doc low high before now
     → low < high → middle ≡ low + (high - low) / 2 → doc < (get_or entries middle e).doc → IsNarrowed entries doc low middle before (now + 1)
 goes_down entries doc low high before now middle e sorted n lt is less = record {
   ordered = omega arith;

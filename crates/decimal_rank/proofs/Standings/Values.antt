@@ -9,8 +9,8 @@ use Rattle.std.specs.Cmp.{IsTotalOrder, int_ranks, nat_cmp_is}
 use Rattle.std.specs.Int.{int_gap, int_min}
 use Rattle.std.specs.Ordering.{MatchOrdering, nat_cmp, int_cmp, ordering_then, ordering_reverse, on}
 use Rattle.std.proofs.lemmas.Int.{ints, clamps}
-use Rattle.decimal_rank.specs.Decimal.{DecimalValue, signed, in_units, decimal_cmp, size_of}
-use Rattle.decimal_rank.specs.Aligned.{aligned_value, IsAligned}
+use Rattle.decimal_rank.specs.Decimals.Decimal.{DecimalValue, signed_number, in_units, decimal_cmp, magnitude_of}
+use Rattle.decimal_rank.specs.Decimals.AlignedDigits.{aligned_value, IsAligned}
 
 -- ---- tests of signed numbers
 
@@ -24,7 +24,7 @@ lt-neg-pos : (a b : ℕ) → int_lt (neg_ℤ (pos a)) (pos b) ≡ ltb 0 (a + b)
 lt-neg-pos zero b = grind (arith, nat_tests)
 lt-neg-pos (suc a) b = grind (arith, nat_tests)
 
-lt-pos-neg : (a b : ℕ) → int_lt (pos a) (neg_ℤ (pos b)) ≡ false
+pub lt-pos-neg : (a b : ℕ) → int_lt (pos a) (neg_ℤ (pos b)) ≡ false
 lt-pos-neg a zero = grind (arith, nat_tests)
 lt-pos-neg a (suc b) = refl
 
@@ -39,7 +39,7 @@ lt-scaled m n k h = scaled (ltb m n) refl
 
 -- ---- ten to an exponent
 
-gap-add : (low mid high : ℤ) → low ≤ℤ mid → mid ≤ℤ high → int_gap low high ≡ int_gap mid high + int_gap low mid
+pub gap-add : (low mid high : ℤ) → low ≤ℤ mid → mid ≤ℤ high → int_gap low high ≡ int_gap mid high + int_gap low mid
 gap-add (pos a) (pos b) (pos c) h k = omega (arith, ints)
 gap-add (pos a) (pos b) (negsuc c) h k = omega (arith, ints)
 gap-add (pos a) (negsuc b) (pos c) h k = omega (arith, ints)
@@ -49,21 +49,24 @@ gap-add (negsuc a) (pos b) (negsuc c) h k = omega (arith, ints)
 gap-add (negsuc a) (negsuc b) (pos c) h k = omega (arith, ints)
 gap-add (negsuc a) (negsuc b) (negsuc c) h k = omega (arith, ints)
 
-units-scaled : (s t : Bool) (m n k : ℕ) → 0 < k → int_lt (signed s (m * k)) (signed t (n * k)) ≡ int_lt (signed s m) (signed t n)
+units-scaled : (s t : Bool) (m n k : ℕ) → 0 < k → int_lt (signed_number s (m * k)) (signed_number t (n * k)) ≡ int_lt (signed_number s m) (signed_number t n)
 units-scaled false false m n k h = lt-scaled m n k h
 units-scaled false true m n k h = lt-pos-neg (m * k) (n * k) ∙ sym (lt-pos-neg m n)
 units-scaled true false m n k h =
-    lt-neg-pos (m * k) (n * k) ∙ ap (λ x. ltb 0 x) (sym (add-mul m n k)) ∙ ap (λ x. ltb x ((m + n) * k)) (sym (zero-mul k)) ∙ lt-scaled 0 (m + n) k h ∙ sym (lt-neg-pos m n)
+    lt-neg-pos (m * k) (n * k) ∙ ap (λ x. ltb 0 x) (sym (add-mul m n k)) ∙ ap (λ x. ltb x ((m + n) * k)) (sym (zero-mul k))
+    ∙ lt-scaled 0 (m + n) k h ∙ sym (lt-neg-pos m n)
 units-scaled true true m n k h = lt-neg-neg (m * k) (n * k) ∙ lt-scaled n m k h ∙ sym (lt-neg-neg m n)
 
-cmp-scaled : (s t : Bool) (m n k : ℕ) → 0 < k → int_cmp (signed s (m * k)) (signed t (n * k)) ≡ int_cmp (signed s m) (signed t n)
+cmp-scaled : (s t : Bool) (m n k : ℕ) → 0 < k → int_cmp (signed_number s (m * k)) (signed_number t (n * k)) ≡ int_cmp (signed_number s m) (signed_number t n)
 cmp-scaled s t m n k h = rw (units-scaled s t m n k h, units-scaled t s n m k h) refl
 
 -- the units of a lower exponent
 in_units-lower : (low mid : ℤ) (v : DecimalValue) → low ≤ℤ mid → mid ≤ℤ v.exponent
-    → in_units low v ≡ signed v.negative (v.digits * 10 ^ int_gap mid v.exponent * 10 ^ int_gap low mid)
+    → in_units low v ≡ signed_number v.negative (v.digits * 10 ^ int_gap mid v.exponent * 10 ^ int_gap low mid)
 in_units-lower low mid v h k =
-    ap (signed v.negative) (ap (λ g. v.digits * 10 ^ g) (gap-add low mid v.exponent h k) ∙ ap (λ p. v.digits * p) (pow-add 10 (int_gap mid v.exponent) (int_gap low mid)) ∙ sym (mul_assoc v.digits (10 ^ int_gap mid v.exponent) (10 ^ int_gap low mid)))
+    ap (signed_number v.negative)
+    (ap (λ g. v.digits * 10 ^ g) (gap-add low mid v.exponent h k) ∙ ap (λ p. v.digits * p) (pow-add 10 (int_gap mid v.exponent) (int_gap low mid))
+    ∙ sym (mul_assoc v.digits (10 ^ int_gap mid v.exponent) (10 ^ int_gap low mid)))
 
 -- any exponent that is no greater than both shows the same order
 pub cmp-at : (low : ℤ) (a b : DecimalValue) → low ≤ℤ a.exponent → low ≤ℤ b.exponent → decimal_cmp a b ≡ int_cmp (in_units low a) (in_units low b)
@@ -73,7 +76,8 @@ cmp-at low a b h k =
     let below : low ≤ℤ mid = omega (arith, ints, clamps) in
     let left : mid ≤ℤ a.exponent = omega (arith, ints, clamps) in
     let right : mid ≤ℤ b.exponent = omega (arith, ints, clamps) in
-    sym (rw (in_units-lower low mid a below left, in_units-lower low mid b below right) (cmp-scaled a.negative b.negative _ _ (10 ^ int_gap low mid) (one-le-pow (int_gap low mid) 10 (omega arith))))
+    sym (rw (in_units-lower low mid a below left, in_units-lower low mid b below right)
+    (cmp-scaled a.negative b.negative _ _ (10 ^ int_gap low mid) (one-le-pow (int_gap low mid) 10 (omega arith))))
 
 -- ---- the order is total
 
@@ -113,11 +117,13 @@ gap-over (negsuc a) n = gap-over-neg a n ((negsuc a) +ℤ pos n) refl
 
 -- in units of the last of its 38 digits an aligned decimal is these digits
 in_units-aligned : (negative : Bool) (leading padding : ℕ) (low last : ℤ) → low ≤ℤ last → leading / 10 ^ padding * 10 ^ padding ≡ leading
-    → in_units low (aligned_value negative leading padding last) ≡ signed negative (leading * 10 ^ int_gap low last)
+    → in_units low (aligned_value negative leading padding last) ≡ signed_number negative (leading * 10 ^ int_gap low last)
 in_units-aligned negative leading padding low last h padded =
     let up : last ≤ℤ (last +ℤ pos padding) = omega (arith, ints) in
     let gap : int_gap last (last +ℤ pos padding) ≡ padding = gap-over last padding in
-    in_units-lower low last (aligned_value negative leading padding last) h up ∙ ap (λ g. signed negative (leading / 10 ^ padding * 10 ^ g * 10 ^ int_gap low last)) gap ∙ ap (λ l. signed negative (l * 10 ^ int_gap low last)) padded
+    in_units-lower low last (aligned_value negative leading padding last) h up
+    ∙ ap (λ g. signed_number negative (leading / 10 ^ padding * 10 ^ g * 10 ^ int_gap low last)) gap
+    ∙ ap (λ l. signed_number negative (l * 10 ^ int_gap low last)) padded
 
 cmp-pos : (m n : ℕ) → int_cmp (pos m) (pos n) ≡ nat_cmp m n
 cmp-pos m n = grind (arith, nat_tests)
@@ -166,7 +172,7 @@ gap-zero : (e : ℤ) → int_gap e e ≡ 0
 gap-zero (pos a) = omega arith
 gap-zero (negsuc a) = omega arith
 
-gap-some : (e f : ℤ) → e <ℤ f → 1 ≤ int_gap e f
+pub gap-some : (e f : ℤ) → e <ℤ f → 1 ≤ int_gap e f
 gap-some (pos a) (pos b) h = omega (arith, ints)
 gap-some (pos a) (negsuc b) h = omega (arith, ints)
 gap-some (negsuc a) (pos b) h = omega (arith, ints)
@@ -187,27 +193,30 @@ cmp-sizes m y n z e f p q hm hn lm ln = sym (cmp-units m y n z e f p q ∙ by (i
         → nat_cmp (m * 10 ^ int_gap (int_min e f) e) (n * 10 ^ int_gap (int_min e f) f) ≡ ordering_then r (nat_cmp m n)
     by Less h =
         let low = min-left e f (omega (arith, ints)) in
-        sym (nat_cmp_is _ _ Less (below_shifted m n _ _ hm ln (ap (λ l. int_gap l e) low ∙ gap-zero e) (subst (λ l. 1 ≤ int_gap l f) (sym low) (gap-some e f h))))
+        sym (nat_cmp_is _ _ Less
+        (below_shifted m n _ _ hm ln (ap (λ l. int_gap l e) low ∙ gap-zero e) (subst (λ l. 1 ≤ int_gap l f) (sym low) (gap-some e f h))))
     by Equal h =
         let same : int_gap (int_min e f) e ≡ int_gap (int_min e f) f = ap (int_gap (int_min e f)) h in
         ap (λ g. nat_cmp (m * 10 ^ g) (n * 10 ^ int_gap (int_min e f) f)) same ∙ nat_cmp-scaled m n _ (some_power (int_gap (int_min e f) f))
     by Greater h =
         let low = min-right e f (omega (arith, ints)) in
-        sym (nat_cmp_is _ _ Greater (below_shifted n m _ _ hn lm (ap (λ l. int_gap l f) low ∙ gap-zero f) (subst (λ l. 1 ≤ int_gap l e) (sym low) (gap-some f e h))))
+        sym (nat_cmp_is _ _ Greater
+        (below_shifted n m _ _ hn lm (ap (λ l. int_gap l f) low ∙ gap-zero f) (subst (λ l. 1 ≤ int_gap l e) (sym low) (gap-some f e h))))
 
 -- ---- signs
 
-cmp-neg-neg : (m n : ℕ) → int_cmp (neg_ℤ (pos m)) (neg_ℤ (pos n)) ≡ int_cmp (pos n) (pos m)
+pub cmp-neg-neg : (m n : ℕ) → int_cmp (neg_ℤ (pos m)) (neg_ℤ (pos n)) ≡ int_cmp (pos n) (pos m)
 cmp-neg-neg m n = rw (lt-neg-neg m n, lt-neg-neg n m) refl
 
-pub cmp-negatives : (a b : DecimalValue) → a.negative ≡ true → b.negative ≡ true → decimal_cmp (size_of b) (size_of a) ≡ decimal_cmp a b
+pub cmp-negatives : (a b : DecimalValue) → a.negative ≡ true → b.negative ≡ true → decimal_cmp (magnitude_of b) (magnitude_of a) ≡ decimal_cmp a b
 cmp-negatives a b p q =
     let low = int_min a.exponent b.exponent in
     let left : low ≤ℤ a.exponent = omega (arith, ints, clamps) in
     let right : low ≤ℤ b.exponent = omega (arith, ints, clamps) in
     let units = λ (v : DecimalValue). v.digits * 10 ^ int_gap low v.exponent in
-    cmp-at low (size_of b) (size_of a) right left
-    ∙ sym (cmp-at low a b left right ∙ ap (λ s. int_cmp (signed s (units a)) (in_units low b)) p ∙ ap (λ s. int_cmp (neg_ℤ (pos (units a))) (signed s (units b))) q ∙ cmp-neg-neg (units a) (units b))
+    cmp-at low (magnitude_of b) (magnitude_of a) right left
+    ∙ sym (cmp-at low a b left right ∙ ap (λ s. int_cmp (signed_number s (units a)) (in_units low b)) p
+    ∙ ap (λ s. int_cmp (neg_ℤ (pos (units a))) (signed_number s (units b))) q ∙ cmp-neg-neg (units a) (units b))
 
 pub cmp-negative_first : (a b : DecimalValue) → a.negative ≡ true → b.negative ≡ false → 0 < a.digits → decimal_cmp a b ≡ Less
 cmp-negative_first a b p q some =
@@ -218,7 +227,7 @@ cmp-negative_first a b p q some =
     let n = b.digits * 10 ^ int_gap low b.exponent in
     let more : 0 < m = mul-pos some (some_power (int_gap low a.exponent)) in
     let below : ltb 0 (m + n) ≡ true = lt-ltb 0 (m + n) (omega arith) in
-    cmp-at low a b left right ∙ ap (λ s. int_cmp (signed s m) (in_units low b)) p ∙ ap (λ s. int_cmp (neg_ℤ (pos m)) (signed s n)) q
+    cmp-at low a b left right ∙ ap (λ s. int_cmp (signed_number s m) (in_units low b)) p ∙ ap (λ s. int_cmp (neg_ℤ (pos m)) (signed_number s n)) q
     ∙ ap (λ t. cond t Less (cond (int_lt (pos n) (neg_ℤ (pos m))) Greater Equal)) (lt-neg-pos m n ∙ below)
 
 pub cmp-negative_second : (a b : DecimalValue) → a.negative ≡ false → b.negative ≡ true → 0 < b.digits → decimal_cmp a b ≡ Greater

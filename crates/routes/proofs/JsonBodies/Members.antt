@@ -7,13 +7,14 @@ use Rattle.serde_json.specs.Data.{Data}
 use Rattle.serde_json.specs.Find.{as_object}
 use Rattle.serde_json.specs.View.{members_view}
 use Rattle.serde_json.specs.declared.value.Value.{Value}
-use Rattle.routes.specs.Bodies.{member_count, has_members}
+use Rattle.routes.specs.Json.Bodies.{member_count, has_members}
 
 member_count-view : (members : List (String Global × Value)) → member_count (members_view members) ≡ length members
 member_count-view [] = refl
 member_count-view (m ∷ members) = ap suc (member_count-view members)
 
-pub counted : (value : Data) (members : List (String Global × Value)) (size count : ℕ) → Some (members_view members) ≡ as_object value → size ≡ length members → nat_eq size count ≡ has_members count value
+pub counted : (value : Data) (members : List (String Global × Value)) (size count : ℕ) → Some (members_view members) ≡ as_object value
+    → size ≡ length members → nat_eq size count ≡ has_members count value
 counted value members size count object is =
     ap (λ n. nat_eq n count) (is ∙ sym (member_count-view members)) ∙ ap (λ o. option_map_or (λ ms. nat_eq (member_count ms) count) o false) object
 

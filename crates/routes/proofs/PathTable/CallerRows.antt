@@ -20,7 +20,8 @@ found_passes p q (first ∷ rows) row all is =
 -- a row that is found has a name
 pub found_named : (keys : List KeyRow) (key : List ℕ) (row : KeyRow) → IsTrue (are_rows keys) → row_of keys key ≡ Some row → IsTrue (is_name row.name)
 found_named keys key row rows found =
-    let names = and_parts (list_all (λ row. is_name row.name) keys) (differ (map (λ row. row.name) keys)) (and_parts (list_all (λ row. is_name row.name) keys && differ (map (λ row. row.name) keys)) (differ (map (λ row. row.key) keys)) rows).0 in
+    let names = and_parts (list_all (λ row. is_name row.name) keys) (differ (map (λ row. row.name) keys))
+    (and_parts (list_all (λ row. is_name row.name) keys && differ (map (λ row. row.name) keys)) (differ (map (λ row. row.key) keys)) rows).0 in
     found_passes (λ row. bytes_eq row.key key) (λ row. is_name row.name) keys row names.0 found
 
 -- Texts of rows that differ
@@ -30,7 +31,8 @@ among f [] text = refl
 among f (row ∷ rows) text = ap (λ t. bytes_eq text (f row) || t) (among f rows text)
 
 split_first : (f : KeyRow → List ℕ) (left : List KeyRow) (first : KeyRow) (text : List ℕ) (found : Bool) → slice_get left 0 ≡ Some first → text ≡ f first
-    → found ≡ list_any (λ row. bytes_eq text (f row)) (take (length left - 1) (drop 1 left)) → differ (map f left) ≡ (not found && differ (map f (take (length left - 1) (drop 1 left))))
+    → found ≡ list_any (λ row. bytes_eq text (f row)) (take (length left - 1) (drop 1 left))
+    → differ (map f left) ≡ (not found && differ (map f (take (length left - 1) (drop 1 left))))
 split_first f [] first text found here is any = cc
 split_first f (row ∷ rows) first text found here is any =
     let whole : take (length (row ∷ rows) - 1) rows ≡ rows = take_all (length (row ∷ rows) - 1) rows (omega arith) in
@@ -42,8 +44,11 @@ split_first f (row ∷ rows) first text found here is any =
 
 pub repeats_first : (f : KeyRow → List ℕ) (left : List KeyRow) (first : KeyRow) (text : List ℕ) (found : Bool) → slice_get left 0 ≡ Some first → text ≡ f first
     → found ≡ list_any (λ row. bytes_eq text (f row)) (take (length left - 1) (drop 1 left)) → found ≡ true → false ≡ differ (map f left)
-repeats_first f left first text found here is any there = sym (split_first f left first text found here is any ∙ ap (λ t. not t && differ (map f (take (length left - 1) (drop 1 left)))) there)
+repeats_first f left first text found here is any there =
+    sym (split_first f left first text found here is any ∙ ap (λ t. not t && differ (map f (take (length left - 1) (drop 1 left)))) there)
 
 pub differs_first : (f : KeyRow → List ℕ) (left : List KeyRow) (first : KeyRow) (text : List ℕ) (found : Bool) → slice_get left 0 ≡ Some first → text ≡ f first
-    → found ≡ list_any (λ row. bytes_eq text (f row)) (take (length left - 1) (drop 1 left)) → found ≡ false → differ (map f left) ≡ differ (map f (take (length left - 1) (drop 1 left)))
-differs_first f left first text found here is any absent = split_first f left first text found here is any ∙ ap (λ t. not t && differ (map f (take (length left - 1) (drop 1 left)))) absent
+    → found ≡ list_any (λ row. bytes_eq text (f row)) (take (length left - 1) (drop 1 left)) → found ≡ false
+    → differ (map f left) ≡ differ (map f (take (length left - 1) (drop 1 left)))
+differs_first f left first text found here is any absent =
+    split_first f left first text found here is any ∙ ap (λ t. not t && differ (map f (take (length left - 1) (drop 1 left)))) absent

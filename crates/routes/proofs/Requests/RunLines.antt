@@ -4,15 +4,15 @@ use Rattle.std.specs.Prelude.{Result, ◌==◌, cond, if◌then◌else◌, nat_l
 use Rattle.std.specs.List.{list_all, filter, sum_by, slice_split, onto_first, enumerate_from}
 use Rattle.std.proofs.lemmas.Bool.{and_parts, and_from, cond_both}
 use Rattle.std.proofs.lemmas.List.Sums.{sum_by-cons}
-use Rattle.decimal_rank.specs.Decimal.{DecimalValue}
-use Rattle.decimal_rank.specs.DecimalText.{decimal_of}
+use Rattle.decimal_rank.specs.Decimals.Decimal.{DecimalValue}
+use Rattle.decimal_rank.specs.Decimals.DecimalText.{decimal_of}
 use Rattle.decimal_rank.specs.declared.decimals.DecimalFault.{DecimalFault}
 use Rattle.trec_formats.specs.declared.faults.Kind.{Kind}
 use Rattle.trec_formats.specs.declared.faults.Kind.TheVariants.{Topic, Docno}
 use Rattle.trec_formats.specs.Faults.{Stand}
 use Rattle.trec_formats.specs.Lines.{Row, is_white_space, is_filled, lines_of, fields_of, rows_from, rows_of}
 use Rattle.trec_formats.specs.Names.{is_name, is_docno}
-use Rattle.trec_formats.specs.Runs.{run_of, scored, IsRun}
+use Rattle.trec_formats.specs.RunFormat.Runs.{run_of, scored, IsRun}
 use Rattle.trec_formats.specs.declared.runs.RunLine.{RunLine}
 
 -- a text with the byte that ends it
@@ -108,17 +108,29 @@ is_filled_row row = list_all is_filled row.1
 numbered_sizes : (number : ℕ) (lines : List (List ℕ)) → sum_by row_size (enumerate_from number (map fields_of lines)) ≤ sizes lines
 numbered_sizes number [] = omega arith
 numbered_sizes number (line ∷ lines) =
-    omega (arith, numbered_sizes (number + 1) lines, fields_sizes line, sum_by-cons size_of line lines, sum_by-cons row_size (number, fields_of line) (enumerate_from (number + 1) (map fields_of lines)))
+    omega (
+      arith,
+      numbered_sizes (number + 1) lines,
+      fields_sizes line,
+      sum_by-cons size_of line lines,
+      sum_by-cons row_size (number, fields_of line) (enumerate_from (number + 1) (map fields_of lines)),
+    )
 
 numbered_filled : (number : ℕ) (lines : List (List ℕ)) → list_all is_filled_row (enumerate_from number (map fields_of lines)) ≡ true
 numbered_filled number [] = refl
 numbered_filled number (line ∷ lines) =
-    and_from (list_all is_filled (fields_of line)) (list_all is_filled_row (enumerate_from (number + 1) (map fields_of lines))) (fields_filled line) (numbered_filled (number + 1) lines)
+    and_from (list_all is_filled (fields_of line)) (list_all is_filled_row (enumerate_from (number + 1) (map fields_of lines)))
+    (fields_filled line) (numbered_filled (number + 1) lines)
 
 rows_sizes : (text : List ℕ) → sum_by row_size (rows_of text) ≤ length text + 1
 unfolding rows_from
 rows_sizes text =
-    omega (arith, lines_sizes text, numbered_sizes 1 (lines_of text), sum_by-filter-le row_size (λ row. is_filled row.1) (enumerate_from 1 (map fields_of (lines_of text))))
+    omega (
+      arith,
+      lines_sizes text,
+      numbered_sizes 1 (lines_of text),
+      sum_by-filter-le row_size (λ row. is_filled row.1) (enumerate_from 1 (map fields_of (lines_of text))),
+    )
 
 rows_filled : (text : List ℕ) → list_all is_filled_row (rows_of text) ≡ true
 unfolding rows_from
@@ -127,10 +139,12 @@ rows_filled text = all_kept is_filled_row (λ row. is_filled row.1) (enumerate_f
 abbrev is_row_up_to : ℕ → Row → Bool
 is_row_up_to most row = nat_le row.0 most
 
-numbered_up_to : (most number : ℕ) (lines : List (List ℕ)) → number + length lines ≤ most + 1 → list_all (is_row_up_to most) (enumerate_from number (map fields_of lines)) ≡ true
+numbered_up_to : (most number : ℕ) (lines : List (List ℕ)) → number + length lines ≤ most + 1
+    → list_all (is_row_up_to most) (enumerate_from number (map fields_of lines)) ≡ true
 numbered_up_to most number [] few = refl
 numbered_up_to most number (line ∷ lines) few =
-    and_from (nat_le number most) (list_all (is_row_up_to most) (enumerate_from (number + 1) (map fields_of lines))) (le-leb number most (omega (arith, few))) (numbered_up_to most (number + 1) lines (omega (arith, few)))
+    and_from (nat_le number most) (list_all (is_row_up_to most) (enumerate_from (number + 1) (map fields_of lines)))
+    (le-leb number most (omega (arith, few))) (numbered_up_to most (number + 1) lines (omega (arith, few)))
 
 lines_few : (lines : List (List ℕ)) → length lines ≤ sizes lines
 lines_few [] = omega arith
@@ -163,7 +177,8 @@ six_sizes a b c d e f filled =
     let at_f = and_parts (is_filled f) true at_e.1 in
     omega (arith, filled_some b at_b.0, filled_some d at_d.0, filled_some e at_e.0, filled_some f at_f.0)
 
-line_of_scored : (number : ℕ) (topic doc : List ℕ) (score : Result DecimalValue DecimalFault) (line : RunLine) → scored number topic doc score ≡ Ok line → (line.topic ≡ topic) × (line.doc ≡ doc) × (line.line ≡ number)
+line_of_scored : (number : ℕ) (topic doc : List ℕ) (score : Result DecimalValue DecimalFault) (line : RunLine)
+    → scored number topic doc score ≡ Ok line → (line.topic ≡ topic) × (line.doc ≡ doc) × (line.line ≡ number)
 line_of_scored number topic doc (Ok score) line is =
     let same : record { line = number; topic = topic; doc = doc; score = score } ≡ line = cc in
     (ap (λ (l : RunLine). l.topic) (sym same), ap (λ (l : RunLine). l.doc) (sym same), ap (λ (l : RunLine). l.line) (sym same))
@@ -172,7 +187,8 @@ line_of_scored number topic doc (Err cause) line is = cc
 err_not_ok : {kind : Kind} {line : RunLine} → ◌≡◌ {A = Result RunLine Kind} (Err kind) (Ok line) → ⊥
 err_not_ok is = cc
 
-good_line : (number : ℕ) (fields : List (List ℕ)) (line : RunLine) → run_of (number, fields) ≡ Ok line → list_all is_filled fields ≡ true → IsGoodLine number fields line
+good_line : (number : ℕ) (fields : List (List ℕ)) (line : RunLine) → run_of (number, fields) ≡ Ok line
+    → list_all is_filled fields ≡ true → IsGoodLine number fields line
 unfolding run_of
 good_line number (topic ∷ a ∷ doc ∷ b ∷ score ∷ c ∷ []) line is filled =
     cond_both (is_name topic) (if is_docno doc then scored number topic doc (decimal_of score) else Err Docno) (Err Topic)
@@ -202,7 +218,8 @@ record AreLinesOf (most : ℕ) (rows : List Row) (lines : List RunLine) : Type 0
 nil_not_cons : {X : Type 0} {x : X} {xs : List X} → ◌≡◌ {A = List X} [] (x ∷ xs) → ⊥
 nil_not_cons is = cc
 
-lines_of_rows : (most : ℕ) (rows : List Row) (lines : List RunLine) → Stand run_of rows lines → list_all is_filled_row rows ≡ true → list_all (is_row_up_to most) rows ≡ true → AreLinesOf most rows lines
+lines_of_rows : (most : ℕ) (rows : List Row) (lines : List RunLine) → Stand run_of rows lines → list_all is_filled_row rows ≡ true
+    → list_all (is_row_up_to most) rows ≡ true → AreLinesOf most rows lines
 lines_of_rows most [] [] stand filled numbered = record { same = refl; each = refl; numbered = refl; short = omega arith }
 lines_of_rows most [] (line ∷ lines) stand filled numbered = absurd (nil_not_cons stand)
 lines_of_rows most (row ∷ rows) [] stand filled numbered = absurd (nil_not_cons (sym stand))
@@ -223,7 +240,12 @@ lines_of_rows most ((number, fields) ∷ rows) (line ∷ lines) stand filled num
 pub good_lines : (text : List ℕ) (lines : List RunLine) → IsRun text lines → AreGood text lines
 good_lines text lines (some, are) =
     let w = lines_of_rows (length text + 1) (rows_of text) lines are.each (rows_filled text) (rows_numbered text) in
-    record { some = omega (arith, w.same, filled_rows (rows_of text) some); each = w.each; numbered = w.numbered; short = omega (arith, w.short, rows_sizes text) }
+    record {
+      some = omega (arith, w.same, filled_rows (rows_of text) some);
+      each = w.each;
+      numbered = w.numbered;
+      short = omega (arith, w.short, rows_sizes text);
+    }
   where
     filled_rows : (rows : List Row) → rows ≢ [] → 0 < length rows
     filled_rows [] some = absurd (some refl)

@@ -14,17 +14,19 @@ use Rattle.std.proofs.lemmas.List.Sorted.{All-permutation, sum_by-IsPermutation}
 use Rattle.std.proofs.lemmas.List.Sums.{sum_by-cons, length-filter, AllPass-from_list_all, list_all-from_AllPass}
 use Rattle.std.proofs.lemmas.Option.{slice_get_within, get_or_from_slice_get}
 use Rattle.std.proofs.lemmas.Slice.Eq.{bytes_eq-Decides}
-use Rattle.decimal_rank.specs.Ranks.{rank_in}
-use Rattle.trec_formats.specs.Lists.{lines_on, standing, AreRanked, IsListOf, IsRankedRun}
+use Rattle.std.proofs.lemmas.List.Elements.{All-tail}
+use Rattle.decimal_rank.specs.Rankings.Ranks.{rank_in}
+use Rattle.decimal_rank.proofs.Lists.{pairs_map, four_bytes, pairs_head, pairs_tail}
+use Rattle.decimal_rank.proofs.TruthValues.{never_below_itself}
+use Rattle.trec_formats.specs.RunFormat.Lists.{lines_on, standing, AreRanked, IsListOf, IsRankedRun}
 use Rattle.trec_formats.specs.Names.{is_name, is_docno, is_between}
-use Rattle.trec_formats.specs.Runs.{count_on}
-use Rattle.trec_formats.specs.declared.lists.TopicList.{TopicList}
+use Rattle.trec_formats.specs.RunFormat.Runs.{line_count_on}
+use Rattle.trec_formats.specs.declared.runs.lists.TopicList.{TopicList}
 use Rattle.trec_formats.specs.declared.runs.RunLine.{RunLine}
-use Rattle.trec_formats.proofs.RepeatedDocuments.Differing.{differ_from_distinct, pairs_cons}
-use Rattle.trec_formats.proofs.RankedLists.TopicOrder.{never_below_itself}
-use Rattle.rulebook.specs.Spelling.{is_plain_list, is_ascending, differ, short, listed, list_bytes}
+use Rattle.trec_formats.proofs.RepeatedDocuments.DifferentDocuments.{differ_from_distinct}
+use Rattle.rulebook.specs.Spelling.{is_plain_list, is_ascending, differ, short, spelled_list, list_bytes}
 use Rattle.rulebook.specs.Words.{contains_text}
-use Rattle.routes.proofs.PathTable.SameElements.{permuted, pairs_head, pairs_tail, all_tail}
+use Rattle.routes.proofs.PathTable.SameElements.{permuted}
 use Rattle.routes.proofs.Requests.RunLines.{good_lines, is_good, is_up_to, line_size, all_kept, all_pass}
 
 -- what is so of the lists of a run's text
@@ -32,34 +34,35 @@ pub record ArePlain (text : List ℕ) (lists : List TopicList) : Type 0 where
   pub some : is_between 1 (2 ^ 32 - 1) (length lists) ≡ true
   pub each : list_all is_plain_list lists ≡ true
   pub ascending : is_ascending (map (λ list. list.topic) lists) ≡ true
-  pub short : length (listed list_bytes lists) ≤ length text + 10
+  pub short : length (spelled_list list_bytes lists) ≤ length text + 10
 
 -- The documents of a list
 
 pub all_map : {X Y : Type 0} (f : X → Y) (P : Y → Type 0) (xs : List X) → All (λ x. P (f x)) xs → All P (map f xs)
 all_map f P [] all k d within = absurd (omega arith)
 all_map f P (x ∷ xs) all zero d within = all zero x (omega arith)
-all_map f P (x ∷ xs) all (suc k) d within = all_map f P xs (all_tail (λ x. P (f x)) x xs all) k d (omega arith)
-
-pub pairs_map : {X Y : Type 0} (f : X → Y) (R : Y → Y → Type 0) (xs : List X) → AllPairs (λ a b. R (f a) (f b)) xs → AllPairs R (map f xs)
-pairs_map f R [] pairs = λ i j d below within. absurd (omega arith)
-pairs_map f R (x ∷ xs) pairs = pairs_cons R (f x) (map f xs) (all_map f (R (f x)) xs (pairs_head (λ a b. R (f a) (f b)) x xs pairs)) (pairs_map f R xs (pairs_tail (λ a b. R (f a) (f b)) x xs pairs))
+all_map f P (x ∷ xs) all (suc k) d within = all_map f P xs (All-tail (λ x. P (f x)) x xs all) k d (omega arith)
 
 -- a list has the documents of its lines
-pub docs_permuted : (lines : List RunLine) (docs : List (List ℕ)) → AllPairs (λ a b. a.doc ≢ b.doc) lines → AreRanked lines docs → IsPermutation (map (λ line. line.doc) lines) docs
+pub docs_permuted : (lines : List RunLine) (docs : List (List ℕ)) → AllPairs (λ a b. a.doc ≢ b.doc) lines
+    → AreRanked lines docs → IsPermutation (map (λ line. line.doc) lines) docs
 docs_permuted lines docs apart ranked =
     permuted (map (λ line. line.doc) lines) docs (pairs_map (λ line. line.doc) (λ a b. a ≢ b) lines apart)
     (all_map (λ line. line.doc) (Contains docs) lines (λ k line within.
     let place = rank_in (map standing lines) (standing (get_or lines k line)) - 1 in
-    let found = ranked.places k line within in
-    (place, slice_get_within docs place (get_or lines k line).doc found, get_or_from_slice_get docs place (get_or lines k line).doc (get_or lines k line).doc found)))
+    let found = ranked.places k line within in (
+      place,
+      slice_get_within docs place (get_or lines k line).doc found,
+      get_or_from_slice_get docs place (get_or lines k line).doc (get_or lines k line).doc found,
+    )))
     (length-map lines (λ line. line.doc) ∙ sym ranked.size)
 
 docs_good : (lines : List RunLine) → list_all is_good lines ≡ true → list_all is_docno (map (λ line. line.doc) lines) ≡ true
 docs_good [] good = refl
 docs_good (line ∷ lines) good =
     let parts = and_parts (is_good line) (list_all is_good lines) good in
-    and_from (is_docno line.doc) (list_all is_docno (map (λ line. line.doc) lines)) (and_parts (is_name line.topic) (is_docno line.doc) parts.0).1 (docs_good lines parts.1)
+    and_from (is_docno line.doc) (list_all is_docno (map (λ line. line.doc) lines))
+    (and_parts (is_name line.topic) (is_docno line.doc) parts.0).1 (docs_good lines parts.1)
 
 docnos_kept : (docs others : List (List ℕ)) → IsPermutation docs others → list_all is_docno docs ≡ true → list_all is_docno others ≡ true
 docnos_kept docs others same all =
@@ -71,12 +74,14 @@ not_among doc [] apart = refl
 not_among doc (other ∷ docs) apart =
     or_from (bytes_eq doc other) (list_any (bytes_eq doc) docs)
     (false_from_ne_true (bytes_eq doc other) (λ same. apart zero doc (omega arith) ((bytes_eq-Decides doc other).0 same)))
-    (not_among doc docs (all_tail (λ other. doc ≢ other) other docs apart))
+    (not_among doc docs (All-tail (λ other. doc ≢ other) other docs apart))
 
 pub differ_once : (docs : List (List ℕ)) → AllPairs (λ a b. a ≢ b) docs → differ docs ≡ true
 differ_once [] once = refl
 differ_once (doc ∷ docs) once =
-    and_from (not (contains_text docs doc)) (differ docs) (not_from_false (contains_text docs doc) (not_among doc docs (pairs_head (λ a b. a ≢ b) doc docs once))) (differ_once docs (pairs_tail (λ a b. a ≢ b) doc docs once))
+    and_from (not (contains_text docs doc)) (differ docs)
+    (not_from_false (contains_text docs doc) (not_among doc docs (pairs_head (λ a b. a ≢ b) doc docs once)))
+    (differ_once docs (pairs_tail (λ a b. a ≢ b) doc docs once))
 
 -- One list
 
@@ -102,7 +107,8 @@ record IsTopicOf (most : ℕ) (lines : List RunLine) (topic : List ℕ) (number 
 none_not_some : {n : ℕ} → ◌≡◌ {A = Option ℕ} None (Some n) → ⊥
 none_not_some is = cc
 
-topic_of : (most : ℕ) (lines : List RunLine) (topic : List ℕ) (number : ℕ) → option_map (λ (line : RunLine). line.line) (slice_get lines 0) ≡ Some number → list_all is_good lines ≡ true → list_all (is_up_to most) lines ≡ true
+topic_of : (most : ℕ) (lines : List RunLine) (topic : List ℕ) (number : ℕ) → option_map (λ (line : RunLine). line.line) (slice_get lines 0) ≡ Some number
+    → list_all is_good lines ≡ true → list_all (is_up_to most) lines ≡ true
     → list_all (λ line. bytes_eq line.topic topic) lines ≡ true → IsTopicOf most lines topic number
 topic_of most [] topic number first good numbered same = absurd (none_not_some first)
 topic_of most (line ∷ lines) topic number first good numbered same =
@@ -113,16 +119,20 @@ topic_of most (line ∷ lines) topic number first good numbered same =
       first = subst (λ n. n ≤ most) is (leb-true line.line most (and_parts (is_up_to most line) (list_all (is_up_to most) lines) numbered).0);
       named = subst (λ t. is_name t ≡ true) here parts.0;
       some = omega arith;
-      size = omega (arith, ap length here, docs_fit lines, sum_by-cons line_size line lines, sum_by-cons (λ doc. length (short doc)) line.doc (map (λ line. line.doc) lines));
+      size = omega (
+        arith,
+        ap length here,
+        docs_fit lines,
+        sum_by-cons line_size line lines,
+        sum_by-cons (λ doc. length (short doc)) line.doc (map (λ line. line.doc) lines),
+      );
     }
-
-four_bytes : (n : ℕ) → length (to_le_bytes w32 n) ≡ 4
-four_bytes n = refl
 
 list_size : (list : TopicList) → length (list_bytes list) ≡ length list.topic + 9 + sum_by (λ doc. length (short doc)) list.docs
 list_size list = simp (length-append, four_bytes, length-flat_map) (omega arith)
 
-plain_list : (most : ℕ) (lines : List RunLine) (list : TopicList) → most < 2 ^ 32 → list_all is_good lines ≡ true → list_all (is_up_to most) lines ≡ true → ((topic : List ℕ) → count_on topic lines ≤ 1000) → AllPairs (λ a b. a.doc ≢ b.doc) (lines_on list.topic lines) → IsListOf lines list
+plain_list : (most : ℕ) (lines : List RunLine) (list : TopicList) → most < 2 ^ 32 → list_all is_good lines ≡ true → list_all (is_up_to most) lines ≡ true
+    → ((topic : List ℕ) → line_count_on topic lines ≤ 1000) → AllPairs (λ a b. a.doc ≢ b.doc) (lines_on list.topic lines) → IsListOf lines list
     → IsPlainListOf lines list
 plain_list most lines list least good numbered few apart is =
     let own = lines_on list.topic lines in
@@ -131,7 +141,9 @@ plain_list most lines list least good numbered few apart is =
     let topic = topic_of most own list.topic list.line is.first good_own numbered_own (all_pass (λ line. bytes_eq line.topic list.topic) lines) in
     let same = docs_permuted own list.docs apart is.docs in
     let short_own : length own ≤ 1000 = omega (arith, few list.topic, length-filter (λ line. bytes_eq line.topic list.topic) lines) in
-    let counted : is_between 1 1000 (length list.docs) ≡ true = and_from (nat_le 1 (length list.docs)) (nat_le (length list.docs) 1000) (le-leb 1 (length list.docs) (omega (arith, is.docs.size, topic.some))) (le-leb (length list.docs) 1000 (omega (arith, is.docs.size, short_own))) in
+    let counted : is_between 1 1000 (length list.docs) ≡ true =
+    and_from (nat_le 1 (length list.docs)) (nat_le (length list.docs) 1000) (le-leb 1 (length list.docs) (omega (arith, is.docs.size, topic.some)))
+    (le-leb (length list.docs) 1000 (omega (arith, is.docs.size, short_own))) in
     let line : nat_lt list.line (2 ^ 32) ≡ true = lt-ltb list.line (2 ^ 32) (omega (arith, topic.first, least)) in
     let docnos = docnos_kept (map (λ line. line.doc) own) list.docs same (docs_good own good_own) in
     let once = differ_once list.docs is.docs.once in
@@ -146,51 +158,78 @@ record ArePlainListsOf (lines : List RunLine) (lists : List TopicList) : Type 0 
   plain : list_all is_plain_list lists ≡ true
   size : length (flat_map list_bytes lists) ≤ sum_by (λ list. sum_by line_size (lines_on list.topic lines)) lists
 
-plain_lists : (most : ℕ) (lines : List RunLine) (lists : List TopicList) → most < 2 ^ 32 → list_all is_good lines ≡ true → list_all (is_up_to most) lines ≡ true → ((topic : List ℕ) → count_on topic lines ≤ 1000) → ((topic : List ℕ) → AllPairs (λ a b. a.doc ≢ b.doc) (lines_on topic lines))
+plain_lists : (most : ℕ) (lines : List RunLine) (lists : List TopicList) → most < 2 ^ 32 → list_all is_good lines ≡ true → list_all (is_up_to most) lines ≡ true
+    → ((topic : List ℕ) → line_count_on topic lines ≤ 1000) → ((topic : List ℕ) → AllPairs (λ a b. a.doc ≢ b.doc) (lines_on topic lines))
     → All (IsListOf lines) lists → ArePlainListsOf lines lists
 plain_lists most lines [] least good numbered few apart are = record { plain = refl; size = omega arith }
 plain_lists most lines (list ∷ lists) least good numbered few apart are =
     let one = plain_list most lines list least good numbered few (apart list.topic) (are zero list (omega arith)) in
-    let rest = plain_lists most lines lists least good numbered few apart (all_tail (IsListOf lines) list lists are) in
+    let rest = plain_lists most lines lists least good numbered few apart (All-tail (IsListOf lines) list lists are) in
     record {
       plain = and_from (is_plain_list list) (list_all is_plain_list lists) one.plain rest.plain;
-      size = omega (arith, one.size, rest.size, length-append (list_bytes list) (flat_map list_bytes lists), sum_by-cons (λ list. sum_by line_size (lines_on list.topic lines)) list lists);
+      size = omega (
+        arith,
+        one.size,
+        rest.size,
+        length-append (list_bytes list) (flat_map list_bytes lists),
+        sum_by-cons (λ list. sum_by line_size (lines_on list.topic lines)) list lists,
+      );
     }
 
 -- the lines of one topic are not among those of another
-others_on : (lines : List RunLine) (topic other : List ℕ) → topic ≢ other → lines_on other (filter (λ line. not (bytes_eq line.topic topic)) lines) ≡ lines_on other lines
+others_on : (lines : List RunLine) (topic other : List ℕ) → topic ≢ other
+    → lines_on other (filter (λ line. not (bytes_eq line.topic topic)) lines) ≡ lines_on other lines
 others_on [] topic other apart = refl
 others_on (line ∷ lines) topic other apart = by_test (bytes_eq line.topic topic) refl (others_on lines topic other apart)
   where
     by_test : (test : Bool) → bytes_eq line.topic topic ≡ test → lines_on other (filter (λ line. not (bytes_eq line.topic topic)) lines) ≡ lines_on other lines
-        → lines_on other (cond (not test) (line ∷ filter (λ line. not (bytes_eq line.topic topic)) lines) (filter (λ line. not (bytes_eq line.topic topic)) lines)) ≡ lines_on other (line ∷ lines)
+        → lines_on other
+        (cond (not test) (line ∷ filter (λ line. not (bytes_eq line.topic topic)) lines) (filter (λ line. not (bytes_eq line.topic topic)) lines))
+        ≡ lines_on other (line ∷ lines)
     by_test true same rest =
         let here = (bytes_eq-Decides line.topic topic).0 same in
-        let no : bytes_eq line.topic other ≡ false = false_from_ne_true (bytes_eq line.topic other) (λ wrong. apart (sym here ∙ (bytes_eq-Decides line.topic other).0 wrong)) in
+        let no : bytes_eq line.topic other ≡ false =
+        false_from_ne_true (bytes_eq line.topic other) (λ wrong. apart (sym here ∙ (bytes_eq-Decides line.topic other).0 wrong)) in
         rw no rest
     by_test false other_topic rest = rw rest refl
 
 sums_same : (lines : List RunLine) (topic : List ℕ) (lists : List TopicList) → All (λ list. topic ≢ list.topic) lists
-    → sum_by (λ list. sum_by line_size (lines_on list.topic (filter (λ line. not (bytes_eq line.topic topic)) lines))) lists ≡ sum_by (λ list. sum_by line_size (lines_on list.topic lines)) lists
+    → sum_by (λ list. sum_by line_size (lines_on list.topic (filter (λ line. not (bytes_eq line.topic topic)) lines))) lists
+    ≡ sum_by (λ list. sum_by line_size (lines_on list.topic lines)) lists
 sums_same lines topic [] apart = refl
 sums_same lines topic (list ∷ lists) apart =
     let here = ap (sum_by line_size) (others_on lines topic list.topic (apart zero list (omega arith))) in
-    let rest = sums_same lines topic lists (all_tail (λ list. topic ≢ list.topic) list lists apart) in
-    omega (arith, here, rest, sum_by-cons (λ list. sum_by line_size (lines_on list.topic (filter (λ line. not (bytes_eq line.topic topic)) lines))) list lists, sum_by-cons (λ list. sum_by line_size (lines_on list.topic lines)) list lists)
+    let rest = sums_same lines topic lists (All-tail (λ list. topic ≢ list.topic) list lists apart) in
+    omega (
+      arith,
+      here,
+      rest,
+      sum_by-cons (λ list. sum_by line_size (lines_on list.topic (filter (λ line. not (bytes_eq line.topic topic)) lines))) list lists,
+      sum_by-cons (λ list. sum_by line_size (lines_on list.topic lines)) list lists,
+    )
 
-groups_fit : (lists : List TopicList) (lines : List RunLine) → AllPairs (λ a b. a.topic ≢ b.topic) lists → sum_by (λ list. sum_by line_size (lines_on list.topic lines)) lists ≤ sum_by line_size lines
+groups_fit : (lists : List TopicList) (lines : List RunLine) → AllPairs (λ a b. a.topic ≢ b.topic) lists
+    → sum_by (λ list. sum_by line_size (lines_on list.topic lines)) lists ≤ sum_by line_size lines
 groups_fit [] lines apart = omega arith
 groups_fit (list ∷ lists) lines apart =
     let others = filter (λ line. not (bytes_eq line.topic list.topic)) lines in
     let both = sum_by-filter_both (λ line. bytes_eq line.topic list.topic) (λ line. not (bytes_eq line.topic list.topic)) (λ line. refl) line_size lines in
     let rest = groups_fit lists others (pairs_tail (λ a b. a.topic ≢ b.topic) list lists apart) in
-    omega (arith, both, rest, sums_same lines list.topic lists (pairs_head (λ a b. a.topic ≢ b.topic) list lists apart), sum_by-cons (λ list. sum_by line_size (lines_on list.topic lines)) list lists)
+    omega (
+      arith,
+      both,
+      rest,
+      sums_same lines list.topic lists (pairs_head (λ a b. a.topic ≢ b.topic) list lists apart),
+      sum_by-cons (λ list. sum_by line_size (lines_on list.topic lines)) list lists,
+    )
 
-ascends : (lists : List TopicList) → AllPairs (λ a b. is_lt (slice_cmp nat_cmp a.topic b.topic) ≡ true) lists → is_ascending (map (λ list. list.topic) lists) ≡ true
+ascends : (lists : List TopicList) → AllPairs (λ a b. is_lt (slice_cmp nat_cmp a.topic b.topic) ≡ true) lists
+    → is_ascending (map (λ list. list.topic) lists) ≡ true
 ascends [] pairs = refl
 ascends (list ∷ []) pairs = refl
 ascends (list ∷ next ∷ lists) pairs =
-    and_from (is_lt (slice_cmp nat_cmp list.topic next.topic)) (is_ascending (map (λ list. list.topic) (next ∷ lists))) (pairs zero (suc zero) list (omega arith) (omega arith))
+    and_from (is_lt (slice_cmp nat_cmp list.topic next.topic)) (is_ascending (map (λ list. list.topic) (next ∷ lists)))
+    (pairs zero (suc zero) list (omega arith) (omega arith))
     (ascends (next ∷ lists) (pairs_tail (λ a b. is_lt (slice_cmp nat_cmp a.topic b.topic) ≡ true) list (next ∷ lists) pairs))
 
 -- no more items than bytes, where each item has some
@@ -201,9 +240,11 @@ few_items spell (x ∷ xs) some = omega (arith, some x, few_items spell xs some,
 pub lists_are_plain : (text : List ℕ) (lists : List TopicList) → length text ≤ 16777216 → IsRankedRun text lists → ArePlain text lists
 lists_are_plain text lists fits (lines, (run, distinct), are) =
     let good = good_lines text lines run in
-    let plain = plain_lists (length text + 1) lines lists (omega (arith, fits)) good.each good.numbered run.1.short (λ topic. differ_from_distinct topic lines are.distinct) are.each in
+    let plain = plain_lists (length text + 1) lines lists (omega (arith, fits)) good.each good.numbered run.1.short
+    (λ topic. differ_from_distinct topic lines are.distinct) are.each in
     let apart : AllPairs (λ a b. a.topic ≢ b.topic) lists = λ i j d below within same.
-    never_below_itself (get_or lists j d).topic (subst (λ t. is_lt (slice_cmp nat_cmp t (get_or lists j d).topic) ≡ true) same (are.ascending i j d below within)) in
+    never_below_itself (get_or lists j d).topic
+    (subst (λ t. is_lt (slice_cmp nat_cmp t (get_or lists j d).topic) ≡ true) same (are.ascending i j d below within)) in
     let some : 0 < length lists = some_list lines lists good.some are.whole in
     let bytes : length (flat_map list_bytes lists) ≤ length text + 1 = omega (arith, good.short, plain.size, groups_fit lists lines apart) in
     let few : length lists ≤ 2 ^ 32 - 1 = omega (arith, fits, bytes, few_items list_bytes lists (λ list. omega (arith, list_size list))) in
@@ -214,6 +255,7 @@ lists_are_plain text lists fits (lines, (run, distinct), are) =
       short = omega (arith, bytes, length-append (to_le_bytes w32 (length lists)) (flat_map list_bytes lists), four_bytes (length lists));
     }
   where
-    some_list : (lines : List RunLine) (lists : List TopicList) → 0 < length lines → All (λ line. Any (λ list. list.topic ≡ line.topic) lists) lines → 0 < length lists
+    some_list : (lines : List RunLine) (lists : List TopicList) → 0 < length lines
+        → All (λ line. Any (λ list. list.topic ≡ line.topic) lists) lines → 0 < length lists
     some_list [] lists some whole = absurd (omega arith)
     some_list (line ∷ lines) lists some whole = let found = whole zero line (omega arith) in omega (arith, found.2)

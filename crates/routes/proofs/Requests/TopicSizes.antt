@@ -2,18 +2,19 @@
 use Rattle.std.proofs.Common.{◌≡◌, ℕ, ◌+◌, ◌≤◌, List, [], ◌∷◌, Bool, true, false, length, map, drop, reverse, refl, sym, ap, ◌∙◌, arith, length-append, length-drop}
 use Rattle.std.specs.Prelude.{if◌then◌else◌, bytes_eq, codes, unwrap_or}
 use Rattle.std.specs.List.{filter, sum_by, slice_split, onto_first, enumerate_from, join_with_byte, flat_map}
-use Rattle.std.specs.Int.{to_le_bytes, w16, w32}
+use Rattle.std.specs.Int.{to_le_bytes, w32}
 use Rattle.std.proofs.lemmas.Bool.{cond_both, false≢true}
 use Rattle.std.proofs.lemmas.List.{length-map, length-reverse}
 use Rattle.std.proofs.lemmas.List.Concat.{length-flat_map}
 use Rattle.std.proofs.lemmas.List.Sums.{sum_by-cons}
 use Rattle.std.proofs.lemmas.Slice.Eq.{bytes_eq-Decides}
+use Rattle.decimal_rank.proofs.Lists.{two_bytes, four_bytes}
 use Rattle.trec_formats.specs.declared.topics.Topic.{Topic}
 use Rattle.trec_formats.proofs.TopicTexts.BlockTexts.{same_part-true, same_part-refl}
 use Rattle.trec_formats.specs.Lines.{is_white_space, is_filled, lines_of}
-use Rattle.trec_formats.specs.Marks.{Mark, Opens, Closes, Numbers, Begins, Skips, Says, Marked, front_stripped, stripped, behind, unlabelled, begins_with, is_tag, other_mark, field_mark, mark_of, marks_from, marks_of, shown_byte}
-use Rattle.trec_formats.specs.Topics.{Numbered, number_of, said, texts_of, text_of, topic_of, topics_in, is_close, IsTopics, same_part}
-use Rattle.rulebook.specs.Spelling.{listed, topic_bytes}
+use Rattle.trec_formats.specs.TopicsFormat.TopicLines.{LineKind, Opens, Closes, Numbers, Begins, Skips, Says, TopicLine, front_stripped, without_space, behind_tag, without_label, begins_with, is_tag, other_kind, field_mark, mark_of, lines_from_number, topic_lines, shown_byte}
+use Rattle.trec_formats.specs.TopicsFormat.Topics.{NumberedTopic, block_number, said, part_texts, part_text, block_topic, block_topics, is_close, IsTopics, same_part}
+use Rattle.rulebook.specs.Spelling.{spelled_list, topic_bytes}
 use Rattle.routes.proofs.Requests.RunLines.{size_of, sizes, lines_sizes, sum_by-filter-le}
 
 -- Lines and their marks
@@ -24,22 +25,22 @@ front_short (b ∷ text) =
     cond_both (is_white_space b) (front_stripped text) (b ∷ text) (λ (kept : List ℕ). length kept ≤ length (b ∷ text))
     (λ white. omega (arith, front_short text)) (λ other. omega arith)
 
-stripped_short : (text : List ℕ) → length (stripped text) ≤ length text
-unfolding stripped
+stripped_short : (text : List ℕ) → length (without_space text) ≤ length text
+unfolding without_space
 stripped_short text =
     let front = front_stripped text in
     omega (arith, front_short text, front_short (reverse front), length-reverse front, length-reverse (front_stripped (reverse front)))
 
-behind_short : (front text : List ℕ) → length (behind front text) ≤ length text
+behind_short : (front text : List ℕ) → length (behind_tag front text) ≤ length text
 behind_short front text = omega (arith, stripped_short (drop (length front) text), length-drop (length front) text)
 
-unlabelled_short : (label text : List ℕ) → length (unlabelled label text) ≤ length text
+unlabelled_short : (label text : List ℕ) → length (without_label label text) ≤ length text
 unlabelled_short label text =
-    cond_both (begins_with label text) (behind label text) text (λ (kept : List ℕ). length kept ≤ length text)
+    cond_both (begins_with label text) (behind_tag label text) text (λ (kept : List ℕ). length kept ≤ length text)
     (λ there. behind_short label text) (λ other. omega arith)
 
 -- how many bytes a line with this mark has at least
-abbrev mark_size : Mark → ℕ
+abbrev mark_size : LineKind → ℕ
 mark_size Opens = 0
 mark_size Closes = 6
 mark_size (Numbers text) = length text
@@ -47,53 +48,55 @@ mark_size (Begins part text) = length text
 mark_size Skips = 0
 mark_size (Says text) = length text
 
-other_size : (line : List ℕ) → mark_size (other_mark line) ≤ length line
-unfolding other_mark
-other_size line = cond_both (is_tag line) Skips (Says line) (λ (mark : Mark). mark_size mark ≤ length line) (λ tag. omega arith) (λ other. omega arith)
+other_size : (line : List ℕ) → mark_size (other_kind line) ≤ length line
+unfolding other_kind
+other_size line = cond_both (is_tag line) Skips (Says line) (λ (mark : LineKind). mark_size mark ≤ length line) (λ tag. omega arith) (λ other. omega arith)
 
 field_size : (line : List ℕ) → mark_size (field_mark line) ≤ length line
 unfolding field_mark
 field_size line =
-    cond_both (begins_with (codes "<num>") line) _ _ (λ (mark : Mark). mark_size mark ≤ length line)
-    (λ num. omega (arith, unlabelled_short (codes "Number:") (behind (codes "<num>") line), behind_short (codes "<num>") line))
+    cond_both (begins_with (codes "<num>") line) _ _ (λ (mark : LineKind). mark_size mark ≤ length line)
+    (λ num. omega (arith, unlabelled_short (codes "Number:") (behind_tag (codes "<num>") line), behind_short (codes "<num>") line))
     (λ no_num.
-    cond_both (begins_with (codes "<title>") line) _ _ (λ (mark : Mark). mark_size mark ≤ length line)
+    cond_both (begins_with (codes "<title>") line) _ _ (λ (mark : LineKind). mark_size mark ≤ length line)
     (λ title. behind_short (codes "<title>") line)
     (λ no_title.
-    cond_both (begins_with (codes "<desc>") line) _ _ (λ (mark : Mark). mark_size mark ≤ length line)
-    (λ desc. omega (arith, unlabelled_short (codes "Description:") (behind (codes "<desc>") line), behind_short (codes "<desc>") line))
+    cond_both (begins_with (codes "<desc>") line) _ _ (λ (mark : LineKind). mark_size mark ≤ length line)
+    (λ desc. omega (arith, unlabelled_short (codes "Description:") (behind_tag (codes "<desc>") line), behind_short (codes "<desc>") line))
     (λ no_desc.
-    cond_both (begins_with (codes "<narr>") line) _ _ (λ (mark : Mark). mark_size mark ≤ length line)
-    (λ narr. omega (arith, unlabelled_short (codes "Narrative:") (behind (codes "<narr>") line), behind_short (codes "<narr>") line))
+    cond_both (begins_with (codes "<narr>") line) _ _ (λ (mark : LineKind). mark_size mark ≤ length line)
+    (λ narr. omega (arith, unlabelled_short (codes "Narrative:") (behind_tag (codes "<narr>") line), behind_short (codes "<narr>") line))
     (λ no_narr. other_size line))))
 
 line_size : (line : List ℕ) → mark_size (mark_of line) ≤ length line
 unfolding mark_of
 line_size line =
-    cond_both (bytes_eq line (codes "<top>")) Opens _ (λ (mark : Mark). mark_size mark ≤ length line)
+    cond_both (bytes_eq line (codes "<top>")) Opens _ (λ (mark : LineKind). mark_size mark ≤ length line)
     (λ top. omega arith)
     (λ no_top.
-    cond_both (bytes_eq line (codes "</top>")) Closes (field_mark line) (λ (mark : Mark). mark_size mark ≤ length line)
+    cond_both (bytes_eq line (codes "</top>")) Closes (field_mark line) (λ (mark : LineKind). mark_size mark ≤ length line)
     (λ end. let same : length line ≡ 6 = ap length ((bytes_eq-Decides line (codes "</top>")).0 end) in omega (arith, same))
     (λ no_end. field_size line))
 
 -- a line with the byte that ends it
-abbrev weight : Marked → ℕ
+abbrev weight : TopicLine → ℕ
 weight mark = mark_size mark.1 + 1
 
-row_weights : (number : ℕ) (lines : List (List ℕ)) → sum_by (λ (row : ℕ × List ℕ). mark_size (mark_of row.1) + 1) (enumerate_from number (map stripped lines)) ≤ sizes lines
+row_weights : (number : ℕ) (lines : List (List ℕ))
+    → sum_by (λ (row : ℕ × List ℕ). mark_size (mark_of row.1) + 1) (enumerate_from number (map without_space lines)) ≤ sizes lines
 row_weights number [] = omega arith
 row_weights number (line ∷ lines) =
     omega (
       arith,
       row_weights (number + 1) lines,
-      line_size (stripped line),
+      line_size (without_space line),
       stripped_short line,
       sum_by-cons size_of line lines,
-      sum_by-cons (λ (row : ℕ × List ℕ). mark_size (mark_of row.1) + 1) (number, stripped line) (enumerate_from (number + 1) (map stripped lines)),
+      sum_by-cons (λ (row : ℕ × List ℕ). mark_size (mark_of row.1) + 1) (number, without_space line) (enumerate_from (number + 1) (map without_space lines)),
     )
 
-mapped_weights : (rows : List (ℕ × List ℕ)) → sum_by weight (map (λ (row : ℕ × List ℕ). (row.0, mark_of row.1)) rows) ≡ sum_by (λ (row : ℕ × List ℕ). mark_size (mark_of row.1) + 1) rows
+mapped_weights : (rows : List (ℕ × List ℕ))
+    → sum_by weight (map (λ (row : ℕ × List ℕ). (row.0, mark_of row.1)) rows) ≡ sum_by (λ (row : ℕ × List ℕ). mark_size (mark_of row.1) + 1) rows
 mapped_weights [] = refl
 mapped_weights (row ∷ rows) =
     omega (
@@ -103,20 +106,26 @@ mapped_weights (row ∷ rows) =
       sum_by-cons (λ (row : ℕ × List ℕ). mark_size (mark_of row.1) + 1) row rows,
     )
 
-marks_weights : (text : List ℕ) → sum_by weight (marks_of text) ≤ length text + 1
-unfolding marks_from
+marks_weights : (text : List ℕ) → sum_by weight (topic_lines text) ≤ length text + 1
+unfolding lines_from_number
 marks_weights text =
-    let rows = enumerate_from 1 (map stripped (lines_of text)) in
+    let rows = enumerate_from 1 (map without_space (lines_of text)) in
     let kept = filter (λ (row : ℕ × List ℕ). is_filled row.1) rows in
-    omega (arith, mapped_weights kept, sum_by-filter-le (λ (row : ℕ × List ℕ). mark_size (mark_of row.1) + 1) (λ (row : ℕ × List ℕ). is_filled row.1) rows, row_weights 1 (lines_of text), lines_sizes text)
+    omega (
+      arith,
+      mapped_weights kept,
+      sum_by-filter-le (λ (row : ℕ × List ℕ). mark_size (mark_of row.1) + 1) (λ (row : ℕ × List ℕ). is_filled row.1) rows,
+      row_weights 1 (lines_of text),
+      lines_sizes text,
+    )
 
 -- A block and its topic
 
 abbrev counted : Bool → ℕ → ℕ
 counted test n = if test then n else 0
 
-abbrev id_size : List Marked → ℕ
-id_size block = length (unwrap_or (number_of block) (0, [])).1
+abbrev id_size : List TopicLine → ℕ
+id_size block = length (unwrap_or (block_number block) (0, [])).1
 
 -- no two of the tests hold
 record AreApart (p q r : Bool) : Type 0 where
@@ -130,7 +139,8 @@ texts_at test text rest texts = if test then text ∷ rest else texts
 -- the line that begins a part, which at most one of three parts is
 begin_step : (p q r t d n : Bool) → AreApart p q r → (text : List ℕ) (rest a b c : List (List ℕ)) (id w : ℕ)
     → ((t d n : Bool) → sizes rest + (counted t (sizes a) + (counted d (sizes b) + (counted n (sizes c) + id))) ≤ w)
-    → counted t (sizes (texts_at p text rest a)) + (counted d (sizes (texts_at q text rest b)) + (counted n (sizes (texts_at r text rest c)) + id)) ≤ length text + 1 + w
+    → counted t (sizes (texts_at p text rest a)) + (counted d (sizes (texts_at q text rest b)) + (counted n (sizes (texts_at r text rest c)) + id))
+    ≤ length text + 1 + w
 begin_step true true r t d n apart text rest a b c id w most = absurd (apart.first refl refl)
 begin_step true false true t d n apart text rest a b c id w most = absurd (apart.second refl refl)
 begin_step false true true t d n apart text rest a b c id w most = absurd (apart.third refl refl)
@@ -153,18 +163,22 @@ none_left false false true = omega arith
 none_left false false false = omega arith
 
 -- The texts of three parts, the number, and what goes on with an earlier part stand on different lines.
-apart : (p q r : _) → ((part : _) → AreApart (same_part p part) (same_part q part) (same_part r part)) → (block : List Marked) (t d n : Bool)
-    → sizes (said block) + (counted t (sizes (texts_of p block)) + (counted d (sizes (texts_of q block)) + (counted n (sizes (texts_of r block)) + id_size block))) ≤ sum_by weight block
+apart : (p q r : _) → ((part : _) → AreApart (same_part p part) (same_part q part) (same_part r part)) → (block : List TopicLine) (t d n : Bool)
+    → sizes (said block)
+    + (counted t (sizes (part_texts p block)) + (counted d (sizes (part_texts q block)) + (counted n (sizes (part_texts r block)) + id_size block)))
+    ≤ sum_by weight block
 apart p q r differ [] t d n = omega (arith, none_left t d n)
 apart p q r differ ((l, Opens) ∷ block) t d n = omega (arith, apart p q r differ block t d n, sum_by-cons weight (l, Opens) block)
 apart p q r differ ((l, Closes) ∷ block) t d n = omega (arith, apart p q r differ block t d n, sum_by-cons weight (l, Closes) block)
 apart p q r differ ((l, Skips) ∷ block) t d n = omega (arith, apart p q r differ block t d n, sum_by-cons weight (l, Skips) block)
-apart p q r differ ((l, Says text) ∷ block) t d n = omega (arith, apart p q r differ block t d n, sum_by-cons weight (l, Says text) block, sum_by-cons size_of text (said block))
+apart p q r differ ((l, Says text) ∷ block) t d n =
+    omega (arith, apart p q r differ block t d n, sum_by-cons weight (l, Says text) block, sum_by-cons size_of text (said block))
 apart p q r differ ((l, Numbers text) ∷ block) t d n = omega (arith, apart p q r differ block t d n, sum_by-cons weight (l, Numbers text) block)
 apart p q r differ ((l, Begins part text) ∷ block) t d n =
     omega (
       arith,
-      begin_step (same_part p part) (same_part q part) (same_part r part) t d n (differ part) text (said block) (texts_of p block) (texts_of q block) (texts_of r block) (id_size block) (sum_by weight block)
+      begin_step (same_part p part) (same_part q part) (same_part r part) t d n (differ part) text (said block)
+          (part_texts p block) (part_texts q block) (part_texts r block) (id_size block) (sum_by weight block)
           (λ t d n. apart p q r differ block t d n),
       sum_by-cons weight (l, Begins part text) block,
     )
@@ -177,7 +191,12 @@ joined_short (text ∷ next ∷ texts) =
 
 texts_short : (texts : List (List ℕ)) → length (map shown_byte (join_with_byte 32 (filter is_filled texts))) ≤ sizes texts
 texts_short texts =
-    omega (arith, length-map (join_with_byte 32 (filter is_filled texts)) shown_byte, joined_short (filter is_filled texts), sum_by-filter-le size_of is_filled texts)
+    omega (
+      arith,
+      length-map (join_with_byte 32 (filter is_filled texts)) shown_byte,
+      joined_short (filter is_filled texts),
+      sum_by-filter-le size_of is_filled texts,
+    )
 
 abbrev topic_size : Topic → ℕ
 topic_size topic = length topic.id + (length topic.title + (length topic.desc + length topic.narr))
@@ -187,18 +206,18 @@ one_part p q part differ a b =
     let same : p ≡ q = same_part-true p part a ∙ sym (same_part-true q part b) in
     false≢true (sym differ ∙ ap (same_part p) (sym same) ∙ same_part-refl p)
 
-parts_short : (p q r : _) → same_part p q ≡ false → same_part p r ≡ false → same_part q r ≡ false → (block : List Marked)
-    → id_size block + (length (text_of p block) + (length (text_of q block) + length (text_of r block))) ≤ sum_by weight block
+parts_short : (p q r : _) → same_part p q ≡ false → same_part p r ≡ false → same_part q r ≡ false → (block : List TopicLine)
+    → id_size block + (length (part_text p block) + (length (part_text q block) + length (part_text r block))) ≤ sum_by weight block
 parts_short p q r first second third block =
     omega (
       arith,
       apart p q r (λ part. record { first = one_part p q part first; second = one_part p r part second; third = one_part q r part third }) block true true true,
-      texts_short (texts_of p block),
-      texts_short (texts_of q block),
-      texts_short (texts_of r block),
+      texts_short (part_texts p block),
+      texts_short (part_texts q block),
+      texts_short (part_texts r block),
     )
 
-abbrev begins : Mark → Bool
+abbrev begins : LineKind → Bool
 begins (Begins part text) = true
 begins Opens = false
 begins Closes = false
@@ -207,7 +226,7 @@ begins Skips = false
 begins (Says text) = false
 
 -- the part that a mark begins
-abbrev part_of : (mark : Mark) → begins mark ≡ true → (part : _) × (same_part part part ≡ true)
+abbrev part_of : (mark : LineKind) → begins mark ≡ true → (part : _) × (same_part part part ≡ true)
 part_of (Begins part text) is = (part, same_part-refl part)
 part_of Opens is = absurd (false≢true is)
 part_of Closes is = absurd (false≢true is)
@@ -215,28 +234,32 @@ part_of (Numbers text) is = absurd (false≢true is)
 part_of Skips is = absurd (false≢true is)
 part_of (Says text) is = absurd (false≢true is)
 
-topic_short : (block : List Marked) → topic_size (topic_of block).1 ≤ sum_by weight block
+topic_short : (block : List TopicLine) → topic_size (block_topic block).1 ≤ sum_by weight block
 unfolding field_mark
-topic_short block = parts_short (part_of (field_mark (codes "<title>")) refl).0 (part_of (field_mark (codes "<desc>")) refl).0 (part_of (field_mark (codes "<narr>")) refl).0 refl refl refl block
+topic_short block =
+    parts_short (part_of (field_mark (codes "<title>")) refl).0 (part_of (field_mark (codes "<desc>")) refl).0
+    (part_of (field_mark (codes "<narr>")) refl).0 refl refl refl block
 
 -- All topics
 
-abbrev block_size : List Marked → ℕ
+abbrev block_size : List TopicLine → ℕ
 block_size block = sum_by weight block + 7
 
-onto_blocks : (mark : Marked) (n : ℕ) (blocks : List (List Marked)) → sum_by block_size blocks ≤ n + 7 → 0 + 7 ≤ sum_by block_size blocks → sum_by block_size (onto_first mark blocks) ≤ n + weight mark + 7
+onto_blocks : (mark : TopicLine) (n : ℕ) (blocks : List (List TopicLine)) → sum_by block_size blocks ≤ n + 7
+    → 0 + 7 ≤ sum_by block_size blocks → sum_by block_size (onto_first mark blocks) ≤ n + weight mark + 7
 onto_blocks mark n [] is some = absurd (omega (arith, some))
-onto_blocks mark n (block ∷ blocks) is some = omega (arith, is, sum_by-cons block_size block blocks, sum_by-cons block_size (mark ∷ block) blocks, sum_by-cons weight mark block)
+onto_blocks mark n (block ∷ blocks) is some =
+    omega (arith, is, sum_by-cons block_size block blocks, sum_by-cons block_size (mark ∷ block) blocks, sum_by-cons weight mark block)
 
-record AreBlocks (marks : List Marked) (blocks : List (List Marked)) : Type 0 where
+record AreBlocks (marks : List TopicLine) (blocks : List (List TopicLine)) : Type 0 where
   most : sum_by block_size blocks ≤ sum_by weight marks + 7
   some : 7 ≤ sum_by block_size blocks
 
-onto_some : (mark : Marked) (blocks : List (List Marked)) → 7 ≤ sum_by block_size blocks → 7 ≤ sum_by block_size (onto_first mark blocks)
+onto_some : (mark : TopicLine) (blocks : List (List TopicLine)) → 7 ≤ sum_by block_size blocks → 7 ≤ sum_by block_size (onto_first mark blocks)
 onto_some mark [] some = absurd (omega (arith, some))
 onto_some mark (block ∷ blocks) some = omega (arith, sum_by-cons block_size (mark ∷ block) blocks)
 
-closing_weight : (mark : Marked) → is_close mark ≡ true → weight mark ≡ 7
+closing_weight : (mark : TopicLine) → is_close mark ≡ true → weight mark ≡ 7
 closing_weight (l, Closes) is = refl
 closing_weight (l, Opens) is = cc
 closing_weight (l, Numbers text) is = cc
@@ -244,11 +267,12 @@ closing_weight (l, Begins part text) is = cc
 closing_weight (l, Skips) is = cc
 closing_weight (l, Says text) is = cc
 
-split_blocks : (marks : List Marked) → AreBlocks marks (slice_split is_close marks)
+split_blocks : (marks : List TopicLine) → AreBlocks marks (slice_split is_close marks)
 split_blocks [] = record { most = omega arith; some = omega arith }
 split_blocks (mark ∷ marks) =
     let rest = split_blocks marks in
-    cond_both (is_close mark) ([] ∷ slice_split is_close marks) (onto_first mark (slice_split is_close marks)) (λ (blocks : List (List Marked)). AreBlocks (mark ∷ marks) blocks)
+    cond_both (is_close mark) ([] ∷ slice_split is_close marks) (onto_first mark (slice_split is_close marks))
+    (λ (blocks : List (List TopicLine)). AreBlocks (mark ∷ marks) blocks)
     (λ close. record {
       most = omega (arith, rest.most, closing_weight mark close, sum_by-cons weight mark marks, sum_by-cons block_size [] (slice_split is_close marks));
       some = omega (arith, sum_by-cons block_size [] (slice_split is_close marks));
@@ -258,39 +282,35 @@ split_blocks (mark ∷ marks) =
       some = onto_some mark (slice_split is_close marks) rest.some;
     })
 
-two_bytes : (n : ℕ) → length (to_le_bytes w16 n) ≡ 2
-two_bytes n = refl
-
-four_bytes : (n : ℕ) → length (to_le_bytes w32 n) ≡ 4
-four_bytes n = refl
-
 spelled_size : (topic : Topic) → length (topic_bytes topic) ≡ topic_size topic + 7
 spelled_size topic = simp (length-append, two_bytes) (omega arith)
 
-spelled_blocks : (blocks : List (List Marked)) → sum_by (λ topic. length (topic_bytes topic)) (map (λ (t : Numbered). t.1) (map topic_of blocks)) ≤ sum_by block_size blocks
+spelled_blocks : (blocks : List (List TopicLine))
+    → sum_by (λ topic. length (topic_bytes topic)) (map (λ (t : NumberedTopic). t.1) (map block_topic blocks)) ≤ sum_by block_size blocks
 spelled_blocks [] = omega arith
 spelled_blocks (block ∷ blocks) =
     omega (
       arith,
       spelled_blocks blocks,
-      spelled_size (topic_of block).1,
+      spelled_size (block_topic block).1,
       topic_short block,
       sum_by-cons block_size block blocks,
-      sum_by-cons (λ topic. length (topic_bytes topic)) (topic_of block).1 (map (λ (t : Numbered). t.1) (map topic_of blocks)),
+      sum_by-cons (λ topic. length (topic_bytes topic)) (block_topic block).1 (map (λ (t : NumberedTopic). t.1) (map block_topic blocks)),
     )
 
 -- the topics of a text are spelled with no more bytes than the text, but for a few
-pub topics_short : (text : List ℕ) (topics : List Topic) → IsTopics text topics → length (listed topic_bytes topics) ≤ length text + 20
+pub topics_short : (text : List ℕ) (topics : List Topic) → IsTopics text topics → length (spelled_list topic_bytes topics) ≤ length text + 20
 topics_short text topics (found, reading, is) =
-    let marks = marks_of text in
+    let marks = topic_lines text in
     let blocks = slice_split is_close marks in
-    let all : topics ≡ map (λ (t : Numbered). t.1) (topics_in marks) = is ∙ ap (map (λ (t : Numbered). t.1)) reading.0.2 in
+    let all : topics ≡ map (λ (t : NumberedTopic). t.1) (block_topics marks) = is ∙ ap (map (λ (t : NumberedTopic). t.1)) reading.0.2 in
     rw all
     (omega (
       arith,
-      length-append (to_le_bytes w32 (length (map (λ (t : Numbered). t.1) (topics_in marks)))) (flat_map topic_bytes (map (λ (t : Numbered). t.1) (topics_in marks))),
-      four_bytes (length (map (λ (t : Numbered). t.1) (topics_in marks))),
-      length-flat_map topic_bytes (map (λ (t : Numbered). t.1) (topics_in marks)),
+      length-append (to_le_bytes w32 (length (map (λ (t : NumberedTopic). t.1) (block_topics marks))))
+          (flat_map topic_bytes (map (λ (t : NumberedTopic). t.1) (block_topics marks))),
+      four_bytes (length (map (λ (t : NumberedTopic). t.1) (block_topics marks))),
+      length-flat_map topic_bytes (map (λ (t : NumberedTopic). t.1) (block_topics marks)),
       spelled_blocks (filter is_filled blocks),
       sum_by-filter-le block_size is_filled blocks,
       (split_blocks marks).most,

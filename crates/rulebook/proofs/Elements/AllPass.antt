@@ -1,64 +1,41 @@
 -- What holds of each element of a list holds of each of the lists that are made of it.
-use Rattle.std.proofs.Common.{Ordering, Less, Equal, Greater, ◌≡◌, ℕ, zero, suc, ◌+◌, Bool, true, false, List, [], ◌∷◌, ◌++◌, Option, None, Some, map, take, refl, sym, ap, ◌∙◌, filter}
-use Rattle.std.specs.Prelude.{◌&&◌, cond, slice_get}
+use Rattle.std.proofs.Common.{Ordering, Less, Equal, Greater, ◌≡◌, ℕ, zero, suc, ◌+◌, Bool, true, false, List, [], ◌∷◌, ◌++◌, Option, None, Some, map, refl, sym, ap, ◌∙◌, filter}
+use Rattle.std.specs.Prelude.{cond, slice_get}
 use Rattle.std.specs.List.{cons_option, enumerate_from, filter_map, find, flat_map, fold, list_all}
 use Rattle.std.specs.Ordering.{match_ordering, nat_cmp}
 use Rattle.std.specs.BTreeSet.{insert_key}
 use Rattle.std.specs.Cmp.Lexicographic.{slice_cmp}
 use Rattle.std.proofs.lemmas.List.Folds.{list_all-append}
+use Rattle.std.proofs.lemmas.Bool.{and_from}
+use Rattle.decimal_rank.proofs.Lists.{all_head, all_tail}
 use Rattle.rulebook.specs.Words.{Text, in_order}
 
-pub both : (s t : Bool) → s ≡ true → t ≡ true → (s && t) ≡ true
-both true true e f = refl
-both true false e f = f
-both false t e f = e
-
-pub first_of_both : (s t : Bool) → (s && t) ≡ true → s ≡ true
-first_of_both true t e = refl
-first_of_both false t e = e
-
-pub second_of_both : (s t : Bool) → (s && t) ≡ true → t ≡ true
-second_of_both true t e = e
-second_of_both false true e = refl
-second_of_both false false e = e
-
 module _ {X : Type 0} (p : X → Bool) where
-  pub all_head : (x : X) (xs : List X) → list_all p (x ∷ xs) ≡ true → p x ≡ true
-  all_head x xs all = first_of_both (p x) (list_all p xs) all
-
-  pub all_tail : (x : X) (xs : List X) → list_all p (x ∷ xs) ≡ true → list_all p xs ≡ true
-  all_tail x xs all = second_of_both (p x) (list_all p xs) all
-
   pub all_joined : (xs ys : List X) → list_all p xs ≡ true → list_all p ys ≡ true → list_all p (xs ++ ys) ≡ true
-  all_joined xs ys front back = list_all-append p xs ys ∙ both (list_all p xs) (list_all p ys) front back
+  all_joined xs ys front back = list_all-append p xs ys ∙ and_from (list_all p xs) (list_all p ys) front back
 
   pub all_pushed : (xs : List X) (x : X) → list_all p xs ≡ true → p x ≡ true → list_all p (xs ++ x ∷ []) ≡ true
-  all_pushed xs x all here = all_joined xs (x ∷ []) all (both (p x) true here refl)
-
-  pub all_taken : (n : ℕ) (xs : List X) → list_all p xs ≡ true → list_all p (take n xs) ≡ true
-  all_taken zero xs all = refl
-  all_taken (suc n) [] all = refl
-  all_taken (suc n) (x ∷ xs) all = both (p x) (list_all p (take n xs)) (all_head x xs all) (all_taken n xs (all_tail x xs all))
+  all_pushed xs x all here = all_joined xs (x ∷ []) all (and_from (p x) true here refl)
 
   pub all_got : (xs : List X) (i : ℕ) (x : X) → list_all p xs ≡ true → slice_get xs i ≡ Some x → p x ≡ true
   all_got [] i x all is = cc is
-  all_got (y ∷ ys) zero x all is = let same : y ≡ x = cc is in ap p (sym same) ∙ all_head y ys all
-  all_got (y ∷ ys) (suc i) x all is = all_got ys i x (all_tail y ys all) is
+  all_got (y ∷ ys) zero x all is = let same : y ≡ x = cc is in ap p (sym same) ∙ all_head p y ys all
+  all_got (y ∷ ys) (suc i) x all is = all_got ys i x (all_tail p y ys all) is
 
   pub all_found : (q : X → Bool) (xs : List X) (x : X) → list_all p xs ≡ true → find q xs ≡ Some x → p x ≡ true
   all_found q [] x all is = cc is
-  all_found q (y ∷ ys) x all is = step (q y) is (all_found q ys x (all_tail y ys all))
+  all_found q (y ∷ ys) x all is = step (q y) is (all_found q ys x (all_tail p y ys all))
     where
       step : (t : Bool) → cond t (Some y) (find q ys) ≡ Some x → (find q ys ≡ Some x → p x ≡ true) → p x ≡ true
-      step true here rest = let same : y ≡ x = cc here in ap p (sym same) ∙ all_head y ys all
+      step true here rest = let same : y ≡ x = cc here in ap p (sym same) ∙ all_head p y ys all
       step false later rest = rest later
 
   pub all_filtered : (q : X → Bool) (xs : List X) → list_all p xs ≡ true → list_all p (filter q xs) ≡ true
   all_filtered q [] all = refl
-  all_filtered q (x ∷ xs) all = step (q x) (all_filtered q xs (all_tail x xs all))
+  all_filtered q (x ∷ xs) all = step (q x) (all_filtered q xs (all_tail p x xs all))
     where
       step : (t : Bool) → list_all p (filter q xs) ≡ true → list_all p (cond t (x ∷ filter q xs) (filter q xs)) ≡ true
-      step true rest = both (p x) (list_all p (filter q xs)) (all_head x xs all) rest
+      step true rest = and_from (p x) (list_all p (filter q xs)) (all_head p x xs all) rest
       step false rest = rest
 
   pub all_passed : (xs : List X) → list_all p (filter p xs) ≡ true
@@ -66,17 +43,18 @@ module _ {X : Type 0} (p : X → Bool) where
   all_passed (x ∷ xs) = step (p x) refl (all_passed xs)
     where
       step : (t : Bool) → p x ≡ t → list_all p (filter p xs) ≡ true → list_all p (filter p (x ∷ xs)) ≡ true
-      step true is rest = rw is (both (p x) (list_all p (filter p xs)) is rest)
+      step true is rest = rw is (and_from (p x) (list_all p (filter p xs)) is rest)
       step false is rest = rw is rest
 
   pub all_numbered : (n : ℕ) (xs : List X) → list_all p xs ≡ true → list_all (λ x. p x.1) (enumerate_from n xs) ≡ true
   all_numbered n [] all = refl
   all_numbered n (x ∷ xs) all =
-      both (p x) (list_all (λ x. p x.1) (enumerate_from (n + 1) xs)) (all_head x xs all) (all_numbered (n + 1) xs (all_tail x xs all))
+      and_from (p x) (list_all (λ x. p x.1) (enumerate_from (n + 1) xs)) (all_head p x xs all) (all_numbered (n + 1) xs (all_tail p x xs all))
 
 pub all_images : {X Y : Type 0} (p : Y → Bool) (f : X → Y) (xs : List X) → list_all (λ x. p (f x)) xs ≡ true → list_all p (map f xs) ≡ true
 all_images p f [] all = refl
-all_images p f (x ∷ xs) all = both (p (f x)) (list_all p (map f xs)) (all_head (λ x. p (f x)) x xs all) (all_images p f xs (all_tail (λ x. p (f x)) x xs all))
+all_images p f (x ∷ xs) all =
+    and_from (p (f x)) (list_all p (map f xs)) (all_head (λ x. p (f x)) x xs all) (all_images p f xs (all_tail (λ x. p (f x)) x xs all))
 
 module _ {X Y : Type 0} (p : X → Bool) (q : Y → Bool) where
   pub all_mapped_flat : (f : X → List Y) → ((x : X) → p x ≡ true → list_all q (f x) ≡ true) → (xs : List X)
@@ -92,21 +70,21 @@ module _ {X Y : Type 0} (p : X → Bool) (q : Y → Bool) where
     where
       step : (o : Option Y) → f x ≡ o → list_all q (filter_map f xs) ≡ true → list_all q (cons_option o (filter_map f xs)) ≡ true
       step None is rest = rest
-      step (Some y) is rest = both (q y) (list_all q (filter_map f xs)) (each x y (all_head p x xs all) is) rest
+      step (Some y) is rest = and_from (q y) (list_all q (filter_map f xs)) (each x y (all_head p x xs all) is) rest
 
 module _ (p : Text → Bool) where
   abbrev by_bytes : Text → Text → Ordering
   by_bytes = slice_cmp nat_cmp
 
   all_inserted : (texts : List Text) (text : Text) → list_all p texts ≡ true → p text ≡ true → list_all p (insert_key by_bytes texts text) ≡ true
-  all_inserted [] text all here = both (p text) true here refl
+  all_inserted [] text all here = and_from (p text) true here refl
   all_inserted (t ∷ ts) text all here = step (by_bytes text t) (all_inserted ts text (all_tail p t ts all) here)
     where
       step : (o : Ordering) → list_all p (insert_key by_bytes ts text) ≡ true
           → list_all p (match_ordering o (text ∷ t ∷ ts) (t ∷ ts) (t ∷ insert_key by_bytes ts text)) ≡ true
-      step Less rest = both (p text) (list_all p (t ∷ ts)) here all
+      step Less rest = and_from (p text) (list_all p (t ∷ ts)) here all
       step Equal rest = all
-      step Greater rest = both (p t) (list_all p (insert_key by_bytes ts text)) (all_head p t ts all) rest
+      step Greater rest = and_from (p t) (list_all p (insert_key by_bytes ts text)) (all_head p t ts all) rest
 
   all_along : (texts more : List Text) → list_all p texts ≡ true → list_all p more ≡ true → list_all p (fold (insert_key by_bytes) texts more) ≡ true
   all_along texts [] all later = all

@@ -6,14 +6,15 @@ use Rattle.std.specs.Str.{bytes_eq}
 use Rattle.std.proofs.lemmas.Cmp.{nat_list_eq_equiv}
 use Rattle.std.proofs.lemmas.Slice.Eq.{bytes_eq-Decides}
 use Rattle.labels.specs.declared.given.Given.{Given}
-use Rattle.labels.specs.Labelled.{label_of as grade_of, with_label}
+use Rattle.labels.specs.DocumentLabels.{label_grade as grade_of, with_label}
 use Rattle.rulebook.specs.declared.entry.Entry.{Entry}
 use Rattle.rulebook.specs.Campaign.{History}
-use Rattle.rulebook.specs.Facts.{grade_by}
-use Rattle.rulebook.specs.Grades.{Label, is_on, label_of, labels_on}
-use Rattle.rulebook.specs.Legal.{IsAccepted, IsFounding, IsLegal}
+use Rattle.rulebook.specs.Histories.Facts.{grade_by}
+use Rattle.rulebook.specs.Judgements.Grades.{Label, is_label_on, label_of, labels_on}
+use Rattle.rulebook.specs.Histories.Legal.{IsAccepted, IsFounding, IsLegal}
 use Rattle.rulebook.specs.Words.{Text, last_given}
-use Rattle.rulebook.proofs.Judgements.Entering.{label-joins, labels-stay, last-given-pushed}
+use Rattle.rulebook.proofs.Judgements.NextEntries.{last-given-pushed}
+use Rattle.rulebook.proofs.Judgements.NextLabels.{label-joins, labels-stay}
 use Rattle.rulebook.proofs.LegalHistories.LegalWalk.{legal_induction}
 
 -- the grade of an assessor's label, after some assessor gives a grade
@@ -63,9 +64,11 @@ IsLastWith before e topic doc assessor =
 last_pushed : (before : History) (e : Entry) → IsLegal before → AreLast before → IsAccepted before e → AreLast (before ++ e ∷ [])
 last_pushed before e legal last accepted topic doc assessor = step (label_of e) refl ∙ sym (last-given-pushed (grade_by topic doc assessor) before e)
   where
-    on : (l : Label) (t : Bool) → is_on topic doc l ≡ t → (s : Bool) → bytes_eq l.assessor assessor ≡ s → label_of e ≡ Some l → IsLastWith before e topic doc assessor
+    on : (l : Label) (t : Bool) → is_label_on topic doc l ≡ t → (s : Bool) → bytes_eq l.assessor assessor ≡ s
+        → label_of e ≡ Some l → IsLastWith before e topic doc assessor
     on l true here s mine is =
-        let joined : labels_on (before ++ e ∷ []) topic doc ≡ with_label l.assessor l.grade (labels_on before topic doc) = label-joins before e l topic doc is ∙ (rw here refl) in
+        let joined : labels_on (before ++ e ∷ []) topic doc ≡ with_label l.assessor l.grade (labels_on before topic doc) =
+        label-joins before e l topic doc is ∙ (rw here refl) in
         ap (grade_of assessor) joined ∙ with_grade assessor l.assessor l.grade (labels_on before topic doc) ∙ given s mine
       where
         given : (s : Bool) → bytes_eq l.assessor assessor ≡ s
@@ -79,7 +82,7 @@ last_pushed before e legal last accepted topic doc assessor = step (label_of e) 
 
     step : (o : Option Label) → label_of e ≡ o → IsLastWith before e topic doc assessor
     step None is = ap (grade_of assessor) (labels-stay before e topic doc is) ∙ (rw is (last topic doc assessor))
-    step (Some l) is = on l (is_on topic doc l) refl (bytes_eq l.assessor assessor) refl is
+    step (Some l) is = on l (is_label_on topic doc l) refl (bytes_eq l.assessor assessor) refl is
 
 founding_last : (first : Entry) → IsFounding first → AreLast (first ∷ [])
 founding_last first is topic doc assessor = rw (is.2) refl

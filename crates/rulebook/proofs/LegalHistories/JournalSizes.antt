@@ -3,15 +3,17 @@ use Rattle.std.proofs.Common.{◌≡◌, ℕ, ◌+◌, ◌*◌, ◌<◌, ◌≤�
 use Rattle.std.specs.Prelude.{◌&&◌, is_some, nat_le, nat_lt, sum_by}
 use Rattle.std.specs.List.{cons_option, flat_map, list_all}
 use Rattle.std.specs.Option.{option_map}
-use Rattle.std.specs.Int.{to_le_bytes, w16, w32, w64}
+use Rattle.std.specs.Int.{to_le_bytes, w32}
 use Rattle.std.proofs.lemmas.Bool.{leb-false}
 use Rattle.std.proofs.lemmas.Bool.Decides.{nat_tests}
 use Rattle.std.proofs.lemmas.List.Elements.{filter_map-append}
 use Rattle.std.proofs.lemmas.List.Sums.{sum_by-append}
+use Rattle.decimal_rank.proofs.Lists.{two_bytes, four_bytes, eight_bytes, all_head, all_tail}
+use Rattle.decimal_rank.proofs.TruthValues.{first_of_both, second_of_both}
 use Rattle.trec_formats.specs.Names.{is_between, is_docno, is_name, is_name_byte}
 use Rattle.trec_formats.specs.declared.Topic.{Topic}
 use Rattle.trec_formats.specs.declared.TopicList.{TopicList}
-use Rattle.rulebook.specs.Limits.{max_docnos, max_entries, max_entry_bytes, max_lines, max_runs, max_topics}
+use Rattle.rulebook.specs.Requests.Limits.{max_docnos, max_entries, max_entry_bytes, max_lines, max_runs, max_topics}
 use Rattle.rulebook.specs.declared.rules.Caller.{Caller}
 use Rattle.rulebook.specs.declared.rules.Phase.TheVariants.{Collecting, Published}
 use Rattle.rulebook.specs.declared.rules.Rules.{Rules}
@@ -23,16 +25,15 @@ use Rattle.rulebook.specs.declared.reply.Refusal.{Refusal}
 use Rattle.rulebook.specs.declared.reply.Refusal.TheVariants as refusal
 use Rattle.rulebook.specs.declared.reply.Reply.{Reply}
 use Rattle.rulebook.specs.declared.reply.Reply.TheVariants as reply
-use Rattle.rulebook.specs.Answers.{moment_after, submit_ruling, topics_ruling, ruled, unknown_line}
-use Rattle.rulebook.specs.Facts.{given_topics}
+use Rattle.rulebook.specs.Answers.{moment_after, submit_outcome, topics_outcome, command_outcome, unknown_line}
+use Rattle.rulebook.specs.Histories.Facts.{given_topics}
 use Rattle.rulebook.specs.Campaign.{History, docnos_with, has_topics, is_taken, line_count, lines_with, run_in, runs, topics_in}
-use Rattle.rulebook.specs.Legal.{IsAccepted, IsLegal, founding}
-use Rattle.rulebook.specs.Refusals.{Ruling, ◌when◌, unless, wrong_phase_unless, wrong_phase_where}
+use Rattle.rulebook.specs.Histories.Legal.{IsAccepted, IsLegal, founding}
+use Rattle.rulebook.specs.Requests.Refusals.{Outcome, ◌when◌, unless, wrong_phase_unless, wrong_phase_where}
 use Rattle.rulebook.specs.declared.rules.TopicLevel.{TopicLevel}
-use Rattle.rulebook.specs.Spelling.{are_levels, are_rules, are_settings, command_bytes, entry_bytes, found_bytes, is_topic_level, level_bytes, listed, is_ascending, is_number, is_plain, number_bytes, rules_bytes, short}
+use Rattle.rulebook.specs.Spelling.{are_levels, are_rules, are_settings, command_bytes, entry_bytes, found_bytes, is_topic_level, level_bytes, spelled_list, is_ascending, is_number, is_plain, number_bytes, rules_bytes, short}
 use Rattle.rulebook.specs.Words.{Text}
-use Rattle.rulebook.proofs.LegalHistories.Added.{accepted_room, entry_size, given_of}
-use Rattle.rulebook.proofs.Elements.AllPass.{all_head, all_tail, first_of_both, second_of_both}
+use Rattle.rulebook.proofs.LegalHistories.AddedEntries.{accepted_room, entry_size, given_of}
 use Rattle.rulebook.proofs.LegalHistories.GrantedLeases.{passed}
 use Rattle.rulebook.proofs.LegalHistories.LegalWalk.{accepted_of, legal_induction}
 
@@ -47,15 +48,17 @@ entries_few =
 
 -- The tests that an accepted command passed
 
-passed_other : (o : Option Refusal) (tests : List (Option Refusal)) (ruling : Ruling) (told : Reply) → unless (o ∷ tests) ruling ≡ Ok told → unless tests ruling ≡ Ok told
-passed_other None tests ruling told is = is
-passed_other (Some r) tests ruling told is = cc is
+passed_other : (o : Option Refusal) (tests : List (Option Refusal)) (outcome : Outcome) (told : Reply)
+    → unless (o ∷ tests) outcome ≡ Ok told → unless tests outcome ≡ Ok told
+passed_other None tests outcome told is = is
+passed_other (Some r) tests outcome told is = cc is
 
-topics_new : (H : History) (topics : List Topic) (told : Reply) → topics_ruling H topics ≡ Ok told → has_topics H ≡ false
-topics_new H topics told is = (passed refusal.TopicsFixed (has_topics H) last ruling told (passed_other (wrong_phase_unless Collecting H) (fixed ∷ last) ruling told is)).0
+topics_new : (H : History) (topics : List Topic) (told : Reply) → topics_outcome H topics ≡ Ok told → has_topics H ≡ false
+topics_new H topics told is =
+    (passed refusal.TopicsFixed (has_topics H) last outcome told (passed_other (wrong_phase_unless Collecting H) (fixed ∷ last) outcome told is)).0
   where
-    ruling : Ruling
-    ruling = Ok (reply.Topics (length topics))
+    outcome : Outcome
+    outcome = Ok (reply.Topics (length topics))
 
     fixed : Option Refusal
     fixed = refusal.TopicsFixed when has_topics H
@@ -63,14 +66,15 @@ topics_new H topics told is = (passed refusal.TopicsFixed (has_topics H) last ru
     last : List (Option Refusal)
     last = (refusal.Limit quantity.Topics when nat_lt max_topics (length topics)) ∷ []
 
-runs_room : (H : History) (run : Text) (lists : List TopicList) (told : Reply) → submit_ruling H run lists ≡ Ok told → nat_le max_runs (length (runs H)) ≡ false
+runs_room : (H : History) (run : Text) (lists : List TopicList) (told : Reply)
+    → submit_outcome H run lists ≡ Ok told → nat_le max_runs (length (runs H)) ≡ false
 runs_room H run lists told is =
-    (passed (refusal.Limit quantity.Runs) (nat_le max_runs (length (runs H))) last ruling told
-    (passed_other line (limit ∷ last) ruling told
-    (passed_other taken (line ∷ limit ∷ last) ruling told (passed_other (wrong_phase_where Published H) (taken ∷ line ∷ limit ∷ last) ruling told is)))).0
+    (passed (refusal.Limit quantity.Runs) (nat_le max_runs (length (runs H))) last outcome told
+    (passed_other line (limit ∷ last) outcome told
+    (passed_other taken (line ∷ limit ∷ last) outcome told (passed_other (wrong_phase_where Published H) (taken ∷ line ∷ limit ∷ last) outcome told is)))).0
   where
-    ruling : Ruling
-    ruling = Ok (reply.Submitted run (length lists) (line_count lists))
+    outcome : Outcome
+    outcome = Ok (reply.Submitted run (length lists) (line_count lists))
 
     taken : Option Refusal
     taken = refusal.TagTaken when is_taken H run
@@ -82,7 +86,8 @@ runs_room H run lists told is =
     limit = refusal.Limit quantity.Runs when nat_le max_runs (length (runs H))
 
     last : List (Option Refusal)
-    last = (refusal.Limit quantity.Lines when nat_lt max_lines (lines_with H lists)) ∷ (refusal.Limit quantity.Docnos when nat_lt max_docnos (length (docnos_with H lists))) ∷ []
+    last = (refusal.Limit quantity.Lines when nat_lt max_lines (lines_with H lists))
+        ∷ (refusal.Limit quantity.Docnos when nat_lt max_docnos (length (docnos_with H lists))) ∷ []
 
 -- Counts of the long entries
 
@@ -103,44 +108,29 @@ runs_of c = length (cons_option (run_in c) [])
 
 topics_pushed : (H : History) (e : Entry) → length (given_topics (H ++ e ∷ [])) ≡ length (given_topics H) + topics_of e.core.command
 topics_pushed H e =
-    ap length (filter_map-append (λ (e : Entry). topics_in e.core.command) H (e ∷ [])) ∙ length-append (given_topics H) (cons_option (topics_in e.core.command) [])
+    ap length (filter_map-append (λ (e : Entry). topics_in e.core.command) H (e ∷ []))
+    ∙ length-append (given_topics H) (cons_option (topics_in e.core.command) [])
 
 runs_pushed : (H : History) (e : Entry) → length (runs (H ++ e ∷ [])) ≡ length (runs H) + runs_of e.core.command
 runs_pushed H e =
     ap length (filter_map-append (λ (e : Entry). run_in e.core.command) H (e ∷ [])) ∙ length-append (runs H) (cons_option (run_in e.core.command) [])
 
 module _ (H : History) (who : Caller) (now : ℕ) where
-  topics_step : (c : Command) (told : Reply) → ruled H who now c ≡ Ok told → length (given_topics H) ≤ 1 → length (given_topics H) + topics_of c ≤ 1
+  topics_step : (c : Command) (told : Reply) → command_outcome H who now c ≡ Ok told → length (given_topics H) ≤ 1 → length (given_topics H) + topics_of c ≤ 1
   topics_step (command.Found rules) told is once = cc is
   topics_step (command.Topics topics) told is once = omega (arith, ap length (no_topics H (topics_new H topics told is)))
-  topics_step (command.Submit run lists) told is once = omega (arith, once)
-  topics_step command.Open told is once = omega (arith, once)
-  topics_step (command.Lease topic) told is once = omega (arith, once)
-  topics_step (command.Grade lease grade) told is once = omega (arith, once)
-  topics_step (command.Release lease) told is once = omega (arith, once)
-  topics_step (command.Amend topic doc grade) told is once = omega (arith, once)
-  topics_step (command.Rule topic doc grade) told is once = omega (arith, once)
-  topics_step (command.Withdraw run) told is once = omega (arith, once)
-  topics_step command.Publish told is once = omega (arith, once)
+  topics_step _ told is once = omega (arith, once)
 
-  runs_step : (c : Command) (told : Reply) → ruled H who now c ≡ Ok told → length (runs H) ≤ max_runs → length (runs H) + runs_of c ≤ max_runs
+  runs_step : (c : Command) (told : Reply) → command_outcome H who now c ≡ Ok told → length (runs H) ≤ max_runs → length (runs H) + runs_of c ≤ max_runs
   runs_step (command.Found rules) told is few = cc is
-  runs_step (command.Topics topics) told is few = omega (arith, few)
   runs_step (command.Submit run lists) told is few = omega (arith, leb-false max_runs (length (runs H)) (runs_room H run lists told is))
-  runs_step command.Open told is few = omega (arith, few)
-  runs_step (command.Lease topic) told is few = omega (arith, few)
-  runs_step (command.Grade lease grade) told is few = omega (arith, few)
-  runs_step (command.Release lease) told is few = omega (arith, few)
-  runs_step (command.Amend topic doc grade) told is few = omega (arith, few)
-  runs_step (command.Rule topic doc grade) told is few = omega (arith, few)
-  runs_step (command.Withdraw run) told is few = omega (arith, few)
-  runs_step command.Publish told is few = omega (arith, few)
+  runs_step _ told is few = omega (arith, few)
 
 pub topics_once : (H : History) → IsLegal H → length (given_topics H) ≤ 1
 topics_once =
     legal_induction (λ H. length (given_topics H) ≤ 1)
     (λ before e legal once accepted.
-    let step = topics_step before e.core.caller (moment_after before e.core.moment) e.core.command e.reply (accepted_of before e accepted).ruled_is once in
+    let step = topics_step before e.core.caller (moment_after before e.core.moment) e.core.command e.reply (accepted_of before e accepted).outcome_is once in
     omega (arith, step, topics_pushed before e))
     (λ first is. rw (is.2) (omega arith))
 
@@ -148,7 +138,7 @@ pub runs_few : (H : History) → IsLegal H → length (runs H) ≤ max_runs
 runs_few =
     legal_induction (λ H. length (runs H) ≤ max_runs)
     (λ before e legal few accepted.
-    let step = runs_step before e.core.caller (moment_after before e.core.moment) e.core.command e.reply (accepted_of before e accepted).ruled_is few in
+    let step = runs_step before e.core.caller (moment_after before e.core.moment) e.core.command e.reply (accepted_of before e accepted).outcome_is few in
     omega (arith, step, runs_pushed before e))
     (λ first is. rw (is.2) (omega arith))
 
@@ -166,15 +156,6 @@ docno_size doc is =
     let sized = first_of_both (is_between 1 64 (length doc)) (list_all (is_between 33 126) doc) is in
     leb-true (length doc) 64 (second_of_both (nat_le 1 (length doc)) (nat_le (length doc) 64) sized)
 
-two_bytes : (n : ℕ) → length (to_le_bytes w16 n) ≡ 2
-two_bytes n = refl
-
-four_bytes : (n : ℕ) → length (to_le_bytes w32 n) ≡ 4
-four_bytes n = refl
-
-eight_bytes : (n : ℕ) → length (to_le_bytes w64 n) ≡ 8
-eight_bytes n = refl
-
 number_size : (number : Option ℕ) → length (number_bytes number) ≤ 9
 number_size None = omega arith
 number_size (Some n) = omega (arith, eight_bytes n)
@@ -182,7 +163,8 @@ number_size (Some n) = omega (arith, eight_bytes n)
 judged_size : (topic doc : Text) (grade : ℕ) → (is_name topic && is_docno doc && nat_lt grade 256) ≡ true → length (short topic ++ short doc ++ grade ∷ []) ≤ 99
 judged_size topic doc grade plain =
     let front = first_of_both (is_name topic && is_docno doc) (nat_lt grade 256) plain in
-    simp length-append (omega (arith, name_size topic (first_of_both (is_name topic) (is_docno doc) front), docno_size doc (second_of_both (is_name topic) (is_docno doc) front)))
+    simp length-append
+    (omega (arith, name_size topic (first_of_both (is_name topic) (is_docno doc) front), docno_size doc (second_of_both (is_name topic) (is_docno doc) front)))
 
 names_size : (names : List Text) → list_all is_name names ≡ true → length (flat_map short names) ≤ 33 * length names
 names_size [] named = omega arith
@@ -216,7 +198,7 @@ found_size r (own ∷ levels) all =
     omega (
       arith,
       levels_size r.top_grade (own ∷ levels) all,
-      length-append (rules_bytes r) (listed level_bytes (own ∷ levels)),
+      length-append (rules_bytes r) (spelled_list level_bytes (own ∷ levels)),
       length-append (to_le_bytes w32 (length (own ∷ levels))) (flat_map level_bytes (own ∷ levels)),
       four_bytes (length (own ∷ levels)),
     )
@@ -230,11 +212,13 @@ founding_fits r are =
       found_size r r.levels (second_of_both few each levels),
       leb-true (length r.levels) 250 (first_of_both few each levels),
       names_size r.doubles (second_of_both (front && nat_le (length r.doubles) 250) (list_all is_name r.doubles) named),
-      leb-true (length r.doubles) 250 (second_of_both front (nat_le (length r.doubles) 250) (first_of_both (front && nat_le (length r.doubles) 250) (list_all is_name r.doubles) named)),
+      leb-true (length r.doubles) 250
+          (second_of_both front (nat_le (length r.doubles) 250) (first_of_both (front && nat_le (length r.doubles) 250) (list_all is_name r.doubles) named)),
     )
   where
     front : Bool
-    front = is_between 1 1000 r.depth && is_between 1 (2 ^ 40) r.term && is_between 1 50 r.hold && is_between 1 255 r.top_grade && is_between 1 r.top_grade r.level
+    front = is_between 1 1000 r.depth && is_between 1 (2 ^ 40) r.term && is_between 1 50 r.hold
+        && is_between 1 255 r.top_grade && is_between 1 r.top_grade r.level
 
     named : (front && nat_le (length r.doubles) 250 && list_all is_name r.doubles) ≡ true
     named = first_of_both (front && nat_le (length r.doubles) 250 && list_all is_name r.doubles) (is_ascending r.doubles)
@@ -256,19 +240,20 @@ long = 33554437
 
 -- an accepted entry is short, or one of the long ones
 module _ (H : History) (who : Caller) (now : ℕ) where
-  entry_fits : (c : Command) (told : Reply) → ruled H who now c ≡ Ok told → is_plain c ≡ true → (size : ℕ) → size ≤ max_entry_bytes → size ≤ length (command_bytes c) + 51
+  entry_fits : (c : Command) (told : Reply) → command_outcome H who now c ≡ Ok told → is_plain c ≡ true
+      → (size : ℕ) → size ≤ max_entry_bytes → size ≤ length (command_bytes c) + 51
       → size + 5 ≤ 156 + long * (topics_of c + runs_of c)
   entry_fits (command.Found rules) told is plain size most small = cc is
   entry_fits (command.Topics topics) told is plain size most small = omega (arith, most)
   entry_fits (command.Submit run lists) told is plain size most small = omega (arith, most)
-  entry_fits command.Open told is plain size most small = omega (arith, small)
   entry_fits (command.Lease topic) told is plain size most small = omega (arith, small, name_size topic plain)
-  entry_fits (command.Grade lease grade) told is plain size most small = omega (arith, small, length-append (to_le_bytes w32 lease) (grade ∷ []), four_bytes lease)
+  entry_fits (command.Grade lease grade) told is plain size most small =
+      omega (arith, small, length-append (to_le_bytes w32 lease) (grade ∷ []), four_bytes lease)
   entry_fits (command.Release lease) told is plain size most small = omega (arith, small, four_bytes lease)
   entry_fits (command.Amend topic doc grade) told is plain size most small = omega (arith, small, judged_size topic doc grade plain)
   entry_fits (command.Rule topic doc grade) told is plain size most small = omega (arith, small, judged_size topic doc grade plain)
   entry_fits (command.Withdraw run) told is plain size most small = omega (arith, small, name_size run plain)
-  entry_fits command.Publish told is plain size most small = omega (arith, small)
+  entry_fits _ told is plain size most small = omega (arith, small)
 
 abbrev weight_of : Entry → ℕ
 weight_of e = length (entry_bytes e.core) + 5
@@ -284,7 +269,8 @@ accepted_weight H e accepted =
     let core = e.core in
     let given = given_of core.caller core.number core.command core.moment accepted.addressed in
     let name = name_size core.caller.name (first_of_both (is_name core.caller.name) (is_number core.number) given.named) in
-    entry_fits H core.caller (moment_after H core.moment) core.command e.reply (accepted_of H e accepted).ruled_is given.plain (length (entry_bytes core)) given.short
+    entry_fits H core.caller (moment_after H core.moment) core.command e.reply
+    (accepted_of H e accepted).outcome_is given.plain (length (entry_bytes core)) given.short
     (omega (arith, entry_size core, name, number_size core.number))
 
 weight_bound : (H : History) → IsLegal H → weight H ≤ bound H

@@ -3,17 +3,17 @@ use Rattle.std.proofs.Common.{◌≡◌, Bool, true, [], ap, length, refl, ◌�
 use Rattle.std.specs.Prelude.{◌&&◌, codes, nat_le}
 use Rattle.std.specs.List.{All}
 use Rattle.std.proofs.lemmas.List.Elements.{All-cons, All-nil, All-push}
+use Rattle.decimal_rank.proofs.TruthValues.{first_of_both, second_of_both}
 use Rattle.trec_formats.specs.Names.{is_name}
-use Rattle.rulebook.specs.Limits.{max_entry_bytes}
+use Rattle.rulebook.specs.Requests.Limits.{max_entry_bytes}
 use Rattle.rulebook.specs.declared.rules.Rules.{Rules}
 use Rattle.rulebook.specs.declared.entry.Entry.{Entry}
-use Rattle.rulebook.specs.Additions.{IsSpelled}
+use Rattle.rulebook.specs.Histories.Additions.{IsSpelled}
 use Rattle.rulebook.specs.Campaign.{History}
-use Rattle.rulebook.specs.Legal.{IsAccepted, IsLegal, founding}
-use Rattle.rulebook.specs.Roles.{may_give}
+use Rattle.rulebook.specs.Histories.Legal.{IsAccepted, IsLegal, founding}
+use Rattle.rulebook.specs.Requests.Roles.{may_give}
 use Rattle.rulebook.specs.Spelling.{are_rules, entry_bytes, has_spelling}
-use Rattle.rulebook.proofs.Elements.AllPass.{first_of_both, second_of_both}
-use Rattle.rulebook.proofs.LegalHistories.Added.{given_of}
+use Rattle.rulebook.proofs.LegalHistories.AddedEntries.{given_of}
 use Rattle.rulebook.proofs.LegalHistories.JournalSizes.{founding_fits}
 use Rattle.rulebook.proofs.LegalHistories.LegalWalk.{legal_induction}
 

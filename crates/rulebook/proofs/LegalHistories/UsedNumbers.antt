@@ -1,6 +1,6 @@
 -- A caller's number is used once, and what is kept for it is the reply that its entry was first given.
-use Rattle.std.proofs.Common.{◌≡◌, ℕ, suc, ◌+◌, ◌-◌, ◌<◌, ◌≤◌, Bool, true, false, List, [], ◌∷◌, ◌++◌, Option, None, Some, length, take, refl, sym, ap, ◌∙◌, subst, arith}
-use Rattle.std.specs.Prelude.{◌&&◌, ◌==◌}
+use Rattle.std.proofs.Common.{◌≡◌, ℕ, ◌+◌, ◌-◌, ◌<◌, ◌≤◌, Bool, true, false, [], ◌∷◌, ◌++◌, Option, None, Some, length, take, refl, sym, ap, ◌∙◌, subst, arith}
+use Rattle.std.specs.Prelude.{◌==◌}
 use Rattle.std.specs.List.{enumerate_from, find, list_any}
 use Rattle.std.specs.Option.{option_map_or, option_or}
 use Rattle.std.specs.Str.{bytes_eq}
@@ -9,17 +9,19 @@ use Rattle.std.proofs.lemmas.Bool.{eqb-true}
 use Rattle.std.proofs.lemmas.List.{take-append-le}
 use Rattle.std.proofs.lemmas.List.Folds.{find-append}
 use Rattle.std.proofs.lemmas.Slice.Eq.{bytes_eq-Decides}
+use Rattle.std.proofs.Math.Bool.{and-false}
+use Rattle.decimal_rank.proofs.TruthValues.{first_of_both, second_of_both}
+use Rattle.decimal_rank.proofs.Lists.{enumerate-push}
 use Rattle.rulebook.specs.declared.ask.Ask.TheVariants.{Act}
 use Rattle.rulebook.specs.declared.entry.Entry.{Entry}
 use Rattle.rulebook.specs.Answers.{answer}
 use Rattle.rulebook.specs.Campaign.{History}
-use Rattle.rulebook.specs.Legal.{IsAccepted, IsFounding, IsLegal, founding}
-use Rattle.rulebook.specs.Numbers.{is_numbered, used}
+use Rattle.rulebook.specs.Histories.Legal.{IsAccepted, IsFounding, IsLegal, founding}
+use Rattle.rulebook.specs.Requests.Numbers.{entry_of_number, is_numbered}
 use Rattle.rulebook.specs.Words.{Text}
-use Rattle.rulebook.proofs.LegalHistories.Added.{accepted_reply}
-use Rattle.rulebook.proofs.Elements.AllPass.{first_of_both, second_of_both}
+use Rattle.rulebook.proofs.LegalHistories.AddedEntries.{accepted_reply}
 use Rattle.rulebook.proofs.LegalHistories.LegalWalk.{accepted_of, legal_induction}
-use Rattle.rulebook.proofs.Elements.Passing.{count, count_none, count_pushed, count_single}
+use Rattle.rulebook.proofs.Elements.PassingCounts.{count, count_none, count_pushed, count_single}
 
 abbrev placed_from : Text → ℕ → ℕ → History → Option (ℕ × Entry)
 placed_from name number n H = find (λ (p : ℕ × Entry). is_numbered name number p.1) (enumerate_from n H)
@@ -71,18 +73,14 @@ used_once = legal_induction AreUsedOnce once_pushed (λ first is name number. co
 
 -- Kept replies
 
-enumerate_pushed : (n : ℕ) (H : History) (e : Entry) → enumerate_from n (H ++ e ∷ []) ≡ enumerate_from n H ++ (n + length H, e) ∷ []
-enumerate_pushed n [] e = let place : n ≡ n + 0 = omega arith in ap (λ (k : ℕ). (k, e) ∷ []) place
-enumerate_pushed n (x ∷ H) e =
-    let place : n + 1 + length H ≡ n + suc (length H) = omega arith in
-    ap (λ (ps : List (ℕ × Entry)). (n, x) ∷ ps) (enumerate_pushed (n + 1) H e ∙ ap (λ (k : ℕ). enumerate_from (n + 1) H ++ (k, e) ∷ []) place)
-
-within : (name : Text) (number n : ℕ) (H : History) (placed : ℕ × Entry) → placed_from name number n H ≡ Some placed → (n ≤ placed.0) × (placed.0 < n + length H)
+within : (name : Text) (number n : ℕ) (H : History) (placed : ℕ × Entry) → placed_from name number n H ≡ Some placed
+    → (n ≤ placed.0) × (placed.0 < n + length H)
 within name number n [] placed is = cc is
 within name number n (e ∷ H) placed is = step (is_numbered name number e) refl is (λ rest. within name number (n + 1) H placed rest)
   where
     step : (t : Bool) → is_numbered name number e ≡ t → placed_from name number n (e ∷ H) ≡ Some placed
-        → (placed_from name number (n + 1) H ≡ Some placed → (n + 1 ≤ placed.0) × (placed.0 < n + 1 + length H)) → (n ≤ placed.0) × (placed.0 < n + length (e ∷ H))
+        → (placed_from name number (n + 1) H ≡ Some placed → (n + 1 ≤ placed.0) × (placed.0 < n + 1 + length H))
+        → (n ≤ placed.0) × (placed.0 < n + length (e ∷ H))
     step true here is rest =
         let same : Some (n, e) ≡ Some placed = rw here at is in
         let at : n ≡ placed.0 = ap (λ (o : Option (ℕ × Entry)). option_map_or (λ (p : ℕ × Entry). p.0) o 0) same in
@@ -91,18 +89,15 @@ within name number n (e ∷ H) placed is = step (is_numbered name number e) refl
 
 -- its reply is that of the answer to it after the entries before it
 abbrev IsFirstAnswer : History → ℕ × Entry → Type 0
-IsFirstAnswer H placed = placed.1.reply ≡ (answer (take (placed.0 - 1) H) placed.1.core.caller placed.1.core.number (Act placed.1.core.command) placed.1.core.moment).reply
+IsFirstAnswer H placed =
+    placed.1.reply ≡ (answer (take (placed.0 - 1) H) placed.1.core.caller placed.1.core.number (Act placed.1.core.command) placed.1.core.moment).reply
 
 abbrev AreFirst : History → Type 0
-AreFirst H = (name : Text) (number : ℕ) (placed : ℕ × Entry) → used H name (Some number) ≡ Some placed → IsFirstAnswer H placed
-
-and_false : (b : Bool) → (b && false) ≡ false
-and_false true = refl
-and_false false = refl
+AreFirst H = (name : Text) (number : ℕ) (placed : ℕ × Entry) → entry_of_number H name (Some number) ≡ Some placed → IsFirstAnswer H placed
 
 founding_first : (first : Entry) → IsFounding first → AreFirst (first ∷ [])
 founding_first first is name number placed found =
-    let none : is_numbered name number first ≡ false = ap (is_numbered name number) is.2 ∙ and_false (bytes_eq (founding is.0).core.caller.name name) in
+    let none : is_numbered name number first ≡ false = ap (is_numbered name number) is.2 ∙ and-false (bytes_eq (founding is.0).core.caller.name name) in
     let wrong : None ≡ Some placed = rw none at found in
     cc wrong
 
@@ -114,7 +109,7 @@ first_pushed before e legal first accepted name number placed found = step (plac
 
     split : option_or (placed_from name number 1 before) last ≡ Some placed
     split =
-        sym (ap (find (λ (p : ℕ × Entry). is_numbered name number p.1)) (enumerate_pushed 1 before e)
+        sym (ap (find (λ (p : ℕ × Entry). is_numbered name number p.1)) (enumerate-push 1 before e)
         ∙ find-append (λ (p : ℕ × Entry). is_numbered name number p.1) (enumerate_from 1 before) ((1 + length before, e) ∷ [])) ∙ found
 
     newest : (t : Bool) → is_numbered name number e ≡ t → last ≡ Some placed → IsFirstAnswer (before ++ e ∷ []) placed
@@ -132,7 +127,8 @@ first_pushed before e legal first accepted name number placed found = step (plac
     step (Some earlier) is rest =
         let here : placed_from name number 1 before ≡ Some placed = is ∙ rest in
         let at = within name number 1 before placed here in
-        let part : take (placed.0 - 1) (before ++ e ∷ []) ≡ take (placed.0 - 1) before = take-append-le (placed.0 - 1) before (e ∷ []) (omega (arith, at.0, at.1)) in
+        let part : take (placed.0 - 1) (before ++ e ∷ []) ≡ take (placed.0 - 1) before =
+        take-append-le (placed.0 - 1) before (e ∷ []) (omega (arith, at.0, at.1)) in
         first name number placed here
         ∙ ap (λ (H : History). (answer H placed.1.core.caller placed.1.core.number (Act placed.1.core.command) placed.1.core.moment).reply) (sym part)
 

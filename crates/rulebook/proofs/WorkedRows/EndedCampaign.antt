@@ -11,8 +11,8 @@ use Rattle.rulebook.specs.declared.rules.Phase.TheVariants.{Published}
 use Rattle.rulebook.specs.Words.{Text}
 use Rattle.rulebook.specs.Answers.{Answer, answer}
 use Rattle.rulebook.specs.Campaign.{History, live, phase, pool}
-use Rattle.rulebook.specs.Grades.{relevant_count, non_relevant_count}
-use Rattle.rulebook.specs.Holders.{holders}
+use Rattle.rulebook.specs.Judgements.Grades.{relevant_count, non_relevant_count}
+use Rattle.rulebook.specs.Judgements.Holders.{holders}
 use Rattle.rulebook.proofs.WorkedRows.SmallCampaign.{X, group, organiser, submitted, with_topic}
 use Rattle.rulebook.proofs.WorkedRows.JudgedCampaign.{after, all_graded, c_leased, lease, leased, p, q, refused, replied, told_at}
 

@@ -9,7 +9,7 @@ use Rattle.rulebook.specs.declared.ask.Command.TheVariants as command
 use Rattle.rulebook.specs.declared.ask.Ask.TheVariants.{Act, See}
 use Rattle.rulebook.specs.declared.ask.Query.{Query}
 use Rattle.rulebook.specs.declared.ask.Query.TheVariants as query
-use Rattle.rulebook.specs.Legal.{founding}
+use Rattle.rulebook.specs.Histories.Legal.{founding}
 use Rattle.rulebook.specs.declared.reply.Refusal.{Refusal}
 use Rattle.rulebook.specs.declared.reply.Refusal.TheVariants as refusal
 use Rattle.rulebook.specs.declared.reply.Reply.{Reply}
@@ -19,11 +19,11 @@ use Rattle.rulebook.specs.Words.{Text}
 use Rattle.measures.specs.Cells.{cell_of}
 use Rattle.measures.specs.Means.{summary_of}
 use Rattle.measures.specs.declared.means.Summary.{Summary}
-use Rattle.rulebook.specs.Campaign.{History, Run, numbered}
+use Rattle.rulebook.specs.Campaign.{History, Run, numbered_runs}
 use Rattle.rulebook.specs.Answers.{answer, moment_after}
-use Rattle.rulebook.specs.Grades.{effective, trail}
-use Rattle.rulebook.specs.JudgingOrder.{first_of}
-use Rattle.rulebook.specs.Scores.{run_named, summary_on}
+use Rattle.rulebook.specs.Judgements.Grades.{effective, trail}
+use Rattle.rulebook.specs.Judgements.JudgingOrder.{first_of}
+use Rattle.rulebook.specs.Reports.Scores.{run_named, summary_on}
 use Rattle.rulebook.proofs.WorkedRows.SmallCampaign.{after as after_at_1000, campaign, group, opened, organiser, pooling, rules, submitted}
 
 abbrev assessor : Text → Caller
@@ -53,7 +53,7 @@ refused r = reply.Refused r
 
 -- the order of the two runs, by the first of them
 abbrev pub first_run : History → Option (List ℕ)
-first_run H = option_map (λ run. run.1.name) (first_of H (codes "1") (numbered H))
+first_run H = option_map (λ run. run.1.name) (first_of H (codes "1") (numbered_runs H))
 
 first-lease : replied opened p lease 1000 ≡ leased 1 (codes "a") 1600
 first-lease = refl
@@ -221,7 +221,9 @@ progress-of-all = refl
 -- Two labels for each document: they may differ, and a ruling decides.
 abbrev double : History
 double =
-    after_at_1000 (after_at_1000 (after_at_1000 (founding (record (rules 3) { doubles = codes "1" ∷ [] }) ∷ []) organiser (command.Topics (pooling ∷ []))) group (submitted (codes "X") (codes "b" ∷ codes "e" ∷ codes "a" ∷ []))) organiser command.Open
+    after_at_1000
+    (after_at_1000 (after_at_1000 (founding (record (rules 3) { doubles = codes "1" ∷ [] }) ∷ []) organiser (command.Topics (pooling ∷ []))) group
+    (submitted (codes "X") (codes "b" ∷ codes "e" ∷ codes "a" ∷ []))) organiser command.Open
 
 abbrev graded_by_both : History → ℕ → ℕ → ℕ → History
 graded_by_both H number first second =

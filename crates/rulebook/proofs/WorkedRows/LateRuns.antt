@@ -6,7 +6,7 @@ use Rattle.measures.specs.Cells.{cell_of}
 use Rattle.measures.specs.Means.{summary_of}
 use Rattle.rulebook.specs.Words.{Text}
 use Rattle.rulebook.specs.Campaign.{History, live}
-use Rattle.rulebook.specs.Scores.{summary_on}
+use Rattle.rulebook.specs.Reports.Scores.{summary_on}
 use Rattle.rulebook.proofs.WorkedRows.JudgedCampaign.{after, first_run, lease, leased, p, replied}
 use Rattle.rulebook.proofs.WorkedRows.SmallCampaign.{X, group, organiser, submitted, with_topic, after as after_at_1000}
 

@@ -20,7 +20,7 @@ use Rattle.rulebook.specs.declared.entry.Entry.{Entry}
 use Rattle.rulebook.specs.Words.{Text}
 use Rattle.rulebook.specs.Campaign.{History, phase, pool}
 use Rattle.rulebook.specs.Answers.{answer}
-use Rattle.rulebook.specs.Legal.{core_of, founding, is_well_addressed, IsLegal}
+use Rattle.rulebook.specs.Histories.Legal.{core_of, founding, is_well_addressed, IsLegal}
 
 abbrev pub rules : ℕ → Rules
 rules depth = record { depth = depth; term = 600; hold = 2; level = 1; top_grade = 3; doubles = []; levels = [] }
@@ -69,13 +69,16 @@ entries-of-campaign = refl
 
 campaign-is-legal : IsLegal (campaign 3)
 unfolding is_name is_docno
-campaign-is-legal =
-    ((rules 3, refl, refl), (record { addressed = refl; added = refl }, (record { addressed = refl; added = refl }, (record { addressed = refl; added = refl }, tt))))
+campaign-is-legal = (
+  (rules 3, refl, refl),
+  (record { addressed = refl; added = refl }, (record { addressed = refl; added = refl }, (record { addressed = refl; added = refl }, tt))),
+)
 
 first-reply : replied (with_topic 3) group (Act X) ≡ reply.Submitted (codes "X") 1 3
 first-reply = refl
 
-whole-pool : replied (campaign 3) organiser (See (query.Pool (codes "1"))) ≡ reply.Pool (codes "1") (codes "a" ∷ codes "b" ∷ codes "c" ∷ codes "d" ∷ codes "e" ∷ codes "f" ∷ [])
+whole-pool : replied (campaign 3) organiser (See (query.Pool (codes "1")))
+    ≡ reply.Pool (codes "1") (codes "a" ∷ codes "b" ∷ codes "c" ∷ codes "d" ∷ codes "e" ∷ codes "f" ∷ [])
 whole-pool = refl
 
 pool-by-depth : pool (campaign 2) (codes "1") ≡ codes "a" ∷ codes "b" ∷ codes "c" ∷ codes "d" ∷ []
@@ -103,7 +106,8 @@ topic-outside-the-campaign = refl
 name-before-topic : replied (campaign 3) group (Act (stray (codes "X"))) ≡ reply.Refused refusal.TagTaken
 name-before-topic = refl
 
-least-line : replied (founded 3) group (Act (command.Submit (codes "Z") (list_of (codes "1") 4 (codes "a" ∷ []) ∷ list_of (codes "9") 2 (codes "b" ∷ []) ∷ []))) ≡ reply.Refused (refusal.LineTopic 2)
+least-line : replied (founded 3) group (Act (command.Submit (codes "Z") (list_of (codes "1") 4 (codes "a" ∷ []) ∷ list_of (codes "9") 2 (codes "b" ∷ []) ∷ [])))
+    ≡ reply.Refused (refusal.LineTopic 2)
 least-line = refl
 
 second-topics : replied (campaign 3) organiser (Act (command.Topics (pooling ∷ []))) ≡ reply.Refused refusal.TopicsFixed
@@ -116,7 +120,8 @@ as-many-topics-as-there-may-be : replied (founded 3) organiser (Act (command.Top
 as-many-topics-as-there-may-be = refl
 
 -- An older moment doesn't count: the entry is of the last entry's moment.
-older-moment : (answer (campaign 3) group None (Act (submitted (codes "Z") (codes "a" ∷ []))) 900).added ≡ (answer (campaign 3) group None (Act (submitted (codes "Z") (codes "a" ∷ []))) 1000).added
+older-moment : (answer (campaign 3) group None (Act (submitted (codes "Z") (codes "a" ∷ []))) 900).added
+    ≡ (answer (campaign 3) group None (Act (submitted (codes "Z") (codes "a" ∷ []))) 1000).added
 older-moment = refl
 
 -- Once it is opened, a campaign takes no topics, and isn't opened again. It still takes runs.
@@ -135,7 +140,8 @@ collecting-before = refl
 run-after-opening : replied opened group (Act (submitted (codes "Z") (codes "a" ∷ []))) ≡ reply.Submitted (codes "Z") 1 1
 run-after-opening = refl
 
-pool-with-late-run : pool (after opened group (submitted (codes "Z") (codes "g" ∷ []))) (codes "1") ≡ codes "a" ∷ codes "b" ∷ codes "c" ∷ codes "d" ∷ codes "e" ∷ codes "f" ∷ codes "g" ∷ []
+pool-with-late-run : pool (after opened group (submitted (codes "Z") (codes "g" ∷ []))) (codes "1")
+    ≡ codes "a" ∷ codes "b" ∷ codes "c" ∷ codes "d" ∷ codes "e" ∷ codes "f" ∷ codes "g" ∷ []
 pool-with-late-run = refl
 
 name-still-taken : replied opened group (Act X) ≡ reply.Refused refusal.TagTaken
@@ -152,8 +158,13 @@ pool-after-opening = refl
 
 opened-is-legal : IsLegal opened
 unfolding is_name is_docno
-opened-is-legal =
-    ((rules 3, refl, refl), (record { addressed = refl; added = refl }, (record { addressed = refl; added = refl }, (record { addressed = refl; added = refl }, (record { addressed = refl; added = refl }, tt)))))
+opened-is-legal = (
+  (rules 3, refl, refl),
+  (
+    record { addressed = refl; added = refl },
+    (record { addressed = refl; added = refl }, (record { addressed = refl; added = refl }, (record { addressed = refl; added = refl }, tt))),
+  ),
+)
 
 addressed : is_well_addressed group None (Act X) 1000 ≡ true
 unfolding is_name is_docno

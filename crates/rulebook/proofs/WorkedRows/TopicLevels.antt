@@ -5,9 +5,9 @@ use Rattle.measures.specs.Means.{summary_of}
 use Rattle.rulebook.specs.declared.rules.Rules.{Rules}
 use Rattle.rulebook.specs.declared.ask.Command.TheVariants as command
 use Rattle.rulebook.specs.Campaign.{History, level, live}
-use Rattle.rulebook.specs.Grades.{non_relevant_count, relevant_count}
-use Rattle.rulebook.specs.Legal.{founding}
-use Rattle.rulebook.specs.Scores.{summary_on}
+use Rattle.rulebook.specs.Judgements.Grades.{non_relevant_count, relevant_count}
+use Rattle.rulebook.specs.Histories.Legal.{founding}
+use Rattle.rulebook.specs.Reports.Scores.{summary_on}
 use Rattle.rulebook.specs.Spelling.{are_rules, entry_bytes}
 use Rattle.trec_formats.specs.Names.{is_name}
 use Rattle.rulebook.proofs.WorkedRows.JudgedCampaign.{after, lease, p}

@@ -8,11 +8,11 @@ use Rattle.std.proofs.lemmas.List.{get_or-map, length-replicate}
 use Rattle.std.proofs.lemmas.List.Sums.{sum_by-take-le}
 use Rattle.depth_pool.specs.declared.runs.RunId.{RunId}
 use Rattle.measures.specs.Cells.{IsSound, bpref_den, cell_of, cutoffs}
-use Rattle.rank_trees.specs.Marks.{count_on}
-use Rattle.score_index.specs.Kept.{IsListKept, IsRoom, kept_cell}
+use Rattle.rank_trees.specs.PlacesOn.{count_on}
+use Rattle.score_index.specs.KeptBoards.{IsListKept, IsRoom, kept_cell}
 use Rattle.score_index.specs.KeptSums.{AreSums}
 use Rattle.score_index.specs.Places.{Places, bpref_from, cell_by, precisions, preferences}
-use Rattle.score_index.specs.Scores.{ScoreList, TopicScores, is_of}
+use Rattle.score_index.specs.Scores.{ScoreList, TopicScores, is_of_run}
 use Rattle.score_index.specs.declared.sums.Sums.{Sums}
 use Rattle.score_index.proofs.Cells.ByPlaces.{by-places, count-on}
 use Rattle.score_index.proofs.Cells.PlaceSums.{count-take-le, precisions-small, preferences-small}
@@ -32,7 +32,8 @@ bpref-sound relevant lower r n within = by_r (nat_eq r 0) refl
         let most = mul-le-mul {n₁ = count_on relevant} {m₁ = min r n} {n₂ = r} {m₂ = min r n} within (omega arith) in
         omega (arith, small, most)
 
-    by_r : (t : Bool) → nat_eq r 0 ≡ t → (if t then 0 else (if nat_eq (min r n) 0 then count_on relevant else preferences (min r n) 0 relevant lower)) ≤ (if t then 1 else (if nat_eq (min r n) 0 then r else r * min r n))
+    by_r : (t : Bool) → nat_eq r 0 ≡ t → (if t then 0 else (if nat_eq (min r n) 0 then count_on relevant else preferences (min r n) 0 relevant lower))
+        ≤ (if t then 1 else (if nat_eq (min r n) 0 then r else r * min r n))
     by_r true e = omega arith
     by_r false e = by_cap (nat_eq (min r n) 0) refl
 
@@ -70,16 +71,20 @@ cell-sound relevant lower r n within = record {
 
 -- ---- the cell of a run
 
-pub found-cell : (run : RunId) (topic : TopicScores) (list : ScoreList) → find (is_of run) topic.lists ≡ Some list → IsListKept topic.relevant topic.non_relevant list
+pub found-cell : (run : RunId) (topic : TopicScores) (list : ScoreList) → find (is_of_run run) topic.lists ≡ Some list
+    → IsListKept topic.relevant topic.non_relevant list
     → cell_by list.relevant list.lower list.rel list.low ≡ kept_cell run topic
 found-cell run topic list found kept =
     ap (λ r. cell_by list.relevant list.lower r list.low) kept.rel_is ∙ ap (λ n. cell_by list.relevant list.lower topic.relevant n) kept.low_is
-    ∙ ap (λ found. cell_by (option_map_or (λ (one : ScoreList). one.relevant) found []) (option_map_or (λ (one : ScoreList). one.lower) found []) topic.relevant topic.non_relevant) (sym found)
+    ∙ ap (λ found. cell_by (option_map_or (λ (one : ScoreList). one.relevant) found [])
+    (option_map_or (λ (one : ScoreList). one.lower) found []) topic.relevant topic.non_relevant) (sym found)
 
-pub empty-cell : (level : ℕ) (run : RunId) (topic : TopicScores) → find (is_of run) topic.lists ≡ None → cell_of [] topic.relevant topic.non_relevant level ≡ kept_cell run topic
+pub empty-cell : (level : ℕ) (run : RunId) (topic : TopicScores) → find (is_of_run run) topic.lists ≡ None
+    → cell_of [] topic.relevant topic.non_relevant level ≡ kept_cell run topic
 empty-cell level run topic none =
     by-places [] topic.relevant topic.non_relevant level
-    ∙ ap (λ found. cell_by (option_map_or (λ (one : ScoreList). one.relevant) found []) (option_map_or (λ (one : ScoreList). one.lower) found []) topic.relevant topic.non_relevant) (sym none)
+    ∙ ap (λ found. cell_by (option_map_or (λ (one : ScoreList). one.relevant) found [])
+    (option_map_or (λ (one : ScoreList). one.lower) found []) topic.relevant topic.non_relevant) (sym none)
 
 -- ---- a list of which nothing is judged
 
@@ -87,7 +92,8 @@ count-none : (n : ℕ) → count_on (replicate n false) ≡ 0
 count-none zero = refl
 count-none (suc n) = omega (arith, count-on false (replicate n false), count-none n)
 
-pub no-sums : (cap : ℕ) (places : Places) (sums : Sums) → IsRoom places → length places.relevant ≤ 1000 → sums.rel_ret ≡ 0 → sums.at ≡ map (λ k. 0) cutoffs → sums.ap_sum ≡ 0 → sums.preferences ≡ 0 → AreSums cap places sums
+pub no-sums : (cap : ℕ) (places : Places) (sums : Sums) → IsRoom places → length places.relevant ≤ 1000 → sums.rel_ret ≡ 0
+    → sums.at ≡ map (λ k. 0) cutoffs → sums.ap_sum ≡ 0 → sums.preferences ≡ 0 → AreSums cap places sums
 no-sums cap places sums room few a b c d = record {
   few = few;
   long = ap length room.no_lower ∙ length-replicate (length places.relevant) false;

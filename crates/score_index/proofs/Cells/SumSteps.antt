@@ -7,8 +7,8 @@ use Rattle.std.proofs.lemmas.List.Sums.{count_by-le-length, count_by_more_yes}
 use Rattle.std.proofs.lemmas.Option.{get_or_from_slice_get, slice_get_within}
 use Rattle.measures.specs.Cells.{cutoffs, weight}
 use Rattle.qrels_view.specs.Grades.{as_number}
-use Rattle.rank_trees.specs.Marks.{IsSelected, count_below, count_on, weights_above, weights_from}
-use Rattle.score_index.specs.Places.{first_from, precision_gain, precisions, preferences, reached}
+use Rattle.rank_trees.specs.PlacesOn.{IsSelected, count_on, count_on_below, weights_above, weights_from}
+use Rattle.score_index.specs.Places.{cap_reached_places, first_from, precision_gain, precisions, preferences}
 use Rattle.score_index.proofs.Cells.PlaceSums.{count-set, count-take-set, first-none, first-selected, reached-all, reached-to, precisions-set, precisions-small, preferences-other, preferences-set, preferences-small, reached-past}
 
 pub count-few : (n : ℕ) (on : List Bool) → count_on (take n on) ≤ length on
@@ -25,21 +25,23 @@ weights-small place (false ∷ on) = let rest = weights-small (place + 1) on in 
     le_more : (w n : ℕ) → w ≤ n * 10 ^ 15 → w ≤ suc n * 10 ^ 15
     le_more w n h = omega (arith, h)
 
-pub gain-fits : (on : List Bool) (place : ℕ) → length on ≤ 1000 → (count_below on place + 1) * weight place + weights_above on place ≤ 2001 * 10 ^ 15
+pub gain-fits : (on : List Bool) (place : ℕ) → length on ≤ 1000 → (count_on_below on place + 1) * weight place + weights_above on place ≤ 2001 * 10 ^ 15
 gain-fits on place few =
-    let most = mul-le-mul {n₁ = count_below on place + 1} {m₁ = weight place} {n₂ = 1001} {m₂ = 10 ^ 15} (omega (arith, few, count-few (place - 1) on)) (weight-small place) in
+    let most = mul-le-mul {n₁ = count_on_below on place + 1} {m₁ = weight place} {n₂ = 1001} {m₂ = 10 ^ 15}
+    (omega (arith, few, count-few (place - 1) on)) (weight-small place) in
     let above = weights-small (place + 1) (drop place on) in
     let short = length-drop place on in
     let long = mul-le-mul {n₁ = length (drop place on)} {m₁ = 10 ^ 15} {n₂ = 1000} {m₂ = 10 ^ 15} (omega (arith, few, short)) (omega arith) in
     omega (arith, most, above, long)
 
-pub gain-is : (on : List Bool) (place : ℕ) → 1 ≤ place → (count_below on place + 1) * weight place + weights_above on place ≡ precision_gain 1 0 on (place - 1)
+pub gain-is : (on : List Bool) (place : ℕ) → 1 ≤ place
+    → (count_on_below on place + 1) * weight place + weights_above on place ≡ precision_gain 1 0 on (place - 1)
 gain-is on place some =
     let e : place ≡ 1 + (place - 1) = omega (arith, some) in
     let n : place ≡ suc (place - 1) = omega (arith, some) in
-    ap (λ k. (count_below on place + 1) * weight k + weights_from (k + 1) (drop place on)) e
-    ∙ ap (λ k. (count_below on place + 1) * weight (1 + (place - 1)) + weights_from (1 + (place - 1) + 1) (drop k on)) n
-    ∙ ap (λ c. (c + 1) * weight (1 + (place - 1)) + weights_from (1 + (place - 1) + 1) (drop (suc (place - 1)) on)) (sym (zero-add (count_below on place)))
+    ap (λ k. (count_on_below on place + 1) * weight k + weights_from (k + 1) (drop place on)) e
+    ∙ ap (λ k. (count_on_below on place + 1) * weight (1 + (place - 1)) + weights_from (1 + (place - 1) + 1) (drop k on)) n
+    ∙ ap (λ c. (c + 1) * weight (1 + (place - 1)) + weights_from (1 + (place - 1) + 1) (drop (suc (place - 1)) on)) (sym (zero-add (count_on_below on place)))
 
 pub at-few : (on : List Bool) (at : List ℕ) → length on ≤ 1000 → at ≡ map (λ k. count_on (take k on)) cutoffs → (i : ℕ) → i < 9 → get_or at i 0 ≤ 1000
 at-few on at few are i within =
@@ -58,14 +60,16 @@ module _ (relevant : List Bool) (place : ℕ) (some : 1 ≤ place) (within : pla
       let n : place ≡ suc (place - 1) = omega (arith, some) in
       ap (λ p. count_on (take k relevant) + as_number (nat_le p k)) n ∙ sym (count-take-set k relevant (place - 1) inside off)
 
-  pub at-more : map (λ k. count_on (take k relevant) + as_number (nat_le place k)) cutoffs ≡ map (λ k. count_on (take k (set relevant (place - 1) true))) cutoffs
+  pub at-more : map (λ k. count_on (take k relevant) + as_number (nat_le place k)) cutoffs
+      ≡ map (λ k. count_on (take k (set relevant (place - 1) true))) cutoffs
   at-more = λ i. map (λ k. at_cutoff k i) cutoffs
 
   pub stays-off : set relevant (place - 1) false ≡ relevant
   stays-off = ap (set relevant (place - 1)) (sym off) ∙ set-get_or relevant (place - 1) false
 
   -- the counts where the place is on, or off
-  pub at-with : (on : Bool) → map (λ k. count_on (take k relevant) + as_number (on && nat_le place k)) cutoffs ≡ map (λ k. count_on (take k (set relevant (place - 1) on))) cutoffs
+  pub at-with : (on : Bool) → map (λ k. count_on (take k relevant) + as_number (on && nat_le place k)) cutoffs
+      ≡ map (λ k. count_on (take k (set relevant (place - 1) on))) cutoffs
   at-with true = at-more
   at-with false = λ i. map (λ k. same k i) cutoffs
     where
@@ -79,13 +83,15 @@ module _ (relevant : List Bool) (place : ℕ) (some : 1 ≤ place) (within : pla
   gain-small few =
       let small = precisions-small 1 0 (set relevant (place - 1) true) (omega arith) in
       let long = length-set relevant (place - 1) true in
-      let most = mul-le-mul {n₁ = count_on (set relevant (place - 1) true)} {m₁ = 10 ^ 15} {n₂ = 1000} {m₂ = 10 ^ 15} (omega (arith, few, long, count_by-le-length (λ b. b) (set relevant (place - 1) true))) (omega arith) in
+      let most = mul-le-mul {n₁ = count_on (set relevant (place - 1) true)} {m₁ = 10 ^ 15} {n₂ = 1000} {m₂ = 10 ^ 15}
+      (omega (arith, few, long, count_by-le-length (λ b. b) (set relevant (place - 1) true))) (omega arith) in
       omega (arith, gain-sum, small, most)
 
   pub left-sum : (cap : ℕ) (lower : List Bool) → length lower ≡ length relevant
       → preferences cap 0 (set relevant (place - 1) true) lower ≡ preferences cap 0 relevant lower + (cap - count_on (take (place - 1) lower))
   left-sum cap lower long =
-      preferences-set cap 0 relevant lower (place - 1) long inside off ∙ ap (λ n. preferences cap 0 relevant lower + (cap - n)) (zero-add (count_on (take (place - 1) lower)))
+      preferences-set cap 0 relevant lower (place - 1) long inside off
+      ∙ ap (λ n. preferences cap 0 relevant lower + (cap - n)) (zero-add (count_on (take (place - 1) lower)))
 
 pub preferences-fit : (cap : ℕ) (relevant lower : List Bool) → length relevant ≤ 1000 → cap ≤ 268435456 → preferences cap 0 relevant lower ≤ 1000 * 268435456
 preferences-fit cap relevant lower few least =
@@ -94,20 +100,26 @@ preferences-fit cap relevant lower few least =
     omega (arith, small, most)
 
 -- a count that moves with a place
-pub moved-one : (on here : Bool) (n count result : ℕ) → result ≡ (if on then count + as_number here else count - as_number here) → count ≡ n + as_number (not on && here) → result ≡ n + as_number (on && here)
+pub moved-one : (on here : Bool) (n count result : ℕ) → result ≡ (if on then count + as_number here else count - as_number here)
+    → count ≡ n + as_number (not on && here) → result ≡ n + as_number (on && here)
 moved-one true here n count result is was = omega (arith, is, was)
 moved-one false here n count result is was = omega (arith, is, was)
 
 -- a place that is judged lower, and was not
-pub lower-sum : (cap : ℕ) (relevant lower : List Bool) (place : ℕ) → 1 ≤ place → place ≤ length relevant → length lower ≡ length relevant → get_or lower (place - 1) false ≡ true
-    → preferences cap 0 relevant (set lower (place - 1) false) ≡ preferences cap 0 relevant lower + (reached cap 0 relevant lower - count_on (take place relevant))
+pub lower-sum : (cap : ℕ) (relevant lower : List Bool) (place : ℕ) → 1 ≤ place → place ≤ length relevant
+    → length lower ≡ length relevant → get_or lower (place - 1) false ≡ true
+    → preferences cap 0 relevant (set lower (place - 1) false)
+    ≡ preferences cap 0 relevant lower + (cap_reached_places cap 0 relevant lower - count_on (take place relevant))
 lower-sum cap relevant lower place some within long on =
     preferences-other cap 0 relevant (set lower (place - 1) false) (place - 1) was-long (omega (arith, inside, length-set lower (place - 1) false)) was-off
-    ∙ ap (λ xs. preferences cap 0 relevant xs + reached cap (0 + count_on (take (place - 1) (set lower (place - 1) false)) + 1) (drop (suc (place - 1)) relevant) (drop (suc (place - 1)) (set lower (place - 1) false))) back
-    ∙ ap (λ n. preferences cap 0 relevant lower + reached cap n (drop (suc (place - 1)) relevant) (drop (suc (place - 1)) (set lower (place - 1) false))) counted
-    ∙ ap (λ xs. preferences cap 0 relevant lower + reached cap (0 + count_on (take (suc (place - 1)) lower)) (drop (suc (place - 1)) relevant) xs) behind
+    ∙ ap (λ xs. preferences cap 0 relevant xs + cap_reached_places cap (0 + count_on (take (place - 1) (set lower (place - 1) false)) + 1)
+    (drop (suc (place - 1)) relevant) (drop (suc (place - 1)) (set lower (place - 1) false))) back
+    ∙ ap (λ n. preferences cap 0 relevant lower
+    + cap_reached_places cap n (drop (suc (place - 1)) relevant) (drop (suc (place - 1)) (set lower (place - 1) false))) counted
+    ∙ ap (λ xs. preferences cap 0 relevant lower + cap_reached_places cap (0 + count_on (take (suc (place - 1)) lower)) (drop (suc (place - 1)) relevant) xs)
+    behind
     ∙ ap (λ n. preferences cap 0 relevant lower + n) (reached-past cap 0 relevant lower (suc (place - 1)) long)
-    ∙ ap (λ n. preferences cap 0 relevant lower + (reached cap 0 relevant lower - count_on (take n relevant))) last
+    ∙ ap (λ n. preferences cap 0 relevant lower + (cap_reached_places cap 0 relevant lower - count_on (take n relevant))) last
   where
     inside : place - 1 < length lower
     inside = omega (arith, some, within, long)
@@ -141,20 +153,24 @@ pub first-of : (on : List Bool) (place : ℕ) → IsSelected on 0 place → plac
 first-of on place selected =
     let from_one = selected.from_one in
     let e : place ≡ 1 + (place - 1) = omega (arith, from_one) in
-    e ∙ sym (first-selected 1 on (place - 1) (slice_get_within on (place - 1) true selected.is_on) (get_or_from_slice_get on (place - 1) true false selected.is_on) selected.before)
+    e ∙ sym (first-selected 1 on (place - 1) (slice_get_within on (place - 1) true selected.is_on)
+    (get_or_from_slice_get on (place - 1) true false selected.is_on) selected.before)
 
 pub first-of-none : (on : List Bool) → count_on on ≤ 0 → 0 ≡ first_from 1 on
 first-of-none on none = sym (first-none 1 on (omega (arith, none)))
 
-pub reached-of : (cap : ℕ) (relevant lower : List Bool) (place : ℕ) → length lower ≡ length relevant → IsSelected lower cap place → count_below relevant (place + 1) ≡ reached cap 0 relevant lower
+pub reached-of : (cap : ℕ) (relevant lower : List Bool) (place : ℕ) → length lower ≡ length relevant → IsSelected lower cap place
+    → count_on_below relevant (place + 1) ≡ cap_reached_places cap 0 relevant lower
 reached-of cap relevant lower place long selected =
     let from_one = selected.from_one in
     let e : place + 1 - 1 ≡ suc (place - 1) = omega (arith, from_one) in
     ap (λ n. count_on (take n relevant)) e
-    ∙ sym (reached-to cap 0 relevant lower (place - 1) long (slice_get_within lower (place - 1) true selected.is_on) (get_or_from_slice_get lower (place - 1) true false selected.is_on)
+    ∙ sym (reached-to cap 0 relevant lower (place - 1) long (slice_get_within lower (place - 1) true selected.is_on)
+    (get_or_from_slice_get lower (place - 1) true false selected.is_on)
     (zero-add (count_on (take (place - 1) lower)) ∙ selected.before))
 
-pub reached-of-all : (cap : ℕ) (relevant lower : List Bool) → length lower ≡ length relevant → count_on lower ≤ cap → count_on relevant ≡ reached cap 0 relevant lower
+pub reached-of-all : (cap : ℕ) (relevant lower : List Bool) → length lower ≡ length relevant → count_on lower ≤ cap
+    → count_on relevant ≡ cap_reached_places cap 0 relevant lower
 reached-of-all cap relevant lower long few = sym (reached-all cap 0 relevant lower long (omega (arith, few)))
 
 pub all-few : (on : List Bool) → count_on on ≤ length on

@@ -6,10 +6,7 @@ use Rattle.std.proofs.lemmas.List.Splits.{slice_split-cons_yes, slice_split-cons
 use Rattle.std.proofs.lemmas.List.Sums.{passes_at_first, fails_before_first}
 use Rattle.std.proofs.lemmas.Bool.{not-true, eqb-true}
 use Rattle.std.proofs.lemmas.Option.{cond_some}
-use Rattle.trec_formats.specs.Lines.{is_white_space, is_filled, lines_of, fields_of, rows_from}
-
-abbrev pub is_line_feed : ℕ → Bool
-is_line_feed b = b == 10
+use Rattle.trec_formats.specs.Lines.{is_white_space, is_filled, is_line_feed, lines_of, fields_of, rows_from}
 
 abbrev pub is_solid : ℕ → Bool
 is_solid b = not (is_white_space b)
@@ -24,7 +21,8 @@ parts_at-cons b bytes k n m first second = rw (first, second) refl
 abbrev CutsFirstLine : List ℕ → Type 0
 CutsFirstLine text = lines_of text ≡ parts_at (position_or_len is_line_feed text) (position_or_len is_line_feed text + 1) text
 
-first_line_step : (b : ℕ) (bytes : List ℕ) (t : Bool) → (b == 10) ≡ t → (position_or_len is_line_feed bytes < length bytes → CutsFirstLine bytes) → position_or_len is_line_feed (b ∷ bytes) < length (b ∷ bytes) → CutsFirstLine (b ∷ bytes)
+first_line_step : (b : ℕ) (bytes : List ℕ) (t : Bool) → (is_line_feed b) ≡ t → (position_or_len is_line_feed bytes < length bytes → CutsFirstLine bytes)
+    → position_or_len is_line_feed (b ∷ bytes) < length (b ∷ bytes) → CutsFirstLine (b ∷ bytes)
 unfolding lines_of
 first_line_step b bytes true is below within = rw is refl
 first_line_step b bytes false is below within =
@@ -36,7 +34,7 @@ first_line_step b bytes false is below within =
 
 first_line : (text : List ℕ) → position_or_len is_line_feed text < length text → CutsFirstLine text
 first_line [] within = absurd (omega (arith, within))
-first_line (b ∷ bytes) within = first_line_step b bytes (b == 10) refl (first_line bytes) within
+first_line (b ∷ bytes) within = first_line_step b bytes (is_line_feed b) refl (first_line bytes) within
 
 -- a text that is cut at its first line feed
 pub lines_of-cut : (text : List ℕ) (end : ℕ) → Some end ≡ position is_line_feed text → lines_of text ≡ take end text ∷ lines_of (drop (end + 1) text)
@@ -44,7 +42,8 @@ lines_of-cut text end is =
     let p = cond_some _ _ _ (sym is) in
     rw (← p.1) (first_line text (ltb-true _ _ p.0))
 
-none_step : (p : ℕ → Bool) (b : ℕ) (bytes : List ℕ) (t : Bool) → p b ≡ t → length (b ∷ bytes) ≤ position_or_len p (b ∷ bytes) → (t ≡ false) × (length bytes ≤ position_or_len p bytes)
+none_step : (p : ℕ → Bool) (b : ℕ) (bytes : List ℕ) (t : Bool) → p b ≡ t → length (b ∷ bytes) ≤ position_or_len p (b ∷ bytes)
+    → (t ≡ false) × (length bytes ≤ position_or_len p bytes)
 none_step p b bytes true is past = absurd (omega (arith, rw is at past))
 none_step p b bytes false is past = (refl, omega (arith, rw is at past))
 
@@ -54,13 +53,14 @@ lines_of-nil = refl
 
 last_line : (b : ℕ) (bytes : List ℕ) → length (b ∷ bytes) ≤ position_or_len is_line_feed (b ∷ bytes) → lines_of (b ∷ bytes) ≡ (b ∷ bytes) ∷ []
 unfolding lines_of
-last_line b [] past = rw (none_step is_line_feed b [] (b == 10) refl past).0 refl
+last_line b [] past = rw (none_step is_line_feed b [] (is_line_feed b) refl past).0 refl
 last_line b (next ∷ bytes) past =
-    let p = none_step is_line_feed b (next ∷ bytes) (b == 10) refl past in
+    let p = none_step is_line_feed b (next ∷ bytes) (is_line_feed b) refl past in
     let more : lines_of (b ∷ next ∷ bytes) ≡ onto_first b (lines_of (next ∷ bytes)) = rw p.0 refl in
     more ∙ ap (onto_first b) (last_line next bytes p.1)
 
-none_cases : (p : ℕ → Bool) (xs : List ℕ) (t : Bool) → ltb (position_or_len p xs) (length xs) ≡ t → cond t (Some (position_or_len p xs)) None ≡ None → length xs ≤ position_or_len p xs
+none_cases : (p : ℕ → Bool) (xs : List ℕ) (t : Bool) → ltb (position_or_len p xs) (length xs) ≡ t
+    → cond t (Some (position_or_len p xs)) None ≡ None → length xs ≤ position_or_len p xs
 none_cases p xs true is none = cc
 none_cases p xs false is none = ltb-false _ _ is
 
@@ -77,7 +77,8 @@ pub fields_of-white : (b : ℕ) (bytes : List ℕ) → is_white_space b ≡ true
 unfolding fields_of
 fields_of-white b bytes white = ap (filter is_filled) (slice_split-cons_yes is_white_space b bytes white)
 
-solid_step : (b : ℕ) (bytes : List ℕ) (t : Bool) → is_white_space b ≡ t → fields_of bytes ≡ fields_of (drop (position_or_len is_solid bytes) bytes) → fields_of (b ∷ bytes) ≡ fields_of (drop (position_or_len is_solid (b ∷ bytes)) (b ∷ bytes))
+solid_step : (b : ℕ) (bytes : List ℕ) (t : Bool) → is_white_space b ≡ t → fields_of bytes ≡ fields_of (drop (position_or_len is_solid bytes) bytes)
+    → fields_of (b ∷ bytes) ≡ fields_of (drop (position_or_len is_solid (b ∷ bytes)) (b ∷ bytes))
 solid_step b bytes true is rest =
     let here : position_or_len is_solid (b ∷ bytes) ≡ suc (position_or_len is_solid bytes) = rw is (omega arith) in
     fields_of-white b bytes is ∙ rest ∙ ap (λ n. fields_of (drop n (b ∷ bytes))) (sym here)
@@ -119,7 +120,8 @@ begins_solid line start is =
     })
 
 -- a line that begins with its first field
-pub cut_solid : (b : ℕ) (bytes : List ℕ) → is_solid b ≡ true → (end : ℕ) → Some end ≡ position is_white_space (b ∷ bytes) → fields_of (b ∷ bytes) ≡ take end (b ∷ bytes) ∷ fields_of (drop (end + 1) (b ∷ bytes))
+pub cut_solid : (b : ℕ) (bytes : List ℕ) → is_solid b ≡ true → (end : ℕ) → Some end ≡ position is_white_space (b ∷ bytes)
+    → fields_of (b ∷ bytes) ≡ take end (b ∷ bytes) ∷ fields_of (drop (end + 1) (b ∷ bytes))
 unfolding fields_of
 cut_solid b bytes solid end is =
     let p = cond_some _ _ _ (sym is) in
@@ -131,7 +133,9 @@ cut_solid b bytes solid end is =
 last_solid : (b : ℕ) (bytes : List ℕ) → None ≡ position is_white_space (b ∷ bytes) → fields_of (b ∷ bytes) ≡ (b ∷ bytes) ∷ []
 unfolding fields_of
 last_solid b bytes is =
-    ap (filter is_filled) (slice_split_none is_white_space (b ∷ bytes) (λ k d within. fails_before_first is_white_space (b ∷ bytes) k d (omega (arith, within, none_past is_white_space (b ∷ bytes) is))))
+    ap (filter is_filled)
+    (slice_split_none is_white_space (b ∷ bytes)
+    (λ k d within. fails_before_first is_white_space (b ∷ bytes) k d (omega (arith, within, none_past is_white_space (b ∷ bytes) is))))
 
 filled_onto : (b : ℕ) (parts : List (List ℕ)) → is_filled (filter is_filled (onto_first b parts)) ≡ true
 filled_onto b [] = refl
@@ -143,13 +147,15 @@ filled_solid b bytes solid =
     ap (λ parts. is_filled (filter is_filled parts)) (slice_split-cons_no is_white_space b bytes solid) ∙ filled_onto b (slice_split is_white_space bytes)
 
 -- the first field, where white space follows it
-pub fields_of-cut : (line : List ℕ) (start end : ℕ) → Some start ≡ position is_solid line → Some end ≡ position is_white_space (drop start line) → fields_of line ≡ take end (drop start line) ∷ fields_of (drop (end + 1) (drop start line))
+pub fields_of-cut : (line : List ℕ) (start end : ℕ) → Some start ≡ position is_solid line → Some end ≡ position is_white_space (drop start line)
+    → fields_of line ≡ take end (drop start line) ∷ fields_of (drop (end + 1) (drop start line))
 fields_of-cut line start end begins ends =
     let w = begins_solid line start begins in
     w.same ∙ rw w.cut (cut_solid w.first w.rest w.solid end (rw w.cut at ends))
 
 -- the first field, where the line ends with it
-pub fields_of-last : (line : List ℕ) (start : ℕ) → Some start ≡ position is_solid line → None ≡ position is_white_space (drop start line) → fields_of line ≡ drop start line ∷ fields_of []
+pub fields_of-last : (line : List ℕ) (start : ℕ) → Some start ≡ position is_solid line → None ≡ position is_white_space (drop start line)
+    → fields_of line ≡ drop start line ∷ fields_of []
 fields_of-last line start begins ends =
     let w = begins_solid line start begins in
     w.same ∙ rw (w.cut, fields_of-nil) (last_solid w.first w.rest (rw w.cut at ends))
@@ -174,19 +180,25 @@ pub rows_from-nil : (number : ℕ) → rows_from number (lines_of []) ≡ []
 unfolding rows_from lines_of
 rows_from-nil number = refl
 
-pub rows_from-cut : (number : ℕ) (text line rest : List ℕ) (filled : Bool) → lines_of text ≡ line ∷ lines_of rest → filled ≡ is_filled (fields_of line) → rows_from number (lines_of text) ≡ cond filled ((number, fields_of line) ∷ rows_from (number + 1) (lines_of rest)) (rows_from (number + 1) (lines_of rest))
+pub rows_from-cut : (number : ℕ) (text line rest : List ℕ) (filled : Bool) → lines_of text ≡ line ∷ lines_of rest → filled ≡ is_filled (fields_of line)
+    → rows_from number (lines_of text)
+    ≡ cond filled ((number, fields_of line) ∷ rows_from (number + 1) (lines_of rest)) (rows_from (number + 1) (lines_of rest))
 unfolding rows_from
 rows_from-cut number text line rest filled cut is = rw (cut, is) refl
 
-pub skips : (before : ℕ) (text : List ℕ) (number : ℕ) (rest line after : List ℕ) (filled : Bool) → Skips before text number rest → lines_of rest ≡ line ∷ lines_of after → length after < length rest → filled ≡ is_filled (fields_of line) → filled ≡ false → Skips before text (number + 1) after
+pub skips : (before : ℕ) (text : List ℕ) (number : ℕ) (rest line after : List ℕ) (filled : Bool) → Skips before text number rest → lines_of rest
+    ≡ line ∷ lines_of after → length after < length rest → filled ≡ is_filled (fields_of line) → filled ≡ false → Skips before text (number + 1) after
 skips before text number rest line after filled w cut less is white = record {
   rows = w.rows ∙ rows_from-cut (number + 1) rest line after filled cut is ∙ rw white refl;
   fits = omega (arith, w.fits, less);
   shorter = omega (arith, w.shorter, less);
 }
 
-pub row_there : (before : ℕ) (text : List ℕ) (number : ℕ) (rest line after : List ℕ) (filled : Bool) → Skips before text number rest → lines_of rest ≡ line ∷ lines_of after → filled ≡ is_filled (fields_of line) → filled ≡ true → rows_from (before + 1) (lines_of text) ≡ (number + 1, fields_of line) ∷ rows_from (number + 1 + 1) (lines_of after)
+pub row_there : (before : ℕ) (text : List ℕ) (number : ℕ) (rest line after : List ℕ) (filled : Bool) → Skips before text number rest
+    → lines_of rest ≡ line ∷ lines_of after → filled ≡ is_filled (fields_of line) → filled ≡ true
+    → rows_from (before + 1) (lines_of text) ≡ (number + 1, fields_of line) ∷ rows_from (number + 1 + 1) (lines_of after)
 row_there before text number rest line after filled w cut is there = w.rows ∙ rows_from-cut (number + 1) rest line after filled cut is ∙ rw there refl
 
-pub no_row : (before : ℕ) (text : List ℕ) (number : ℕ) (rest : List ℕ) → Skips before text number rest → (length rest == 0) ≡ true → rows_from (before + 1) (lines_of text) ≡ []
+pub no_row : (before : ℕ) (text : List ℕ) (number : ℕ) (rest : List ℕ) → Skips before text number rest
+    → (length rest == 0) ≡ true → rows_from (before + 1) (lines_of text) ≡ []
 no_row before text number rest w zero = w.rows ∙ rw (nil_from_length rest (eqb-true _ _ zero)) (rows_from-nil (number + 1))

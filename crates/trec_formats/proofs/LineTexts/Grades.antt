@@ -1,6 +1,6 @@
 -- The value of a grade, as far as its bytes are read.
-use Rattle.std.proofs.Common.{◌≡◌, ◌+◌, ◌*◌, ◌-◌, ◌<◌, ◌≤◌, ◌&&◌, ℕ, Bool, true, false, List, length, take, get_or, refl, arith, Some, None, leb-true, le-leb}
-use Rattle.std.proofs.lemmas.Bool.{lt-leb}
+use Rattle.std.proofs.Common.{◌≡◌, ◌+◌, ◌*◌, ◌-◌, ◌<◌, ◌≤◌, ℕ, true, false, List, length, take, get_or, refl, arith, Some, None, leb-true, le-leb}
+use Rattle.std.proofs.lemmas.Bool.{lt-leb, and_parts}
 use Rattle.std.specs.Int.{IsInRange}
 use Rattle.std.specs.List.{list_all}
 use Rattle.std.specs.Str.Parse.{digits_value}
@@ -10,7 +10,7 @@ use Rattle.std.proofs.Math.Bool.{and-false}
 use Rattle.std.proofs.lemmas.Int.Digits.{digits_value_more}
 use Rattle.std.proofs.lemmas.Str.{digit_value_digit}
 use Rattle.std.proofs.lemmas.Str.Parse.{digits_value-take-le}
-use Rattle.decimal_rank.specs.DecimalText.{is_digit}
+use Rattle.decimal_rank.specs.Decimals.DecimalText.{is_digit}
 use Rattle.trec_formats.specs.Names.{grade_of}
 
 -- the first bytes are digits, with this value
@@ -38,20 +38,17 @@ grade_read text count value all w =
     let low : digits_value 10 text ≤ 255 = omega (arith, value_is, w.low) in
     rw (digits, le-leb _ _ low, value_is) refl
 
-both : (x y : Bool) → (x && y) ≡ true → (x ≡ true) × (y ≡ true)
-both true true is = (refl, refl)
-both true false is = (refl, is)
-both false y is = cc
-
 pub digit_range : (b : ℕ) → is_digit b ≡ true → IsInRange 48 57 b
-digit_range b is = let p = both _ _ is in (leb-true _ _ p.0, leb-true _ _ p.1)
+digit_range b is = let p = and_parts _ _ is in (leb-true _ _ p.0, leb-true _ _ p.1)
 
 -- the value with one more digit
-pub value_next : (text : List ℕ) (i value next : ℕ) → i < length text → AreRead text i value → is_digit (get_or text i 0) ≡ true → next ≡ value * 10 + (get_or text i 0 - 48) → next ≡ digits_value 10 (take (i + 1) text)
+pub value_next : (text : List ℕ) (i value next : ℕ) → i < length text → AreRead text i value → is_digit (get_or text i 0) ≡ true
+    → next ≡ value * 10 + (get_or text i 0 - 48) → next ≡ digits_value 10 (take (i + 1) text)
 value_next text i value next within w digit is =
     omega (arith, is, w.value_is, digits_value_more 10 text i within, digit_value_digit (get_or text i 0) (digit_range (get_or text i 0) digit))
 
-pub read_next : (text : List ℕ) (i value next : ℕ) → i < length text → AreRead text i value → is_digit (get_or text i 0) ≡ true → next ≡ value * 10 + (get_or text i 0 - 48) → next ≤ 255 → AreRead text (i + 1) next
+pub read_next : (text : List ℕ) (i value next : ℕ) → i < length text → AreRead text i value → is_digit (get_or text i 0) ≡ true
+    → next ≡ value * 10 + (get_or text i 0 - 48) → next ≤ 255 → AreRead text (i + 1) next
 read_next text i value next within w digit is low = record {
   digits = rw (list_all_more is_digit text i 0 within, w.digits, digit) refl;
   value_is = value_next text i value next within w digit is;

@@ -17,7 +17,8 @@ module _ {X : Type 0} (p : X → Bool) where
   pub after_last-no : (xs : List X) (x : X) → p x ≡ false → after_last p (xs ++ x ∷ []) ≡ after_last p xs ++ x ∷ []
   after_last-no xs x is =
       let n : ℕ = suffix_len (λ y. not (p y)) xs in
-      let count : length (xs ++ x ∷ []) - suffix_len (λ y. not (p y)) (xs ++ x ∷ []) ≡ length xs - n = omega (arith, suffix-push xs x false is, length_push xs x) in
+      let count : length (xs ++ x ∷ []) - suffix_len (λ y. not (p y)) (xs ++ x ∷ []) ≡ length xs - n =
+      omega (arith, suffix-push xs x false is, length_push xs x) in
       ap (λ k. drop k (xs ++ x ∷ [])) count ∙ drop-append-le (length xs - n) xs (x ∷ []) (omega arith)
 
   -- the parts begin with one
@@ -37,10 +38,12 @@ module _ {X : Type 0} (p : X → Bool) where
   onto_first-push : (x : X) (parts : List (List X)) (last : List X) → HasPart parts → onto_first x (parts ++ last ∷ []) ≡ onto_first x parts ++ last ∷ []
   onto_first-push x parts last w = rw w.cut refl
 
-  split-yes_step : (y : X) (ys : List X) (x : X) (t : Bool) → p y ≡ t → slice_split p (ys ++ x ∷ []) ≡ slice_split p ys ++ [] ∷ [] → slice_split p (y ∷ ys ++ x ∷ []) ≡ slice_split p (y ∷ ys) ++ [] ∷ []
+  split-yes_step : (y : X) (ys : List X) (x : X) (t : Bool) → p y ≡ t → slice_split p (ys ++ x ∷ []) ≡ slice_split p ys ++ [] ∷ []
+      → slice_split p (y ∷ ys ++ x ∷ []) ≡ slice_split p (y ∷ ys) ++ [] ∷ []
   split-yes_step y ys x true is rest = rw (is, rest) refl
   split-yes_step y ys x false is rest =
-      slice_split-cons_no p y (ys ++ x ∷ []) is ∙ ap (onto_first y) rest ∙ onto_first-push y (slice_split p ys) [] (has_part ys) ∙ ap (λ parts. parts ++ [] ∷ []) (sym (slice_split-cons_no p y ys is))
+      slice_split-cons_no p y (ys ++ x ∷ []) is ∙ ap (onto_first y) rest ∙ onto_first-push y (slice_split p ys) [] (has_part ys)
+      ∙ ap (λ parts. parts ++ [] ∷ []) (sym (slice_split-cons_no p y ys is))
 
   -- one more element, at which the list is cut
   pub split-yes : (xs : List X) (x : X) → p x ≡ true → slice_split p (xs ++ x ∷ []) ≡ slice_split p xs ++ [] ∷ []
@@ -52,7 +55,8 @@ module _ {X : Type 0} (p : X → Bool) where
   onto_last x (part ∷ []) = (part ++ x ∷ []) ∷ []
   onto_last x (part ∷ next ∷ parts) = part ∷ onto_last x (next ∷ parts)
 
-  onto_last-first : (y x : X) (first : List X) (others : List (List X)) → onto_first y (onto_last x (first ∷ others)) ≡ onto_last x (onto_first y (first ∷ others))
+  onto_last-first : (y x : X) (first : List X) (others : List (List X))
+      → onto_first y (onto_last x (first ∷ others)) ≡ onto_last x (onto_first y (first ∷ others))
   unfolding onto_last
   onto_last-first y x first [] = refl
   onto_last-first y x first (next ∷ others) = refl
@@ -61,12 +65,15 @@ module _ {X : Type 0} (p : X → Bool) where
   unfolding onto_last
   onto_last-cons x first parts w = rw w.cut refl
 
-  split-no_step : (y : X) (ys : List X) (x : X) (t : Bool) → p y ≡ t → slice_split p (ys ++ x ∷ []) ≡ onto_last x (slice_split p ys) → slice_split p (y ∷ ys ++ x ∷ []) ≡ onto_last x (slice_split p (y ∷ ys))
+  split-no_step : (y : X) (ys : List X) (x : X) (t : Bool) → p y ≡ t → slice_split p (ys ++ x ∷ []) ≡ onto_last x (slice_split p ys)
+      → slice_split p (y ∷ ys ++ x ∷ []) ≡ onto_last x (slice_split p (y ∷ ys))
   split-no_step y ys x true is rest =
-      slice_split-cons_yes p y (ys ++ x ∷ []) is ∙ ap (λ parts. [] ∷ parts) rest ∙ sym (onto_last-cons x [] (slice_split p ys) (has_part ys)) ∙ ap (onto_last x) (sym (slice_split-cons_yes p y ys is))
+      slice_split-cons_yes p y (ys ++ x ∷ []) is ∙ ap (λ parts. [] ∷ parts) rest ∙ sym (onto_last-cons x [] (slice_split p ys) (has_part ys))
+      ∙ ap (onto_last x) (sym (slice_split-cons_yes p y ys is))
   split-no_step y ys x false is rest =
       let w = has_part ys in
-      let swap : onto_first y (onto_last x (slice_split p ys)) ≡ onto_last x (onto_first y (slice_split p ys)) = rw w.cut (onto_last-first y x w.first w.others) in
+      let swap : onto_first y (onto_last x (slice_split p ys)) ≡ onto_last x (onto_first y (slice_split p ys)) =
+      rw w.cut (onto_last-first y x w.first w.others) in
       slice_split-cons_no p y (ys ++ x ∷ []) is ∙ ap (onto_first y) rest ∙ swap ∙ ap (onto_last x) (sym (slice_split-cons_no p y ys is))
 
   split-no : (xs : List X) (x : X) → p x ≡ false → slice_split p (xs ++ x ∷ []) ≡ onto_last x (slice_split p xs)
@@ -81,12 +88,15 @@ module _ {X : Type 0} (p : X → Bool) where
   onto_last-at (part ∷ next ∷ front) last x = ap (λ parts. part ∷ parts) (onto_last-at (next ∷ front) last x)
 
   -- one more element in the last part
-  pub split-grows : (xs : List X) (x : X) (front : List (List X)) (last : List X) → p x ≡ false → slice_split p xs ≡ front ++ last ∷ [] → slice_split p (xs ++ x ∷ []) ≡ front ++ (last ++ x ∷ []) ∷ []
+  pub split-grows : (xs : List X) (x : X) (front : List (List X)) (last : List X) → p x ≡ false → slice_split p xs ≡ front ++ last ∷ []
+      → slice_split p (xs ++ x ∷ []) ≡ front ++ (last ++ x ∷ []) ∷ []
   split-grows xs x front last is cut = split-no xs x is ∙ ap (onto_last x) cut ∙ onto_last-at front last x
 
   one_part_step : (x : X) (xs : List X) (t : Bool) → p x ≡ t → slice_split p (x ∷ xs) ≡ [] ∷ [] → HasPart (slice_split p xs) → (x ∷ xs) ≡ []
-  one_part_step x xs true is one w = let two : [] ∷ w.first ∷ w.others ≡ [] ∷ [] = ap (λ parts. [] ∷ parts) (sym w.cut) ∙ sym (slice_split-cons_yes p x xs is) ∙ one in cc two
-  one_part_step x xs false is one w = let filled : (x ∷ w.first) ∷ w.others ≡ [] ∷ [] = ap (onto_first x) (sym w.cut) ∙ sym (slice_split-cons_no p x xs is) ∙ one in cc filled
+  one_part_step x xs true is one w = let two : [] ∷ w.first ∷ w.others ≡ [] ∷ [] =
+      ap (λ parts. [] ∷ parts) (sym w.cut) ∙ sym (slice_split-cons_yes p x xs is) ∙ one in cc two
+  one_part_step x xs false is one w = let filled : (x ∷ w.first) ∷ w.others ≡ [] ∷ [] =
+      ap (onto_first x) (sym w.cut) ∙ sym (slice_split-cons_no p x xs is) ∙ one in cc filled
 
   -- a list whose one part is empty
   pub one_part : (xs : List X) → slice_split p xs ≡ [] ∷ [] → xs ≡ []

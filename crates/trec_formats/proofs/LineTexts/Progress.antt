@@ -18,7 +18,9 @@ module _ {L : Type 0} (Good : List Row → List L → Type 0) (next : List L →
   pub begins : (text : List ℕ) → IsReadTo Good text 0 text []
   begins text = record { done = []; rows = refl; good = format.nil; fits = omega arith }
 
-  pub goes_on : (text : List ℕ) (number : ℕ) (rest : List ℕ) (lines : List L) (row : Row) (after : List ℕ) (line : L) → IsReadTo Good text number rest lines → rows_from (number + 1) (lines_of rest) ≡ row ∷ rows_from (row.0 + 1) (lines_of after) → row.0 + length after ≤ number + length rest → next lines row ≡ Ok line → IsReadTo Good text row.0 after (lines ++ line ∷ [])
+  pub goes_on : (text : List ℕ) (number : ℕ) (rest : List ℕ) (lines : List L) (row : Row) (after : List ℕ) (line : L) → IsReadTo Good text number rest lines
+      → rows_from (number + 1) (lines_of rest) ≡ row ∷ rows_from (row.0 + 1) (lines_of after) → row.0 + length after ≤ number + length rest
+      → next lines row ≡ Ok line → IsReadTo Good text row.0 after (lines ++ line ∷ [])
   goes_on text number rest lines row after line w cut shorter is = record {
     done = w.done ++ row ∷ [];
     rows = w.rows ∙ ap (λ rows. w.done ++ rows) cut ∙ sym (append_assoc w.done (row ∷ []) _);
@@ -26,22 +28,37 @@ module _ {L : Type 0} (Good : List Row → List L → Type 0) (next : List L →
     fits = omega (arith, w.fits, shorter);
   }
 
-  pub stops_at : (text : List ℕ) (number : ℕ) (rest : List ℕ) (lines : List L) (row : Row) (after : List ℕ) (kind : Kind) → IsReadTo Good text number rest lines → rows_from (number + 1) (lines_of rest) ≡ row ∷ rows_from (row.0 + 1) (lines_of after) → next lines row ≡ Err kind → IsReadAs Good next (rows_of text) (Err (record { line = row.0; kind = kind }))
+  pub stops_at : (text : List ℕ) (number : ℕ) (rest : List ℕ) (lines : List L) (row : Row) (after : List ℕ) (kind : Kind) → IsReadTo Good text number rest lines
+      → rows_from (number + 1) (lines_of rest) ≡ row ∷ rows_from (row.0 + 1) (lines_of after) → next lines row ≡ Err kind
+      → IsReadAs Good next (rows_of text) (Err (record { line = row.0; kind = kind }))
   stops_at text number rest lines row after kind w cut is =
-      inr (record { before = w.done; row = row; after = rows_from (row.0 + 1) (lines_of after); lines = lines; cut = w.rows ∙ ap (λ rows. w.done ++ rows) cut; good = w.good; line = refl; kind = is })
+      inr (record {
+        before = w.done;
+        row = row;
+        after = rows_from (row.0 + 1) (lines_of after);
+        lines = lines;
+        cut = w.rows
+            ∙ ap (λ rows. w.done ++ rows) cut;
+        good = w.good;
+        line = refl;
+        kind = is;
+      })
 
-  whole : (text : List ℕ) (number : ℕ) (rest : List ℕ) (lines : List L) (w : IsReadTo Good text number rest lines) → rows_from (number + 1) (lines_of rest) ≡ [] → rows_of text ≡ w.done
+  whole : (text : List ℕ) (number : ℕ) (rest : List ℕ) (lines : List L) (w : IsReadTo Good text number rest lines)
+      → rows_from (number + 1) (lines_of rest) ≡ [] → rows_of text ≡ w.done
   whole text number rest lines w none = w.rows ∙ ap (λ rows. w.done ++ rows) none ∙ append-nil w.done
 
   some_rows : (text : List ℕ) (lines : List L) → Good (rows_of text) lines → (lines ≢ []) → rows_of text ≢ []
   some_rows text lines good some none = some (format.same [] lines [] (rw none at good) format.nil)
 
-  pub is_whole : (text : List ℕ) (number : ℕ) (rest : List ℕ) (lines : List L) → IsReadTo Good text number rest lines → rows_from (number + 1) (lines_of rest) ≡ [] → (lines ≢ []) → IsReadAs Good next (rows_of text) (Ok lines)
+  pub is_whole : (text : List ℕ) (number : ℕ) (rest : List ℕ) (lines : List L) → IsReadTo Good text number rest lines
+      → rows_from (number + 1) (lines_of rest) ≡ [] → (lines ≢ []) → IsReadAs Good next (rows_of text) (Ok lines)
   is_whole text number rest lines w none some =
       let good : Good (rows_of text) lines = rw (whole text number rest lines w none) w.good in
       (some_rows text lines good some, good)
 
-  pub is_empty : (text : List ℕ) (number : ℕ) (rest : List ℕ) (lines : List L) → IsReadTo Good text number rest lines → rows_from (number + 1) (lines_of rest) ≡ [] → lines ≡ [] → IsReadAs Good next (rows_of text) (Err (record { line = 0; kind = Empty }))
+  pub is_empty : (text : List ℕ) (number : ℕ) (rest : List ℕ) (lines : List L) → IsReadTo Good text number rest lines
+      → rows_from (number + 1) (lines_of rest) ≡ [] → lines ≡ [] → IsReadAs Good next (rows_of text) (Err (record { line = 0; kind = Empty }))
   is_empty text number rest lines w none nil =
       let good : Good (rows_of text) [] = rw (whole text number rest lines w none) (rw nil at w.good) in
       inl (record { none = format.none (rows_of text) good; line = refl; kind = refl })

@@ -17,12 +17,14 @@ pub data Meets {X : Type 0} (before : List X) (row : X) (front : List X) (other 
   lies_first : LiesIn before row front → Meets before row front other
   lies_second : LiesIn front other before → Meets before row front other
 
-meets_step : {X : Type 0} (x y : X) (before : List X) (row : X) (front : List X) (other : X) → x ≡ y → Meets before row front other → Meets (x ∷ before) row (y ∷ front) other
+meets_step : {X : Type 0} (x y : X) (before : List X) (row : X) (front : List X) (other : X) → x ≡ y
+    → Meets before row front other → Meets (x ∷ before) row (y ∷ front) other
 meets_step x y before row front other e (same_place p q) = same_place (cc) q
 meets_step x y before row front other e (lies_first w) = lies_first (record { between = w.between; cut = rw (w.cut, e) refl })
 meets_step x y before row front other e (lies_second w) = lies_second (record { between = w.between; cut = rw (w.cut, e) refl })
 
-pub meets : {X : Type 0} (before : List X) (row : X) (after : List X) (front : List X) (other : X) (back : List X) → before ++ row ∷ after ≡ front ++ other ∷ back → Meets before row front other
+pub meets : {X : Type 0} (before : List X) (row : X) (after : List X) (front : List X) (other : X) (back : List X)
+    → before ++ row ∷ after ≡ front ++ other ∷ back → Meets before row front other
 meets [] row after [] other back e = same_place refl (cc)
 meets [] row after (y ∷ front) other back e = let h : row ≡ y = cc in lies_first (record { between = front; cut = rw h refl })
 meets (x ∷ before) row after [] other back e = let h : x ≡ other = cc in lies_second (record { between = before; cut = rw h refl })
@@ -34,11 +36,13 @@ meets (x ∷ before) row after (y ∷ front) other back e =
 -- a format's good lines, row by row
 pub record IsFormat {X L : Type 0} (Good : List (ℕ × X) → List L → Type 0) (next : List L → ℕ × X → Result L Kind) : Type 0 where
   pub nil : Good [] []
-  pub push : (rows : List (ℕ × X)) (lines : List L) (row : ℕ × X) (line : L) → Good rows lines → next lines row ≡ Ok line → Good (rows ++ row ∷ []) (lines ++ line ∷ [])
+  pub push : (rows : List (ℕ × X)) (lines : List L) (row : ℕ × X) (line : L) → Good rows lines
+      → next lines row ≡ Ok line → Good (rows ++ row ∷ []) (lines ++ line ∷ [])
   pub same : (rows : List (ℕ × X)) (lines others : List L) → Good rows lines → Good rows others → lines ≡ others
   pub none : (rows : List (ℕ × X)) → Good rows [] → rows ≡ []
   -- a row among good ones has no fault behind the lines of those before it
-  pub next_ok : (before : List (ℕ × X)) (row : ℕ × X) (after : List (ℕ × X)) (lines : List L) (kind : Kind) (front : List L) → Good (before ++ row ∷ after) lines → Good before front → next front row ≡ Err kind → ⊥
+  pub next_ok : (before : List (ℕ × X)) (row : ℕ × X) (after : List (ℕ × X)) (lines : List L) (kind : Kind) (front : List L)
+      → Good (before ++ row ∷ after) lines → Good before front → next front row ≡ Err kind → ⊥
 
 -- two faults with the same parts are one
 same_fault : (a b : FormatFault) → a.line ≡ b.line → a.kind ≡ b.kind → a ≡ b
@@ -51,18 +55,23 @@ module _ {X L : Type 0} (Good : List (ℕ × X) → List L → Type 0) (next : L
   abbrev Told : List (ℕ × X) → Type 0
   Told rows = ((lines : List L) × Good rows lines) ⊎ ((fault : FormatFault) × IsFirstFault Good next rows fault)
 
-  told_step : (done : List (ℕ × X)) (lines : List L) (row : ℕ × X) (rest : List (ℕ × X)) (r : Result L Kind) → next lines row ≡ r → Good done lines → ((line : L) → Good (done ++ row ∷ []) (lines ++ line ∷ []) → Told ((done ++ row ∷ []) ++ rest)) → Told (done ++ row ∷ rest)
+  told_step : (done : List (ℕ × X)) (lines : List L) (row : ℕ × X) (rest : List (ℕ × X)) (r : Result L Kind) → next lines row ≡ r → Good done lines
+      → ((line : L) → Good (done ++ row ∷ []) (lines ++ line ∷ []) → Told ((done ++ row ∷ []) ++ rest)) → Told (done ++ row ∷ rest)
   told_step done lines row rest (Ok line) is good more =
       rw (← append_assoc done (row ∷ []) rest) (more line (format.push done lines row line good is))
   told_step done lines row rest (Err kind) is good more =
-      inr (record { line = row.0; kind = kind }, record { before = done; row = row; after = rest; lines = lines; cut = refl; good = good; line = refl; kind = is })
+      inr (
+        record { line = row.0; kind = kind },
+        record { before = done; row = row; after = rest; lines = lines; cut = refl; good = good; line = refl; kind = is },
+      )
 
   told : (rows done : List (ℕ × X)) (lines : List L) → Good done lines → Told (done ++ rows)
   told [] done lines good = inl (lines, rw append-nil good)
   told (row ∷ rest) done lines good =
       told_step done lines row rest (next lines row) refl good (λ line more. told rest (done ++ row ∷ []) (lines ++ line ∷ []) more)
 
-  met : (rows : List (ℕ × X)) (a b : FormatFault) (x : IsFirstFault Good next rows a) (y : IsFirstFault Good next rows b) → Meets x.before x.row y.before y.row → a ≡ b
+  met : (rows : List (ℕ × X)) (a b : FormatFault) (x : IsFirstFault Good next rows a) (y : IsFirstFault Good next rows b)
+      → Meets x.before x.row y.before y.row → a ≡ b
   met rows a b x y (same_place before row) =
       let good : Good x.before y.lines = rw before y.good in
       let lines : x.lines ≡ y.lines = format.same x.before x.lines y.lines x.good good in
@@ -78,11 +87,13 @@ module _ {X L : Type 0} (Good : List (ℕ × X) → List L → Type 0) (next : L
   cut_filled [] row after e = cc
   cut_filled (x ∷ before) row after e = cc
 
-  fault_not_good : (rows : List (ℕ × X)) (fault : FormatFault) (lines : List L) → rows ≢ [] → Good rows lines → IsEmpty rows fault ⊎ IsFirstFault Good next rows fault → ⊥
+  fault_not_good : (rows : List (ℕ × X)) (fault : FormatFault) (lines : List L) → rows ≢ [] → Good rows lines
+      → IsEmpty rows fault ⊎ IsFirstFault Good next rows fault → ⊥
   fault_not_good rows fault lines some good (inl empty) = some empty.none
   fault_not_good rows fault lines some good (inr x) = format.next_ok x.before x.row x.after lines fault.kind x.lines (rw x.cut at good) x.good x.kind
 
-  one_fault : (rows : List (ℕ × X)) (a b : FormatFault) → IsEmpty rows a ⊎ IsFirstFault Good next rows a → IsEmpty rows b ⊎ IsFirstFault Good next rows b → a ≡ b
+  one_fault : (rows : List (ℕ × X)) (a b : FormatFault) → IsEmpty rows a ⊎ IsFirstFault Good next rows a
+      → IsEmpty rows b ⊎ IsFirstFault Good next rows b → a ≡ b
   one_fault rows a b (inl x) (inl y) = same_fault a b (x.line ∙ sym y.line) (x.kind ∙ sym y.kind)
   one_fault rows a b (inl x) (inr y) = absurd (cut_filled y.before y.row y.after (sym y.cut ∙ x.none))
   one_fault rows a b (inr x) (inl y) = absurd (cut_filled x.before x.row x.after (sym x.cut ∙ y.none))
@@ -106,10 +117,12 @@ module _ {X L : Type 0} (Good : List (ℕ × X) → List L → Type 0) (next : L
   one_reading rows = let r = reading rows in (r.0, r.1, λ other is. only rows r.0 other r.1 is)
 
 module _ {R L : Type 0} (read : R → Result L Kind) where
-  pub Stand-push : (rows : List R) (lines : List L) (row : R) (line : L) → Stand read rows lines → read row ≡ Ok line → Stand read (rows ++ row ∷ []) (lines ++ line ∷ [])
+  pub Stand-push : (rows : List R) (lines : List L) (row : R) (line : L) → Stand read rows lines
+      → read row ≡ Ok line → Stand read (rows ++ row ∷ []) (lines ++ line ∷ [])
   Stand-push rows lines row line stand is = rw (map-append, map-append, is, stand) refl
 
-  pub Stand-no_fault : (before : List R) (row : R) (after : List R) (lines : List L) (kind : Kind) → Stand read (before ++ row ∷ after) lines → read row ≡ Err kind → ⊥
+  pub Stand-no_fault : (before : List R) (row : R) (after : List R) (lines : List L) (kind : Kind)
+      → Stand read (before ++ row ∷ after) lines → read row ≡ Err kind → ⊥
   Stand-no_fault [] row after [] kind stand is = cc
   Stand-no_fault [] row after (line ∷ lines) kind stand is = cc
   Stand-no_fault (first ∷ before) row after [] kind stand is = cc
@@ -124,12 +137,15 @@ module _ {R L : Type 0} (read : R → Result L Kind) where
     pub front_is : Stand read before front
     pub line_is : read row ≡ Ok line
 
-  cut_lines-cons : (first : R) (before : List R) (row : R) (head : L) (lines : List L) → read first ≡ Ok head → CutLines before row lines → CutLines (first ∷ before) row (head ∷ lines)
-  cut_lines-cons first before row head lines is w = record { front = head ∷ w.front; line = w.line; back = w.back; cut = rw w.cut refl; front_is = rw (is, w.front_is) refl; line_is = w.line_is }
+  cut_lines-cons : (first : R) (before : List R) (row : R) (head : L) (lines : List L) → read first ≡ Ok head
+      → CutLines before row lines → CutLines (first ∷ before) row (head ∷ lines)
+  cut_lines-cons first before row head lines is w =
+      record { front = head ∷ w.front; line = w.line; back = w.back; cut = rw w.cut refl; front_is = rw (is, w.front_is) refl; line_is = w.line_is }
 
   pub cut_lines : (before : List R) (row : R) (after : List R) (lines : List L) → Stand read (before ++ row ∷ after) lines → CutLines before row lines
   cut_lines [] row after [] stand = cc
-  cut_lines [] row after (line ∷ lines) stand = let is : read row ≡ Ok line = cc stand in record { front = []; line = line; back = lines; cut = refl; front_is = refl; line_is = is }
+  cut_lines [] row after (line ∷ lines) stand = let is : read row ≡ Ok line = cc stand in
+      record { front = []; line = line; back = lines; cut = refl; front_is = refl; line_is = is }
   cut_lines (first ∷ before) row after [] stand = cc
   cut_lines (first ∷ before) row after (line ∷ lines) stand =
       let is : read first ≡ Ok line = cc stand in
@@ -166,12 +182,14 @@ pub cut_nil : {L : Type 0} (before : List L) (row : L) (after : List L) → [] �
 cut_nil [] row after e = cc
 cut_nil (x ∷ before) row after e = cc
 
-push_cut_step : {L : Type 0} (d x : L) (done : List L) (line : L) (before : List L) (again : L) → d ≡ x → ((done ≡ before) × (line ≡ again)) ⊎ LiesIn before again done → ((d ∷ done ≡ x ∷ before) × (line ≡ again)) ⊎ LiesIn (x ∷ before) again (d ∷ done)
+push_cut_step : {L : Type 0} (d x : L) (done : List L) (line : L) (before : List L) (again : L) → d ≡ x
+    → ((done ≡ before) × (line ≡ again)) ⊎ LiesIn before again done → ((d ∷ done ≡ x ∷ before) × (line ≡ again)) ⊎ LiesIn (x ∷ before) again (d ∷ done)
 push_cut_step d x done line before again heads (inl p) = let fronts = p.0 in let ends = p.1 in inl ((cc (heads, fronts)), ends)
 push_cut_step d x done line before again heads (inr w) = inr (record { between = w.between; cut = rw (heads, w.cut) refl })
 
 -- one more element, which stands in the front's end or behind it
-pub push_cut : {L : Type 0} (done : List L) (line : L) (before : List L) (again : L) (after : List L) → done ++ line ∷ [] ≡ before ++ again ∷ after → ((done ≡ before) × (line ≡ again)) ⊎ LiesIn before again done
+pub push_cut : {L : Type 0} (done : List L) (line : L) (before : List L) (again : L) (after : List L)
+    → done ++ line ∷ [] ≡ before ++ again ∷ after → ((done ≡ before) × (line ≡ again)) ⊎ LiesIn before again done
 push_cut [] line [] again after e = inl (refl, (cc))
 push_cut [] line (x ∷ before) again after e = absurd (cut_nil before again after (cc))
 push_cut (d ∷ done) line [] again after e = let h : d ≡ again = cc in inr (record { between = done; cut = rw h refl })
@@ -187,18 +205,25 @@ module _ {L : Type 0} (same : L → L → Bool) (number : L → ℕ) where
   pub distinct_nil : IsDistinct same []
   distinct_nil first again w = cut_nil w.before again w.after w.cut
 
-  distinct_push_step : (done : List L) (line : L) (first again : L) (w : Repeats same (done ++ line ∷ []) first again) → find (same line) done ≡ None → IsDistinct same done → ((done ≡ w.before) × (line ≡ again)) ⊎ LiesIn w.before again done → ⊥
+  distinct_push_step : (done : List L) (line : L) (first again : L) (w : Repeats same (done ++ line ∷ []) first again)
+      → find (same line) done ≡ None → IsDistinct same done → ((done ≡ w.before) × (line ≡ again)) ⊎ LiesIn w.before again done → ⊥
   distinct_push_step done line first again w none distinct (inl p) =
       let found : find (same line) done ≡ Some first = rw (p.0, p.1) w.earlier in
       none-some first (sym none ∙ found)
-  distinct_push_step done line first again w none distinct (inr i) = distinct first again (record { before = w.before; after = i.between; cut = i.cut; earlier = w.earlier })
+  distinct_push_step done line first again w none distinct (inr i) =
+      distinct first again (record { before = w.before; after = i.between; cut = i.cut; earlier = w.earlier })
 
   pub distinct_push : (done : List L) (line : L) → find (same line) done ≡ None → IsDistinct same done → IsDistinct same (done ++ line ∷ [])
-  distinct_push done line none distinct first again w = distinct_push_step done line first again w none distinct (push_cut done line w.before again w.after w.cut)
+  distinct_push done line none distinct first again w =
+      distinct_push_step done line first again w none distinct (push_cut done line w.before again w.after w.cut)
 
-  found_step : (done : List L) (line : L) (rest : List L) (o : Option L) → find (same line) done ≡ o → IsDistinct same done → (IsDistinct same (done ++ line ∷ []) → Found ((done ++ line ∷ []) ++ rest)) → Found (done ++ line ∷ rest)
+  found_step : (done : List L) (line : L) (rest : List L) (o : Option L) → find (same line) done ≡ o → IsDistinct same done
+      → (IsDistinct same (done ++ line ∷ []) → Found ((done ++ line ∷ []) ++ rest)) → Found (done ++ line ∷ rest)
   found_step done line rest (Some first) is distinct more =
-      inr (record { line = number line; kind = Twice (number first) }, record { before = done; again = line; after = rest; first = first; cut = refl; earlier = is; distinct = distinct; line = refl; kind = refl })
+      inr (
+        record { line = number line; kind = Twice (number first) },
+        record { before = done; again = line; after = rest; first = first; cut = refl; earlier = is; distinct = distinct; line = refl; kind = refl },
+      )
   found_step done line rest None is distinct more = rw (← append_assoc done (line ∷ []) rest) (more (distinct_push done line is distinct))
 
   pub found : (lines done : List L) → IsDistinct same done → Found (done ++ lines)
@@ -208,10 +233,12 @@ module _ {L : Type 0} (same : L → L → Bool) (number : L → ℕ) where
   twice_not_distinct : (lines : List L) (fault : FormatFault) → IsTwice same number lines fault → IsDistinct same lines → ⊥
   twice_not_distinct lines fault w distinct = distinct w.first w.again (record { before = w.before; after = w.after; cut = w.cut; earlier = w.earlier })
 
-  repeats_in : (before : List L) (again : L) (front : List L) (first : L) → LiesIn before again front → find (same again) before ≡ Some first → IsDistinct same front → ⊥
+  repeats_in : (before : List L) (again : L) (front : List L) (first : L) → LiesIn before again front
+      → find (same again) before ≡ Some first → IsDistinct same front → ⊥
   repeats_in before again front first w earlier distinct = distinct first again (record { before = before; after = w.between; cut = w.cut; earlier = earlier })
 
-  twice_met : (lines : List L) (a b : FormatFault) (x : IsTwice same number lines a) (y : IsTwice same number lines b) → Meets x.before x.again y.before y.again → a ≡ b
+  twice_met : (lines : List L) (a b : FormatFault) (x : IsTwice same number lines a) (y : IsTwice same number lines b)
+      → Meets x.before x.again y.before y.again → a ≡ b
   twice_met lines a b x y (same_place before again) =
       let found : find (same x.again) x.before ≡ Some y.first = rw (before, again) y.earlier in
       let firsts : x.first ≡ y.first = same_Some _ _ (sym x.earlier ∙ found) in

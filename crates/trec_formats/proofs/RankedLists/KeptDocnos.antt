@@ -31,7 +31,8 @@ part_at start (end ∷ ends) bytes (suc k) is less =
     record { ordered = rest.ordered; within = rest.within; part = rest.part }
 
 -- the same of the ends that are read
-pub part_read : (ends bytes : List ℕ) (k start end : ℕ) → AreEnds 0 ends (length bytes) → k < length ends → start ≡ get_or (0 ∷ ends) k 0 → end ≡ get_or ends k end
+pub part_read : (ends bytes : List ℕ) (k start end : ℕ) → AreEnds 0 ends (length bytes) → k < length ends
+    → start ≡ get_or (0 ∷ ends) k 0 → end ≡ get_or ends k end
     → IsPartAt bytes (parts_from 0 ends bytes) start end k
 part_read ends bytes k start end is less first second =
     let at = part_at 0 ends bytes k is less in
@@ -98,9 +99,13 @@ parts_alike ends others bytes more is other_is same_ends same_bytes by_ends by_b
     step same_ends same_bytes (pointwise bytes_eq (parts_from 0 ends bytes) (parts_from 0 others more)) by_ends by_bytes
     (slice_eq-Decides bytes_eq-Decides (parts_from 0 ends bytes) (parts_from 0 others more) _ refl)
   where
-    step : (a b whole : Bool) → Decides a (ends ≡ others) → Decides b (bytes ≡ more) → Decides whole (parts_from 0 ends bytes ≡ parts_from 0 others more) → (a && b) ≡ whole
-    step true true whole on_ends on_bytes on_parts = sym (on_parts.1 (ap (λ e. parts_from 0 e bytes) (on_ends.0 refl) ∙ ap (parts_from 0 others) (on_bytes.0 refl)))
-    step true false true on_ends on_bytes on_parts = on_bytes.1 (joined 0 ends bytes is ∙ ap (flat_map (λ part. part)) (on_parts.0 refl) ∙ sym (joined 0 others more other_is))
-    step false b true on_ends on_bytes on_parts = on_ends.1 (sym (ends_again 0 ends bytes is) ∙ ap (ends_from 0) (on_parts.0 refl) ∙ ends_again 0 others more other_is)
+    step : (a b whole : Bool) → Decides a (ends ≡ others) → Decides b (bytes ≡ more)
+        → Decides whole (parts_from 0 ends bytes ≡ parts_from 0 others more) → (a && b) ≡ whole
+    step true true whole on_ends on_bytes on_parts =
+        sym (on_parts.1 (ap (λ e. parts_from 0 e bytes) (on_ends.0 refl) ∙ ap (parts_from 0 others) (on_bytes.0 refl)))
+    step true false true on_ends on_bytes on_parts =
+        on_bytes.1 (joined 0 ends bytes is ∙ ap (flat_map (λ part. part)) (on_parts.0 refl) ∙ sym (joined 0 others more other_is))
+    step false b true on_ends on_bytes on_parts =
+        on_ends.1 (sym (ends_again 0 ends bytes is) ∙ ap (ends_from 0) (on_parts.0 refl) ∙ ends_again 0 others more other_is)
     step true false false on_ends on_bytes on_parts = refl
     step false b false on_ends on_bytes on_parts = refl

@@ -2,8 +2,8 @@
 use Rattle.std.proofs.Common.{◌≡◌, ◌≤◌, ◌+◌, ℕ, zero, suc, Bool, true, false, List, [], ◌∷◌, map, refl, sym, ap, subst, arith, Ok, Err, Result}
 use Rattle.std.specs.Prelude.{if◌then◌else◌}
 use Rattle.std.specs.List.Sorted.{IsStrictlyIncreasing}
-use Rattle.decimal_rank.specs.Decimal.{DecimalValue}
-use Rattle.decimal_rank.specs.DecimalText.{decimal_of}
+use Rattle.decimal_rank.specs.Decimals.Decimal.{DecimalValue}
+use Rattle.decimal_rank.specs.Decimals.DecimalText.{decimal_of}
 use Rattle.decimal_rank.specs.declared.decimals.DecimalFault.{DecimalFault}
 use Rattle.trec_formats.specs.declared.runs.RunLine.{RunLine}
 use Rattle.trec_formats.specs.declared.faults.Kind.{Kind}
@@ -11,7 +11,7 @@ use Rattle.trec_formats.specs.declared.faults.Kind.TheVariants.{Topic, Docno}
 use Rattle.trec_formats.specs.Faults.{Stand}
 use Rattle.trec_formats.specs.Lines.{Row, fields_of, is_filled, lines_of, rows_from, rows_of}
 use Rattle.trec_formats.specs.Names.{is_name, is_docno}
-use Rattle.trec_formats.specs.Runs.{IsRun, run_of, scored}
+use Rattle.trec_formats.specs.RunFormat.Runs.{IsRun, run_of, scored}
 
 -- each number is at least n, and above the one before it
 abbrev Ascends : ℕ → List ℕ → Type 0
@@ -30,7 +30,8 @@ increasing n (x ∷ y ∷ xs) up (suc k) within =
     let next : suc k + 1 ≡ suc (k + 1) = omega arith in
     rw next (increasing (x + 1) (y ∷ xs) up.1 k (omega (arith, within)))
 
-numbers_step : (n : ℕ) (line : List ℕ) (lines : List (List ℕ)) (t : Bool) → is_filled (fields_of line) ≡ t → Ascends (n + 1) (map (λ row. row.0) (rows_from (n + 1) lines)) → Ascends n (map (λ row. row.0) (rows_from n (line ∷ lines)))
+numbers_step : (n : ℕ) (line : List ℕ) (lines : List (List ℕ)) (t : Bool) → is_filled (fields_of line) ≡ t
+    → Ascends (n + 1) (map (λ row. row.0) (rows_from (n + 1) lines)) → Ascends n (map (λ row. row.0) (rows_from n (line ∷ lines)))
 unfolding rows_from
 numbers_step n line lines true is up = rw is (omega arith, up)
 numbers_step n line lines false is up = rw is (ascends_from n (n + 1) _ (omega arith) up)
@@ -41,10 +42,13 @@ numbers_ascend n [] = tt
 numbers_ascend n (line ∷ lines) = numbers_step n line lines (is_filled (fields_of line)) refl (numbers_ascend (n + 1) lines)
 
 scored_number : (n : ℕ) (topic doc : List ℕ) (score : Result DecimalValue DecimalFault) (line : RunLine) → scored n topic doc score ≡ Ok line → line.line ≡ n
-scored_number n topic doc (Ok score) line is = let same : ◌≡◌ {A = RunLine} (record { line = n; topic = topic; doc = doc; score = score }) line = cc is in sym (ap (λ (l : RunLine). l.line) same)
+scored_number n topic doc (Ok score) line is = let same : ◌≡◌ {A = RunLine} (record { line = n; topic = topic; doc = doc; score = score }) line = cc is in
+    sym (ap (λ (l : RunLine). l.line) same)
 scored_number n topic doc (Err cause) line is = cc is
 
-six_number : (n : ℕ) (topic doc score : List ℕ) (line : RunLine) (named numbered : Bool) → (let r : Result RunLine Kind = if named then (if numbered then scored n topic doc (decimal_of score) else Err Docno) else Err Topic in r) ≡ Ok line → line.line ≡ n
+six_number : (n : ℕ) (topic doc score : List ℕ) (line : RunLine) (named numbered : Bool)
+    → (let r : Result RunLine Kind = if named then (if numbered then scored n topic doc (decimal_of score) else Err Docno) else Err Topic in r) ≡ Ok line
+    → line.line ≡ n
 six_number n topic doc score line true true is = scored_number n topic doc (decimal_of score) line is
 six_number n topic doc score line true false is = cc is
 six_number n topic doc score line false numbered is = cc is

@@ -3,21 +3,22 @@ use Rattle.std.proofs.Common.{◌≡◌, ◌≢◌, inl, inr, ℕ, List, [], ◌
 use Rattle.std.proofs.lemmas.List.{append-nil}
 use Rattle.trec_formats.specs.declared.faults.FormatFault.{FormatFault}
 use Rattle.trec_formats.specs.declared.faults.Kind.TheVariants.{Empty}
-use Rattle.trec_formats.specs.declared.run_fields.KeptLine.{KeptLine}
-use Rattle.trec_formats.specs.declared.run_reader.Ended.{Ended}
-use Rattle.trec_formats.specs.Counts.{count_at}
+use Rattle.trec_formats.specs.declared.runs.run_fields.KeptLine.{KeptLine}
+use Rattle.trec_formats.specs.declared.runs.run_reader.Ended.{Ended}
+use Rattle.trec_formats.specs.RunFormat.Counts.{count_at}
 use Rattle.trec_formats.specs.Faults.{IsFirstFault}
 use Rattle.trec_formats.specs.Lines.{fields_of, rows_of}
-use Rattle.trec_formats.specs.PackedRuns.{kept_lines}
-use Rattle.trec_formats.specs.RunFields.{kept, empty_line, with_part, kept_fields}
-use Rattle.trec_formats.specs.RunStates.{IsFaulty, IsGoing}
-use Rattle.trec_formats.specs.Runs.{AreRunLines, IsRun, IsRunFault}
+use Rattle.trec_formats.specs.RunFormat.PackedRuns.{kept_lines}
+use Rattle.trec_formats.specs.RunFormat.RunFields.{kept_field, empty_line, with_part, kept_fields}
+use Rattle.trec_formats.specs.RunFormat.RunStates.{IsFaulty, IsGoing}
+use Rattle.trec_formats.specs.RunFormat.Runs.{AreRunLines, IsRun, IsRunFault}
 use Rattle.trec_formats.proofs.RunTexts.KeptFields.{kept_more}
 use Rattle.trec_formats.proofs.RunTexts.RunFormat.{next_line, run_format}
 use Rattle.trec_formats.proofs.RunTexts.RunPieces.{EndsFaulty, EndsLine, in_hand_fields, in_hand_none, rows_at_end}
 
 -- no byte was read
-pub going_none : (ended : Ended) (line : KeptLine) (held : List ℕ) → ended.number ≡ 0 → kept_lines ended.run ≡ [] → ((topic : List ℕ) → count_at ended.counts topic ≡ 0) → line ≡ empty_line → held ≡ [] → IsGoing [] ended line held
+pub going_none : (ended : Ended) (line : KeptLine) (held : List ℕ) → ended.number ≡ 0 → kept_lines ended.run ≡ []
+    → ((topic : List ℕ) → count_at ended.counts topic ≡ 0) → line ≡ empty_line → held ≡ [] → IsGoing [] ended line held
 going_none ended line held number lines counts line_is held_is = record {
   done = [];
   bytes = [];
@@ -29,9 +30,11 @@ going_none ended line held number lines counts line_is held_is = record {
 pub faulty_here : (text : List ℕ) (fault : FormatFault) → IsFaulty text fault → IsRunFault text fault
 faulty_here text fault w = subst (λ text. IsRunFault text fault) (append-nil text) (w [])
 
-module _ (text : List ℕ) (ended : Ended) (line : KeptLine) (held : List ℕ) (last : KeptLine) (last_is : last ≡ with_part line (kept (held ++ []))) (w : IsGoing text ended line held) where
-  held_is : kept (held ++ []) ≡ held
-  held_is = ap (λ held. kept (held ++ [])) w.in_hand.held_is ∙ kept_more w.in_hand.present [] ∙ ap kept (append-nil w.in_hand.present) ∙ sym w.in_hand.held_is
+module _ (text : List ℕ) (ended : Ended) (line : KeptLine) (held : List ℕ) (last : KeptLine)
+    (last_is : last ≡ with_part line (kept_field (held ++ []))) (w : IsGoing text ended line held) where
+  held_is : kept_field (held ++ []) ≡ held
+  held_is = ap (λ held. kept_field (held ++ [])) w.in_hand.held_is ∙ kept_more w.in_hand.present []
+      ∙ ap kept_field (append-nil w.in_hand.present) ∙ sym w.in_hand.held_is
 
   last_fields : last ≡ kept_fields (fields_of w.bytes)
   last_fields = last_is ∙ ap (with_part line) held_is ∙ in_hand_fields w.bytes line held w.in_hand

@@ -7,11 +7,11 @@ use Rattle.std.proofs.lemmas.List.{take_all, take_more, take-append-drop}
 use Rattle.std.proofs.lemmas.List.Sums.{passes_at_first}
 use Rattle.std.proofs.lemmas.Option.{cond_some}
 use Rattle.trec_formats.specs.declared.faults.FormatFault.{FormatFault}
-use Rattle.trec_formats.specs.declared.run_fields.KeptLine.{KeptLine}
-use Rattle.trec_formats.specs.declared.run_reader.Ended.{Ended}
-use Rattle.trec_formats.specs.Lines.{is_white_space}
-use Rattle.trec_formats.specs.RunFields.{kept, empty_line, with_part}
-use Rattle.trec_formats.specs.RunStates.{is_break, is_line_feed, IsFaulty, IsGoing}
+use Rattle.trec_formats.specs.declared.runs.run_fields.KeptLine.{KeptLine}
+use Rattle.trec_formats.specs.declared.runs.run_reader.Ended.{Ended}
+use Rattle.trec_formats.specs.Lines.{is_white_space, is_line_feed}
+use Rattle.trec_formats.specs.RunFormat.RunFields.{kept_field, empty_line, with_part}
+use Rattle.trec_formats.specs.RunFormat.RunStates.{is_break, IsFaulty, IsGoing}
 use Rattle.trec_formats.proofs.LineTexts.Cuts.{none_past}
 use Rattle.trec_formats.proofs.RunTexts.RunPieces.{EndsFaulty, EndsLine, faulty_line, faulty_more, going_line, going_part, going_white, is_solid_part}
 
@@ -20,7 +20,8 @@ module _ (p : ℕ → Bool) where
   abbrev has_none : List ℕ → Bool
   has_none part = list_all (λ b. not (p b)) part
 
-  front_step : (b : ℕ) (bytes : List ℕ) (t : Bool) → p b ≡ t → has_none (take (position_or_len p bytes) bytes) ≡ true → has_none (take (position_or_len p (b ∷ bytes)) (b ∷ bytes)) ≡ true
+  front_step : (b : ℕ) (bytes : List ℕ) (t : Bool) → p b ≡ t → has_none (take (position_or_len p bytes) bytes) ≡ true
+      → has_none (take (position_or_len p (b ∷ bytes)) (b ∷ bytes)) ≡ true
   front_step b bytes true is rest = rw is refl
   front_step b bytes false is rest =
       let here : position_or_len p (b ∷ bytes) ≡ suc (position_or_len p bytes) = rw is (omega arith) in
@@ -61,7 +62,8 @@ white b false breaks is not_end = white_step (is_white_space b) (rw is at breaks
 
 module _ (text : List ℕ) (ended : Ended) (line : KeptLine) (held rest : List ℕ) where
   -- no field ends
-  pub step_part : (new_held : List ℕ) → None ≡ position is_break rest → new_held ≡ kept (held ++ rest) → IsGoing text ended line held → IsGoing (text ++ take (length rest) rest) ended line new_held
+  pub step_part : (new_held : List ℕ) → None ≡ position is_break rest → new_held ≡ kept_field (held ++ rest)
+      → IsGoing text ended line held → IsGoing (text ++ take (length rest) rest) ended line new_held
   step_part new_held is held_is w = rw (take_all (length rest) rest (omega arith), held_is) (going_part text ended line held rest w (solid_whole rest is))
 
   module _ (end : ℕ) (is : Some end ≡ position is_break rest) where
@@ -69,7 +71,7 @@ module _ (text : List ℕ) (ended : Ended) (line : KeptLine) (held rest : List �
     byte = get_or rest end 0
 
     abbrev part_held : List ℕ
-    part_held = kept (held ++ take end rest)
+    part_held = kept_field (held ++ take end rest)
 
     before : IsGoing text ended line held → IsGoing (text ++ take end rest) ended line part_held
     before w = going_part text ended line held (take end rest) w (cut_at is_break rest end is).clear
@@ -78,19 +80,28 @@ module _ (text : List ℕ) (ended : Ended) (line : KeptLine) (held rest : List �
     taken = ap (λ part. text ++ part) (cut_at is_break rest end is).taken ∙ sym (append_assoc text (take end rest) (byte ∷ []))
 
     -- a field ends, and its line goes on
-    pub step_white : (new_line : KeptLine) (new_held : List ℕ) → byte ≢ 10 → new_line ≡ with_part line part_held → new_held ≡ [] → IsGoing text ended line held → IsGoing (text ++ take (end + 1) rest) ended new_line new_held
+    pub step_white : (new_line : KeptLine) (new_held : List ℕ) → byte ≢ 10 → new_line ≡ with_part line part_held
+        → new_held ≡ [] → IsGoing text ended line held → IsGoing (text ++ take (end + 1) rest) ended new_line new_held
     step_white new_line new_held other line_is held_is w =
         let not_end : is_line_feed byte ≡ false = ne_eqb _ _ other in
-        rw (taken, line_is, held_is) (going_white (text ++ take end rest) ended line part_held byte (before w) (white byte false (cut_at is_break rest end is).breaks not_end refl) not_end)
+        rw (taken, line_is, held_is)
+        (going_white (text ++ take end rest) ended line part_held byte (before w) (white byte false (cut_at is_break rest end is).breaks not_end refl) not_end)
 
     -- a line ends
-    pub step_line : (old_line new_line : KeptLine) (new_held : List ℕ) (new : Ended) → byte ≡ 10 → old_line ≡ with_part line part_held → new_line ≡ empty_line → new_held ≡ [] → EndsLine ended old_line new → new.number ≡ ended.number + 1 → IsGoing text ended line held → IsGoing (text ++ take (end + 1) rest) new new_line new_held
+    pub step_line : (old_line new_line : KeptLine) (new_held : List ℕ) (new : Ended) → byte ≡ 10 → old_line ≡ with_part line part_held → new_line ≡ empty_line
+        → new_held ≡ [] → EndsLine ended old_line new → new.number ≡ ended.number + 1 → IsGoing text ended line held
+        → IsGoing (text ++ take (end + 1) rest) new new_line new_held
     step_line old_line new_line new_held new here line_is new_is held_is line_ends number w =
-        rw (taken, new_is, held_is) (going_line (text ++ take end rest) ended line part_held byte new (before w) (eq-eqb _ _ here) (rw line_is at line_ends) number)
+        rw (taken, new_is, held_is)
+        (going_line (text ++ take end rest) ended line part_held byte new (before w) (eq-eqb _ _ here) (rw line_is at line_ends) number)
 
     -- a line ends with a fault
-    pub step_faulty : (old_line : KeptLine) (fault : FormatFault) → byte ≡ 10 → old_line ≡ with_part line part_held → EndsFaulty ended old_line fault → IsGoing text ended line held → IsFaulty (text ++ rest) fault
+    pub step_faulty : (old_line : KeptLine) (fault : FormatFault) → byte ≡ 10 → old_line ≡ with_part line part_held
+        → EndsFaulty ended old_line fault → IsGoing text ended line held → IsFaulty (text ++ rest) fault
     step_faulty old_line fault here line_is line_ends w =
-        let found : IsFaulty ((text ++ take end rest) ++ byte ∷ []) fault = faulty_line (text ++ take end rest) ended line part_held byte fault (before w) (eq-eqb _ _ here) (rw line_is at line_ends) in
-        let whole : (text ++ take (end + 1) rest) ++ drop (end + 1) rest ≡ text ++ rest = append_assoc text _ _ ∙ ap (λ part. text ++ part) (take-append-drop (end + 1) rest) in
-        subst (λ t. IsFaulty t fault) whole (faulty_more (text ++ take (end + 1) rest) (drop (end + 1) rest) fault (subst (λ t. IsFaulty t fault) (sym taken) found))
+        let found : IsFaulty ((text ++ take end rest) ++ byte ∷ []) fault =
+        faulty_line (text ++ take end rest) ended line part_held byte fault (before w) (eq-eqb _ _ here) (rw line_is at line_ends) in
+        let whole : (text ++ take (end + 1) rest) ++ drop (end + 1) rest ≡ text ++ rest =
+        append_assoc text _ _ ∙ ap (λ part. text ++ part) (take-append-drop (end + 1) rest) in
+        subst (λ t. IsFaulty t fault) whole
+        (faulty_more (text ++ take (end + 1) rest) (drop (end + 1) rest) fault (subst (λ t. IsFaulty t fault) (sym taken) found))

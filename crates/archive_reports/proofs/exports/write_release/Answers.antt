@@ -1,7 +1,7 @@
 use Rattle.std.proofs.Common.{[], ◌∷◌, map, get_or, sym, ap, subst, ◌∙◌}
 use Rattle.std.proofs.lemmas.List.{take_all}
 use Rattle.archive_reports.specs.Exports.{Writes, csv_text, system_row}
-use Rattle.archive_reports.proofs.Growing.{one-system, writes-none, writes-on}
+use Rattle.archive_reports.proofs.WrittenRecords.{one-system, writes-none, writes-on}
 use Rattle.archive_reports.proofs.exports.write_release.Goals as goal
 
 pub loop-system-init : goal.loop-system-init
@@ -28,4 +28,5 @@ returns c =
     let systems = c.items-system-items.result.now in
     let name = c.args.kept.now.name in
     subst (Writes c.args.writer.now c.loop-system.writer)
-    (ap (λ some. csv_text (map (system_row name) some)) (take_all c.loop-system.system-index systems c.loop-system-test.false ∙ c.items-system-items.ensures)) c.loop-system.invariant
+    (ap (λ some. csv_text (map (system_row name) some)) (take_all c.loop-system.system-index systems c.loop-system-test.false ∙ c.items-system-items.ensures))
+    c.loop-system.invariant

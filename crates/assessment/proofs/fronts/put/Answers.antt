@@ -8,7 +8,14 @@ pub returns-clause-here : goal.returns-clause-here
 returns-clause-here c =
     let items = c.resize.new.self.items in
     let within : c.args.run.0 < length items =
-    omega (arith, c.in_ok-resize.ensures.len, c.resize.new.self.ok.0, c.max-len.ensures, le-max_right c.len.result (c.from-place.result + 1), c.from-place.ensures) in
+    omega (
+      arith,
+      c.in_ok-resize.ensures.len,
+      c.resize.new.self.ok.0,
+      c.max-len.ensures,
+      le-max_right c.len.result (c.from-place.result + 1),
+      c.from-place.ensures,
+    ) in
     ap (λ (n : ℕ). get_or (set items n c.args.front) c.args.run.0 0) c.from-place.ensures ∙ get_or-set_same items c.args.run.0 c.args.front 0 within
 
 pub returns-clause-others : goal.returns-clause-others
@@ -20,5 +27,6 @@ returns-clause-others c = λ other apart.
     ap (λ (n : ℕ). get_or (set items n c.args.front) other 0) c.from-place.ensures
     ∙ get_or-set_other items c.args.run.0 other c.args.front 0 apart
     ∙ ap (λ (list : List ℕ). get_or list other 0) c.in_ok-resize.ensures.items
-    ∙ ap (λ (list : List ℕ). get_or (list ++ replicate more 0) other 0) (take_all len old.items (omega (arith, c.max-len.ensures, le-max_left c.len.result (c.from-place.result + 1), c.len.ensures, old.ok.0)))
+    ∙ ap (λ (list : List ℕ). get_or (list ++ replicate more 0) other 0)
+    (take_all len old.items (omega (arith, c.max-len.ensures, le-max_left c.len.result (c.from-place.result + 1), c.len.ensures, old.ok.0)))
     ∙ padded old.items more other

@@ -44,4 +44,5 @@ loop-list-preserved c =
 pub returns-clause-none : goal.returns-clause-none
 returns-clause-none c =
     let past : length c.args.lists.now ≤ c.loop-list.list-index = search rules in
-    no-rooms c.loop-list.board.rooms (λ len. c.loop-list.invariant.rooms len ∙ ap (count_by (has_length len)) (drop_all c.loop-list.list-index c.args.lists.now past))
+    no-rooms c.loop-list.board.rooms
+    (λ len. c.loop-list.invariant.rooms len ∙ ap (count_by (has_length len)) (drop_all c.loop-list.list-index c.args.lists.now past))

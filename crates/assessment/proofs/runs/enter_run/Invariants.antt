@@ -1,7 +1,7 @@
 -- The run is on the topics so far.
 use Rattle.std.proofs.Common.{◌≡◌, length}
 use Rattle.std.specs.Vec.Iter.{into_iter_items, into_iter_len}
-use Rattle.assessment.proofs.Entering.{IsEnteredTo}
+use Rattle.assessment.proofs.RunChanges.EnteredRuns.{IsEnteredTo}
 use Rattle.assessment.proofs.runs.enter_run.Given as goal
 
 abbrev pub invariant-loop-list : goal.invariant-loop-list

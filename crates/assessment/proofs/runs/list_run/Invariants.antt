@@ -1,7 +1,7 @@
 -- The first lists of the run are on the board.
 use Rattle.std.proofs.Common.{◌≡◌, length}
 use Rattle.std.specs.Vec.Iter.{into_iter_items, into_iter_len}
-use Rattle.assessment.proofs.WaitingSteps.{IsListedTo}
+use Rattle.assessment.proofs.RunChanges.WaitingSteps.{IsListedTo}
 use Rattle.assessment.proofs.runs.list_run.Given as goal
 
 abbrev pub invariant-loop-list : goal.invariant-loop-list

@@ -1,16 +1,17 @@
 use Rattle.std.proofs.Common.{◌≡◌, ◌∙◌, ◌∷◌, [], List, ap, arith, length, map, subst, sym}
 use Rattle.std.specs.Vec.Iter.{into_iter_items}
-use Rattle.std.proofs.lemmas.List.{map-append}
+use Rattle.std.proofs.lemmas.List.{map-append, nil_from_length}
 use Rattle.assessment.specs.WaitingRuns.{RunLists, lists_of}
 use Rattle.assessment.specs.declared.waiting.WaitingRun.{WaitingRun}
-use Rattle.assessment.proofs.ListFacts.{nothing-left}
-use Rattle.assessment.proofs.WaitingSteps.{AreListedTo, runs-ended, runs-listing, runs-more}
+use Rattle.assessment.proofs.RunChanges.WaitingSteps.{AreListedTo, runs-ended, runs-listing, runs-more}
 use Rattle.assessment.proofs.runs.list_runs.Goals.{In-Some}
 use Rattle.assessment.proofs.runs.list_runs.Goals as goal
 
 -- with the run that comes next
-here : (c : In-Some) → AreListedTo (map lists_of c.args.runs.items) c.args.topics (map lists_of c.loop-one.yielded) (lists_of c.in-Some.one ∷ map lists_of (into_iter_items c.next.new.self)) c.loop-one.topics
-here c = subst (λ (left : List WaitingRun). AreListedTo (map lists_of c.args.runs.items) c.args.topics (map lists_of c.loop-one.yielded) (map lists_of left) c.loop-one.topics) c.in-Some.ensures.steps.0 c.loop-one.invariant.listed
+here : (c : In-Some) → AreListedTo (map lists_of c.args.runs.items) c.args.topics (map lists_of c.loop-one.yielded)
+    (lists_of c.in-Some.one ∷ map lists_of (into_iter_items c.next.new.self)) c.loop-one.topics
+here c = subst (λ (left : List WaitingRun). AreListedTo (map lists_of c.args.runs.items) c.args.topics (map lists_of c.loop-one.yielded)
+    (map lists_of left) c.loop-one.topics) c.in-Some.ensures.steps.0 c.loop-one.invariant.listed
 
 pub loop-one-init : goal.loop-one-init
 loop-one-init c =
@@ -28,7 +29,8 @@ loop-one-preserved c =
     let one : WaitingRun = c.in-Some.one in
     let left = map lists_of (into_iter_items c.next.new.self) in
     record {
-      listed = subst (λ (done : List RunLists). AreListedTo (map lists_of c.args.runs.items) c.args.topics done left c.list_run.new.topics) (sym (map-append lists_of at.yielded (one ∷ [])))
+      listed = subst (λ (done : List RunLists). AreListedTo (map lists_of c.args.runs.items) c.args.topics done left c.list_run.new.topics)
+          (sym (map-append lists_of at.yielded (one ∷ [])))
           (runs-more (here (goal.at.loop-one-preserved c).In-Some) c.in_ok-list_run.ensures.facts c.in_ok-list_run.ensures.none);
       len =
           let was = at.invariant.len in
@@ -49,6 +51,8 @@ list_run-requires-clause-none c = c.loop-one.invariant.listed.none
 pub returns : goal.returns
 returns c =
     let at = c.loop-one in
-    let empty : into_iter_items at.one-iterator ≡ [] = nothing-left _ (sym at.invariant.len ∙ c.in-None.ensures.steps.0) in
-    let ended = subst (λ (left : List WaitingRun). AreListedTo (map lists_of c.args.runs.items) c.args.topics (map lists_of at.yielded) (map lists_of left) at.topics) empty at.invariant.listed in
+    let empty : into_iter_items at.one-iterator ≡ [] = nil_from_length _ (sym at.invariant.len ∙ c.in-None.ensures.steps.0) in
+    let ended = subst
+    (λ (left : List WaitingRun). AreListedTo (map lists_of c.args.runs.items) c.args.topics (map lists_of at.yielded) (map lists_of left) at.topics)
+    empty at.invariant.listed in
     record { facts = runs-ended ended; none = ended.none }

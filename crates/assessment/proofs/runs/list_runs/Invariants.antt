@@ -2,7 +2,7 @@
 use Rattle.std.proofs.Common.{◌≡◌, length, map}
 use Rattle.std.specs.Vec.Iter.{into_iter_items, into_iter_len}
 use Rattle.assessment.specs.WaitingRuns.{lists_of}
-use Rattle.assessment.proofs.WaitingSteps.{AreListedTo}
+use Rattle.assessment.proofs.RunChanges.WaitingSteps.{AreListedTo}
 use Rattle.assessment.proofs.runs.list_runs.Given as goal
 
 abbrev pub invariant-loop-one : goal.invariant-loop-one

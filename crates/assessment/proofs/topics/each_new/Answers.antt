@@ -1,9 +1,8 @@
 use Rattle.std.proofs.Common.{◌≡◌, ◌∙◌, ◌∷◌, ◌++◌, [], List, ap, arith, length, map, sym}
 use Rattle.std.specs.Vec.Iter.{into_iter_items}
-use Rattle.std.proofs.lemmas.List.{append_assoc, append-nil, map-append}
+use Rattle.std.proofs.lemmas.List.{append_assoc, append-nil, map-append, nil_from_length}
 use Rattle.assessment.specs.TopicFacts.{TopicFacts, facts_of, new_topic}
 use Rattle.assessment.specs.declared.topic.TopicRules.{TopicRules}
-use Rattle.assessment.proofs.ListFacts.{nothing-left}
 use Rattle.assessment.proofs.topics.each_new.Goals as goal
 
 pub loop-rules-init : goal.loop-rules-init
@@ -35,6 +34,6 @@ loop-rules-preserved c =
 pub returns : goal.returns
 returns c =
     let at = c.loop-rules in
-    let empty : into_iter_items at.rules-iterator ≡ [] = nothing-left _ (sym at.invariant.len ∙ c.in-None.ensures.steps.0) in
+    let empty : into_iter_items at.rules-iterator ≡ [] = nil_from_length _ (sym at.invariant.len ∙ c.in-None.ensures.steps.0) in
     let all : at.yielded ≡ c.args.given.items = sym (append-nil at.yielded) ∙ ap (λ (rs : List TopicRules). at.yielded ++ rs) (sym empty) ∙ at.invariant.left in
     at.invariant.facts ∙ ap (map new_topic) all

@@ -1,7 +1,7 @@
 -- The journaling of an entry, by its exits.
 use Rattle.std.proofs.Common.{arith}
 use Rattle.book.proofs.Requests.{accepts_fault, accepts_memory, accepts_reply}
-use Rattle.book.proofs.Keeping.{book_holds}
+use Rattle.book.proofs.JournalEntries.{book_holds}
 use Rattle.book.proofs.books.accept.Goals as goal
 
 pub returns-in_default : goal.returns-in_default
@@ -17,8 +17,10 @@ pub returns-in-Ok-keep : goal.returns-in-Ok-keep
 returns-in-Ok-keep g c =
     let H = c.args.state.now.history in
     let accepted = c.requires.room.accepted in
-    accepts_reply g.D.Disk.seen c.args.journal.now c.keep.new.journal H c.commit.new.state.history c.args.pending.now c.keep.new.pending c.args.prepared c.commit.result
-    c.commit.ensures.history c.in-Ok-keep.ensures.none c.commit.ensures.reply (c.in-Ok-keep.ensures.added H accepted c.requires.keeps) c.in-Ok-keep.ensures.place
+    accepts_reply g.D.Disk.seen c.args.journal.now c.keep.new.journal H c.commit.new.state.history
+    c.args.pending.now c.keep.new.pending c.args.prepared c.commit.result
+    c.commit.ensures.history c.in-Ok-keep.ensures.none c.commit.ensures.reply
+    (c.in-Ok-keep.ensures.added H accepted c.requires.keeps) c.in-Ok-keep.ensures.place
     (c.keep.ensures.any_moment H accepted c.requires.keeps) c.keep.ensures.cause.later
 
 pub returns : goal.returns
@@ -26,5 +28,6 @@ returns g c =
     let H = c.args.state.now.history in
     let accepted = c.requires.room.accepted in
     accepts_fault g.D.Disk.seen c.args.journal.now c.keep.new.journal H c.cancel-in-Err.new.self.history c.args.pending.now c.keep.new.pending c.args.prepared
-    c.cancel-in-Err.ensures.history c.in-Err.ensures.pending (c.in-Err.ensures.kept H accepted c.requires.keeps) c.in-Err.ensures.place_err c.in-Err.ensures.cause.failed
+    c.cancel-in-Err.ensures.history c.in-Err.ensures.pending
+    (c.in-Err.ensures.kept H accepted c.requires.keeps) c.in-Err.ensures.place_err c.in-Err.ensures.cause.failed
     (c.keep.ensures.any_moment H accepted c.requires.keeps) c.keep.ensures.cause.later

@@ -1,12 +1,12 @@
 -- An open journal, compacted.
 use Rattle.std.proofs.Common.{◌∷◌, ◌-◌, List, length, take, drop, subst, sym, ap, ◌∙◌}
-use Rattle.journal.specs.Kept.{Settled, payloads as payloads_of}
+use Rattle.journal.specs.KeptRecords.{Settled, payloads as payloads_of}
 use Rattle.rulebook.specs.Words.{Text}
-use Rattle.book.specs.CompactedJournals.{CompactsOpen}
-use Rattle.book.specs.Openings.{OpensWith}
-use Rattle.book.specs.Replays.{Stops}
+use Rattle.book.specs.Compaction.CompactedJournals.{CompactsOpen}
+use Rattle.book.specs.Opening.Openings.{OpensWith}
+use Rattle.book.specs.Opening.Replays.{Stops}
 use Rattle.book.specs.Stories.{IsStory}
-use Rattle.book.proofs.CompactedRecords.{open_given_up, open_packed}
+use Rattle.book.proofs.Payloads.CompactedRecords.{open_given_up, open_packed}
 use Rattle.book.proofs.OpenJournals.{first_and_others, no_records}
 use Rattle.book.proofs.compacting.compact_open.Given.{Over}
 use Rattle.book.proofs.compacting.compact_open.Goals.{In-Ok}
@@ -14,7 +14,8 @@ use Rattle.book.proofs.compacting.compact_open.Goals as goal
 
 pub found-requires-clause-settled : goal.found-requires-clause-settled
 found-requires-clause-settled g c =
-    subst (λ (all : List Text). Settled (g.D.Disk.seen c.args.journal.disk).images c.args.journal.place all) (sym (no_records c.args.records.now c.in-empty.len_below)) c.requires.settled
+    subst (λ (all : List Text). Settled (g.D.Disk.seen c.args.journal.disk).images c.args.journal.place all)
+    (sym (no_records c.args.records.now c.in-empty.len_below)) c.requires.settled
 
 pub returns-in-empty : goal.returns-in-empty
 returns-in-empty g c =
@@ -46,7 +47,8 @@ returns-in-Ok g c =
     let here = (goal.at.returns-in-Ok g c).In-Ok in
     let all = payloads_of c.args.records.now in
     let H = c.in-Ok.replay in
-    open_packed D.seen g.met.D.Disk.only_now c.args.rules all c.args.journal.disk (c.stands.ensures.alone all c.requires.settled) H (opens g here) (story g here)
+    open_packed D.seen g.met.D.Disk.only_now c.args.rules all c.args.journal.disk
+    (c.stands.ensures.alone all c.requires.settled) H (opens g here) (story g here)
     c.entries-entries.result c.entries-entries.ensures.entries c.compact_records.result.0 c.compact_records.result.1
     (c.compact_records.ensures H c.entries-entries.ensures.legal (story g here))
 
@@ -58,4 +60,5 @@ returns-in-Err g c =
     let others = payloads_of (take (length records - 1) (drop 1 records)) in
     let all_is = ap (λ (x : Text). x ∷ others) c.deref.ensures.value ∙ first_and_others records c.first-item.result c.in-len1-up.len_at_least c.first-item.is in
     let stops : Stops c.args.rules all c.in-Err.fault = subst (λ (p : List Text). Stops c.args.rules p c.in-Err.fault) all_is c.in-Err.ensures in
-    rw c.close.ensures (open_given_up D.seen g.met.D.Disk.only_now c.args.rules all c.args.journal.disk (c.stands.ensures.alone all c.requires.settled) c.in-Err.fault stops)
+    rw c.close.ensures
+    (open_given_up D.seen g.met.D.Disk.only_now c.args.rules all c.args.journal.disk (c.stands.ensures.alone all c.requires.settled) c.in-Err.fault stops)

@@ -1,16 +1,16 @@
 -- The records of a journal, packed and replaced, or left.
 use Rattle.std.proofs.Common.{◌≡◌, ◌+◌, [], ℕ, List, refl, min, ap, sym, subst, ◌∙◌, arith}
 use Rattle.journal.specs.declared.replacing.ReplaceEnd.{ReplaceEnd}
-use Rattle.journal.specs.Kept.{payloads as payloads_of}
+use Rattle.journal.specs.KeptRecords.{payloads as payloads_of}
 use Rattle.journal.specs.Replacements.{Replaces}
 use Rattle.journal.specs.Format.{place_behind}
 use Rattle.rulebook.specs.Campaign.{History}
-use Rattle.rulebook.specs.Legal.{IsLegal}
+use Rattle.rulebook.specs.Histories.Legal.{IsLegal}
 use Rattle.rulebook.specs.Words.{Text}
 use Rattle.book.specs.Stories.{IsStory}
-use Rattle.book.proofs.CompactedRecords.{left_as_it_is, not_replaced, replace_failed, replaced}
-use Rattle.book.proofs.Keeping.{keeps_settled}
-use Rattle.book.proofs.PackedEntries.{compacted_story}
+use Rattle.book.proofs.Payloads.CompactedRecords.{left_as_it_is, not_replaced, replace_failed, replaced}
+use Rattle.book.proofs.JournalEntries.{keeps_settled}
+use Rattle.book.proofs.Payloads.PackedEntries.{compacted_story}
 use Rattle.book.proofs.compacting.compact_records.Given.{Over}
 use Rattle.book.proofs.compacting.compact_records.Goals.{After-stands, In-Ok}
 use Rattle.book.proofs.compacting.compact_records.Goals as goal
@@ -36,7 +36,8 @@ returns-in_default g c H legal story =
     let D = g.D.Disk in
     let all = payloads_of c.args.records.now in
     let disk = c.args.journal.disk in
-    rw c.close.ensures (left_as_it_is D.seen disk H all (g.met.D.Disk.counts_now disk) (g.met.D.Disk.only_now disk) story (c.stands.ensures.alone all c.requires.settled))
+    rw c.close.ensures
+    (left_as_it_is D.seen disk H all (g.met.D.Disk.counts_now disk) (g.met.D.Disk.only_now disk) story (c.stands.ensures.alone all c.requires.settled))
 
 pub returns-in_default-Done : goal.returns-in_default-Done
 returns-in_default-Done g c H legal story =
@@ -48,7 +49,8 @@ returns-in_default-Done g c H legal story =
     let ends = subst (λ (end : ReplaceEnd). Replaces D.seen j.disk new j.place j.due c.in-Ok.area end) c.in_default-Done.is-1 c.replace.ensures in
     let after_is = c.lesser-after.ensures ∙ ap (λ (bytes : ℕ). min c.length-before.result (16 + bytes)) c.bytes.ensures in (
       refl,
-      replaced D.seen j.disk new H (g.met.D.Disk.counts_now new) j.place all c.in-Ok.area story (packed_story g at.In-Ok H legal story) (c.in-Ok.ensures H story)
+      replaced D.seen j.disk new H (g.met.D.Disk.counts_now new) j.place all c.in-Ok.area story
+          (packed_story g at.In-Ok H legal story) (c.in-Ok.ensures H story)
           (total g at.After-stands) c.requires.settled (c.stands.ensures.length all c.requires.settled) j.due c.requires.nothing_due
           c.length-before.result c.lesser-after.result c.length-before.ensures after_is ends,
     )
@@ -63,7 +65,8 @@ returns-in_default-Larger g c H legal story =
     let ends = subst (λ (end : ReplaceEnd). Replaces D.seen j.disk new j.place j.due c.in-Ok.area end) c.in_default-Larger.is-1 c.replace.ensures in
     let after_is = c.lesser-after.ensures ∙ ap (λ (bytes : ℕ). min c.length-before.result (16 + bytes)) c.bytes.ensures in (
       refl,
-      not_replaced D.seen j.disk new H (g.met.D.Disk.counts_now new) j.place all c.in-Ok.area story (packed_story g at.In-Ok H legal story) (c.in-Ok.ensures H story)
+      not_replaced D.seen j.disk new H (g.met.D.Disk.counts_now new) j.place all c.in-Ok.area story
+          (packed_story g at.In-Ok H legal story) (c.in-Ok.ensures H story)
           (total g at.After-stands) c.requires.settled (c.stands.ensures.length all c.requires.settled) j.due c.requires.nothing_due
           c.length-before.result c.lesser-after.result c.length-before.ensures after_is ends,
     )
@@ -76,5 +79,6 @@ returns-in_default-Failed g c H legal story =
     let new = c.replace.result.0 in
     let all = payloads_of c.args.records.now in
     let ends = subst (λ (end : ReplaceEnd). Replaces D.seen j.disk new j.place j.due c.in-Ok.area end) c.in_default-Failed.is-1 c.replace.ensures in
-    replace_failed D.seen j.disk new H (g.met.D.Disk.counts_now new) j.place all c.in-Ok.area story (packed_story g at.In-Ok H legal story) (c.in-Ok.ensures H story)
+    replace_failed D.seen j.disk new H (g.met.D.Disk.counts_now new) j.place all c.in-Ok.area story
+    (packed_story g at.In-Ok H legal story) (c.in-Ok.ensures H story)
     (total g at.After-stands) c.requires.settled (c.stands.ensures.length all c.requires.settled) j.due c.requires.nothing_due ends

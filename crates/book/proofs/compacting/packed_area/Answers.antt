@@ -1,8 +1,8 @@
 -- The area of the packed records.
 use Rattle.std.proofs.Common.{List, Vec, ℕ, ap, ◌∙◌}
 use Rattle.std.specs.declared.alloc.Global.{Global}
-use Rattle.journal.specs.Kept.{payloads as payloads_of}
-use Rattle.book.proofs.CompactedRecords.{area_of}
+use Rattle.journal.specs.KeptRecords.{payloads as payloads_of}
+use Rattle.book.proofs.Payloads.CompactedRecords.{area_of}
 use Rattle.book.proofs.compacting.packed_area.Goals as goal
 
 pub returns : goal.returns

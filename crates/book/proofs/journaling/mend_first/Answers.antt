@@ -4,8 +4,8 @@ use Rattle.disk_model.specs.Disks.{EachMoment}
 use Rattle.rulebook.specs.declared.entry.Entry.{Entry}
 use Rattle.rulebook.specs.Campaign.{History}
 use Rattle.book.specs.Images.{HoldsWith}
-use Rattle.book.specs.Journaling.{KeepsBook}
-use Rattle.book.proofs.Keeping.{book_holds, mend_done, mend_keeps, mend_moments, nothing_due, still_keeps, still_moments}
+use Rattle.book.specs.JournaledEntries.{KeepsBook}
+use Rattle.book.proofs.JournalEntries.{book_holds, mend_done, mend_keeps, mend_moments, nothing_due, still_keeps, still_moments}
 use Rattle.book.proofs.journaling.mend_first.Given.{Over}
 use Rattle.book.proofs.journaling.mend_first.Goals.{After-mend}
 use Rattle.book.proofs.journaling.mend_first.Goals as goal

@@ -1,13 +1,13 @@
 -- The founding entry is added to a journal without records.
 use Rattle.std.proofs.Common.{◌≡◌, [], ◌∷◌, refl, arith}
 use Rattle.disk_model.specs.Disks.{EachMoment}
-use Rattle.journal.specs.Kept.{Keeps, StandsForOneOf}
+use Rattle.journal.specs.KeptRecords.{HoldsRecordsOfOne, Keeps}
 use Rattle.journal.specs.Moments.{weaker}
 use Rattle.rulebook.specs.declared.rules.Rules.{Rules}
-use Rattle.rulebook.specs.Legal.{founding}
-use Rattle.book.specs.Openings.{Establishes}
+use Rattle.rulebook.specs.Histories.Legal.{founding}
+use Rattle.book.specs.Opening.Openings.{Establishes}
 use Rattle.book.specs.declared.faults.BookFault.TheVariants as fault
-use Rattle.book.proofs.Keeping.{keeps_settled}
+use Rattle.book.proofs.JournalEntries.{keeps_settled}
 use Rattle.book.proofs.OpenJournals.{established, establishes, not_established}
 use Rattle.book.proofs.opening.establish.Given.{Over}
 use Rattle.book.proofs.opening.establish.Goals.{After-append}
@@ -20,7 +20,7 @@ keeps g c = let j = c.args.journal in keeps_settled (g.D.Disk.seen j.disk).image
 moments : (g : Over) (c : After-append g) (rules : Rules) → c.args.state.history ≡ founding rules ∷ []
     → EachMoment g.D.Disk.seen c.args.journal.disk c.append.new.self.disk (Establishes rules [])
 moments g c rules founded =
-    weaker g.D.Disk.seen c.args.journal.disk c.append.new.self.disk (StandsForOneOf [] [] c.args.frame.now) (Establishes rules [])
+    weaker g.D.Disk.seen c.args.journal.disk c.append.new.self.disk (HoldsRecordsOfOne [] [] c.args.frame.now) (Establishes rules [])
     (establishes rules c.args.frame.now c.args.state.history c.requires.founded founded) (c.append.ensures.any_moment [] [] (keeps g c))
 
 pub reopen-requires-clause-settled : goal.reopen-requires-clause-settled
@@ -41,5 +41,6 @@ returns-in-Ok g c rules founded =
 pub returns-in-Err : goal.returns-in-Err
 returns-in-Err g c rules founded =
     let D = g.D.Disk in
-    rw c.close.ensures (not_established D.seen rules c.args.opening c.args.journal.disk c.append.new.self.disk (moments g (goal.at.returns-in-Err g c).After-append rules founded)
+    rw c.close.ensures
+    (not_established D.seen rules c.args.opening c.args.journal.disk c.append.new.self.disk (moments g (goal.at.returns-in-Err g c).After-append rules founded)
     c.append.ensures.cause.later fault.Disk refl c.in-Err.ensures.cause.failed)

@@ -1,11 +1,11 @@
 -- An open journal as a book.
 use Rattle.std.proofs.Common.{◌≡◌, ◌∷◌, ◌<◌, List, Vec, ℕ, length, subst, sym, ap, ◌∙◌, arith}
 use Rattle.std.specs.declared.alloc.Global.{Global}
-use Rattle.journal.specs.Kept.{Settled, payloads as payloads_of}
+use Rattle.journal.specs.KeptRecords.{Settled, payloads as payloads_of}
 use Rattle.rulebook.specs.Words.{Text}
-use Rattle.book.specs.Openings.{OpensWith}
-use Rattle.book.specs.OpenJournals.{TakesUp}
-use Rattle.book.specs.Replays.{Stops}
+use Rattle.book.specs.Opening.Openings.{OpensWith}
+use Rattle.book.specs.Opening.OpenJournals.{TakesUp}
+use Rattle.book.specs.Opening.Replays.{Stops}
 use Rattle.book.specs.Stories.{IsStory}
 use Rattle.book.proofs.OpenJournals.{first_removed, given_up, no_records, taken_up}
 use Rattle.book.proofs.opening.take_up.Given.{Over}

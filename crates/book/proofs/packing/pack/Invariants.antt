@@ -1,7 +1,7 @@
 -- The entries of the records so far were packed.
-use Rattle.journal.specs.Kept.{payloads as payloads_of}
-use Rattle.book.specs.Packings.{AreShort}
-use Rattle.book.proofs.PackedEntries.{LeavesToPack}
+use Rattle.journal.specs.KeptRecords.{payloads as payloads_of}
+use Rattle.book.specs.Compaction.Packings.{AreShort}
+use Rattle.book.proofs.Payloads.PackedEntries.{LeavesToPack}
 use Rattle.book.proofs.packing.pack.Given as goal
 
 abbrev pub invariant-loop-place : goal.invariant-loop-place

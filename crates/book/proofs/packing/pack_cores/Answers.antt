@@ -1,12 +1,11 @@
 -- The cores that were packed so far.
 use Rattle.std.proofs.Common.{◌≡◌, ◌++◌, ◌∷◌, [], List, length, sym, ap, subst, ◌∙◌, arith}
 use Rattle.std.specs.Vec.Iter.{into_iter_items}
-use Rattle.std.proofs.lemmas.List.{append_assoc}
-use Rattle.journal.specs.Kept.{payloads as payloads_of}
+use Rattle.std.proofs.lemmas.List.{append_assoc, nil_from_length}
+use Rattle.journal.specs.KeptRecords.{payloads as payloads_of}
 use Rattle.rulebook.specs.declared.entry.EntryCore.{EntryCore}
-use Rattle.book.specs.Packings.{CanPack, PacksTo}
-use Rattle.book.proofs.PackedEntries.{packs_none, packs_on}
-use Rattle.book.proofs.PayloadEntries.{nothing_left}
+use Rattle.book.specs.Compaction.Packings.{CanPack, PacksTo}
+use Rattle.book.proofs.Payloads.PackedEntries.{packs_none, packs_on}
 use Rattle.book.proofs.packing.pack_cores.Goals.{In-Some}
 use Rattle.book.proofs.packing.pack_cores.Goals as goal
 
@@ -21,16 +20,19 @@ loop-core-init c =
       len = omega (arith, gives.1, ap length items);
       short = c.requires.short;
       packs = λ left can.
-          subst (λ (cores : List EntryCore). PacksTo done part (c.args.cores.items ++ left) done part (cores ++ left)) (sym items) (packs_none done part (c.args.cores.items ++ left) can);
+          subst (λ (cores : List EntryCore). PacksTo done part (c.args.cores.items ++ left) done part (cores ++ left))
+          (sym items) (packs_none done part (c.args.cores.items ++ left) can);
     }
 
 -- the cores that are left begin with this one
 packed_so_far : (c : In-Some) (left : List EntryCore) → CanPack c.args.part.now.items (c.args.cores.items ++ left)
-    → PacksTo (payloads_of c.args.payloads.now.items) c.args.part.now.items (c.args.cores.items ++ left) (payloads_of c.loop-core.payloads.items) c.loop-core.part.items
+    → PacksTo (payloads_of c.args.payloads.now.items) c.args.part.now.items (c.args.cores.items ++ left)
+    (payloads_of c.loop-core.payloads.items) c.loop-core.part.items
     (c.in-Some.core ∷ (into_iter_items c.next.new.self ++ left))
 packed_so_far c left can =
     let at = c.loop-core in
-    subst (λ (cores : List EntryCore). PacksTo (payloads_of c.args.payloads.now.items) c.args.part.now.items (c.args.cores.items ++ left) (payloads_of at.payloads.items) at.part.items (cores ++ left))
+    subst (λ (cores : List EntryCore). PacksTo (payloads_of c.args.payloads.now.items) c.args.part.now.items
+    (c.args.cores.items ++ left) (payloads_of at.payloads.items) at.part.items (cores ++ left))
     c.in-Some.ensures.steps.0 (at.invariant.packs left can)
 
 pub pack_core-requires-clause-can : goal.pack_core-requires-clause-can
@@ -50,15 +52,18 @@ loop-core-preserved c =
       short = c.in_ok-pack_core.ensures.short;
       packs = λ left can.
           let so_far = packed_so_far here left can in
-          packs_on (payloads_of c.args.payloads.now.items) c.args.part.now.items (c.args.cores.items ++ left) (payloads_of at.payloads.items) at.part.items (core ∷ (next ++ left))
-          (payloads_of c.pack_core.new.payloads.items) c.pack_core.new.part.items (next ++ left) so_far (c.in_ok-pack_core.ensures.packs (next ++ left) so_far.can);
+          packs_on (payloads_of c.args.payloads.now.items) c.args.part.now.items (c.args.cores.items ++ left)
+          (payloads_of at.payloads.items) at.part.items (core ∷ (next ++ left))
+          (payloads_of c.pack_core.new.payloads.items) c.pack_core.new.part.items (next ++ left) so_far
+          (c.in_ok-pack_core.ensures.packs (next ++ left) so_far.can);
     }
 
 pub returns-clause-packs : goal.returns-clause-packs
 returns-clause-packs c left can =
     let at = c.loop-core in
-    let empty : into_iter_items at.core-iterator ≡ [] = nothing_left _ (sym at.invariant.len ∙ c.in-None.ensures.steps.0) in
-    subst (λ (cores : List EntryCore). PacksTo (payloads_of c.args.payloads.now.items) c.args.part.now.items (c.args.cores.items ++ left) (payloads_of at.payloads.items) at.part.items (cores ++ left))
+    let empty : into_iter_items at.core-iterator ≡ [] = nil_from_length _ (sym at.invariant.len ∙ c.in-None.ensures.steps.0) in
+    subst (λ (cores : List EntryCore). PacksTo (payloads_of c.args.payloads.now.items) c.args.part.now.items
+    (c.args.cores.items ++ left) (payloads_of at.payloads.items) at.part.items (cores ++ left))
     empty (at.invariant.packs left can)
 
 pub returns-clause-short : goal.returns-clause-short

@@ -1,9 +1,9 @@
 -- The entries of a record, packed.
 use Rattle.std.proofs.Common.{◌≡◌, ◌++◌, List, rules, sym, subst}
-use Rattle.journal.specs.Kept.{payloads as payloads_of}
+use Rattle.journal.specs.KeptRecords.{payloads as payloads_of}
 use Rattle.record_codec.specs.Payloads.{IsPayload}
 use Rattle.rulebook.specs.declared.entry.EntryCore.{EntryCore}
-use Rattle.book.specs.Packings.{CanPack, PacksTo}
+use Rattle.book.specs.Compaction.Packings.{CanPack, PacksTo}
 use Rattle.book.proofs.packing.pack_record.Goals as goal
 
 pub pack_cores-requires-clause-can : goal.pack_cores-requires-clause-can

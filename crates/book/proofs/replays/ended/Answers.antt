@@ -4,10 +4,10 @@ use Rattle.std.specs.Prelude.{IfOk, Ok, Result}
 use Rattle.std.proofs.lemmas.Slice.Eq.{bytes_eq-Decides}
 use Rattle.decimal_rank.specs.declared.storage.Memory.{Memory}
 use Rattle.rulebook.specs.Campaign.{History}
-use Rattle.rulebook.specs.Legal.{founding}
+use Rattle.rulebook.specs.Histories.Legal.{founding}
 use Rattle.rulebook.specs.Spelling.{entry_bytes}
 use Rattle.rulebook.specs.Words.{Text}
-use Rattle.book.specs.Replays.{Begins, EntersAll}
+use Rattle.book.specs.Opening.Replays.{EntersAll, IsFoundingRecord}
 use Rattle.book.specs.Stories.{BreaksAt, IsOnlyStory}
 use Rattle.book.proofs.Founders.{broken, differs_from, opens_with, replayed}
 use Rattle.book.proofs.replays.ended.Goals.{In-Ok-true}
@@ -21,7 +21,7 @@ known result all told begun after others is test enters =
     (subst (λ (r : Result Bool Memory). IfOk r (λ all. EntersAll begun others all after)) is enters)
 
 -- the entries are the only story of all records
-only : (c : In-Ok-true) (first : Text) (others : List Text) (begun : History) → Begins first begun
+only : (c : In-Ok-true) (first : Text) (others : List Text) (begun : History) → IsFoundingRecord first begun
     → IfOk c.args.entered (λ all. EntersAll begun others all c.args.replay) → IsOnlyStory (first ∷ others) c.args.replay
 only c first others begun begins enters = replayed c.requires.laws first others begun c.args.replay begins c.entries-entries.ensures.legal
     (known c.args.entered c.in-Ok-true.field-0 true begun c.args.replay others c.in-Ok-true.is c.in-Ok-true.field-0-test enters)

@@ -1,5 +1,5 @@
 -- The other records behind the first.
-use Rattle.journal.specs.Kept.{payloads as payloads_of}
+use Rattle.journal.specs.KeptRecords.{payloads as payloads_of}
 use Rattle.book.proofs.replays.replayed.Goals as goal
 
 pub returns-in-Ok : goal.returns-in-Ok

@@ -3,7 +3,7 @@ use Rattle.std.specs.Prelude.{◌==◌, nat_le}
 use Rattle.std.specs.List.{list_all}
 use Rattle.std.proofs.lemmas.Bool.{and_from}
 use Rattle.trec_formats.specs.Names.{is_name}
-use Rattle.rulebook.specs.Limits.{max_topics}
+use Rattle.rulebook.specs.Requests.Limits.{max_topics}
 use Rattle.rulebook.specs.Spelling.{are_levels, are_settings, is_ascending, is_topic_level}
 use Rattle.rulebook.specs.declared.rules.Rules.{Rules}
 use Rattle.rulebook.specs.declared.rules.TopicLevel.{TopicLevel}
@@ -26,6 +26,15 @@ each-allowed (suc (suc (suc (suc level)))) fits = absurd (omega (arith, fits))
 pub found-requires : goal.found-requires
 unfolding is_name
 found-requires c =
-    let r : Rules = record { depth = c.args.depth; term = 600; hold = c.args.hold; level = 1; top_grade = 3; doubles = c.if-is_doubled.doubles; levels = c.in_ok-levels.levels } in
+    let r : Rules =
+    record {
+      depth = c.args.depth;
+      term = 600;
+      hold = c.args.hold;
+      level = 1;
+      top_grade = 3;
+      doubles = c.if-is_doubled.doubles;
+      levels = c.in_ok-levels.levels;
+    } in
     let settings : are_settings r ≡ true = search rules in
     and_from (are_settings r) (are_levels r) settings (ap allowed c.in_ok-levels.ensures ∙ each-allowed c.args.level c.requires.level)

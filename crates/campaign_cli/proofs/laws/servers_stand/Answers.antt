@@ -1,4 +1,4 @@
-use Rattle.campaign_cli.proofs.Ways.{server_stands}
+use Rattle.campaign_cli.proofs.CommandWays.{server_stands}
 use Rattle.campaign_cli.proofs.laws.servers_stand.Goals as goal
 
 pub returns : goal.returns

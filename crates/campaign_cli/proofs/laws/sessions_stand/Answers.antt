@@ -1,4 +1,4 @@
-use Rattle.campaign_cli.proofs.Ways.{session_stands}
+use Rattle.campaign_cli.proofs.CommandWays.{session_stands}
 use Rattle.campaign_cli.proofs.laws.sessions_stand.Goals as goal
 
 pub returns : goal.returns

@@ -1,7 +1,7 @@
 -- The disk that is opened under the rules of the settings.
 use Rattle.std.proofs.Common.{refl}
-use Rattle.campaign_cli.specs.BookEnds.{unset}
-use Rattle.campaign_cli.proofs.Ways.{opened_disk, refused_disk}
+use Rattle.campaign_cli.specs.Ends.BookEnds.{unset}
+use Rattle.campaign_cli.proofs.CommandWays.{opened_disk, refused_disk}
 use Rattle.campaign_cli.proofs.openings.open_book.Goals as goal
 
 pub returns-in-Ok-clause-opened : goal.returns-in-Ok-clause-opened

@@ -2,7 +2,7 @@
 use Rattle.std.proofs.Common.{List, ℕ, inl, inr, refl, sym, subst, ap, ◌∙◌}
 use Rattle.book.specs.declared.faults.BookFault.{BookFault}
 use Rattle.campaign_cli.specs.declared.endings.Cause.TheVariants as cause
-use Rattle.campaign_cli.specs.BookEnds.{IsToldOf}
+use Rattle.campaign_cli.specs.Ends.BookEnds.{IsToldOf}
 use Rattle.campaign_cli.specs.Causes.{says}
 use Rattle.campaign_cli.proofs.openings.told_of.Goals as goal
 

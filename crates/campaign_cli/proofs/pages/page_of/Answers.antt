@@ -2,8 +2,8 @@
 use Rattle.std.proofs.lemmas.Bool.{and_parts}
 use Rattle.trec_formats.specs.Names.{is_name}
 use Rattle.rulebook.specs.declared.rules.Role.TheVariants.{Organiser}
-use Rattle.rulebook.specs.Legal.{is_named}
-use Rattle.rulebook.specs.Roles.{may_see}
+use Rattle.rulebook.specs.Histories.Legal.{is_named}
+use Rattle.rulebook.specs.Requests.Roles.{may_see}
 use Rattle.campaign_cli.proofs.pages.page_of.Goals as goal
 
 pub act-requires : goal.act-requires

@@ -1,4 +1,4 @@
-use Rattle.campaign_core.proofs.Printed.LentBoards.{board-ruled}
+use Rattle.campaign_core.proofs.PageTexts.LentBoards.{board-ruled}
 use Rattle.campaign_core.proofs.laws.boards_score_by_the_rules.Goals as goal
 
 pub returns : goal.returns

@@ -1,5 +1,5 @@
-use Rattle.campaign_core.specs.Numbers.{names_of}
-use Rattle.campaign_core.proofs.Printed.TopicCells.{cell-numbered}
+use Rattle.campaign_core.specs.Numbering.Numbers.{names_of}
+use Rattle.campaign_core.proofs.PageTexts.TopicCells.{cell-numbered}
 use Rattle.campaign_core.proofs.laws.cells_by_numbers.Goals as goal
 
 pub returns : goal.returns

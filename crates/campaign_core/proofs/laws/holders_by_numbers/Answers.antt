@@ -1,4 +1,4 @@
-use Rattle.campaign_core.proofs.Judging.NumberedHolders.{holders-numbered}
+use Rattle.campaign_core.proofs.NamedDocuments.NumberedHolders.{holders-numbered}
 use Rattle.campaign_core.proofs.laws.holders_by_numbers.Goals as goal
 
 pub returns : goal.returns

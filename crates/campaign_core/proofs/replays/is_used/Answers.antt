@@ -1,6 +1,6 @@
 use Rattle.std.proofs.Common.{◌∙◌, ap, is_some, sym}
-use Rattle.rulebook.specs.Numbers.{used}
-use Rattle.campaign_core.specs.NumberedRequests.{place_of}
+use Rattle.rulebook.specs.Requests.Numbers.{entry_of_number}
+use Rattle.campaign_core.specs.Numbering.NumberedRequests.{place_of_number}
 use Rattle.campaign_core.proofs.Entries.EnteredAgain.{used-there}
 use Rattle.campaign_core.proofs.replays.is_used.Goals as goal
 
@@ -9,4 +9,5 @@ returns c =
     let H = c.args.history.now in
     let name = c.args.core.now.caller.name in
     let number = c.in-Some.number in
-    c.is_some.ensures ∙ ap is_some (c.in_ok-place.ensures ∙ ap (place_of name number) c.requires) ∙ used-there H name number ∙ ap (λ given. is_some (used H name given)) (sym c.in-Some.is)
+    c.is_some.ensures ∙ ap is_some (c.in_ok-place.ensures ∙ ap (place_of_number name number) c.requires) ∙ used-there H name number
+    ∙ ap (λ given. is_some (entry_of_number H name given)) (sym c.in-Some.is)

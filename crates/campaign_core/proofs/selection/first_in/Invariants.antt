@@ -1,6 +1,6 @@
 -- No document of the runs passed is open: the first in the runs left is the first in all.
 use Rattle.std.proofs.Common.{◌≡◌, drop}
-use Rattle.campaign_core.specs.Leasing.{first_open, is_open_in}
+use Rattle.campaign_core.specs.Assessments.DeskLeases.{first_open, is_open_in}
 use Rattle.campaign_core.proofs.selection.first_in.Given as goal
 
 abbrev pub invariant-loop-run : goal.invariant-loop-run

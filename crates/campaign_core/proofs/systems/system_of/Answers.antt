@@ -3,12 +3,12 @@ use Rattle.std.specs.Option.{option_map_or}
 use Rattle.measures.specs.Means.{IsProper, summary_of}
 use Rattle.measures.specs.declared.means.Summary.{Summary}
 use Rattle.rulebook.specs.Campaign.{Run}
-use Rattle.rulebook.specs.Scores.{summary_on}
-use Rattle.rulebook.specs.Systems.{are_means}
-use Rattle.score_index.specs.Standing.{cells_of}
-use Rattle.campaign_core.specs.Scoring.{graded_of}
-use Rattle.campaign_core.proofs.Entries.LiveSystems.{proper-means}
-use Rattle.campaign_core.proofs.Printed.RunCells.{cells-same}
+use Rattle.rulebook.specs.Reports.Scores.{summary_on}
+use Rattle.rulebook.specs.Reports.Systems.{are_means}
+use Rattle.score_index.specs.BoardGrades.{cells_of}
+use Rattle.campaign_core.specs.Assessments.RunScores.{fact_grades}
+use Rattle.campaign_core.proofs.Entries.Runs.LiveSystems.{proper-means}
+use Rattle.campaign_core.proofs.PageTexts.RunCells.{cells-same}
 use Rattle.campaign_core.proofs.systems.system_of.Goals as goal
 
 pub returns-clause-system : goal.returns-clause-system
@@ -21,6 +21,6 @@ returns-clause-system c = λ H topics r knows submits.
 
 pub returns-clause-means : goal.returns-clause-means
 returns-clause-means c = λ H topics r knows.
-    let cells = cells_of c.args.run c.args.board.now.topics (map graded_of topics) in
+    let cells = cells_of c.args.run c.args.board.now.topics (map fact_grades topics) in
     let is : c.summary.result ≡ summary_of cells = c.summary.ensures.summary _ knows.scored.stands in
     subst (λ (summary : Summary). are_means summary ≡ true) (sym is) (proper-means cells (subst IsProper is c.summary.ensures.proper))

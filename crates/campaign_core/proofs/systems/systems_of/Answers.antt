@@ -1,17 +1,18 @@
 use Rattle.std.proofs.Common.{◌≡◌, ◌++◌, ◌∙◌, ◌∷◌, ◌<◌, ◌≤◌, ℕ, [], false, true, List, Some, ap, arith, get_or, length, refl, rules, sym, take_all}
 use Rattle.std.specs.List.{filter_map, list_all}
 use Rattle.std.proofs.lemmas.List.Folds.{list_all-append}
+use Rattle.std.proofs.lemmas.Bool.{and_from}
+use Rattle.std.proofs.lemmas.Option.{slice_get-get_or}
 use Rattle.depth_pool.specs.declared.runs.RunId.{RunId}
 use Rattle.rulebook.specs.declared.entry.Entry.{Entry}
 use Rattle.rulebook.specs.declared.systems.System.{System}
 use Rattle.rulebook.specs.Campaign.{History, Run, is_withdrawn, run_in, runs}
-use Rattle.rulebook.specs.Systems.{are_means, are_sound_systems, is_sound_system, system_in, system_of, systems}
-use Rattle.campaign_core.specs.Kept.{KnowsRun}
-use Rattle.campaign_core.specs.Submissions.{submissions}
-use Rattle.campaign_core.proofs.Entries.LiveRuns.{at-live}
-use Rattle.campaign_core.proofs.Entries.LiveSystems.{are-sound, system-passed, system-sound, system-taken, systems-submitted, systems_to}
-use Rattle.campaign_core.proofs.Entries.WithdrawalSteps.{flag-there}
-use Rattle.campaign_core.proofs.Lists.Elements.{and_true, get-there}
+use Rattle.rulebook.specs.Reports.Systems.{are_means, are_sound_systems, is_sound_system, system_in, system_of, systems}
+use Rattle.campaign_core.specs.CampaignStates.{KnowsRun}
+use Rattle.campaign_core.specs.Numbering.Submissions.{submissions}
+use Rattle.campaign_core.proofs.Entries.Runs.LiveRuns.{at-live}
+use Rattle.campaign_core.proofs.Entries.Runs.LiveSystems.{are-sound, system-passed, system-sound, system-taken, systems-submitted, systems_to}
+use Rattle.campaign_core.proofs.Entries.Runs.WithdrawalSteps.{flag-there}
 use Rattle.campaign_core.proofs.Numbers.RunPlaces.{entry-at, entry-within, no_run, runs-long, runs-many}
 use Rattle.campaign_core.proofs.systems.systems_of.Goals as goal
 
@@ -53,7 +54,7 @@ loop-number-preserved c =
     let at = entry-at H all n _ e no_run are c.loop-number-test.true in
     let is : e ≡ get_or (submissions H) n e = c.index-history-submission.is ∙ at.entry_is in
     let submits : run_in e.core.command ≡ Some run = ap (λ (e : Entry). run_in e.core.command) c.index-history-submission.is ∙ at.run_is in
-    let there = get-there (runs H) n no_run (omega (arith, within, runs-long H)) in
+    let there = slice_get-get_or (runs H) n no_run (omega (arith, within, runs-long H)) in
     let lent = c.requires.board in
     let knows : KnowsRun H lent.topics c.args.board.now number run = record {
       legal = c.requires.legal;
@@ -78,8 +79,8 @@ loop-number-preserved c =
       each_sound =
           ap (list_all is_sound_system) c.in_ok-push.ensures.items
           ∙ list_all-append is_sound_system before (system ∷ [])
-          ∙ and_true (list_all is_sound_system before) (list_all is_sound_system (system ∷ [])) c.loop-number.invariant.each_sound
-          (and_true (is_sound_system system) true sound refl);
+          ∙ and_from (list_all is_sound_system before) (list_all is_sound_system (system ∷ [])) c.loop-number.invariant.each_sound
+          (and_from (is_sound_system system) true sound refl);
     }
 
 whole : (H : History) (n : ℕ) (found : List System) → length (submissions H) ≤ n → found ≡ systems_to H n → found ≡ systems H

@@ -1,8 +1,8 @@
 -- The systems are those of the live runs among those so far, and each is sound.
 use Rattle.std.proofs.Common.{◌≡◌, true}
 use Rattle.std.specs.List.{list_all}
-use Rattle.rulebook.specs.Systems.{is_sound_system}
-use Rattle.campaign_core.proofs.Entries.LiveSystems.{systems_to}
+use Rattle.rulebook.specs.Reports.Systems.{is_sound_system}
+use Rattle.campaign_core.proofs.Entries.Runs.LiveSystems.{systems_to}
 use Rattle.campaign_core.proofs.systems.systems_of.Given as goal
 
 abbrev pub invariant-loop-number : goal.invariant-loop-number

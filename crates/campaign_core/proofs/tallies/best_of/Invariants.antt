@@ -2,8 +2,8 @@
 use Rattle.std.proofs.Common.{◌≡◌, ◌≤◌, ◌^◌, [], None, Some, take}
 use Rattle.std.specs.Option.{option_map}
 use Rattle.rulebook.specs.Campaign.{History, runs}
-use Rattle.campaign_core.specs.Tallies.{first_best, greatest, map_of, submitted_at}
-use Rattle.campaign_core.proofs.Entries.LiveRuns.{live_of}
+use Rattle.campaign_core.specs.Views.Tallies.{first_best, greatest, map_of, submitted_at}
+use Rattle.campaign_core.proofs.Entries.Runs.LiveRunLists.{live_of}
 use Rattle.campaign_core.proofs.tallies.best_of.Given as goal
 
 abbrev pub invariant-loop-number : goal.invariant-loop-number

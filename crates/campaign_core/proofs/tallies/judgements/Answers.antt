@@ -1,10 +1,10 @@
 use Rattle.std.proofs.Common.{◌≡◌, ◌+◌, ◌∙◌, ◌<◌, ◌≤◌, ap, arith, get_or, length, map, sym}
 use Rattle.std.proofs.lemmas.List.{length-map}
-use Rattle.rulebook.specs.Grades.{relevant_count}
+use Rattle.rulebook.specs.Judgements.Grades.{relevant_count}
 use Rattle.assessment.specs.TopicFacts.{facts_of}
-use Rattle.campaign_core.specs.Numbers.{names_of}
-use Rattle.campaign_core.specs.Tallies.{judged_on}
-use Rattle.campaign_core.specs.Topics.{topic_ids}
+use Rattle.campaign_core.specs.Numbering.Numbers.{names_of}
+use Rattle.campaign_core.specs.Views.Tallies.{judged_on}
+use Rattle.campaign_core.specs.Assessments.Topics.{topic_ids}
 use Rattle.campaign_core.proofs.Lists.Elements.{get-map}
 use Rattle.campaign_core.proofs.Numbers.TopicPlaces.{as-long, sum-all, sum-more, topic-at}
 use Rattle.campaign_core.proofs.tallies.judgements.Goals as goal
@@ -26,7 +26,8 @@ loop-topic-preserved c =
       judged_is = λ H desk knows.
           let page = topic-at H topics desk knows i s within is in
           let counts = c.counts_of-more.ensures H (names_of H) page.is_topic in
-          sum-more (judged_on H) (topic_ids H) i c.loop-topic.judged (c.from.result + c.from-in-loop-topic.result) (omega (arith, within, as-long H topics desk knows))
+          sum-more (judged_on H) (topic_ids H) i c.loop-topic.judged (c.from.result + c.from-in-loop-topic.result)
+          (omega (arith, within, as-long H topics desk knows))
           (c.loop-topic.invariant.judged_is H desk knows)
           (ap (λ n. n + c.from-in-loop-topic.result) (c.from.ensures ∙ counts.0)
           ∙ ap (λ n. relevant_count H s.id + n) (c.from-in-loop-topic.ensures ∙ counts.1)
@@ -38,7 +39,8 @@ loop-topic-preserved c =
 pub returns : goal.returns
 returns c = λ H desk knows.
     let topics = map facts_of c.args.topics.now in
-    let past : length (topic_ids H) ≤ c.loop-topic.topic-index = omega (arith, c.loop-topic-test.false, as-long H topics desk knows, length-map c.args.topics.now facts_of) in (
+    let past : length (topic_ids H) ≤ c.loop-topic.topic-index =
+    omega (arith, c.loop-topic-test.false, as-long H topics desk knows, length-map c.args.topics.now facts_of) in (
       sum-all (relevant_count H) (topic_ids H) c.loop-topic.topic-index c.loop-topic.relevant past (c.loop-topic.invariant.relevant_is H desk knows),
       sum-all (judged_on H) (topic_ids H) c.loop-topic.topic-index c.loop-topic.judged past (c.loop-topic.invariant.judged_is H desk knows),
     )

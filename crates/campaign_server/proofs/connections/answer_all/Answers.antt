@@ -1,6 +1,6 @@
 use Rattle.std.proofs.Common.{◌∙◌, inl, inr, refl}
-use Rattle.campaign_server.proofs.TalkSteps.Speaking.{turn_more, turn_closes, turn_part, spoke_refused, spoke_cut, spoke_pause}
-use Rattle.http_wire.specs.Heads.{passed}
+use Rattle.campaign_server.proofs.TalkSteps.SpokenRequests.{turn_more, turn_closes, turn_part, spoke_refused, spoke_cut, spoke_pause}
+use Rattle.http_wire.specs.Heads.{behind_line_ends}
 use Rattle.campaign_server.proofs.connections.answer_all.Goals as goal
 
 pub requests-init : goal.requests-init
@@ -14,9 +14,10 @@ pub returns-in-Ok-Need-clause-pause : goal.returns-in-Ok-Need-clause-pause
 returns-in-Ok-Need-clause-pause g c = λ old was bytes rest stands spoke.
     let (at, on, said) = c.requests.invariant.goes_on old was bytes rest stands spoke in
     let need = (rw c.in-Ok-Need.field-0-is at c.in-Ok-Need.ensures.asks) at on in (
-      passed at,
+      behind_line_ends at,
       need.1,
-      spoke_pause g.T.Teller.tells c.args.keys.now c.readings_go_on.ensures c.fronts_are_messages.ensures old was bytes at c.requests.teller (g.I.Link.seen c.requests.link)
+      spoke_pause g.T.Teller.tells c.args.keys.now c.readings_go_on.ensures c.fronts_are_messages.ensures old was bytes at c.requests.teller
+          (g.I.Link.seen c.requests.link)
           said c.in-Ok-Need.clean need.0,
     )
 
@@ -41,7 +42,8 @@ pub returns-then-close-clause-ends : goal.returns-then-close-clause-ends
 returns-then-close-clause-ends g c = λ old was bytes rest stands spoke.
     let (at, on, said) = c.requests.invariant.goes_on old was bytes rest stands spoke in
     let (next, asked, behind) = (rw c.in-Ok-Whole.field-0-is at c.in-Ok-Whole.ensures.asks) at on in
-    turn_closes g.T.Teller.tells c.args.keys.now c.readings_go_on.ensures c.fronts_are_messages.ensures old was bytes at c.requests.teller (g.I.Link.seen c.requests.link)
+    turn_closes g.T.Teller.tells c.args.keys.now c.readings_go_on.ensures c.fronts_are_messages.ensures old was bytes at c.requests.teller
+    (g.I.Link.seen c.requests.link)
     said c.in-Ok-Whole.reading c.in-Ok-Whole.close next c.answer.new.teller (g.I.Link.seen c.answer.new.link) tt asked c.in-Ok-answer.ensures.turn
     c.if-close.true
 
@@ -52,7 +54,8 @@ requests-preserved g c = record {
       let (next, asked, behind) = (rw c.in-Ok-Whole.field-0-is at c.in-Ok-Whole.ensures.asks) at on in (
         next,
         behind,
-        turn_more g.T.Teller.tells c.args.keys.now c.readings_go_on.ensures c.fronts_are_messages.ensures old was bytes at c.requests.teller (g.I.Link.seen c.requests.link)
+        turn_more g.T.Teller.tells c.args.keys.now c.readings_go_on.ensures c.fronts_are_messages.ensures old was bytes at c.requests.teller
+            (g.I.Link.seen c.requests.link)
             said c.in-Ok-Whole.reading c.in-Ok-Whole.close next c.answer.new.teller (g.I.Link.seen c.answer.new.link) tt asked
             c.in-Ok-answer.ensures.turn c.in-Ok-answer.ensures.cause.later c.if-close.false,
       );
@@ -63,5 +66,7 @@ pub returns-in-Err-answer-clause-ends : goal.returns-in-Err-answer-clause-ends
 returns-in-Err-answer-clause-ends g c = λ old was bytes rest stands spoke.
     let (at, on, said) = c.requests.invariant.goes_on old was bytes rest stands spoke in
     let (next, asked, behind) = (rw c.in-Ok-Whole.field-0-is at c.in-Ok-Whole.ensures.asks) at on in
-    inl (turn_part g.T.Teller.tells c.args.keys.now c.readings_go_on.ensures c.fronts_are_messages.ensures old was bytes at c.requests.teller (g.I.Link.seen c.requests.link)
-    said c.in-Ok-Whole.reading c.in-Ok-Whole.close next c.answer.new.teller (g.I.Link.seen c.answer.new.link) c.in-Err-answer.field-0 asked c.in-Err-answer.ensures.turn c.in-Err-answer.ensures.cause.failed)
+    inl (turn_part g.T.Teller.tells c.args.keys.now c.readings_go_on.ensures c.fronts_are_messages.ensures old was bytes at c.requests.teller
+    (g.I.Link.seen c.requests.link)
+    said c.in-Ok-Whole.reading c.in-Ok-Whole.close next c.answer.new.teller
+    (g.I.Link.seen c.answer.new.link) c.in-Err-answer.field-0 asked c.in-Err-answer.ensures.turn c.in-Err-answer.ensures.cause.failed)

@@ -1,7 +1,7 @@
 -- The teller, the link and the stream went on, nothing was read, and each answered request leaves a smaller wire.
 use Rattle.std.proofs.Common.{◌≡◌}
-use Rattle.http_wire.specs.Pieces.{size}
-use Rattle.campaign_server.specs.LoopParts.{Continues}
+use Rattle.http_wire.specs.Pieces.{steps_left}
+use Rattle.campaign_server.specs.ConnectionLoop.LoopParts.{Continues}
 use Rattle.campaign_server.proofs.connections.answer_all.Given as goal
 
 abbrev pub invariant-requests : goal.invariant-requests
@@ -11,4 +11,4 @@ invariant-requests g l = record {
 }
 
 abbrev pub decreases-requests : goal.decreases-requests
-decreases-requests g l = size l.stream.wire
+decreases-requests g l = steps_left l.stream.wire

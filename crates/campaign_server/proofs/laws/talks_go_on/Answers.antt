@@ -1,4 +1,4 @@
-use Rattle.campaign_server.proofs.TalkSteps.TalkLemmas.{talk_laws}
+use Rattle.campaign_server.proofs.TalkSteps.LongerTalks.{talk_laws}
 use Rattle.campaign_server.proofs.laws.talks_go_on.Goals as goal
 
 pub returns : goal.returns

@@ -2,7 +2,7 @@
 use Rattle.std.proofs.Common.{◌≡◌, ◌++◌, length}
 use Rattle.std.specs.Vec.Iter.{into_iter_items, into_iter_len}
 use Rattle.campaign_server.specs.Doors.{HandsOver}
-use Rattle.campaign_server.specs.Records.{ended_all}
+use Rattle.campaign_server.specs.Crews.Records.{ended_all}
 use Rattle.campaign_server.proofs.servers.hand_all.Given as goal
 
 abbrev pub invariant-loop-records : goal.invariant-loop-records

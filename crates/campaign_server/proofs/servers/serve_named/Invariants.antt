@@ -4,5 +4,5 @@ use Rattle.campaign_server.proofs.servers.serve_named.Given as goal
 abbrev pub ghosts-serve_owned-J-Ledger : goal.ghosts-serve_owned-J-Ledger
 ghosts-serve_owned-J-Ledger g a = record { name = a.blank.name; parts = a.blank.parts }
 
-abbrev pub ghosts-serve_owned-J-Opening : goal.ghosts-serve_owned-J-Opening
-ghosts-serve_owned-J-Opening g a = record { port = a.numbers.port; faults = (g.R.Door.seen a.door).faults; limit = a.numbers.connections }
+abbrev pub ghosts-serve_owned-J-DoorOpening : goal.ghosts-serve_owned-J-DoorOpening
+ghosts-serve_owned-J-DoorOpening g a = record { port = a.numbers.port; faults = (g.R.Door.seen a.door).faults; limit = a.numbers.connections }

@@ -2,14 +2,14 @@ use Rattle.std.proofs.Common.{rules, ◌≡◌, ◌+◌, ◌∙◌, All, Some, a
 use Rattle.std.proofs.lemmas.List.{with_items_is}
 use Rattle.std.proofs.lemmas.List.Elements.{All-pop}
 use Rattle.book.specs.Halls.{seen_as}
-use Rattle.campaign_server.specs.Workers.{HasServed, IsFresh, Works}
-use Rattle.campaign_server.proofs.ServerEnds.WorkerLemmas.{works_empty, works_in}
+use Rattle.campaign_server.specs.Crews.Workers.{HasServed, IsFreshWorker, Works}
+use Rattle.campaign_server.proofs.ServerEnds.JoinedWorkers.{works_empty, works_in}
 use Rattle.campaign_server.proofs.servers.work_together.Goals as goal
 
 pub serve_by-requires-clause-fresh : goal.serve_by-requires-clause-fresh
 serve_by-requires-clause-fresh g c κs within = (
   seen_as c.args.all.now.done.pass.seen,
-  subst (All (IsFresh c.args.crew.now.hall (seen_as c.args.all.now.done.pass.seen))) (sym c.as_mut_slice.ensures.value) c.requires.fresh,
+  subst (All (IsFreshWorker c.args.crew.now.hall (seen_as c.args.all.now.done.pass.seen))) (sym c.as_mut_slice.ensures.value) c.requires.fresh,
 )
 
 pub workers-init : goal.workers-init
@@ -20,7 +20,7 @@ workers-init g c =
     let none = c.requires.none in
     let len : length c.serve_by.new.team ≡ c.args.team.len = search rules in
     let whole = with_items_is c.args.team c.serve_by.new.team len in
-    let fresh = subst (All (IsFresh hall start)) (sym c.as_mut_slice.ensures.value) c.requires.fresh in
+    let fresh = subst (All (IsFreshWorker hall start)) (sym c.as_mut_slice.ensures.value) c.requires.fresh in
     record {
       hall = none.of;
       left = subst (All (HasServed keys hall start)) (sym whole) (c.serve_by.ensures.served start fresh);

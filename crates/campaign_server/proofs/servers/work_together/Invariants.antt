@@ -1,7 +1,7 @@
 -- The workers not yet taken apart have served, and what was gathered is of the others, of which each gave its part of the ledger.
 use Rattle.std.proofs.Common.{◌≡◌, ◌+◌, ◌≤◌, All, vec_len}
 use Rattle.book.specs.Halls.{seen_as}
-use Rattle.campaign_server.specs.Workers.{HasServed, Works}
+use Rattle.campaign_server.specs.Crews.Workers.{HasServed, Works}
 use Rattle.campaign_server.proofs.servers.work_together.Given as goal
 
 abbrev pub invariant-workers : goal.invariant-workers

@@ -1,5 +1,5 @@
 -- What a session comes to, from the chain of the book's states.
-use Rattle.campaign_server.proofs.BookTalks.Keeping.{session_ends}
+use Rattle.campaign_server.proofs.BookTalks.SessionChains.{session_ends}
 use Rattle.campaign_server.proofs.sessions.session.Goals as goal
 
 pub returns : goal.returns

@@ -2,7 +2,7 @@ use Rattle.std.proofs.Common.{◌≡◌, ◌∙◌, ℕ, List, ap, rules}
 use Rattle.std.proofs.lemmas.Fn.{always_returns_same}
 use Rattle.std.proofs.lemmas.List.{map-id}
 use Rattle.rulebook.specs.Spelling.{is_ascending}
-use Rattle.campaign_settings.proofs.Ascending.{ascending, is_before}
+use Rattle.campaign_settings.proofs.AscendingNeighbours.{ascending, is_before}
 use Rattle.campaign_settings.proofs.settings.is_ascending.Goals as goal
 
 pub returns : goal.returns

@@ -1,7 +1,7 @@
 use Rattle.std.proofs.Common.{◌≡◌, rules}
 use Rattle.std.proofs.lemmas.Fn.{always_returns_same}
 use Rattle.rulebook.specs.declared.rules.TopicLevel.{TopicLevel}
-use Rattle.campaign_settings.proofs.Ascending.{ascending, is_before}
+use Rattle.campaign_settings.proofs.AscendingNeighbours.{ascending, is_before}
 use Rattle.campaign_settings.proofs.settings.topics_ascend.Goals as goal
 
 pub returns : goal.returns

@@ -16,4 +16,5 @@ returns-in-Some c =
     (ap (found_by forms) matches.1 ∙ taken forms words c.requires (search rules) matches.0) c.command_in.ensures
 
 pub returns-in-None : goal.returns-in-None
-returns-in-None c = not_taken (map form_of c.args.forms.now) (map string_bytes c.args.words.now) c.requires (search rules) (rw c.in-None.is at c.in_ok-matches.ensures)
+returns-in-None c =
+    not_taken (map form_of c.args.forms.now) (map string_bytes c.args.words.now) c.requires (search rules) (rw c.in-None.is at c.in_ok-matches.ensures)

@@ -2,8 +2,8 @@
 use Rattle.std.proofs.Common.{◌≡◌, ℕ}
 use Rattle.std.specs.HashMap.{get}
 use Rattle.std.specs.Prelude.{nat_eq}
-use Rattle.decimal_rank.specs.Places.{AreDistinct, place_in}
-use Rattle.decimal_rank.proofs.Standings.Listing.{numbered, docs_to}
+use Rattle.decimal_rank.specs.Rankings.Places.{AreDistinct, place_in}
+use Rattle.decimal_rank.proofs.Standings.ListPlaces.{numbered, docs_to}
 use Rattle.decimal_rank.proofs.rankings.first_repeat.Given as goal
 
 abbrev pub invariant-loop-i : goal.invariant-loop-i

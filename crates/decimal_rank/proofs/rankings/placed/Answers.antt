@@ -1,5 +1,5 @@
 use Rattle.std.proofs.Common.{ap, sym, ◌∙◌, ◌++◌, ◌∷◌, [], get_or, ◌+◌}
-use Rattle.decimal_rank.proofs.Standings.Listing.{entries_in-more, entry_of, numbered}
+use Rattle.decimal_rank.proofs.Standings.ListPlaces.{entries_in-more, entry_of, numbered}
 use Rattle.decimal_rank.proofs.rankings.placed.Goals as goal
 
 pub loop-i-preserved : goal.loop-i-preserved

@@ -12,5 +12,6 @@ loop-doc-preserved c =
     let after = c.drop_empty.new.index in (
       λ other. c.drop_empty.ensures.holders other ∙ c.loop-doc.invariant.0 other,
       All-more (λ doc. is_vacant after doc ≡ false) docs i none c.loop-doc-test.true
-          (All-weaker (λ doc. is_vacant c.loop-doc.index doc ≡ false) (λ doc. is_vacant after doc ≡ false) c.drop_empty.ensures.others (take i docs) c.loop-doc.invariant.1) c.drop_empty.ensures.gone,
+          (All-weaker (λ doc. is_vacant c.loop-doc.index doc ≡ false) (λ doc. is_vacant after doc ≡ false) c.drop_empty.ensures.others
+          (take i docs) c.loop-doc.invariant.1) c.drop_empty.ensures.gone,
     )

@@ -14,4 +14,5 @@ pub returns-clause-items : goal.returns-clause-items
 returns-clause-items c =
     let holders = c.args.holders.now.items in
     let put : c.insert.new.self.items ≡ insert holders c.place_of-place.result c.args.run = search rules in
-    put ∙ ap (λ n. insert holders n c.args.run) (rw (← c.as_slice.ensures) c.place_of-place.ensures) ∙ insert_put (λ holder. nat_lt c.args.run.0 holder.0) c.args.run holders
+    put ∙ ap (λ n. insert holders n c.args.run) (rw (← c.as_slice.ensures) c.place_of-place.ensures)
+    ∙ insert_put (λ holder. nat_lt c.args.run.0 holder.0) c.args.run holders

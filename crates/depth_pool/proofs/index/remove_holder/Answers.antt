@@ -9,7 +9,8 @@ pub returns-in-Some-clause-holders : goal.returns-in-Some-clause-holders
 returns-in-Some-clause-holders c =
     let new = c.take_holder.new.holders in
     let found : get doc_cmp c.args.index.now c.args.doc ≡ Some c.in-Some.holders.now = search rules in
-    let written : IsWrittenAt c.args.index.now (c.get_mut.follows.lender new) c.args.doc (Some new) = record { each = ((c.get_mut.follows.holds new).3 (search rules)).0 } in
+    let written : IsWrittenAt c.args.index.now (c.get_mut.follows.lender new) c.args.doc (Some new) =
+    record { each = ((c.get_mut.follows.holds new).3 (search rules)).0 } in
     read_after (λ e. option_map_or (λ v. v.items) e []) (without_holder c.args.run) _ _ c.args.doc (Some new) written
     (c.take_holder.ensures.items ∙ sym (ap (λ e. without_holder c.args.run (option_map_or (λ v. v.items) e [])) found))
 
@@ -17,5 +18,6 @@ pub returns-in-Some-clause-rooms : goal.returns-in-Some-clause-rooms
 returns-in-Some-clause-rooms c =
     let new = c.take_holder.new.holders in
     let found : get doc_cmp c.args.index.now c.args.doc ≡ Some c.in-Some.holders.now = search rules in
-    let written : IsWrittenAt c.args.index.now (c.get_mut.follows.lender new) c.args.doc (Some new) = record { each = ((c.get_mut.follows.holds new).3 (search rules)).0 } in
+    let written : IsWrittenAt c.args.index.now (c.get_mut.follows.lender new) c.args.doc (Some new) =
+    record { each = ((c.get_mut.follows.holds new).3 (search rules)).0 } in
     kept_room _ _ c.args.doc new written (shrunk_room c.args.index.now c.args.doc _ new found c.take_holder.ensures.len c.take_holder.ensures.capacity)

@@ -31,7 +31,8 @@ loop-doc-preserved c =
     ] in
     record {
       holders = λ other.
-          one_more (without_holder c.args.run) (holders_at c.args.index.now other) (holders_at c.loop-doc.index other) (holders_at c.remove_holder-was_last.new.index other)
+          one_more (without_holder c.args.run) (holders_at c.args.index.now other) (holders_at c.loop-doc.index other)
+          (holders_at c.remove_holder-was_last.new.index other)
           (eqb doc.0 other.0) (has_doc other (take i docs)) (has_doc other (take (i + 1) docs))
           (list_any_more (λ (d : DocId). eqb d.0 other.0) docs i (numbered 0) c.loop-doc-test.true)
           (λ _ _. filter_twice (λ (holder : RunId). not (eqb holder.0 c.args.run.0)) (holders_at c.args.index.now other))
@@ -40,7 +41,9 @@ loop-doc-preserved c =
       few = one_more_at_most was_last c.loop-doc.fewer i _ c.loop-doc.invariant.few fewer;
       count = λ count counts.
           let before = stepped (has_holder c.remove_holder-was_last.new.index) (has_holder c.loop-doc.index) doc was_last count
-          (step_removed c.args.run c.loop-doc.index c.remove_holder-was_last.new.index doc was_last c.remove_holder-was_last.ensures.holders c.remove_holder-was_last.ensures.last)
+          (step_removed c.args.run c.loop-doc.index c.remove_holder-was_last.new.index doc was_last
+          c.remove_holder-was_last.ensures.holders c.remove_holder-was_last.ensures.last)
           counts in
-          subst (IsCount (has_holder c.args.index.now)) (taken_away was_last count c.loop-doc.fewer ∙ ap (λ m. count + m) (sym fewer)) (c.loop-doc.invariant.count _ before);
+          subst (IsCount (has_holder c.args.index.now)) (taken_away was_last count c.loop-doc.fewer ∙ ap (λ m. count + m) (sym fewer))
+          (c.loop-doc.invariant.count _ before);
     }

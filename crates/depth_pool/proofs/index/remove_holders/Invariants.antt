@@ -7,7 +7,8 @@ use Rattle.depth_pool.proofs.index.remove_holders.Given as goal
 
 abbrev pub invariant-loop-doc : goal.invariant-loop-doc
 invariant-loop-doc l = record {
-  holders : (other : DocId) → holders_at l.index other ≡ (if has_doc other (take l.doc-index l.docs) then without_holder l.run (holders_at l.initial.index other) else holders_at l.initial.index other);
+  holders : (other : DocId) → holders_at l.index other
+      ≡ (if has_doc other (take l.doc-index l.docs) then without_holder l.run (holders_at l.initial.index other) else holders_at l.initial.index other);
   rooms : (other : DocId) → has_room l.initial.index other ≡ true → has_room l.index other ≡ true;
   few : l.fewer ≤ l.doc-index;
   count : (count : ℕ) → IsCount (has_holder l.index) count → IsCount (has_holder l.initial.index) (count + l.fewer);

@@ -1,6 +1,6 @@
 -- An empty disk holds nothing that could be refused.
 use Rattle.std.proofs.Common.{ℕ, List, Option, Some, ap, ◌∙◌}
-use Rattle.drill.proofs.Founding.{refused_empty}
+use Rattle.drill.proofs.FoundedBooks.{refused_empty}
 use Rattle.drill.proofs.drills.found.Goals as goal
 
 pub want_of-requires : goal.want_of-requires

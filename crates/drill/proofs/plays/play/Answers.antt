@@ -2,9 +2,9 @@ use Rattle.std.proofs.Common.{subst}
 use Rattle.rulebook.specs.Campaign.{History}
 use Rattle.drill.specs.Exchanges.{IsSent}
 use Rattle.drill.specs.Messages.{open_message, publish_message, topics_message}
-use Rattle.drill.proofs.Counted.{opened-unnumbered}
-use Rattle.drill.proofs.Sending.{sent-as}
-use Rattle.drill.proofs.SentMessages.{open-sendable, publish-sendable, topics-sendable}
+use Rattle.drill.proofs.OwnMessages.CountedMessages.{opened-unnumbered}
+use Rattle.drill.proofs.OwnMessages.SentTexts.{sent-as}
+use Rattle.drill.proofs.OwnMessages.SentMessages.{open-sendable, publish-sendable, topics-sendable}
 use Rattle.drill.proofs.plays.play.Goals as goal
 
 pub send-requires-clause-message : goal.send-requires-clause-message
@@ -18,7 +18,8 @@ send-requires-3-clause-message g c = (publish_message, publish-sendable, c.in_ok
 
 pub judge_topics-requires-clause-unused : goal.judge_topics-requires-clause-unused
 judge_topics-requires-clause-unused g c =
-    opened-unnumbered c.fronts_stay.ensures c.one_reading.ensures c.args.numbers.now c.requires.numbers c.send.new.book.history c.submit_runs.new.book.history c.send-2.new.book.history
+    opened-unnumbered c.fronts_stay.ensures c.one_reading.ensures c.args.numbers.now c.requires.numbers
+    c.send.new.book.history c.submit_runs.new.book.history c.send-2.new.book.history
     (subst (λ (H : History). IsSent H (topics_message c.args.numbers.now) c.send.new.book.history) c.requires.founded
     (sent-as c.args.book.now.history c.send.new.book.history _ (topics_message c.args.numbers.now) _ c.in_ok-topics_message.ensures c.in_ok-send.ensures))
     c.in_ok-submit_runs.ensures

@@ -9,7 +9,8 @@ loop-before-init c = sym (append-nil c.args.out.now.items)
 
 pub loop-before-preserved : goal.loop-before-preserved
 loop-before-preserved c =
-    written-more c.args.out.now.items c.loop-before.out.items c.write_topic.new.out.items c.loop-before.before topic_text c.loop-before.invariant c.in_ok-write_topic.ensures
+    written-more c.args.out.now.items c.loop-before.out.items c.write_topic.new.out.items c.loop-before.before
+    topic_text c.loop-before.invariant c.in_ok-write_topic.ensures
 
 pub returns : goal.returns
 returns c =

@@ -3,7 +3,7 @@ use Rattle.std.proofs.lemmas.List.{get_or-map, map-append, take_all, take_more}
 use Rattle.std.proofs.lemmas.List.Elements.{All-push}
 use Rattle.std.proofs.lemmas.Option.{get_or_from_slice_get}
 use Rattle.measures.specs.Cells.{IsSound}
-use Rattle.eval.specs.Evaluations.{cell_on}
+use Rattle.eval.specs.Evaluations.{evaluated_cell}
 use Rattle.eval.specs.Tables.{cell_in, tally_on}
 use Rattle.eval.proofs.JudgedDocuments.{docs_differ, docs_short}
 use Rattle.eval.proofs.cells.cells_on.Goals as goal
@@ -34,20 +34,24 @@ loop-number-preserved c =
     let lists = c.args.lists.now in
     let topics = c.args.judgements.now.topics in
     let topic = c.name-topic.result.now in
-    let cell : c.in_ok-topic_cell.field-0 ≡ cell_on lists qrels topic =
+    let cell : c.in_ok-topic_cell.field-0 ≡ evaluated_cell lists qrels topic =
     c.in_ok-topic_cell.ensures.cell ∙ ap (λ docs. cell_in docs qrels topic) c.docs_on-docs.ensures in
     let before = take c.loop-number.number topics in
     record {
-      cells = c.in_ok-push.ensures.items ∙ ap (λ cells. cells ++ c.in_ok-topic_cell.field-0 ∷ []) c.loop-number.invariant.cells ∙ ap (λ cell. map (cell_on lists qrels) before ++ cell ∷ []) cell
-          ∙ sym (map-append (cell_on lists qrels) before (topic ∷ []))
-          ∙ ap (map (cell_on lists qrels)) (sym (take_more topics c.loop-number.number topic (omega (arith, c.loop-number-test.true, c.len-count.ensures.len))
+      cells = c.in_ok-push.ensures.items ∙ ap (λ cells. cells ++ c.in_ok-topic_cell.field-0 ∷ []) c.loop-number.invariant.cells
+          ∙ ap (λ cell. map (evaluated_cell lists qrels) before ++ cell ∷ []) cell
+          ∙ sym (map-append (evaluated_cell lists qrels) before (topic ∷ []))
+          ∙ ap (map (evaluated_cell lists qrels))
+          (sym (take_more topics c.loop-number.number topic (omega (arith, c.loop-number-test.true, c.len-count.ensures.len))
           ∙ ap (λ t. before ++ t ∷ []) (get_or_from_slice_get topics c.loop-number.number topic topic c.name-topic.ensures)));
-      sound = rw c.in_ok-push.ensures.items (All-push IsSound c.loop-number.cells.items c.in_ok-topic_cell.field-0 c.loop-number.invariant.sound c.in_ok-topic_cell.ensures.sound);
+      sound = rw c.in_ok-push.ensures.items
+          (All-push IsSound c.loop-number.cells.items c.in_ok-topic_cell.field-0 c.loop-number.invariant.sound c.in_ok-topic_cell.ensures.sound);
     }
 
 pub returns-clause-cells : goal.returns-clause-cells
 returns-clause-cells c =
-    c.loop-number.invariant.cells ∙ ap (map (cell_on c.args.lists.now c.args.qrels.now)) (take_all c.loop-number.number c.args.judgements.now.topics (omega (arith, c.loop-number-test.false, c.len-count.ensures.len)))
+    c.loop-number.invariant.cells ∙ ap (map (evaluated_cell c.args.lists.now c.args.qrels.now))
+    (take_all c.loop-number.number c.args.judgements.now.topics (omega (arith, c.loop-number-test.false, c.len-count.ensures.len)))
 
 pub returns-clause-sound : goal.returns-clause-sound
 returns-clause-sound c = c.loop-number.invariant.sound

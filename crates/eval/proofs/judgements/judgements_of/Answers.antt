@@ -2,7 +2,7 @@ use Rattle.std.proofs.Common.{◌≡◌, ◌<◌, ◌∙◌, ℕ, List, [], ap, 
 use Rattle.std.proofs.lemmas.List.{get_or-map, length-map}
 use Rattle.trec_formats.specs.declared.qrels.QrelLine.{QrelLine}
 use Rattle.trec_formats.specs.declared.qrels.QrelView.{QrelView}
-use Rattle.trec_formats.specs.LineViews.{qrel_shown}
+use Rattle.trec_formats.specs.RunFormat.LineViews.{qrel_shown}
 use Rattle.eval.specs.declared.judgements.Tally.{Tally}
 use Rattle.eval.specs.Tables.{tally_more, tally_on}
 use Rattle.eval.proofs.Tallies.{others-le, relevant-le, tallied_next, tally_here}
@@ -23,7 +23,14 @@ shown_at : (views : List QrelView) (i : ℕ) → i < length views → line_at vi
 shown_at views i within = sym (get_or-map qrel_shown views i no_view (line_at views i) within)
 
 pub place_of-requires : goal.place_of-requires
-place_of-requires c = omega (arith, ap length c.loop-line.invariant.topics_are, length-topics_of-le (map qrel_shown c.args.qrels.now) c.loop-line.line-index (omega (arith, shown_within c.args.qrels.now c.loop-line.line-index c.loop-line-test.true)), c.requires)
+place_of-requires c =
+    omega (
+      arith,
+      ap length c.loop-line.invariant.topics_are,
+      length-topics_of-le (map qrel_shown c.args.qrels.now) c.loop-line.line-index
+          (omega (arith, shown_within c.args.qrels.now c.loop-line.line-index c.loop-line-test.true)),
+      c.requires,
+    )
 
 pub count-requires-clause-relevant : goal.count-requires-clause-relevant
 count-requires-clause-relevant c =

@@ -1,6 +1,6 @@
 -- The lines so far are tallied.
 use Rattle.std.proofs.Common.{map, take}
-use Rattle.trec_formats.specs.LineViews.{qrel_shown}
+use Rattle.trec_formats.specs.RunFormat.LineViews.{qrel_shown}
 use Rattle.eval.proofs.Tallies.{AreTallied}
 use Rattle.eval.proofs.judgements.judgements_of.Given as goal
 

@@ -1,13 +1,13 @@
 -- Each half of a crowd is smaller.
 use Rattle.std.proofs.Common.{◌+◌, ◌*◌}
-use Rattle.hall_tally.specs.Crowds.{size}
+use Rattle.hall_tally.specs.Crowds.{crowd_size}
 use Rattle.hall_tally.proofs.workers.+fn-work-join+arg2+fn-work-join+arg3+work.Given as goal
 
 abbrev pub decreases-join+arg2 : goal.decreases-join+arg2
-decreases-join+arg2 g l = 2 * size l.half + 1
+decreases-join+arg2 g l = 2 * crowd_size l.half + 1
 
 abbrev pub decreases-join+arg3 : goal.decreases-join+arg3
-decreases-join+arg3 g l = 2 * size l.half + 1
+decreases-join+arg3 g l = 2 * crowd_size l.half + 1
 
 abbrev pub decreases-work : goal.decreases-work
-decreases-work g l = 2 * size l.crowd
+decreases-work g l = 2 * crowd_size l.crowd

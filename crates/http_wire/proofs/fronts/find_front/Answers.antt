@@ -5,7 +5,7 @@ use Rattle.http_wire.specs.Heads.{head_length}
 use Rattle.http_wire.specs.declared.fronts.Found.TheVariants as found
 use Rattle.http_wire.specs.Fronts.{IsFound}
 use Rattle.http_wire.proofs.MessageFronts.{unfinished_head, long_head}
-use Rattle.http_wire.proofs.Searching.{ends_now}
+use Rattle.http_wire.proofs.HeadSearches.{ends_now}
 use Rattle.http_wire.proofs.fronts.find_front.Goals as goal
 
 pub find_head_from-requires-clause-ends : goal.find_head_from-requires-clause-ends

@@ -1,10 +1,10 @@
 use Rattle.std.proofs.Common.{true, false, None, refl, subst}
 use Rattle.http_wire.specs.declared.messages.Step.TheVariants as steps
 use Rattle.http_wire.specs.Fronts.{IsSearched}
-use Rattle.http_wire.specs.Heads.{passed}
+use Rattle.http_wire.specs.Heads.{behind_line_ends}
 use Rattle.http_wire.specs.Pieces.{HeadSteps}
 use Rattle.http_wire.proofs.MessageFronts.{look_clean, look_head, look_more, none_left, some_left}
-use Rattle.http_wire.proofs.Searching.{searched_none, searched_behind}
+use Rattle.http_wire.proofs.HeadSearches.{searched_none, searched_behind}
 use Rattle.http_wire.proofs.fronts.look_for_head.Goals as goal
 
 pub returns-then-is_empty-clause-step : goal.returns-then-is_empty-clause-step
@@ -17,7 +17,8 @@ returns-then-is_empty-clause-step c =
 pub returns-in-Whole-clause-step : goal.returns-in-Whole-clause-step
 returns-in-Whole-clause-step c =
     let found = rw c.in-Whole.is at c.in_ok-found.ensures in (
-      look_head c.args.bytes.now c.pass_line_ends-taken.result.1.now c.pass_line_ends-taken.result.0 c.in-Whole.count c.in-Whole.head c.pass_line_ends-taken.ensures.message c.pass_line_ends-taken.ensures.behind found.0,
+      look_head c.args.bytes.now c.pass_line_ends-taken.result.1.now c.pass_line_ends-taken.result.0 c.in-Whole.count
+          c.in-Whole.head c.pass_line_ends-taken.ensures.message c.pass_line_ends-taken.ensures.behind found.0,
       refl,
     )
 
@@ -41,5 +42,5 @@ returns-in-Faulty-clause-searched c = searched_none _
 pub returns-in-Unfinished-clause-searched : goal.returns-in-Unfinished-clause-searched
 returns-in-Unfinished-clause-searched c =
     let found = rw c.in-Unfinished.is at c.in_ok-found.ensures in
-    subst (λ bytes. IsSearched (passed bytes) c.in-Unfinished.searched) c.pass_line_ends-taken.ensures.behind
+    subst (λ bytes. IsSearched (behind_line_ends bytes) c.in-Unfinished.searched) c.pass_line_ends-taken.ensures.behind
     (searched_behind c.args.bytes.now c.pass_line_ends-taken.result.1.now c.in-Unfinished.searched c.pass_line_ends-taken.ensures.message found.1)

@@ -1,4 +1,4 @@
-use Rattle.http_wire.proofs.Searching.{searched_none}
+use Rattle.http_wire.proofs.HeadSearches.{searched_none}
 use Rattle.http_wire.proofs.fronts.look_in_body.Goals as goal
 
 pub returns-then-is_given-clause-searched : goal.returns-then-is_given-clause-searched

@@ -1,4 +1,4 @@
-use Rattle.http_wire.proofs.Continuing.{reads_on}
+use Rattle.http_wire.proofs.FrontRequests.{reads_on}
 use Rattle.http_wire.proofs.laws.readings_go_on.Goals as goal
 
 pub returns : goal.returns

@@ -2,7 +2,7 @@
 use Rattle.std.proofs.Common.{◌≡◌, ◌+◌, []}
 use Rattle.disk_model.specs.Disks.{EachMoment}
 use Rattle.journal.specs.Format.{decode}
-use Rattle.journal.specs.Kept.{Keeps, StandsFor, payloads}
+use Rattle.journal.specs.KeptRecords.{HoldsRecords, Keeps, payloads}
 use Rattle.journal.specs.Moments.{weaker}
 use Rattle.journal.proofs.Openings.{stands_as}
 use Rattle.journal.proofs.ReadRecords.{ReadBehind, due_keeps, read_behind, reads_all}
@@ -27,7 +27,7 @@ moments : (g : Over) (c : After-mend_due g) → ReadBehind c.args.bytes.now c.in
     → EachMoment g.D.Disk.seen c.args.disk.now c.mend_due.new.disk (λ image. decode image ≡ decode c.args.bytes.now)
 moments g c here keeps =
     let all = payloads c.in_ok-found.found.payloads.items in
-    weaker g.D.Disk.seen c.args.disk.now c.mend_due.new.disk (StandsFor all []) (λ image. decode image ≡ decode c.args.bytes.now)
+    weaker g.D.Disk.seen c.args.disk.now c.mend_due.new.disk (HoldsRecords all []) (λ image. decode image ≡ decode c.args.bytes.now)
     (stands_as c.args.bytes.now (16 + c.in_ok-found.found.place) all here.front here.none_left) (c.mend_due.ensures.any_moment all [] keeps)
 
 pub mend_due-requires-clause-kept : goal.mend_due-requires-clause-kept

@@ -2,9 +2,9 @@
 use Rattle.std.proofs.Common.{◌≡◌, ◌+◌, ◌<◌, ◌^◌, ℕ, List, ap, ◌∙◌, arith, sym, subst, take}
 use Rattle.disk_model.specs.Disks.{EachMoment}
 use Rattle.journal.specs.Format.{decode, place_behind}
-use Rattle.journal.specs.Kept.{Settled, payloads}
+use Rattle.journal.specs.KeptRecords.{Settled, payloads}
 use Rattle.journal.specs.Moments.{weaker}
-use Rattle.journal.specs.MovedAreas.{Alike, Gives, IsArea, IsTurned}
+use Rattle.journal.specs.MovedAreas.{GivesRecords, IsArea, IsOneImage, IsTurned}
 use Rattle.journal.proofs.MovedRecords.{turned_gives}
 use Rattle.journal.proofs.ReadMoves.{stay_as, told_area, told_count, told_short, told_turned}
 use Rattle.journal.proofs.opening.move_on.Given.{Over}
@@ -14,26 +14,33 @@ use Rattle.journal.proofs.opening.move_on.Goals as goal
 turned : (g : Over) (c : In_ok-area g) → IsTurned c.told_place_of-told.result (payloads c.in_ok-found.found.payloads.items) c.args.bytes.now
 turned g c =
     let found = c.in_ok-found.ensures in
-    told_turned c.args.bytes.now c.requires.long c.requires.marked c.requires.moving c.told_place_of-told.result c.told_place_of-told.ensures c.if-told-bytes.false
-    c.behind.result.now c.behind.ensures c.in_ok-found.found.place (payloads c.in_ok-found.found.payloads.items) found.records found.within found.all c.if-end-told.false
+    told_turned c.args.bytes.now c.requires.long c.requires.marked c.requires.moving
+    c.told_place_of-told.result c.told_place_of-told.ensures c.if-told-bytes.false
+    c.behind.result.now c.behind.ensures c.in_ok-found.found.place
+    (payloads c.in_ok-found.found.payloads.items) found.records found.within found.all c.if-end-told.false
 
-alike : (g : Over) (c : In_ok-area g) → Alike (g.D.Disk.seen c.args.disk.now).images (IsTurned c.told_place_of-told.result (payloads c.in_ok-found.found.payloads.items))
+alike : (g : Over) (c : In_ok-area g)
+    → IsOneImage (g.D.Disk.seen c.args.disk.now).images (IsTurned c.told_place_of-told.result (payloads c.in_ok-found.found.payloads.items))
 alike g c = record { bytes = c.args.bytes.now; has = turned g c; each = c.requires.alone }
 
 is_area : (g : Over) (c : After-deref g) → IsArea c.deref.result.now (payloads c.in_ok-found.found.payloads.items)
 is_area g c =
     let found = c.in_ok-found.ensures in
     let same : c.behind-2.result.now ≡ c.behind.result.now = c.behind-2.ensures ∙ sym c.behind.ensures in
-    told_area c.args.bytes.now c.requires.long c.requires.marked c.requires.moving c.told_place_of-told.result c.told_place_of-told.ensures c.if-told-bytes.false
+    told_area c.args.bytes.now c.requires.long c.requires.marked c.requires.moving c.told_place_of-told.result
+    c.told_place_of-told.ensures c.if-told-bytes.false
     c.behind.result.now c.behind.ensures c.in_ok-found.found.place (payloads c.in_ok-found.found.payloads.items) found.records found.within found.all
-    c.deref.result.now (take c.in_ok-found.found.place c.behind-2.result.now) (ap (λ (b : List ℕ). take c.in_ok-found.found.place b) same) (c.deref.ensures.value ∙ c.in_ok-area.ensures)
+    c.deref.result.now (take c.in_ok-found.found.place c.behind-2.result.now) (ap (λ (b : List ℕ). take c.in_ok-found.found.place b) same)
+    (c.deref.ensures.value ∙ c.in_ok-area.ensures)
 
-moments : (g : Over) (c : After-settle g) → IsTurned c.told_place_of-told.result (payloads c.in_ok-found.found.payloads.items) c.args.bytes.now → IsArea c.deref.result.now (payloads c.in_ok-found.found.payloads.items)
+moments : (g : Over) (c : After-settle g) → IsTurned c.told_place_of-told.result (payloads c.in_ok-found.found.payloads.items) c.args.bytes.now
+    → IsArea c.deref.result.now (payloads c.in_ok-found.found.payloads.items)
     → EachMoment g.D.Disk.seen c.args.disk.now c.settle.new.disk (λ image. decode image ≡ decode c.args.bytes.now)
 moments g c here area =
     let all = payloads c.in_ok-found.found.payloads.items in
-    let same : Alike (g.D.Disk.seen c.args.disk.now).images (IsTurned c.told_place_of-told.result all) = record { bytes = c.args.bytes.now; has = here; each = c.requires.alone } in
-    weaker g.D.Disk.seen c.args.disk.now c.settle.new.disk (Gives all) (λ image. decode image ≡ decode c.args.bytes.now)
+    let same : IsOneImage (g.D.Disk.seen c.args.disk.now).images (IsTurned c.told_place_of-told.result all) =
+    record { bytes = c.args.bytes.now; has = here; each = c.requires.alone } in
+    weaker g.D.Disk.seen c.args.disk.now c.settle.new.disk (GivesRecords all) (λ image. decode image ≡ decode c.args.bytes.now)
     (λ image is. is ∙ sym (turned_gives c.args.bytes.now c.told_place_of-told.result all here))
     (c.settle.ensures.any_moment c.told_place_of-told.result all same area)
 
@@ -46,8 +53,10 @@ returns-then-end-told-clause-any_moment g c = stay_as g.D.Disk.seen c.args.disk.
 pub returns-then-end-told-clause-header : goal.returns-then-end-told-clause-header
 returns-then-end-told-clause-header g c is =
     let found = c.in_ok-found.ensures in
-    told_short c.args.bytes.now c.requires.long c.requires.marked c.requires.moving c.told_place_of-told.result c.told_place_of-told.ensures c.if-told-bytes.false
-    c.behind.result.now c.behind.ensures c.in_ok-found.found.place (payloads c.in_ok-found.found.payloads.items) found.records found.within found.all c.if-end-told.true
+    told_short c.args.bytes.now c.requires.long c.requires.marked c.requires.moving c.told_place_of-told.result
+    c.told_place_of-told.ensures c.if-told-bytes.false
+    c.behind.result.now c.behind.ensures c.in_ok-found.found.place
+    (payloads c.in_ok-found.found.payloads.items) found.records found.within found.all c.if-end-told.true
 
 pub returns-in_err-area-clause-any_moment : goal.returns-in_err-area-clause-any_moment
 returns-in_err-area-clause-any_moment g c = stay_as g.D.Disk.seen c.args.disk.now c.args.bytes.now g.met.D.Disk.only_now c.requires.alone
@@ -65,14 +74,16 @@ returns-in_err-settle-clause-any_moment g c =
 
 pub returns-clause-read : goal.returns-clause-read
 returns-clause-read g c =
-    turned_gives c.args.bytes.now c.told_place_of-told.result (payloads c.in_ok-found.found.payloads.items) (turned g (goal.at.returns-clause-read g c).In_ok-area)
+    turned_gives c.args.bytes.now c.told_place_of-told.result (payloads c.in_ok-found.found.payloads.items)
+    (turned g (goal.at.returns-clause-read g c).In_ok-area)
 
 pub returns-clause-settled : goal.returns-clause-settled
 returns-clause-settled g c =
     let now = goal.at.returns-clause-settled g c in
     let all = payloads c.in_ok-found.found.payloads.items in
     let found = c.in_ok-found.ensures in
-    let place : place_behind all ≡ 16 + c.in_ok-found.found.place = ap (λ (n : ℕ). 16 + n) (told_count c.behind.result.now c.in_ok-found.found.place all found.records found.within) in
+    let place : place_behind all ≡ 16 + c.in_ok-found.found.place =
+    ap (λ (n : ℕ). 16 + n) (told_count c.behind.result.now c.in_ok-found.found.place all found.records found.within) in
     subst (λ (gate : ℕ). Settled (g.D.Disk.seen c.settle.new.disk).images gate all) place
     (c.in_ok-settle.ensures.settled c.told_place_of-told.result all (alike g now.In_ok-area) (is_area g now.After-deref))
 

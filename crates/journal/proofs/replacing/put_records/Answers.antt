@@ -4,7 +4,7 @@ use Rattle.journal.specs.Format.{place_behind}
 use Rattle.journal.specs.MovedAreas.{GivesOneOf}
 use Rattle.journal.specs.Moments.{started}
 use Rattle.journal.proofs.MovedRecords.{area_size}
-use Rattle.journal.proofs.Replaced.{settled_alone}
+use Rattle.journal.proofs.Replacements.{settled_alone}
 use Rattle.journal.proofs.Steps.{shut_reads}
 use Rattle.journal.proofs.replacing.put_records.Goals as goal
 
@@ -14,7 +14,8 @@ returns-then-area-place g c all is_area =
     record {
       comes = (long, λ old settled. settled_alone (g.D.Disk.seen c.args.disk.now).images c.args.place old settled);
       moments = λ old settled. started g.D.Disk.seen c.args.disk.now (GivesOneOf old all)
-          (λ image left. inl (shut_reads (g.D.Disk.seen c.args.disk.now).images c.args.place old _ settled image (g.met.D.Disk.only_now c.args.disk.now image left)));
+          (λ image left. inl
+          (shut_reads (g.D.Disk.seen c.args.disk.now).images c.args.place old _ settled image (g.met.D.Disk.only_now c.args.disk.now image left)));
       larger = λ more. (refl, refl);
       later = omega arith;
     }

@@ -1,6 +1,6 @@
 -- A mend, and then the new records.
 use Rattle.std.proofs.Common.{◌≡◌, false, true, inl}
-use Rattle.journal.proofs.Replaced.{puts_replaces}
+use Rattle.journal.proofs.Replacements.{puts_replaces}
 use Rattle.journal.proofs.replacing.replace_records.Goals as goal
 
 pub put_records-requires-clause-settled : goal.put_records-requires-clause-settled
@@ -11,7 +11,8 @@ put_records-requires-clause-settled g c =
 pub returns-in-Ok : goal.returns-in-Ok
 returns-in-Ok g c all is_area =
     puts_replaces g.D.Disk.seen c.args.disk.now c.mend_first.new.disk c.put_records.new.disk c.args.place c.args.due.now all c.put_records.result
-    c.in-Ok.ensures.mends.mended c.mend_first.ensures.mends.any_moment c.mend_first.ensures.mends.cause.later (λ nothing. (c.in-Ok.ensures.idle nothing).1) (c.put_records.ensures all is_area)
+    c.in-Ok.ensures.mends.mended c.mend_first.ensures.mends.any_moment c.mend_first.ensures.mends.cause.later
+    (λ nothing. (c.in-Ok.ensures.idle nothing).1) (c.put_records.ensures all is_area)
 
 pub returns-in-Err : goal.returns-in-Err
 returns-in-Err g c all is_area = record {

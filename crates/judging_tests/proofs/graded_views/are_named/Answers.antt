@@ -8,7 +8,8 @@ pub returns : goal.returns
 returns c = λ k d h.
     let none : DocId = record { 0 = 0 } in
     let graded = c.args.view.now.graded in
-    let at : get_or c.trail-doc-items.result.now k none ≡ (get_or graded k d).doc = ap (λ docs. get_or docs k none) c.trail-doc-items.ensures.docs ∙ get_or-map (λ (one : Graded). one.doc) graded k d none h in
+    let at : get_or c.trail-doc-items.result.now k none ≡ (get_or graded k d).doc =
+    ap (λ docs. get_or docs k none) c.trail-doc-items.ensures.docs ∙ get_or-map (λ (one : Graded). one.doc) graded k d none h in
     let below : k < length c.trail-doc-items.result.now = omega (arith, c.trail-doc-items.ensures.len) in
     let low = c.loop-doc.invariant k (omega arith) in
     let number = ap (λ (doc : DocId). doc.0) at in

@@ -6,4 +6,5 @@ enter-requires-clause-is_new c = absent c.args.pool.now.runs c.args.queue.now.or
 
 pub enter-requires-clause-in_order : goal.enter-requires-clause-in_order
 enter-requires-clause-in_order c =
-    c.order_outlasts_other_runs.ensures c.args.pool.now.runs c.add_run.new.self.runs c.args.run c.args.queue.now.trail c.args.queue.now.order c.add_run.ensures.others (enter-requires-clause-is_new c) c.requires.in_order
+    c.order_outlasts_other_runs.ensures c.args.pool.now.runs c.add_run.new.self.runs c.args.run c.args.queue.now.trail
+    c.args.queue.now.order c.add_run.ensures.others (enter-requires-clause-is_new c) c.requires.in_order

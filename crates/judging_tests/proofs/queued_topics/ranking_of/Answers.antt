@@ -8,6 +8,7 @@ loop-doc-preserved c =
     let listed = c.loop-doc.listed.items in
     let next = c.loop-doc.doc-counter in
     elim c.if-contains.branch [
-      | then-contains+in_ok-push w ↦ subst (λ docs. IsListed docs (next + 1)) (sym (ap (λ v. v.items) w.listed-is ∙ w.in_ok-push.ensures.items)) (listed_more listed next c.loop-doc.invariant)
+      | then-contains+in_ok-push w ↦ subst (λ docs. IsListed docs (next + 1)) (sym (ap (λ v. v.items) w.listed-is ∙ w.in_ok-push.ensures.items))
+          (listed_more listed next c.loop-doc.invariant)
       | else-contains w ↦ subst (λ docs. IsListed docs (next + 1)) (sym (ap (λ v. v.items) w.listed-is)) (listed_less listed next c.loop-doc.invariant)
     ]

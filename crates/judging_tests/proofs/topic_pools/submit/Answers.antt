@@ -13,4 +13,5 @@ returns-clause-named c =
     let docs = take c.reserve.new.self.depth c.in_ok-ranking.ranking in
     let new : Held = record { run = c.args.run; docs = docs } in
     subst (All named) (sym (c.add_run.ensures.runs ∙ ap (with_run new) c.reserve.ensures.runs))
-    (all_put named (λ other. nat_lt c.args.run.0 other.run.0) new c.args.pool.now.runs (All-take small c.reserve.new.self.depth c.in_ok-ranking.ranking c.in_ok-ranking.ensures) c.requires.named)
+    (all_put named (λ other. nat_lt c.args.run.0 other.run.0) new c.args.pool.now.runs
+    (All-take small c.reserve.new.self.depth c.in_ok-ranking.ranking c.in_ok-ranking.ensures) c.requires.named)

@@ -1,4 +1,4 @@
-use Rattle.labels.proofs.Meaning.{agreed}
+use Rattle.labels.proofs.GradeMeanings.{agreed}
 use Rattle.labels.proofs.laws.effective_without_ruling.Goals as goal
 
 pub returns : goal.returns

@@ -1,6 +1,6 @@
 use Rattle.std.proofs.Common.{◌≡◌, ◌+◌, ◌<◌, ◌≤◌, ◌∙◌, true, length, get_or, refl, sym, ap, subst, arith}
 use Rattle.lease_desk.specs.Series.{up_to}
-use Rattle.lease_desk.proofs.Counting.{IsCounted, as_number, as_number-le, goes_on, is_counted, starts, some_lease, some_link, counts_then, stops}
+use Rattle.lease_desk.proofs.SeriesCounts.{IsCounted, as_number, as_number-le, goes_on, is_counted, starts, some_lease, some_link, counts_then, stops}
 use Rattle.lease_desk.proofs.walks.count_live.Goals as goal
 use Rattle.lease_desk.proofs.walks.count_live.Goals.{then-counts, else-counts}
 
@@ -38,6 +38,8 @@ loop-next-preserved c =
           let counted = subst (IsCounted key _ c.args.now c.args.leases.now c.loop-next.count) c.in-Some.is (c.loop-next.invariant.counted key series) in
           let here : key lease ≡ true = ap key c.index-leases-place.is ∙ counted.passes place lease refl in
           let told = counts_then key _ c.args.now lease c.counts.result here c.counts.ensures in
-          let same : is_counted key _ c.args.now (get_or c.args.leases.now place lease) ≡ c.counts.result = ap (is_counted key _ c.args.now) (sym c.index-leases-place.is) ∙ told in
-          goes_on key _ _ _ _ _ series c.loop-next.count c.if-counts.count place lease some_link within (more ∙ ap (λ t. c.loop-next.count + as_number t) (sym same)) counted;
+          let same : is_counted key _ c.args.now (get_or c.args.leases.now place lease) ≡ c.counts.result =
+          ap (is_counted key _ c.args.now) (sym c.index-leases-place.is) ∙ told in
+          goes_on key _ _ _ _ _ series c.loop-next.count c.if-counts.count place lease some_link within
+          (more ∙ ap (λ t. c.loop-next.count + as_number t) (sym same)) counted;
     }

@@ -1,13 +1,13 @@
 use Rattle.std.proofs.Common.{◌≡◌, ◌<◌, ◌≤◌, ◌++◌, ◌∙◌, List, [], Option, Some, ap, arith, get_or, length, map, sym, take, take_all}
 use Rattle.std.specs.List.{cons_option, filter_map}
-use Rattle.rulebook.specs.Pages.{topics_in_order}
+use Rattle.decimal_rank.proofs.Lists.{slice-there}
+use Rattle.rulebook.specs.Reports.Pages.{topics_in_order}
 use Rattle.rulebook.specs.Words.{Text}
-use Rattle.campaign_core.specs.LentTopics.{topic_at}
-use Rattle.campaign_core.specs.Topics.{topic_ids}
+use Rattle.campaign_core.specs.Views.LentTopics.{topic_at}
+use Rattle.campaign_core.specs.Assessments.Topics.{topic_ids}
 use Rattle.leave_out.specs.Agreement.{agreed_on}
 use Rattle.leave_out.specs.declared.assessors.Agreed.{Agreed}
-use Rattle.leave_out.proofs.AgreedTopics.{agreed-topics}
-use Rattle.campaign_core.proofs.Lists.Elements.{slice-there}
+use Rattle.leave_out.proofs.Agreements.AgreedTopics.{agreed-topics}
 use Rattle.leave_out.proofs.Elements.{filter_map-more, there-at, there-long, told}
 use Rattle.leave_out.proofs.assessors.agreement.Goals as goal
 

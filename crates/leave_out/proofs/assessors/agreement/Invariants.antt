@@ -1,7 +1,7 @@
 -- The rows are those of the topics so far.
 use Rattle.std.proofs.Common.{◌≡◌, take}
 use Rattle.std.specs.List.{filter_map}
-use Rattle.rulebook.specs.Pages.{topics_in_order}
+use Rattle.rulebook.specs.Reports.Pages.{topics_in_order}
 use Rattle.leave_out.specs.Agreement.{agreed_on}
 use Rattle.leave_out.proofs.assessors.agreement.Given as goal
 

@@ -1,11 +1,11 @@
 use Rattle.std.proofs.Common.{◌≡◌, ◌≤◌, ◌∙◌, List, ap, arith, length}
 use Rattle.labels.specs.declared.given.Given.{Given}
 use Rattle.rulebook.specs.Campaign.{need}
-use Rattle.rulebook.specs.Grades.{labels_on}
-use Rattle.campaign_core.specs.LentTopics.{topic_at}
+use Rattle.rulebook.specs.Judgements.Grades.{labels_on}
+use Rattle.campaign_core.specs.Views.LentTopics.{topic_at}
 use Rattle.leave_out.specs.Agreement.{two_grades, two_of}
 use Rattle.leave_out.proofs.Elements.{told}
-use Rattle.leave_out.proofs.TwoLabels.{two-there}
+use Rattle.leave_out.proofs.Agreements.TwoLabels.{two-there}
 use Rattle.leave_out.proofs.assessors.pair_on.Goals as goal
 
 pub returns : goal.returns

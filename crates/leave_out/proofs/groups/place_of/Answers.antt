@@ -2,11 +2,11 @@ use Rattle.std.proofs.Common.{◌≡◌, ◌++◌, ◌∷◌, ◌∙◌, [], Lis
 use Rattle.std.specs.Prelude.{All, slice_get}
 use Rattle.std.specs.Option.{option_map}
 use Rattle.std.proofs.lemmas.List.Elements.{All-push}
+use Rattle.decimal_rank.proofs.Lists.{slice-last}
 use Rattle.rulebook.specs.Words.{Text}
-use Rattle.campaign_core.proofs.Lists.Elements.{slice-last}
 use Rattle.leave_out.specs.ReducedJudgements.{AreOfGroup, group_in}
 use Rattle.leave_out.specs.declared.groups.GroupJudgements.{GroupJudgements}
-use Rattle.leave_out.proofs.GroupPlaces.{group-found}
+use Rattle.leave_out.proofs.Reductions.GroupPlaces.{group-found}
 use Rattle.leave_out.proofs.groups.place_of.Goals as goal
 
 pub returns-in-Some-clause-place : goal.returns-in-Some-clause-place

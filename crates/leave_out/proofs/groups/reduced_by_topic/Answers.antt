@@ -2,11 +2,11 @@ use Rattle.std.proofs.Common.{◌≡◌, ◌<◌, ◌≤◌, ◌++◌, ◌∷◌
 use Rattle.std.specs.Prelude.{All}
 use Rattle.std.proofs.lemmas.List.{map_more}
 use Rattle.std.proofs.lemmas.List.Elements.{All-push}
-use Rattle.rulebook.specs.Grades.{labelled}
+use Rattle.std.proofs.lemmas.Option.{slice_get-get_or}
+use Rattle.rulebook.specs.Judgements.Grades.{labelled_documents}
 use Rattle.rulebook.specs.Words.{Text}
-use Rattle.campaign_core.specs.LentTopics.{topic_at}
-use Rattle.campaign_core.specs.Topics.{topic_ids}
-use Rattle.campaign_core.proofs.Lists.Elements.{get-there}
+use Rattle.campaign_core.specs.Views.LentTopics.{topic_at}
+use Rattle.campaign_core.specs.Assessments.Topics.{topic_ids}
 use Rattle.leave_out.specs.ReducedJudgements.{AreFew, reduced_in}
 use Rattle.leave_out.specs.declared.reduced_judgements.ReducedJudgements.{ReducedJudgements}
 use Rattle.leave_out.proofs.groups.reduced_by_topic.Goals as goal
@@ -18,8 +18,8 @@ loop-topic-preserved c =
     let ids = topic_ids H in
     let id : Text = get_or ids i [] in
     let within : i < length ids = omega (arith, c.loop-topic-test.true, c.topics-topic-end.ensures) in
-    let at : topic_at H i ≡ Some id = get-there ids i [] within in
-    let of : Text → ReducedJudgements = λ topic. reduced_in H c.args.group.now topic (labelled H topic) in
+    let at : topic_at H i ≡ Some id = slice_get-get_or ids i [] within in
+    let of : Text → ReducedJudgements = λ topic. reduced_in H c.args.group.now topic (labelled_documents H topic) in
     record {
       topics_are =
           c.in_ok-push.ensures.items
@@ -33,7 +33,7 @@ loop-topic-preserved c =
 pub returns : goal.returns
 returns c =
     let H = c.args.state.now.history in
-    let of : Text → ReducedJudgements = λ topic. reduced_in H c.args.group.now topic (labelled H topic) in
+    let of : Text → ReducedJudgements = λ topic. reduced_in H c.args.group.now topic (labelled_documents H topic) in
     let past : length (topic_ids H) ≤ c.loop-topic.topic = omega (arith, c.loop-topic-test.false, c.topics-topic-end.ensures) in
     record {
       topics_are = c.loop-topic.invariant.topics_are ∙ ap (map of) (take_all c.loop-topic.topic (topic_ids H) past);

@@ -2,7 +2,7 @@
 use Rattle.std.proofs.Common.{◌≡◌, drop}
 use Rattle.std.specs.List.{list_all}
 use Rattle.std.specs.Str.{bytes_eq}
-use Rattle.campaign_core.specs.Groups.{group_of}
+use Rattle.campaign_core.specs.Views.Groups.{group_of}
 use Rattle.leave_out.proofs.own_docs.are_of.Given as goal
 
 abbrev pub invariant-loop-run : goal.invariant-loop-run

@@ -1,11 +1,11 @@
 use Rattle.std.proofs.Common.{◌≡◌, ◌<◌, ◌≤◌, ◌+◌, ◌++◌, ◌∷◌, ◌∙◌, ℕ, List, [], Option, ap, arith, get_or, length, map, sym, take, take_all}
-use Rattle.std.proofs.lemmas.List.{get_or-map, length-append, length-map, map_more}
+use Rattle.std.proofs.lemmas.List.{get_or-map, length-map, map_more, length_push}
 use Rattle.decimal_rank.specs.declared.naming.DocId.{DocId}
+use Rattle.decimal_rank.proofs.Lists.{slice-there, all_at}
 use Rattle.rulebook.specs.Words.{Text, contains_text}
-use Rattle.campaign_core.specs.Numbers.{doc_in, names_of}
+use Rattle.campaign_core.specs.Numbering.Numbers.{doc_in, names_of}
 use Rattle.leave_out.specs.ReducedJudgements.{IsDocAt}
-use Rattle.leave_out.specs.Reuse.{reduced}
-use Rattle.campaign_core.proofs.Lists.Elements.{all_at, slice-there}
+use Rattle.leave_out.specs.Reuse.{reduced_grade}
 use Rattle.leave_out.proofs.precision.listed_grades.Goals as goal
 
 abbrev no_doc : DocId
@@ -27,19 +27,17 @@ loop-place-preserved c = record {
       let here : IsDocAt H c.args.topic id d doc = record { at = at; named = all_at (contains_text names) docs i [] within named; number_is = doc_is } in
       c.in_ok-push.ensures.items
       ∙ ap (λ (gs : List (Option ℕ)). gs ++ c.reduced_grade.result ∷ []) (c.loop-place.invariant.grades id docs at named is)
-      ∙ ap (λ (g : Option ℕ). map (reduced H group id) (take i docs) ++ g ∷ []) (c.reduced_grade.ensures id d here)
-      ∙ sym (map_more (reduced H group id) docs i [] within);
+      ∙ ap (λ (g : Option ℕ). map (reduced_grade H group id) (take i docs) ++ g ∷ []) (c.reduced_grade.ensures id d here)
+      ∙ sym (map_more (reduced_grade H group id) docs i [] within);
   few =
       let long = ap (λ (gs : List (Option ℕ)). length gs) c.in_ok-push.ensures.items in
-      omega (arith, long, c.loop-place.invariant.few, length-push c.loop-place.grades.items c.reduced_grade.result);
+      omega (arith, long, c.loop-place.invariant.few, length_push c.loop-place.grades.items c.reduced_grade.result);
 }
-  where
-    length-push : (gs : List (Option ℕ)) (g : Option ℕ) → length (gs ++ g ∷ []) ≡ length gs + 1
-    length-push gs g = length-append gs (g ∷ [])
 
 pub returns-clause-grades : goal.returns-clause-grades
 returns-clause-grades c = λ id docs at named is.
     let H = c.args.state.now.history in
     let i = c.loop-place.place in
-    let past : length docs ≤ i = omega (arith, c.loop-place-test.false, c.len-len.ensures.len, ap (λ (ds : List DocId). length ds) is, length-map docs (doc_in (names_of H))) in
-    c.loop-place.invariant.grades id docs at named is ∙ ap (map (reduced H c.args.group.now id)) (take_all i docs past)
+    let past : length docs ≤ i =
+    omega (arith, c.loop-place-test.false, c.len-len.ensures.len, ap (λ (ds : List DocId). length ds) is, length-map docs (doc_in (names_of H))) in
+    c.loop-place.invariant.grades id docs at named is ∙ ap (map (reduced_grade H c.args.group.now id)) (take_all i docs past)

@@ -2,14 +2,14 @@
 use Rattle.std.proofs.Common.{◌≡◌, map, take}
 use Rattle.std.specs.Prelude.{All, IsTrue}
 use Rattle.std.specs.List.{list_all}
-use Rattle.rulebook.specs.Campaign.{numbered}
+use Rattle.rulebook.specs.Campaign.{numbered_runs}
 use Rattle.leave_out.specs.ReducedJudgements.{AreOfGroup}
-use Rattle.leave_out.specs.Reuse.{are_means, reused}
+use Rattle.leave_out.specs.Reuse.{are_reused_means, reuse_of}
 use Rattle.leave_out.proofs.reusability.reuse.Given as goal
 
 abbrev pub invariant-loop-place : goal.invariant-loop-place
 invariant-loop-place l = record {
-  rows : l.rows.items ≡ map (reused l.state.history) (take l.place (numbered l.state.history));
-  means : IsTrue (list_all are_means l.rows.items);
+  rows : l.rows.items ≡ map (reuse_of l.state.history) (take l.place (numbered_runs l.state.history));
+  means : IsTrue (list_all are_reused_means l.rows.items);
   reduced : All (AreOfGroup l.state.history) l.groups.items;
 }

@@ -1,12 +1,12 @@
 use Rattle.std.proofs.Common.{◌≡◌, ◌^◌, ◌&&◌, ◌∙◌, ap, le-leb, subst}
 use Rattle.rulebook.specs.declared.systems.System.{System}
-use Rattle.rulebook.specs.Systems.{is_mean}
+use Rattle.rulebook.specs.Reports.Systems.{is_mean}
 use Rattle.rulebook.specs.Words.{Text}
-use Rattle.campaign_core.specs.Groups.{group_of}
-use Rattle.campaign_core.specs.Topics.{topic_ids}
+use Rattle.campaign_core.specs.Views.Groups.{group_of}
+use Rattle.campaign_core.specs.Assessments.Topics.{topic_ids}
 use Rattle.leave_out.specs.ReducedJudgements.{sums_in}
 use Rattle.leave_out.specs.declared.reusability.Sums.{Sums}
-use Rattle.leave_out.proofs.ReducedTopics.{mean-is}
+use Rattle.leave_out.proofs.Reductions.ReducedTopics.{mean-is}
 use Rattle.leave_out.proofs.reusability.row_of.Goals as goal
 
 pub returns-clause-reused : goal.returns-clause-reused

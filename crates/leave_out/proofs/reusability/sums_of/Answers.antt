@@ -1,18 +1,18 @@
 use Rattle.std.proofs.Common.{◌≡◌, ◌≤◌, ◌<◌, ◌+◌, ◌*◌, ◌^◌, ◌∙◌, ℕ, [], None, Option, Some, ap, arith, get_or, length, rules, sym, take, vec_len}
 use Rattle.std.specs.Prelude.{count_by, unwrap_or}
+use Rattle.std.proofs.lemmas.Option.{slice_get-get_or}
 use Rattle.rulebook.specs.Campaign.{Run}
-use Rattle.rulebook.specs.Grades.{graded, labelled}
+use Rattle.rulebook.specs.Judgements.Grades.{graded_documents, labelled_documents}
 use Rattle.rulebook.specs.Words.{Text, contains_text}
-use Rattle.campaign_core.specs.LentTopics.{topic_at}
-use Rattle.campaign_core.specs.Topics.{topic_ids}
+use Rattle.campaign_core.specs.Views.LentTopics.{topic_at}
+use Rattle.campaign_core.specs.Assessments.Topics.{topic_ids}
 use Rattle.leave_out.specs.ReducedJudgements.{IsLive, reduced_in, sums_in, value_on, with_topic}
 use Rattle.leave_out.specs.Reuse.{own}
 use Rattle.leave_out.specs.declared.reduced_judgements.ReducedJudgements.{ReducedJudgements}
 use Rattle.leave_out.specs.declared.reusability.Sums.{Sums}
-use Rattle.campaign_core.proofs.Lists.Elements.{get-there}
-use Rattle.leave_out.proofs.GroupPlaces.{topic-few, topic-reduced, topic-within}
-use Rattle.leave_out.proofs.ReducedDocs.{own-are}
-use Rattle.leave_out.proofs.ReducedTopics.{sums-more}
+use Rattle.leave_out.proofs.Reductions.GroupPlaces.{topic-few, topic-reduced, topic-within}
+use Rattle.leave_out.proofs.Reductions.ReducedDocs.{own-are}
+use Rattle.leave_out.proofs.Reductions.ReducedTopics.{sums-more}
 use Rattle.leave_out.proofs.reusability.sums_of.Goals as goal
 
 -- the sums stay small
@@ -37,7 +37,7 @@ value_on-requires-clause-judgements c = λ id at.
     let within : c.loop-topic.topic < length (topic_ids H) = omega (arith, c.loop-topic-test.true, c.topics-topic-end.ensures) in
     topic-reduced H c.args.judgements.now.group c.args.judgements.now.topics.items c.requires.reduced c.loop-topic.topic within
     c.index-reduced.result.now c.index-reduced.ensures id at
-    ∙ ap (λ (group : Text). reduced_in H group id (labelled H id)) (sym c.bytes.ensures)
+    ∙ ap (λ (group : Text). reduced_in H group id (labelled_documents H id)) (sym c.bytes.ensures)
 
 pub value_on-requires-clause-few : goal.value_on-requires-clause-few
 value_on-requires-clause-few c =
@@ -54,11 +54,11 @@ loop-topic-preserved c =
     let ids = topic_ids H in
     let id : Text = get_or ids i [] in
     let within : i < length ids = omega (arith, c.loop-topic-test.true, c.topics-topic-end.ensures) in
-    let at : topic_at H i ≡ Some id = get-there ids i [] within in
+    let at : topic_at H i ≡ Some id = slice_get-get_or ids i [] within in
     let reduced = c.index-reduced.result.now in
-    let reduced_is : reduced ≡ reduced_in H group id (labelled H id) =
+    let reduced_is : reduced ≡ reduced_in H group id (labelled_documents H id) =
     topic-reduced H group c.args.judgements.now.topics.items c.requires.reduced i within reduced c.index-reduced.ensures id at in
-    let owned : ℕ = count_by (contains_text (own H group id)) (graded H id) in
+    let owned : ℕ = count_by (contains_text (own H group id)) (graded_documents H id) in
     let own_is : reduced.own ≡ owned = ap (λ (one : ReducedJudgements). one.own) reduced_is ∙ sym (own-are H group id) in
     let few : reduced.own ≤ 4000000 = (topic-few H group c.args.judgements.now.topics.items c.requires.reduced i within reduced c.index-reduced.ensures).own in
     let value_is : (one : ℕ × Run) → IsLive H c.args.run one → c.in_ok-value.value ≡ value_on H group one.1 id = λ one live.

@@ -1,7 +1,7 @@
 -- The sums are those of the topics so far, and small enough.
 use Rattle.std.proofs.Common.{◌≡◌, ◌≤◌, ◌*◌, ◌^◌, ℕ, take}
 use Rattle.rulebook.specs.Campaign.{Run}
-use Rattle.campaign_core.specs.Topics.{topic_ids}
+use Rattle.campaign_core.specs.Assessments.Topics.{topic_ids}
 use Rattle.leave_out.specs.ReducedJudgements.{IsLive, sums_in}
 use Rattle.leave_out.proofs.reusability.sums_of.Given as goal
 

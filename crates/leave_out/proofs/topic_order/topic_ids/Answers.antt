@@ -2,11 +2,11 @@ use Rattle.std.proofs.Common.{◌≡◌, ◌∙◌, ℕ, List, [], Option, Some,
 use Rattle.std.specs.BTreeMap.{insert_entry}
 use Rattle.std.specs.BTreeSet.{insert_key}
 use Rattle.std.proofs.lemmas.List.Sums.{fold_more}
+use Rattle.decimal_rank.proofs.Lists.{slice-there}
 use Rattle.rulebook.specs.Words.{Text}
-use Rattle.campaign_core.specs.LentTopics.{topic_at}
-use Rattle.campaign_core.specs.Topics.{topic_ids}
-use Rattle.leave_out.specs.TopicOrder.{AreNumbered}
-use Rattle.campaign_core.proofs.Lists.Elements.{slice-there}
+use Rattle.campaign_core.specs.Views.LentTopics.{topic_at}
+use Rattle.campaign_core.specs.Assessments.Topics.{topic_ids}
+use Rattle.leave_out.specs.TopicOrder.{AreTopicNumbers}
 use Rattle.leave_out.proofs.TopicsById.{keys-put, numbered-put, text_cmp}
 use Rattle.leave_out.proofs.topic_order.topic_ids.Goals as goal
 
@@ -27,5 +27,5 @@ loop-topic-preserved c =
           ∙ ap (λ (keys : List Text). insert_key text_cmp keys id) c.loop-topic.invariant.by_id
           ∙ ap (insert_key text_cmp _) (sym there.1)
           ∙ sym (fold_more (insert_key text_cmp) [] ids i [] there.0);
-      numbered = subst (AreNumbered H) (sym now_is) (numbered-put H was id i at c.loop-topic.invariant.numbered);
+      numbered = subst (AreTopicNumbers H) (sym now_is) (numbered-put H was id i at c.loop-topic.invariant.numbered);
     }

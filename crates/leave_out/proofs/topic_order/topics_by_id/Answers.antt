@@ -1,6 +1,6 @@
 use Rattle.std.proofs.Common.{◌∙◌, Some, ap, map}
 use Rattle.std.proofs.lemmas.Result.{IfOk-weaker}
-use Rattle.campaign_core.specs.LentTopics.{topic_at}
+use Rattle.campaign_core.specs.Views.LentTopics.{topic_at}
 use Rattle.leave_out.proofs.TopicsById.{numbers-are}
 use Rattle.leave_out.proofs.topic_order.topics_by_id.Goals as goal
 

@@ -6,7 +6,8 @@ use Rattle.measures.proofs.cells.precision_sum.Goals.{then-is_relevant, else-is_
 pub loop-place-preserved : goal.loop-place-preserved
 loop-place-preserved c =
     elim c.if-is_relevant.branch [
-      | then-is_relevant w ↦ rw (w.relevant-is, w.sum-is, w.weight.ensures.value) (added _ _ _ _ _ _ c.loop-place-test.true (sym w.if-is_relevant.ensures) c.loop-place.invariant)
+      | then-is_relevant w ↦ rw (w.relevant-is, w.sum-is, w.weight.ensures.value)
+          (added _ _ _ _ _ _ c.loop-place-test.true (sym w.if-is_relevant.ensures) c.loop-place.invariant)
       | else-is_relevant w ↦ rw (w.relevant-is, w.sum-is) (passed_over _ _ _ _ _ _ c.loop-place-test.true (sym w.if-is_relevant.ensures) c.loop-place.invariant)
     ]
 

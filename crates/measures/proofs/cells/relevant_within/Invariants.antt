@@ -6,4 +6,4 @@ use Rattle.measures.proofs.Places.{ArePlaced}
 use Rattle.measures.proofs.cells.relevant_within.Given as goal
 
 abbrev pub invariant-loop-place : goal.invariant-loop-place
-invariant-loop-place l = ArePlaced (λ place. relevant_to l.level l.grades (get_or cutoffs place 0)) l.counts l.place
+invariant-loop-place l = ArePlaced 9 (λ place. relevant_to l.level l.grades (get_or cutoffs place 0)) l.counts l.place

@@ -1,5 +1,5 @@
 use Rattle.std.proofs.Common.{◌≡◌, length, vec_capacity}
-use Rattle.mtf_queue.proofs.Numbering.{IsAddedUp}
+use Rattle.mtf_queue.proofs.GroupNumbers.{IsAddedUp}
 use Rattle.mtf_queue.proofs.groups.add_up.Given as goal
 
 abbrev pub invariant-loop-group : goal.invariant-loop-group

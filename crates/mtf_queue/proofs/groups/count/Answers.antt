@@ -2,7 +2,7 @@ use Rattle.std.proofs.Common.{◌≡◌, ◌+◌, ◌-◌, ◌*◌, ◌<◌, ◌
 use Rattle.std.proofs.lemmas.List.{length-set}
 use Rattle.mtf_queue.specs.declared.groups.Member.{Member}
 use Rattle.mtf_queue.specs.Groups.{AreSizes}
-use Rattle.mtf_queue.proofs.Numbering.{more-counted, none-counted}
+use Rattle.mtf_queue.proofs.GroupNumbers.{more-counted, none-counted}
 use Rattle.mtf_queue.proofs.groups.count.Goals as goal
 
 pub unwrap-requires : goal.unwrap-requires
@@ -15,7 +15,8 @@ loop-member-init c =
     let more = n - vec_len cleared in
     let sizes = c.resize.new.self.items in
     let made = c.resize.ensures.items ∙ ap (λ b. cond b (take n cleared.items ++ replicate more 0) cleared.items) (ap is_ok c.unwrap.ensures) in
-    let zeros : sizes ≡ replicate more 0 = made ∙ ap (λ list. take n list ++ replicate more 0) c.clear.ensures.items ∙ ap (λ list. list ++ replicate more 0) (take_all n [] (omega arith)) in
+    let zeros : sizes ≡ replicate more 0 = made ∙ ap (λ list. take n list ++ replicate more 0) c.clear.ensures.items
+    ∙ ap (λ list. list ++ replicate more 0) (take_all n [] (omega arith)) in
     let long : vec_len c.resize.new.self ≡ n = c.resize.ensures.len ∙ ap (λ b. cond b n (vec_len cleared)) (ap is_ok c.unwrap.ensures) in (
       subst (λ list. AreSizes list []) (sym zeros) (none-counted more),
       omega (arith, long, c.resize.new.self.ok.0),

@@ -10,7 +10,8 @@ loop-run-preserved c =
     let run = get_or c.args.order.now c.loop-run.run-index none in
     let before = c.loop-run.members.items in
     let grown : c.push_reserved.new.self.items ≡ before ++ first_group run ∷ [] = c.push_reserved.ensures.items in (
-      grown ∙ ap (λ members. members ++ first_group run ∷ []) c.loop-run.invariant.0 ∙ sym (map_more first_group c.args.order.now c.loop-run.run-index none c.loop-run-test.true),
+      grown ∙ ap (λ members. members ++ first_group run ∷ []) c.loop-run.invariant.0
+          ∙ sym (map_more first_group c.args.order.now c.loop-run.run-index none c.loop-run-test.true),
       omega (arith, c.push_reserved.ensures.capacity, c.loop-run.invariant.1),
       omega (arith, c.push_reserved.ensures.capacity, c.loop-run.invariant.2),
     )

@@ -19,7 +19,8 @@ returns-then-run-holders-clause-ahead c =
 pub returns-clause-passed : goal.returns-clause-passed
 returns-clause-passed c =
     let holders = c.args.holders.now in
-    subst (KeepsFrom c.args.run (drop c.args.from holders)) (drop_all c.loop-index.index holders c.loop-index-test.false ∙ sym (drop_all (length holders) holders (omega arith))) c.loop-index.invariant
+    subst (KeepsFrom c.args.run (drop c.args.from holders))
+    (drop_all c.loop-index.index holders c.loop-index-test.false ∙ sym (drop_all (length holders) holders (omega arith))) c.loop-index.invariant
 
 pub returns-clause-ahead : goal.returns-clause-ahead
 returns-clause-ahead c =

@@ -12,5 +12,7 @@ pub returns-clause-by_run : goal.returns-clause-by_run
 returns-clause-by_run c =
     let order = c.args.order.now in
     let members = c.sort_unstable.new.self.items in
-    let permuted : IsPermutation (map first_group order) members = subst (λ filled. IsPermutation filled members) c.fill.ensures.runs c.sort_unstable.ensures.permutation in
-    sorted_by_run members (All-permutation (λ member. member.group ≡ 0) (map first_group order) members permuted (first_groups order)) (sorted_pairs members c.sort_unstable.ensures.sorted)
+    let permuted : IsPermutation (map first_group order) members =
+    subst (λ filled. IsPermutation filled members) c.fill.ensures.runs c.sort_unstable.ensures.permutation in
+    sorted_by_run members (All-permutation (λ member. member.group ≡ 0) (map first_group order) members permuted (first_groups order))
+    (sorted_pairs members c.sort_unstable.ensures.sorted)

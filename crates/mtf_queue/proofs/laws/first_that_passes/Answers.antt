@@ -1,4 +1,4 @@
-use Rattle.mtf_queue.proofs.First.{first-passes}
+use Rattle.mtf_queue.proofs.FirstRuns.{first-passes}
 use Rattle.mtf_queue.proofs.laws.first_that_passes.Goals as goal
 
 pub returns : goal.returns

@@ -1,4 +1,4 @@
-use Rattle.mtf_queue.proofs.Keeping.{in_order_outlasts}
+use Rattle.mtf_queue.proofs.OrderedQueues.{in_order_outlasts}
 use Rattle.mtf_queue.proofs.laws.order_outlasts_other_runs.Goals as goal
 
 pub returns : goal.returns

@@ -1,4 +1,4 @@
-use Rattle.mtf_queue.proofs.Comparing.{chain, not_itself, one_of_two}
+use Rattle.mtf_queue.proofs.RunComparisons.{chain, not_itself, one_of_two}
 use Rattle.mtf_queue.proofs.laws.rule_is_total_order.Goals as goal
 
 pub returns-clause-not_itself : goal.returns-clause-not_itself

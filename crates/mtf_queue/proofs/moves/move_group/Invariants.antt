@@ -2,7 +2,7 @@
 use Rattle.std.proofs.Common.{◌≡◌, ◌≤◌, Some, length, vec_capacity}
 use Rattle.depth_pool.specs.Holdings.{has_id}
 use Rattle.mtf_queue.specs.Rule.{is_first_side}
-use Rattle.mtf_queue.proofs.Grouping.{IsMoved}
+use Rattle.mtf_queue.proofs.GroupMoves.{IsMoved}
 use Rattle.mtf_queue.proofs.moves.move_group.Given as goal
 
 abbrev pub invariant-loop-at : goal.invariant-loop-at

@@ -7,7 +7,7 @@ use Rattle.qrels_view.specs.declared.grades.Placed.{Placed}
 use Rattle.qrels_view.specs.Grades.{graded_of}
 use Rattle.qrels_view.specs.Places.{HasFirstPlaces, placed_at}
 use Rattle.qrels_view.proofs.Places.{documents_moved, documents_sorted, placed_before, placed_order, still_first}
-use Rattle.qrels_view.proofs.Sorting.{each_once, sorted_is}
+use Rattle.qrels_view.proofs.SortedDocs.{each_once, sorted_is}
 use Rattle.qrels_view.proofs.docno_orders.arranged.Goals as goal
 
 pub returns-clause-each_once : goal.returns-clause-each_once
@@ -30,6 +30,8 @@ returns-clause-placed c =
     let moved : IsPermutation (map (placed_at graded) places) sorted = subst (λ before. IsPermutation before sorted) placed c.sort_by.ensures.permutation in
     let counted : c.len-len.result ≡ length c.args.grades.now.entries = search rules in
     let len : length places ≡ length graded = c.in_ok-follow.ensures.len ∙ counted ∙ sym (length-map c.args.grades.now.entries _) in
-    let up = c.in_ok-sort_by.ensures.sorted (placed_before names) (placed_order names) (always_returns_same _ (λ a r. is_lt r ≡ placed_before names a.0.now a.1.0.now) _ (λ a r f' q. (ap is_lt (search rules), search rules))) in
-    sorted_is names graded (map (λ (one : Placed). one.graded) sorted) c.len.ensures.distinct (each_once c.args.grades.now.entries c.len-len.ensures.unique) c.requires.docs_named
+    let up = c.in_ok-sort_by.ensures.sorted (placed_before names) (placed_order names)
+    (always_returns_same _ (λ a r. is_lt r ≡ placed_before names a.0.now a.1.0.now) _ (λ a r f' q. (ap is_lt (search rules), search rules))) in
+    sorted_is names graded (map (λ (one : Placed). one.graded) sorted) c.len.ensures.distinct
+    (each_once c.args.grades.now.entries c.len-len.ensures.unique) c.requires.docs_named
     (documents_moved graded places sorted len c.follow.ensures.each_once moved) (documents_sorted names sorted up)

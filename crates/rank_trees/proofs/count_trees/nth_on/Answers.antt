@@ -1,6 +1,6 @@
 use Rattle.std.proofs.Common.{List, Bool, ap, arith, sym, zero-add}
 use Rattle.std.proofs.lemmas.List.{take_all}
-use Rattle.rank_trees.specs.Marks.{count_on}
+use Rattle.rank_trees.specs.PlacesOn.{count_on}
 use Rattle.rank_trees.proofs.Counts.{nth-here, nth-left, nth-more}
 use Rattle.rank_trees.proofs.count_trees.nth_on.Goals as goal
 
@@ -14,8 +14,10 @@ returns-then-bit-rest-clause-place c = λ on is short some.
 
 pub loop-place-preserved : goal.loop-place-preserved
 loop-place-preserved c = λ on is.
-    let at = c.loop-place.invariant on is in
-    (nth-left on c.args.number c.loop-place.place c.loop-place.bits c.loop-place.rest at.0 at.1, nth-more on c.args.number c.loop-place.place c.loop-place.bits c.loop-place.rest at.0 at.1 _ (omega arith) c.if-bit-rest.false)
+    let at = c.loop-place.invariant on is in (
+      nth-left on c.args.number c.loop-place.place c.loop-place.bits c.loop-place.rest at.0 at.1,
+      nth-more on c.args.number c.loop-place.place c.loop-place.bits c.loop-place.rest at.0 at.1 _ (omega arith) c.if-bit-rest.false,
+    )
 
 pub returns-clause-place : goal.returns-clause-place
 returns-clause-place c = λ on is short some.

@@ -5,7 +5,8 @@ use Rattle.rank_trees.proofs.sum_trees.sum_before.Goals.{then-at-eq1, else-at-eq
 
 pub loop-level-init : goal.loop-level-init
 loop-level-init g c = record {
-  summed = subst (λ n. IsSummed c.args.nodes.now c.args.depth c.args.index 0 n c.args.index 0) (sym c.pow-start.ensures) (summed-none c.args.nodes.now c.args.depth c.args.index c.requires.within);
+  summed = subst (λ n. IsSummed c.args.nodes.now c.args.depth c.args.index 0 n c.args.index 0) (sym c.pow-start.ensures)
+      (summed-none c.args.nodes.now c.args.depth c.args.index c.requires.within);
   cost = omega arith;
 }
 
@@ -22,9 +23,13 @@ pub loop-level-preserved : goal.loop-level-preserved
 loop-level-preserved g c =
     record {
       summed = elim c.if-at-eq1.branch [
-        | then-at-eq1 w ↦ rw w.sum-is (subst (λ (n : ℕ). IsSummed c.args.nodes.now c.args.depth c.args.index (c.loop-level._level + 1) (c.loop-level.start / 2) (c.loop-level.at / 2) (c.loop-level.sum + n)) (sym w.read-sum.ensures.node)
-            (summed-left c.args.depth c.args.nodes.now c.args.index c.loop-level._level c.loop-level.start c.loop-level.at c.loop-level.sum c.requires.sums c.loop-level-test.true c.loop-level.invariant.summed w.if-at-eq1.true))
-        | else-at-eq1 w ↦ rw w.sum-is (summed-right c.args.depth c.args.nodes.now c.args.index c.loop-level._level c.loop-level.start c.loop-level.at c.loop-level.sum
+        | then-at-eq1 w ↦ rw w.sum-is
+            (subst (λ (n : ℕ). IsSummed c.args.nodes.now c.args.depth c.args.index (c.loop-level._level + 1)
+            (c.loop-level.start / 2) (c.loop-level.at / 2) (c.loop-level.sum + n)) (sym w.read-sum.ensures.node)
+            (summed-left c.args.depth c.args.nodes.now c.args.index c.loop-level._level c.loop-level.start c.loop-level.at
+            c.loop-level.sum c.requires.sums c.loop-level-test.true c.loop-level.invariant.summed w.if-at-eq1.true))
+        | else-at-eq1 w ↦ rw w.sum-is
+            (summed-right c.args.depth c.args.nodes.now c.args.index c.loop-level._level c.loop-level.start c.loop-level.at c.loop-level.sum
             c.requires.sums c.loop-level-test.true c.loop-level.invariant.summed w.if-at-eq1.false)
       ];
       cost = elim c.if-at-eq1.branch [
@@ -34,4 +39,6 @@ loop-level-preserved g c =
     }
 
 pub returns-clause-sum : goal.returns-clause-sum
-returns-clause-sum g c = summed-all c.args.depth c.args.nodes.now c.args.index c.loop-level._level c.loop-level.start c.loop-level.at c.loop-level.sum (omega arith) c.loop-level.invariant.summed
+returns-clause-sum g c =
+    summed-all c.args.depth c.args.nodes.now c.args.index c.loop-level._level c.loop-level.start c.loop-level.at c.loop-level.sum
+    (omega arith) c.loop-level.invariant.summed

@@ -11,7 +11,9 @@ loop-i-init c = record {
 pub loop-i-preserved : goal.loop-i-preserved
 loop-i-preserved c = record {
   weighed = λ on is.
-      let at = c.loop-i.invariant.weighed on is in
-      (weighed-left on c.args.first c.loop-i.i c.loop-i.bits c.loop-i.sum at.0 at.1, weighed-more on c.args.first c.loop-i.i c.loop-i.bits c.loop-i.sum at.0 at.1 _ c.weight_if-sum.ensures.weight);
+      let at = c.loop-i.invariant.weighed on is in (
+        weighed-left on c.args.first c.loop-i.i c.loop-i.bits c.loop-i.sum at.0 at.1,
+        weighed-more on c.args.first c.loop-i.i c.loop-i.bits c.loop-i.sum at.0 at.1 _ c.weight_if-sum.ensures.weight,
+      );
   small = omega (arith, c.loop-i.invariant.small, c.weight_if-sum.ensures.small);
 }

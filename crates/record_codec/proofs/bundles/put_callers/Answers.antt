@@ -1,7 +1,7 @@
 -- One caller more.
 use Rattle.std.proofs.Common.{rules, ◌<◌, ◌++◌, ◌∙◌, length}
 use Rattle.record_codec.specs.Varints.{varint}
-use Rattle.record_codec.proofs.ItemSteps.{table_next}
+use Rattle.record_codec.proofs.BundleCodes.ItemSteps.{table_next}
 use Rattle.record_codec.proofs.bundles.put_callers.Goals as goal
 
 pub loop-place-preserved : goal.loop-place-preserved

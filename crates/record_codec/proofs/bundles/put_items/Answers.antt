@@ -3,9 +3,9 @@ use Rattle.std.proofs.Common.{rules, ◌<◌, ◌≤◌, ◌+◌, ◌++◌, ◌�
 use Rattle.std.specs.List.{flat_map}
 use Rattle.std.proofs.lemmas.List.{drop_all}
 use Rattle.rulebook.specs.Words.{Text}
-use Rattle.record_codec.specs.declared.bundle_items.BundleItem.{BundleItem}
+use Rattle.record_codec.specs.declared.bundles.bundle_items.BundleItem.{BundleItem}
 use Rattle.record_codec.specs.Bundles.{item_bytes, items_of}
-use Rattle.record_codec.proofs.ItemSteps.{item_next, items_end, left_is, rising_next}
+use Rattle.record_codec.proofs.BundleCodes.ItemSteps.{item_next, items_end, left_is, rising_next}
 use Rattle.record_codec.proofs.bundles.put_items.Goals as goal
 
 pub loop-core-preserved : goal.loop-core-preserved

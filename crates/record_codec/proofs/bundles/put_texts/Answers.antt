@@ -2,7 +2,7 @@
 use Rattle.std.proofs.Common.{rules, ◌<◌, ◌++◌, ◌∙◌, length}
 use Rattle.rulebook.specs.Spelling.{short}
 use Rattle.record_codec.specs.Varints.{varint}
-use Rattle.record_codec.proofs.ItemSteps.{table_next}
+use Rattle.record_codec.proofs.BundleCodes.ItemSteps.{table_next}
 use Rattle.record_codec.proofs.bundles.put_texts.Goals as goal
 
 pub loop-place-preserved : goal.loop-place-preserved

@@ -4,8 +4,8 @@ use Rattle.std.specs.List.{All}
 use Rattle.std.proofs.lemmas.Result.{on_ok_weaker}
 use Rattle.rulebook.specs.Words.{Text}
 use Rattle.record_codec.specs.Tables.{callers_of}
-use Rattle.record_codec.proofs.BundleSizes.{bundled, texts_short}
-use Rattle.record_codec.proofs.ItemSteps.{bundle_is, texts_counted}
+use Rattle.record_codec.proofs.BundleCodes.BundleSizes.{bundled, texts_short}
+use Rattle.record_codec.proofs.BundleCodes.ItemSteps.{bundle_is, texts_counted}
 use Rattle.record_codec.proofs.bundles.write_bundle.Goals as goal
 
 pub callers_in-requires-clause-few : goal.callers_in-requires-clause-few

@@ -1,5 +1,5 @@
 use Rattle.std.proofs.Common.{arith}
-use Rattle.record_codec.proofs.EntryCodes.{is_no_spelling, is_spelling}
+use Rattle.record_codec.proofs.FieldCodes.EntryCodes.{is_no_spelling, is_spelling}
 use Rattle.record_codec.proofs.entries.read_entry.Goals as goal
 
 pub returns-clause-entry : goal.returns-clause-entry

@@ -1,4 +1,4 @@
-use Rattle.record_codec.proofs.BundleLaws.{one_bundle_holds}
+use Rattle.record_codec.proofs.BundleCodes.BundleLaws.{one_bundle_holds}
 use Rattle.record_codec.proofs.laws.one_bundle.Goals as goal
 
 pub returns : goal.returns

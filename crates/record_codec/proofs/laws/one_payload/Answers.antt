@@ -1,4 +1,4 @@
-use Rattle.record_codec.proofs.BundleLaws.{one_payload_holds}
+use Rattle.record_codec.proofs.BundleCodes.BundleLaws.{one_payload_holds}
 use Rattle.record_codec.proofs.laws.one_payload.Goals as goal
 
 pub returns : goal.returns

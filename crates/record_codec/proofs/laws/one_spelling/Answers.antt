@@ -1,4 +1,4 @@
-use Rattle.record_codec.proofs.EntryCodes.{one_spelling_holds}
+use Rattle.record_codec.proofs.FieldCodes.EntryCodes.{one_spelling_holds}
 use Rattle.record_codec.proofs.laws.one_spelling.Goals as goal
 
 pub returns : goal.returns

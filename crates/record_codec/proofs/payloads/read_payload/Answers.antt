@@ -1,6 +1,6 @@
 -- What was read is the payload, or there is none.
 use Rattle.std.proofs.Common.{arith}
-use Rattle.record_codec.proofs.BundleLaws.{is_payload, is_no_payload}
+use Rattle.record_codec.proofs.BundleCodes.BundleLaws.{is_payload, is_no_payload}
 use Rattle.record_codec.proofs.payloads.read_payload.Goals as goal
 
 pub returns-clause-entries : goal.returns-clause-entries

@@ -28,4 +28,5 @@ loop-place-preserved c =
     ∙ ap (λ (out : Text). out ++ short text) c.loop-place.invariant
     ∙ append_assoc before (count ++ flat_map short (take place docs)) (short text)
     ∙ ap (λ (behind : Text). before ++ behind) (flat_map_more short count (take place docs) text
-    ∙ ap (λ ds. count ++ flat_map short ds) (sym (take_more docs place text within ∙ ap (λ (d : Text). take place docs ++ d ∷ []) (get_or_from_slice_get docs place text text c.at.ensures))))
+    ∙ ap (λ ds. count ++ flat_map short ds)
+    (sym (take_more docs place text within ∙ ap (λ (d : Text). take place docs ++ d ∷ []) (get_or_from_slice_get docs place text text c.at.ensures))))

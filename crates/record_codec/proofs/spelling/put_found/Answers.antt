@@ -2,7 +2,7 @@ use Rattle.std.proofs.Common.{◌≡◌, ◌∙◌, ◌++◌, ◌∷◌, ◌<◌
 use Rattle.std.specs.Prelude.{◌==◌}
 use Rattle.std.proofs.lemmas.Result.{on_ok_weaker}
 use Rattle.rulebook.specs.declared.rules.TopicLevel.{TopicLevel}
-use Rattle.rulebook.specs.Spelling.{level_bytes, listed, rules_bytes}
+use Rattle.rulebook.specs.Spelling.{level_bytes, rules_bytes, spelled_list}
 use Rattle.rulebook.specs.Words.{Text}
 use Rattle.record_codec.proofs.EntryParts.{found_joined, levels_short}
 use Rattle.record_codec.proofs.spelling.put_found.Goals as goal
@@ -24,4 +24,4 @@ returns c =
     c.in_ok-put_rules.ensures ∙ ap (λ (front : Text). front ++ rules_bytes r) c.in_ok-push-2.ensures.items in
     let joined = found_joined text r r.levels (filled r.levels lengths) in
     on_ok_weaker c.put_items.result
-    (λ put. put ∙ ap (λ (front : Text). front ++ listed level_bytes r.levels) before ∙ joined) c.put_items.ensures
+    (λ put. put ∙ ap (λ (front : Text). front ++ spelled_list level_bytes r.levels) before ∙ joined) c.put_items.ensures

@@ -1,7 +1,7 @@
 -- The run of no system passed stands behind it: the systems left tell whether all differ.
 use Rattle.std.proofs.Common.{◌≡◌, length}
 use Rattle.rulebook.specs.Spelling.{differ}
-use Rattle.rulebook.specs.Systems.{runs_of}
+use Rattle.rulebook.specs.Reports.Systems.{runs_of}
 use Rattle.release_archive.proofs.kept.runs_differ.Given as goal
 
 abbrev pub invariant-loop-rest : goal.invariant-loop-rest

@@ -2,11 +2,12 @@ use Rattle.std.proofs.Common.{◌∙◌, ◌++◌, ap, arith, sym, true, vec_len
 use Rattle.routes.specs.Answers.{body_of, status_of, text_of}
 use Rattle.http_wire.specs.Answers.{answer_text}
 use Rattle.routes.proofs.AnswerTexts.AnswerSizes.{text_few}
-use Rattle.routes.proofs.AnswerTexts.Growing.{behind_first}
+use Rattle.routes.proofs.AnswerTexts.ByteParts.{behind_first}
 use Rattle.routes.proofs.answers.write_object.Goals as goal
 
 pub returns-in_err-write_body-clause-few : goal.returns-in_err-write_body-clause-few
-returns-in_err-write_body-clause-few c = λ plain short. text_few c.args.answer.now c.args.close c.status_of-status.ensures.small (c.write_body.ensures.few plain short)
+returns-in_err-write_body-clause-few c =
+    λ plain short. text_few c.args.answer.now c.args.close c.status_of-status.ensures.small (c.write_body.ensures.few plain short)
 
 pub returns-in-Ok-clause-ok : goal.returns-in-Ok-clause-ok
 unfolding text_of

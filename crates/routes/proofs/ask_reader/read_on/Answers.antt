@@ -24,7 +24,7 @@ returns-in-Ok-clause-held c = λ fed held.
         role = is.role;
         known = is.known;
         fitting = is.fitting;
-        suits = c.in-Ok.ensures.suits c.in-Reads.opened.place.question is.suits;
+        suits = c.in-Ok.ensures.suits c.in-Reads.opened.place is.suits;
       },
       c.in-Ok.ensures.few fed w.1,
     )

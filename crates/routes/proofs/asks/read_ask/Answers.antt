@@ -1,7 +1,7 @@
 use Rattle.std.proofs.Common.{◌∙◌, rules, sym, Ok}
 use Rattle.routes.specs.Asks.{Asks}
-use Rattle.routes.specs.Places.{parameter}
-use Rattle.routes.proofs.Requests.Addressed.{addressed_at}
+use Rattle.routes.specs.RouteTable.{parameter}
+use Rattle.routes.proofs.Requests.AddressedRequests.{addressed_at}
 use Rattle.routes.proofs.PathTable.TableRows.{parameter_is, role_is}
 use Rattle.routes.proofs.asks.read_ask.Goals as goal
 
@@ -14,4 +14,5 @@ returns-clause-addressed c = λ moment latest.
     let asks : Asks opening.place.question text body (Ok c.in_ok-ask.ask) = search (rules, c.in_ok-ask.ensures.ask) in
     rw c.in_ok-caller.ensures
     (addressed_at opening.place.question opening.row.now opening.number text body c.in_ok-ask.ask moment opened.named opened.number
-    (sym (role_is opening.place opened.known opening.row.now.role) ∙ opened.role) (sym (parameter_is opening.place opened.known text) ∙ opened.fitting) asks c.in_ok-ask.ensures.sound c.requires latest)
+    (sym (role_is opening.place opened.known opening.row.now.role) ∙ opened.role)
+    (sym (parameter_is opening.place opened.known text) ∙ opened.fitting) asks c.in_ok-ask.ensures.sound c.requires latest)

@@ -8,10 +8,13 @@ pub returns-then-has_text : goal.returns-then-has_text
 returns-then-has_text c =
     let here : slice_get c.loop-left.left.now 0 ≡ Some c.first-item.result = search (rules, c.first-item.is) in
     let there : c.has_text.result ≡ true = search (rules, c.if-has_text.true) in
-    repeats_first (row_text c.args.which) c.loop-left.left.now c.first-item.result c.text_of.result.now c.has_text.result here c.text_of.ensures c.has_text.ensures there ∙ sym c.loop-left.invariant
+    repeats_first (row_text c.args.which) c.loop-left.left.now c.first-item.result c.text_of.result.now c.has_text.result
+    here c.text_of.ensures c.has_text.ensures there ∙ sym c.loop-left.invariant
 
 pub loop-left-preserved : goal.loop-left-preserved
 loop-left-preserved c =
     let here : slice_get c.loop-left.left.now 0 ≡ Some c.first-item.result = search (rules, c.first-item.is) in
     let absent : c.has_text.result ≡ false = search (rules, c.if-has_text.false) in
-    c.loop-left.invariant ∙ differs_first (row_text c.args.which) c.loop-left.left.now c.first-item.result c.text_of.result.now c.has_text.result here c.text_of.ensures c.has_text.ensures absent
+    c.loop-left.invariant
+    ∙ differs_first (row_text c.args.which) c.loop-left.left.now c.first-item.result c.text_of.result.now
+    c.has_text.result here c.text_of.ensures c.has_text.ensures absent

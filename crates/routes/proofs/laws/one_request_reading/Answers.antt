@@ -1,4 +1,4 @@
-use Rattle.routes.proofs.Requests.OneReading.{request_same}
+use Rattle.routes.proofs.Requests.SingleReadings.{request_same}
 use Rattle.routes.proofs.laws.one_request_reading.Goals as goal
 
 pub returns : goal.returns

@@ -1,4 +1,4 @@
-use Rattle.rulebook.proofs.LegalHistories.Added.{added_accepted}
+use Rattle.rulebook.proofs.LegalHistories.AddedEntries.{added_accepted}
 use Rattle.rulebook.proofs.laws.added_are_accepted.Goals as goal
 
 pub returns : goal.returns

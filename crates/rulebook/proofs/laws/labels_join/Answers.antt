@@ -1,4 +1,4 @@
-use Rattle.rulebook.proofs.Judgements.Entering.{label-joined}
+use Rattle.rulebook.proofs.Judgements.NextEntries.{label-joined}
 use Rattle.rulebook.proofs.laws.labels_join.Goals as goal
 
 pub returns : goal.returns

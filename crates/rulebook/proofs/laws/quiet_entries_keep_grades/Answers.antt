@@ -1,4 +1,4 @@
-use Rattle.rulebook.proofs.Judgements.Entering.{quiet-kept}
+use Rattle.rulebook.proofs.Judgements.NextEntries.{quiet-kept}
 use Rattle.rulebook.proofs.laws.quiet_entries_keep_grades.Goals as goal
 
 pub returns : goal.returns

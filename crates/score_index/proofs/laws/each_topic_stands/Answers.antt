@@ -1,7 +1,7 @@
 use Rattle.std.proofs.Common.{[]}
 use Rattle.score_index.specs.Scores.{no_topic}
-use Rattle.score_index.specs.Standing.{StandsAt}
-use Rattle.score_index.proofs.Keeping.Listing.{zip_at}
+use Rattle.score_index.specs.BoardGrades.{StandsAt}
+use Rattle.score_index.proofs.KeptTopics.ListFacts.{zip_at}
 use Rattle.score_index.proofs.laws.each_topic_stands.Goals as goal
 
 pub returns : goal.returns

@@ -1,7 +1,7 @@
 -- The places so far have the marks of their documents, and the sums are those of the marks.
 use Rattle.qrels_view.specs.Grades.{effective_in, is_non_relevant, is_relevant}
 use Rattle.score_index.specs.KeptSums.{AreSums}
-use Rattle.score_index.proofs.Regrading.Marking.{AreMarked}
+use Rattle.score_index.proofs.GradeChanges.MarkedPlaces.{AreMarked}
 use Rattle.score_index.proofs.lists.mark_places.Given as goal
 
 abbrev pub invariant-loop-place : goal.invariant-loop-place

@@ -1,7 +1,7 @@
 use Rattle.std.proofs.Common.{◌≡◌, ◌∙◌, ◌+◌, ◌-◌, Bool, List, arith, false, not, refl, set, subst, sym, true}
 use Rattle.std.proofs.lemmas.List.{length-set}
 use Rattle.score_index.specs.KeptSums.{AreSums, with_lower}
-use Rattle.score_index.proofs.Cells.Moving.{moved, places_of, same_sums, set-same}
+use Rattle.score_index.proofs.Cells.MovedSums.{moved, places_of, same_sums, set-same}
 use Rattle.score_index.proofs.Cells.SumSteps.{lower-sum, preferences-fit}
 use Rattle.score_index.specs.Places.{preferences}
 use Rattle.score_index.proofs.sums.moved_lower.Given.{Over}
@@ -10,10 +10,12 @@ use Rattle.score_index.proofs.sums.moved_lower.Goals as goal
 
 -- what the place takes from the sum
 taken : (g : Over) (c : After-reached_past-past g)
-    → preferences c.args.cap 0 c.args.trees.now.relevant (set c.args.trees.now.lower (c.args.place - 1) false) ≡ preferences c.args.cap 0 c.args.trees.now.relevant c.args.trees.now.lower + c.reached_past-past.result
+    → preferences c.args.cap 0 c.args.trees.now.relevant (set c.args.trees.now.lower (c.args.place - 1) false)
+    ≡ preferences c.args.cap 0 c.args.trees.now.relevant c.args.trees.now.lower + c.reached_past-past.result
 taken g c =
     let on = c.requires.on in
-    let sum = lower-sum c.args.cap c.args.trees.now.relevant c.args.trees.now.lower c.args.place on.0 (omega (arith, on.1, c.len.ensures.long)) c.len.ensures.long on.2 in
+    let sum = lower-sum c.args.cap c.args.trees.now.relevant c.args.trees.now.lower c.args.place on.0
+    (omega (arith, on.1, c.len.ensures.long)) c.len.ensures.long on.2 in
     omega (arith, sum, c.reached_past-past.ensures.reached)
 
 -- the sums without the place, where it becomes judged lower
@@ -45,7 +47,8 @@ returns-then-on-clause-sums g c =
     let long = sym (length-set lower (c.args.place - 1) false) ∙ are.long in
     subst (λ b. AreSums c.args.cap (with_lower c.args.place b c.args.trees.now) c.with_preferences.result) (sym c.if-on.true)
     (subst (λ (l : List Bool). AreSums c.args.cap (places_of relevant l) c.with_preferences.result) (sym (stays-on g all))
-    (moved c.args.cap c.args.cap relevant (set lower (c.args.place - 1) false) lower c.args.sums c.with_preferences.result (c.args.sums.preferences - c.reached_past-past.result) are
+    (moved c.args.cap c.args.cap relevant (set lower (c.args.place - 1) false) lower c.args.sums c.with_preferences.result
+    (c.args.sums.preferences - c.reached_past-past.result) are
     long (omega (arith, taken g all, are.preferences)) c.with_preferences.ensures))
 
 pub overflow_add-sums : goal.overflow_add-sums
@@ -62,5 +65,6 @@ returns-clause-sums g c =
     let relevant = c.args.trees.now.relevant in
     let lower = c.args.trees.now.lower in
     subst (λ b. AreSums c.args.cap (with_lower c.args.place b c.args.trees.now) c.with_preferences-2.result) (sym c.if-on.false)
-    (moved c.args.cap c.args.cap relevant lower (set lower (c.args.place - 1) false) c.args.sums c.with_preferences-2.result (c.args.sums.preferences + c.reached_past-past.result) are
+    (moved c.args.cap c.args.cap relevant lower (set lower (c.args.place - 1) false) c.args.sums c.with_preferences-2.result
+    (c.args.sums.preferences + c.reached_past-past.result) are
     (length-set lower (c.args.place - 1) false ∙ are.long) (omega (arith, taken g all, are.preferences)) c.with_preferences-2.ensures)

@@ -1,27 +1,30 @@
 use Rattle.std.proofs.Common.{◌≡◌, ◌∙◌, ◌+◌, ◌-◌, ℕ, Bool, List, ap, arith, false, map, not, refl, set, subst, sym, take, true}
 use Rattle.std.proofs.lemmas.List.{length-set}
 use Rattle.measures.specs.Cells.{cutoffs}
-use Rattle.rank_trees.specs.Marks.{count_on}
+use Rattle.rank_trees.specs.PlacesOn.{count_on}
 use Rattle.score_index.specs.KeptSums.{AreSums, with_relevant}
 use Rattle.score_index.specs.declared.sums.Sums.{Sums}
-use Rattle.score_index.proofs.Cells.Moving.{places_of, same_sums}
+use Rattle.score_index.proofs.Cells.MovedSums.{places_of, same_sums}
 use Rattle.score_index.proofs.Cells.SumSteps.{at-few, at-with, gain-small, gain-sum, left-sum, one-more, preferences-fit, stays-off}
 use Rattle.score_index.proofs.sums.moved_relevant.Given.{Over}
 use Rattle.score_index.proofs.sums.moved_relevant.Goals.{After-moved_counts-at}
 use Rattle.score_index.proofs.sums.moved_relevant.Goals as goal
 
-at_is : (g : Over) (c : After-moved_counts-at g) → c.moved_counts-at.result ≡ map (λ (k : ℕ). count_on (take k (set c.args.trees.now.relevant (c.args.place - 1) c.args.on))) cutoffs
+at_is : (g : Over) (c : After-moved_counts-at g)
+    → c.moved_counts-at.result ≡ map (λ (k : ℕ). count_on (take k (set c.args.trees.now.relevant (c.args.place - 1) c.args.on))) cutoffs
 at_is g c =
     let relevant = c.args.trees.now.relevant in
     let off = c.requires.off in
-    c.moved_counts-at.ensures (λ (k : ℕ). count_on (take k relevant)) (c.requires.sums.at ∙ sym (at-with relevant c.args.place off.0 off.1 off.2 (not c.args.on))) ∙ at-with relevant c.args.place off.0 off.1 off.2 c.args.on
+    c.moved_counts-at.ensures (λ (k : ℕ). count_on (take k relevant))
+    (c.requires.sums.at ∙ sym (at-with relevant c.args.place off.0 off.1 off.2 (not c.args.on))) ∙ at-with relevant c.args.place off.0 off.1 off.2 c.args.on
 
 -- the sums of the trees, where the place becomes relevant
 of_trees : (g : Over) (c : After-moved_counts-at g) → c.args.on ≡ true → AreSums c.args.cap c.args.trees.now c.args.sums
 of_trees g c on =
     let relevant = c.args.trees.now.relevant in
     let off = c.requires.off in
-    same_sums c.args.cap (set relevant (c.args.place - 1) false) c.args.trees.now.lower relevant c.args.trees.now.lower c.args.sums (stays-off relevant c.args.place off.0 off.1 off.2) refl
+    same_sums c.args.cap (set relevant (c.args.place - 1) false) c.args.trees.now.lower relevant c.args.trees.now.lower c.args.sums
+    (stays-off relevant c.args.place off.0 off.1 off.2) refl
     (subst (λ b. AreSums c.args.cap (with_relevant c.args.place (not b) c.args.trees.now) c.args.sums) on c.requires.sums)
 
 -- the sums with the place, where it no longer is
@@ -40,7 +43,13 @@ overflow_add-result-then-on g c =
 pub overflow_add-result-then-on-2 : goal.overflow_add-result-then-on-2
 overflow_add-result-then-on-2 g c =
     let are = of_trees g (goal.at.overflow_add-result-then-on-2 g c).After-moved_counts-at c.if-on.true in
-    omega (arith, are.preferences, c.left_above-left.ensures.left, c.requires.few, preferences-fit c.args.cap c.args.trees.now.relevant c.args.trees.now.lower are.few c.requires.few)
+    omega (
+      arith,
+      are.preferences,
+      c.left_above-left.ensures.left,
+      c.requires.few,
+      preferences-fit c.args.cap c.args.trees.now.relevant c.args.trees.now.lower are.few c.requires.few,
+    )
 
 pub returns-then-on-clause-sums : goal.returns-then-on-clause-sums
 returns-then-on-clause-sums g c =
@@ -61,7 +70,8 @@ returns-then-on-clause-sums g c =
       rel_ret = ap (λ (n : ℕ). n + 1) are.rel_ret ∙ sym (one-more on c.args.place off.0 off.1 off.2);
       at = subst (λ b. c.moved_counts-at.result ≡ map (λ (k : ℕ). count_on (take k (set on (c.args.place - 1) b))) cutoffs) c.if-on.true (at_is g all);
       ap_sum = omega (arith, are.ap_sum, c.precision_gain-gain.ensures.gain, gain-sum on c.args.place off.0 off.1 off.2);
-      preferences = omega (arith, are.preferences, c.left_above-left.ensures.left, left-sum on c.args.place off.0 off.1 off.2 c.args.cap c.args.trees.now.lower are.long);
+      preferences = omega
+          (arith, are.preferences, c.left_above-left.ensures.left, left-sum on c.args.place off.0 off.1 off.2 c.args.cap c.args.trees.now.lower are.long);
     })
 
 pub overflow_sub-result-2 : goal.overflow_sub-result-2
@@ -75,7 +85,12 @@ overflow_sub-result-3 g c =
     let are = with_place g (goal.at.overflow_sub-result-3 g c).After-moved_counts-at c.if-on.false in
     let off = c.requires.off in
     let long = are.long ∙ length-set c.args.trees.now.relevant (c.args.place - 1) true in
-    omega (arith, are.preferences, c.left_above-left.ensures.left, left-sum c.args.trees.now.relevant c.args.place off.0 off.1 off.2 c.args.cap c.args.trees.now.lower long)
+    omega (
+      arith,
+      are.preferences,
+      c.left_above-left.ensures.left,
+      left-sum c.args.trees.now.relevant c.args.place off.0 off.1 off.2 c.args.cap c.args.trees.now.lower long,
+    )
 
 pub returns-clause-sums : goal.returns-clause-sums
 returns-clause-sums g c =
@@ -100,5 +115,6 @@ returns-clause-sums g c =
       at = subst (λ b. c.moved_counts-at.result ≡ map (λ (k : ℕ). count_on (take k (set on (c.args.place - 1) b))) cutoffs) c.if-on.false (at_is g all)
           ∙ ap (λ (relevant : List Bool). map (λ (k : ℕ). count_on (take k relevant)) cutoffs) same;
       ap_sum = omega (arith, are.ap_sum, c.precision_gain-gain.ensures.gain, gain-sum on c.args.place off.0 off.1 off.2);
-      preferences = omega (arith, are.preferences, c.left_above-left.ensures.left, left-sum on c.args.place off.0 off.1 off.2 c.args.cap c.args.trees.now.lower long);
+      preferences = omega
+          (arith, are.preferences, c.left_above-left.ensures.left, left-sum on c.args.place off.0 off.1 off.2 c.args.cap c.args.trees.now.lower long);
     }))

@@ -1,37 +1,38 @@
 use Rattle.std.proofs.Common.{◌≡◌, ◌≢◌, ◌<◌, ◌≤◌, ◌∙◌, ℕ, List, ap, arith, below_more, get_or, get_or-set_other, get_or-set_same, length, map, set}
-use Rattle.score_index.specs.Kept.{KeepsPlaces, seen, spare}
+use Rattle.decimal_rank.proofs.Lists.{map-set_same}
+use Rattle.score_index.specs.KeptBoards.{KeepsPlaces, spare, topic_scores}
 use Rattle.score_index.specs.Scores.{ScoreList, TopicScores}
-use Rattle.score_index.specs.declared.topics.Topic.{Topic}
-use Rattle.score_index.proofs.Keeping.Boards.{places_set}
-use Rattle.score_index.proofs.Keeping.Listing.{map-set_same}
+use Rattle.score_index.specs.declared.topics.ScoredTopic.{ScoredTopic}
+use Rattle.score_index.proofs.KeptTopics.Boards.{places_set}
 use Rattle.score_index.proofs.topics.reserve_lists.Goals.{After-reserve}
 use Rattle.score_index.proofs.topics.reserve_lists.Goals as goal
 
-abbrev item : After-reserve → Topic
+abbrev item : After-reserve → ScoredTopic
 item c = get_or c.loop-topic.topics c.loop-topic.topic-index c.topic-item.result
 
 -- the topic with its room
-abbrev roomy : After-reserve → Topic
+abbrev roomy : After-reserve → ScoredTopic
 roomy c = record (item c) { lists = c.reserve.new.self }
 
 within : (c : After-reserve) → c.loop-topic.topic-index < length c.loop-topic.topics
 within c = omega (arith, c.loop-topic-test.true, c.loop-topic.auto.topics)
 
-seen_are : (c : After-reserve) → map seen (set c.loop-topic.topics c.loop-topic.topic-index (roomy c)) ≡ map seen c.args.topics.now
+seen_are : (c : After-reserve) → map topic_scores (set c.loop-topic.topics c.loop-topic.topic-index (roomy c)) ≡ map topic_scores c.args.topics.now
 seen_are c =
-    let with_lists : List ScoreList → TopicScores = λ lists. record (seen (item c)) { lists = lists } in
-    let are : seen (roomy c) ≡ seen (item c) = ap with_lists c.reserve.ensures.items in
-    map-set_same seen c.loop-topic.topics c.loop-topic.topic-index (roomy c) c.topic-item.result (within c) are ∙ c.loop-topic.invariant.seen_are
+    let with_lists : List ScoreList → TopicScores = λ lists. record (topic_scores (item c)) { lists = lists } in
+    let are : topic_scores (roomy c) ≡ topic_scores (item c) = ap with_lists c.reserve.ensures.items in
+    map-set_same topic_scores c.loop-topic.topics c.loop-topic.topic-index (roomy c) c.topic-item.result (within c) are ∙ c.loop-topic.invariant.seen_are
 
 kept : (c : After-reserve) → KeepsPlaces c.args.topics.now (set c.loop-topic.topics c.loop-topic.topic-index (roomy c))
-kept c = places_set c.topic-item.result (roomy c) c.loop-topic.invariant.kept (within c) (λ held. held) (omega (arith, c.reserve.ensures.len, c.reserve.ensures.capacity))
+kept c = places_set c.topic-item.result (roomy c) c.loop-topic.invariant.kept (within c) (λ held. held)
+    (omega (arith, c.reserve.ensures.len, c.reserve.ensures.capacity))
 
 pub loop-topic-preserved : goal.loop-topic-preserved
 loop-topic-preserved c =
     let all = (goal.at.loop-topic-preserved c).After-reserve in
     let topics = c.loop-topic.topics in
     let i = c.loop-topic.topic-index in
-    let Room : ℕ → Type 0 = λ k. (d : Topic) → c.args.count ≤ spare (get_or (set topics i (roomy all)) k d) in
+    let Room : ℕ → Type 0 = λ k. (d : ScoredTopic) → c.args.count ≤ spare (get_or (set topics i (roomy all)) k d) in
     let inside : i < length topics = within all in
     let here : c.args.count ≤ spare (roomy all) = omega (arith, c.in_ok-reserve.ensures.ok) in
     record {

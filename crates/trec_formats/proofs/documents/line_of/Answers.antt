@@ -9,4 +9,5 @@ first_found-requires g c =
     let keys = c.args.table.now.keys in
     let keyed : (c.args.topic_key + c.of_docno.result) % 2 ^ 64 ≡ document_key keys c.args.document.topic.now c.args.document.doc.now =
     rw (c.requires.key, c.of_docno.ensures) refl in
-    seen_under line.topic_of line.doc_of line.number_of keys c.args.table.now.chains c.args.lines.now c.args.document.topic.now c.args.document.doc.now _ c.requires.found keyed
+    seen_under line.topic_of line.doc_of line.number_of keys c.args.table.now.chains c.args.lines.now
+    c.args.document.topic.now c.args.document.doc.now _ c.requires.found keyed

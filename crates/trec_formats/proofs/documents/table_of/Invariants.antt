@@ -1,6 +1,6 @@
 -- The table has the documents of the lines so far, none twice, and the key of the newest topic.
 use Rattle.std.proofs.Common.{◌≡◌, take}
-use Rattle.decimal_rank.specs.TextKeys.{text_key}
+use Rattle.decimal_rank.specs.Tables.TextKeys.{text_key}
 use Rattle.trec_formats.proofs.RepeatedDocuments.Repeats.{HaveSeen}
 use Rattle.trec_formats.proofs.documents.table_of.Given as goal
 

@@ -1,6 +1,6 @@
 -- The lines are those that the views so far show.
 use Rattle.std.proofs.Common.{◌≡◌, map, take}
-use Rattle.trec_formats.specs.LineViews.{qrel_shown}
+use Rattle.trec_formats.specs.RunFormat.LineViews.{qrel_shown}
 use Rattle.trec_formats.proofs.qrels.owned.Given as goal
 
 abbrev pub invariant-loop-view : goal.invariant-loop-view

@@ -1,8 +1,8 @@
 -- The rows so far are read as these lines, which with the bytes left are no more than all bytes.
 use Rattle.std.proofs.Common.{◌+◌, ◌≤◌, length, map}
 use Rattle.trec_formats.specs.Faults.{Stand}
-use Rattle.trec_formats.specs.LineViews.{qrel_shown}
-use Rattle.trec_formats.specs.Qrels.{qrel_of}
+use Rattle.trec_formats.specs.RunFormat.LineViews.{qrel_shown}
+use Rattle.trec_formats.specs.QrelsFormat.Qrels.{qrel_of}
 use Rattle.trec_formats.proofs.LineTexts.Progress.{IsReadTo}
 use Rattle.trec_formats.proofs.qrels.read_lines.Given as goal
 

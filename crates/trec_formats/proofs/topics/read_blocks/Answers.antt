@@ -19,11 +19,13 @@ pub loop-rest-preserved-then-not-is_empty : goal.loop-rest-preserved-then-not-is
 loop-rest-preserved-then-not-is_empty c =
     let there = there_test _ _ _ c.strip-line.ensures c.is_empty-in-loop-rest.ensures c.if-not-is_empty.true in
     let told = rw (c.mark_of.ensures, c.strip-line.ensures) at c.in_ok-open_block.ensures in
-    goes_on _ _ _ _ _ c.loop-rest.invariant _ _ c.cut_line.ensures.cut c.cut_line.ensures.shorter there (c.read_mark.new.topics.items, c.in_ok-open_block.open_block) told
+    goes_on _ _ _ _ _ c.loop-rest.invariant _ _ c.cut_line.ensures.cut c.cut_line.ensures.shorter there
+    (c.read_mark.new.topics.items, c.in_ok-open_block.open_block) told
 
 pub loop-rest-preserved : goal.loop-rest-preserved
 loop-rest-preserved c =
-    skips _ _ _ _ _ c.loop-rest.invariant _ _ c.cut_line.ensures.cut c.cut_line.ensures.shorter (white_test _ _ _ c.strip-line.ensures c.is_empty-in-loop-rest.ensures c.if-not-is_empty.false)
+    skips _ _ _ _ _ c.loop-rest.invariant _ _ c.cut_line.ensures.cut c.cut_line.ensures.shorter
+    (white_test _ _ _ c.strip-line.ensures c.is_empty-in-loop-rest.ensures c.if-not-is_empty.false)
 
 pub returns-clause-fault : goal.returns-clause-fault
 returns-clause-fault c =

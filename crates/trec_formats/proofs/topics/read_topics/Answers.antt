@@ -10,7 +10,8 @@ pub returns-in_err-table_of-clause-fault : goal.returns-in_err-table_of-clause-f
 returns-in_err-table_of-clause-fault c =
     let p = err_from_is_err_and c.from_residual-in_err-table_of.result c.from_residual-in_err-table_of.ensures.1 in
     rw (p.1, p.2) (of_fault_weaker c.in_err-table_of.field-0.0 (λ fault twice.
-    inr (c.in_ok-found.found.items, c.in_ok-found.ensures.topics, twice_ids c.in_ok-found.found.items fault (rw (← c.as_slice.ensures.value) twice))) c.in_err-table_of.ensures.fault)
+    inr (c.in_ok-found.found.items, c.in_ok-found.ensures.topics, twice_ids c.in_ok-found.found.items fault (rw (← c.as_slice.ensures.value) twice)))
+    c.in_err-table_of.ensures.fault)
 
 pub returns-clause-topics : goal.returns-clause-topics
 returns-clause-topics c =

@@ -1,8 +1,8 @@
 use Rattle.std.proofs.Common.{◌∙◌, ap, refl, subst, sym}
 use Rattle.assessment.specs.RunLists.{IsReservedFor}
-use Rattle.assessment.specs.TopicsFacts.{TopicsView, told}
-use Rattle.assessment.proofs.RunSteps.{told-same}
-use Rattle.assessment.proofs.Standing.{standing-same}
+use Rattle.assessment.specs.TopicsFacts.{TopicsView, topics_facts}
+use Rattle.assessment.proofs.RunChanges.RunSteps.{told-same}
+use Rattle.assessment.proofs.TopicBoards.{standing-same}
 use Rattle.assessment.proofs.topics.Topics.cancel_run.Goals as goal
 
 pub drop_lists-requires : goal.drop_lists-requires
@@ -19,6 +19,6 @@ returns c =
     let all = c.self.inside in
     let scores = c.drop_lists.ensures.scores in
     record {
-      facts = told-same all.topics.items all.topics.items c.drop_lists.new.board all.board refl scores ∙ ap told c.self.view_is;
+      facts = told-same all.topics.items all.topics.items c.drop_lists.new.board all.board refl scores ∙ ap topics_facts c.self.view_is;
       none = c.drop_lists.ensures.none;
     }

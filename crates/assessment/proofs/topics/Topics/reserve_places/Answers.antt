@@ -3,10 +3,10 @@ use Rattle.std.proofs.lemmas.List.{with_items_is}
 use Rattle.std.specs.Prelude.{OnOk}
 use Rattle.assessment.specs.RunLists.{HavePlaces}
 use Rattle.assessment.specs.TopicFacts.{TopicView, facts_of}
-use Rattle.assessment.specs.TopicsFacts.{Becomes, IsStanding, TopicsView, told}
+use Rattle.assessment.specs.TopicsFacts.{Becomes, IsStanding, TopicsView, topics_facts}
 use Rattle.assessment.proofs.ListFacts.{on-ok}
-use Rattle.assessment.proofs.RunSteps.{told-same}
-use Rattle.assessment.proofs.Standing.{standing-same}
+use Rattle.assessment.proofs.RunChanges.RunSteps.{told-same}
+use Rattle.assessment.proofs.TopicBoards.{standing-same}
 use Rattle.assessment.proofs.topics.Topics.reserve_places.Goals as goal
 
 pub invariant_of-self : goal.invariant_of-self
@@ -15,7 +15,8 @@ invariant_of-self c =
     let new : List TopicView = c.reserve_places.new.topics in
     let long : length new ≡ all.topics.len = c.reserve_places.auto.topics ∙ c.deref_mut.ensures.len in
     subst (λ (topics : List TopicView). IsStanding topics all.board) (sym (with_items_is all.topics new long))
-    (standing-same new all.topics.items all.board all.board (c.reserve_places.ensures.facts ∙ ap (map facts_of) c.deref_mut.ensures.value) refl c.self.invariant)
+    (standing-same new all.topics.items all.board all.board
+    (c.reserve_places.ensures.facts ∙ ap (map facts_of) c.deref_mut.ensures.value) refl c.self.invariant)
 
 pub returns-clause-room : goal.returns-clause-room
 returns-clause-room c =
@@ -32,8 +33,10 @@ returns-clause-unchanged c =
     let all = c.self.inside in
     let new : List TopicView = c.reserve_places.new.topics in
     let long : length new ≡ all.topics.len = c.reserve_places.auto.topics ∙ c.deref_mut.ensures.len in
-    subst (λ (topics : List TopicView). Becomes (told c.args.self.now) c.args.self.now (record { topics = topics; board = all.board })) (sym (with_items_is all.topics new long))
+    subst (λ (topics : List TopicView). Becomes (topics_facts c.args.self.now) c.args.self.now (record { topics = topics; board = all.board }))
+    (sym (with_items_is all.topics new long))
     (record {
-      facts = told-same new all.topics.items all.board all.board (c.reserve_places.ensures.facts ∙ ap (map facts_of) c.deref_mut.ensures.value) refl ∙ ap told c.self.view_is;
+      facts = told-same new all.topics.items all.board all.board (c.reserve_places.ensures.facts ∙ ap (map facts_of) c.deref_mut.ensures.value) refl
+          ∙ ap topics_facts c.self.view_is;
       rooms = ap (λ (v : TopicsView). v.board.rooms) c.self.view_is;
     })

@@ -1,18 +1,18 @@
 -- One request: what adds nothing leaves the book as it is, and an entry is journaled.
 use Rattle.std.proofs.Common.{◌≡◌, [], ◌∷◌, rules, subst, sym}
-use Rattle.rulebook.specs.Additions.{IsAdded}
+use Rattle.rulebook.specs.Histories.Additions.{IsAdded}
 use Rattle.rulebook.specs.Campaign.{History}
-use Rattle.rulebook.specs.Stories.{added_by, reply_by}
+use Rattle.rulebook.specs.Histories.Stories.{added_by, reply_by}
 use Rattle.book.specs.Books.{IsSound}
-use Rattle.book.specs.Journaling.{Accepts, HasRoom, IsWithin, KeepsBook, Parts}
+use Rattle.book.specs.JournaledEntries.{Accepts, BookParts, EndsWithin, EntryHasRoom, KeepsBook}
 use Rattle.book.proofs.Requests.{acts_before, acts_still, kept_after, memory_acts, quiet_acts, ready_acts, room_for, seen_by, sound_of}
-use Rattle.book.proofs.Keeping.{book_holds}
+use Rattle.book.proofs.JournalEntries.{book_holds}
 use Rattle.book.proofs.books.Book.act.Given.{Over}
 use Rattle.book.proofs.books.Book.act.Goals.{After-accept-answer, After-stands, In-Ok-Ready}
 use Rattle.book.proofs.books.Book.act.Goals as goal
 
 -- the parts of the book before
-abbrev before : (g : Over) → After-stands g → Parts g.row.D.Denot
+abbrev before : (g : Over) → After-stands g → BookParts g.row.D.Denot
 before g c = record { journal = c.self.inside.journal; history = c.self.inside.state.history; pending = c.self.inside.pending }
 
 sound : (g : Over) (c : After-stands g) → IsSound g.D.Disk.seen
@@ -27,22 +27,24 @@ sound g c =
 added : (g : Over) (c : In-Ok-Ready g) → added_by c.self.inside.state.history c.args.asked ≡ c.in-Ok-Ready.prepared ∷ []
 added g c = search rules
 
-is_added : (g : Over) (c : In-Ok-Ready g) → IsAdded c.self.inside.state.history c.args.asked.who c.args.asked.number c.args.asked.ask c.args.asked.moment c.in-Ok-Ready.prepared
+is_added : (g : Over) (c : In-Ok-Ready g)
+    → IsAdded c.self.inside.state.history c.args.asked.who c.args.asked.number c.args.asked.ask c.args.asked.moment c.in-Ok-Ready.prepared
 is_added g c =
     let asked = c.args.asked in
-    c.rule_laws.ensures.added c.self.inside.state.history asked.who asked.number asked.ask asked.moment c.in-Ok-Ready.prepared c.entries-legal.ensures.legal c.requires (added g c)
+    c.rule_laws.ensures.added c.self.inside.state.history asked.who asked.number asked.ask asked.moment
+    c.in-Ok-Ready.prepared c.entries-legal.ensures.legal c.requires (added g c)
 
 -- the parts of the book after
-abbrev after : (g : Over) → After-accept-answer g → Parts g.row.D.Denot
+abbrev after : (g : Over) → After-accept-answer g → BookParts g.row.D.Denot
 after g c = record { journal = c.accept-answer.new.journal; history = c.accept-answer.new.state.history; pending = c.accept-answer.new.pending }
 
 accepts : (g : Over) (c : After-accept-answer g) → Accepts g.D.Disk.seen
-    (let p : Parts g.row.D.Denot = record { journal = c.self.inside.journal; history = c.self.inside.state.history; pending = c.self.inside.pending } in p)
+    (let p : BookParts g.row.D.Denot = record { journal = c.self.inside.journal; history = c.self.inside.state.history; pending = c.self.inside.pending } in p)
     c.in-Ok-Ready.prepared c.accept-answer.result (after g c)
 accepts g c =
     let s = c.self.inside in
     let D = g.D.Disk in
-    subst (λ (H : History). Accepts D.seen (let p : Parts g.row.D.Denot = record { journal = s.journal; history = H; pending = s.pending } in p)
+    subst (λ (H : History). Accepts D.seen (let p : BookParts g.row.D.Denot = record { journal = s.journal; history = H; pending = s.pending } in p)
     c.in-Ok-Ready.prepared c.accept-answer.result (after g c)) c.prepare.ensures.history c.accept-answer.ensures
 
 pub returns-in-Ok-Told : goal.returns-in-Ok-Told
@@ -62,12 +64,12 @@ accept-answer-requires-clause-keeps g c =
 
 pub accept-answer-requires-clause-within : goal.accept-answer-requires-clause-within
 accept-answer-requires-clause-within g c =
-    subst (λ (H : History). IsWithin c.self.inside.journal.place H) (sym c.prepare.ensures.history) c.self.invariant.within
+    subst (λ (H : History). EndsWithin c.self.inside.journal.place H) (sym c.prepare.ensures.history) c.self.invariant.within
 
 pub accept-answer-requires-clause-room : goal.accept-answer-requires-clause-room
 accept-answer-requires-clause-room g c =
     let is = is_added g (goal.at.accept-answer-requires-clause-room g c).In-Ok-Ready in
-    subst (λ (H : History). HasRoom H c.in-Ok-Ready.prepared) (sym c.prepare.ensures.history)
+    subst (λ (H : History). EntryHasRoom H c.in-Ok-Ready.prepared) (sym c.prepare.ensures.history)
     (room_for c.rule_laws.ensures c.self.inside.state.history c.in-Ok-Ready.prepared is.accepted is.legal)
 
 pub invariant_of-self-in-Ok-Ready : goal.invariant_of-self-in-Ok-Ready
@@ -87,7 +89,8 @@ returns-in-Ok-Ready g c =
     let done = accepts g at.After-accept-answer in
     acts_before D.seen c.args.self.now old s.opening c.args.asked c.accept-answer.result
     (seen_by D.seen new s.opening) c.self.view_is
-    (ready_acts D.seen g.met.D.Disk.only_now old new s.opening c.self.invariant c.args.asked c.in-Ok-Ready.prepared (added g at.In-Ok-Ready) (is_added g at.In-Ok-Ready) c.accept-answer.result done
+    (ready_acts D.seen g.met.D.Disk.only_now old new s.opening c.self.invariant c.args.asked c.in-Ok-Ready.prepared
+    (added g at.In-Ok-Ready) (is_added g at.In-Ok-Ready) c.accept-answer.result done
     (book_holds D.seen s.journal s.state.history s.pending c.self.invariant.keeps c.stands.ensures.stands)
     (book_holds D.seen new.journal new.history new.pending done.keeps c.stands-in-Ok-Ready.ensures.stands))
 

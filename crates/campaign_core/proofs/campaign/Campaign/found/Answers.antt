@@ -1,6 +1,6 @@
 use Rattle.std.proofs.Common.{rules}
 use Rattle.assessment.specs.Changes.{facts}
-use Rattle.campaign_core.proofs.Entries.ReadyEntries.{founded-assessed, founded-legal, founded-live, founded-runs, founded-submissions, founded-unjudged, is-begun}
+use Rattle.campaign_core.proofs.Entries.Preparations.ReadyEntries.{founded-assessed, founded-legal, founded-live, founded-runs, founded-submissions, founded-unjudged, is-begun}
 use Rattle.campaign_core.proofs.campaign.Campaign.found.Goals as goal
 
 pub returns-clause-known : goal.returns-clause-known
@@ -17,6 +17,8 @@ returns-clause-known c = record {
   live_are = founded-live c.push.new.self.items c.args.rules _ (search rules) (search rules);
   runs_known = founded-runs c.push.new.self.items c.args.rules (search rules);
   lines_are = search rules;
-  assessed = founded-assessed c.push.new.self.items c.args.rules (facts c.args.assessment) (search rules) (is-begun (facts c.args.assessment) c.requires.no_topics c.requires.no_leases);
-  unjudged = λ collecting. founded-unjudged c.push.new.self.items c.args.rules (facts c.args.assessment) (search rules) (is-begun (facts c.args.assessment) c.requires.no_topics c.requires.no_leases);
+  assessed = founded-assessed c.push.new.self.items c.args.rules (facts c.args.assessment) (search rules)
+      (is-begun (facts c.args.assessment) c.requires.no_topics c.requires.no_leases);
+  unjudged = λ collecting. founded-unjudged c.push.new.self.items c.args.rules (facts c.args.assessment) (search rules)
+      (is-begun (facts c.args.assessment) c.requires.no_topics c.requires.no_leases);
 }

@@ -1,7 +1,7 @@
 use Rattle.std.proofs.Common.{map, subst, sym}
 use Rattle.assessment.specs.Changes.{Facts}
-use Rattle.campaign_core.specs.Kept.{IsAssessmentOf, IsUnjudged}
-use Rattle.campaign_core.specs.Topics.{labelled_of}
+use Rattle.campaign_core.specs.CampaignStates.{IsAssessmentOf, IsUnjudged}
+use Rattle.campaign_core.specs.Assessments.Topics.{labelled_of}
 use Rattle.campaign_core.proofs.campaign.Campaign.with_lists.Goals as goal
 
 pub returns-clause-known : goal.returns-clause-known
@@ -22,6 +22,8 @@ returns-clause-known c =
       live_are = known.live_are;
       runs_known = known.runs_known;
       lines_are = known.lines_are;
-      assessed = subst (IsAssessmentOf H) (sym c.in_ok-with_lists.ensures.facts) (record { knows = assessed.knows; few = assessed.few; levels_are = assessed.levels_are; lists_are = assessed.lists_are });
-      unjudged = λ collecting. subst (λ (known : Facts). IsUnjudged H (map labelled_of known.topics.topics)) (sym c.in_ok-with_lists.ensures.facts) (known.unjudged collecting);
+      assessed = subst (IsAssessmentOf H) (sym c.in_ok-with_lists.ensures.facts)
+          (record { knows = assessed.knows; few = assessed.few; levels_are = assessed.levels_are; lists_are = assessed.lists_are });
+      unjudged = λ collecting. subst (λ (known : Facts). IsUnjudged H (map labelled_of known.topics.topics))
+          (sym c.in_ok-with_lists.ensures.facts) (known.unjudged collecting);
     }

@@ -9,18 +9,20 @@ use Rattle.rulebook.specs.declared.reply.Reply.{Reply}
 use Rattle.rulebook.specs.declared.reply.Reply.TheVariants as reply
 use Rattle.rulebook.specs.declared.rules.Phase.TheVariants.{Judging}
 use Rattle.rulebook.specs.declared.rules.Rules.{Rules}
-use Rattle.rulebook.specs.Answers.{ruled}
+use Rattle.rulebook.specs.Answers.{command_outcome}
 use Rattle.rulebook.specs.Campaign.{rules_of, title}
-use Rattle.rulebook.specs.Leases.{Lease, lease_in, leases, live_leases_of}
-use Rattle.rulebook.specs.Refusals.{is_phase}
+use Rattle.rulebook.specs.Judgements.Leases.{Lease, lease_in, leases, live_leases_of}
+use Rattle.rulebook.specs.Requests.Refusals.{is_phase}
 use Rattle.rulebook.specs.Words.{Text, contains_text}
-use Rattle.campaign_core.specs.Decisions.{IsDecision}
-use Rattle.campaign_core.specs.Kept.{KnowsAll}
-use Rattle.campaign_core.specs.Leasing.{first_open, is_open_in}
-use Rattle.campaign_core.specs.Numbers.{doc_in, names_of}
-use Rattle.campaign_core.proofs.Judging.LiveLeases.{live-of-same}
-use Rattle.campaign_core.proofs.Rulings.LeaseRulings.{Placed, Standing, doc-told, few-leases, known-topic, lease-granted, lease-many, lease-nothing, lease-unknown, none-named, out-of-phase, stands-at, unknown-topic}
-use Rattle.campaign_core.proofs.Entries.LeaseSteps.{desk-long}
+use Rattle.campaign_core.specs.Commands.Decisions.{IsDecision}
+use Rattle.campaign_core.specs.CampaignStates.{KnowsAll}
+use Rattle.campaign_core.specs.Assessments.DeskLeases.{first_open, is_open_in}
+use Rattle.campaign_core.specs.Numbering.Numbers.{doc_in, names_of}
+use Rattle.campaign_core.proofs.NamedDocuments.LiveLeases.{live-of-same}
+use Rattle.campaign_core.proofs.Rulings.KeptTopics.{Placed, Standing, doc-told, known-topic, none-named, stands-at, unknown-topic}
+use Rattle.campaign_core.proofs.Rulings.LeaseRulings.{few-leases, lease-granted, lease-many, lease-nothing, lease-unknown}
+use Rattle.campaign_core.proofs.Rulings.TestOrder.{out-of-phase}
+use Rattle.campaign_core.proofs.Entries.Judgements.LeaseSteps.{desk-long}
 use Rattle.campaign_core.proofs.Lists.Elements.{get-map}
 use Rattle.campaign_core.proofs.Numbers.DocNumbers.{docno-back}
 use Rattle.campaign_core.proofs.Numbers.TopicPlaces.{as-long}
@@ -29,7 +31,8 @@ use Rattle.campaign_core.proofs.decisions.lease.lease_decision.Goals.{After-from
 use Rattle.campaign_core.proofs.decisions.lease.lease_decision.Goals as goal
 
 knows : (c : After-from) → KnowsAll c.args.campaign.now.history.items (map facts_of c.args.campaign.now.assessment.topics.topics) c.desk-desk.result.now.leases
-knows c = subst (KnowsAll c.args.campaign.now.history.items (map facts_of c.args.campaign.now.assessment.topics.topics)) (sym c.desk-desk.ensures) c.requires.asked.asked.asked.known.assessed.knows
+knows c = subst (KnowsAll c.args.campaign.now.history.items (map facts_of c.args.campaign.now.assessment.topics.topics))
+    (sym c.desk-desk.ensures) c.requires.asked.asked.asked.known.assessed.knows
 
 -- the number of the topic
 at : (c : After-from) → Placed c.args.campaign.now.history.items (map facts_of c.args.campaign.now.assessment.topics.topics) c.args.topic.now c.in-Some.number
@@ -39,7 +42,8 @@ at c =
     (sym c.in-Some.is ∙ c.requires.number c.args.topic.now refl)
 
 -- how many live leases the assessor has
-live_is : (c : After-from) → c.live_of-live.result ≡ length (live_leases_of c.args.campaign.now.history.items c.args.core.now.moment c.args.core.now.caller.name)
+live_is : (c : After-from)
+    → c.live_of-live.result ≡ length (live_leases_of c.args.campaign.now.history.items c.args.core.now.moment c.args.core.now.caller.name)
 live_is c =
     let H = c.args.campaign.now.history.items in
     let now = c.args.core.now.moment in
@@ -56,10 +60,12 @@ stands c =
     let all = c.args.campaign.now.assessment.topics.topics in
     let known = c.requires.asked.asked.asked.known in
     let topic = c.index-topics-number.result in
-    let topic_is = ap facts_of (c.index-topics-number.is ∙ ap (λ (items : List TopicView). get_or items c.in-Some.number topic) c.topics-topics.ensures) ∙ sym (get-map facts_of all c.in-Some.number topic) in
+    let topic_is = ap facts_of (c.index-topics-number.is ∙ ap (λ (items : List TopicView). get_or items c.in-Some.number topic) c.topics-topics.ensures)
+    ∙ sym (get-map facts_of all c.in-Some.number topic) in
     let found = sym c.in-Some.is ∙ c.requires.number c.args.topic.now refl in
     let placed = known-topic H (map facts_of all) c.args.topic.now c.in-Some.number known.assessed.knows.topics_are found in
-    stands-at H (map facts_of all) c.args.campaign.now.assessment.leases known.assessed.knows c.args.topic.now c.in-Some.number placed.number_is placed.listed topic.facts topic_is
+    stands-at H (map facts_of all) c.args.campaign.now.assessment.leases known.assessed.knows c.args.topic.now
+    c.in-Some.number placed.number_is placed.listed topic.facts topic_is
 
 -- the number is small, as there are few topics
 small : (c : After-from) → c.in-Some.number < MAX_TOPICS
@@ -75,7 +81,8 @@ returns-then-not-is_in c =
     let core = c.args.core.now in
     let other : false ≡ is_phase Judging campaign.phase = sym c.if-not-is_in.true ∙ c.is_in.ensures in
     subst (IsDecision campaign c.args.docnos.now core) (sym c.wrong_phase.ensures)
-    (ap (ruled H core.caller core.moment) c.requires.asked.asked.command_is ∙ out-of-phase H Judging campaign.phase _ _ c.requires.asked.asked.asked.known.phase_is other)
+    (ap (command_outcome H core.caller core.moment) c.requires.asked.asked.command_is
+    ∙ out-of-phase H Judging campaign.phase _ _ c.requires.asked.asked.asked.known.phase_is other)
 
 pub offset_bounds-topics-number : goal.offset_bounds-topics-number
 offset_bounds-topics-number c = omega (arith, ints, small (goal.at.offset_bounds-topics-number c).After-from)
@@ -99,7 +106,7 @@ returns-in_default c =
     let who = c.args.core.now.caller in
     let now = c.args.core.now.moment in
     let known = c.requires.asked.asked.asked.known in
-    ap (ruled H who now) c.requires.asked.asked.command_is
+    ap (command_outcome H who now) c.requires.asked.asked.command_is
     ∙ sym (lease-unknown H who now c.args.topic.now campaign.phase known.phase_is c.if-not-is_in.ensures
     (unknown-topic H (map facts_of all) c.args.topic.now known.assessed.knows.topics_are
     (sym c.in_default.is ∙ c.requires.number c.args.topic.now refl)))
@@ -111,21 +118,34 @@ returns-then-live-from c =
     let H = campaign.history.items in
     let who = c.args.core.now.caller in
     let now = c.args.core.now.moment in
-    ap (ruled H who now) c.requires.asked.asked.command_is
-    ∙ sym (lease-many H who now c.args.topic.now campaign.phase c.requires.asked.asked.asked.known.phase_is c.if-not-is_in.ensures (at before).listed c.live_of-live.result (live_is before)
+    ap (command_outcome H who now) c.requires.asked.asked.command_is
+    ∙ sym (lease-many H who now c.args.topic.now campaign.phase c.requires.asked.asked.asked.known.phase_is c.if-not-is_in.ensures
+    (at before).listed c.live_of-live.result (live_is before)
     (omega (arith, hold_is before, c.if-live-from.true)))
 
 pub overflow_add-reply : goal.overflow_add-reply
 overflow_add-reply c =
     let known = c.requires.asked.asked.asked.known in
     let many = ap length c.desk-desk.ensures in
-    omega (arith, many, c.len.ensures.len, desk-long c.args.campaign.now.history.items c.args.campaign.now.assessment.leases known.assessed.knows.leased, few-leases c.args.campaign.now.history.items, known.entries_fit)
+    omega (
+      arith,
+      many,
+      c.len.ensures.len,
+      desk-long c.args.campaign.now.history.items c.args.campaign.now.assessment.leases known.assessed.knows.leased,
+      few-leases c.args.campaign.now.history.items,
+      known.entries_fit,
+    )
 
 pub overflow_add-until : goal.overflow_add-until
 overflow_add-until c =
     let core = c.args.core.now in
     let known = c.requires.asked.asked.asked.known in
-    omega (arith, moment-of core.caller core.number core.command core.moment c.requires.asked.asked.asked.addressed, term-fits c.args.campaign.now.history.items known.legal, ap (λ (r : Rules). r.term) c.rules-rules.ensures)
+    omega (
+      arith,
+      moment-of core.caller core.number core.command core.moment c.requires.asked.asked.asked.addressed,
+      term-fits c.args.campaign.now.history.items known.legal,
+      ap (λ (r : Rules). r.term) c.rules-rules.ensures,
+    )
 
 pub returns : goal.returns
 returns c =
@@ -142,25 +162,30 @@ returns c =
     let knows = knows before.After-from in
     let number = c.in-Some.number in
     let at = at before.After-from in
-    let few : length (live_leases_of H now who.name) < (rules_of H).hold = omega (arith, live_is before.After-from, hold_is before.After-from, c.if-live-from.false) in
+    let few : length (live_leases_of H now who.name) < (rules_of H).hold =
+    omega (arith, live_is before.After-from, hold_is before.After-from, c.if-live-from.false) in
     let s = c.index-topics-number.result.facts in
     let stands = stands before.After-named in
     let doc = c.in-Some-named.doc in
     let queue = c.in-Some-named.ensures.0 in
     let is : Some doc ≡ first_open (is_open_in s.need s.marked desk number now who.name) s.pool queue.order =
-    c.in-Some-named.ensures.2 ∙ ap (λ (name : Text). first_open (is_open_in s.need s.marked desk number now name) s.pool queue.order) c.bytes-assessor.ensures in
-    let told = doc-told H ts desk knows topic number at.number_is at.listed s stands queue c.in-Some-named.ensures.1 now who.name c.first_that_passes.ensures doc is in
+    c.in-Some-named.ensures.2
+    ∙ ap (λ (name : Text). first_open (is_open_in s.need s.marked desk number now name) s.pool queue.order) c.bytes-assessor.ensures in
+    let told = doc-told H ts desk knows topic number at.number_is at.listed s stands queue
+    c.in-Some-named.ensures.1 now who.name c.first_that_passes.ensures doc is in
     let doc_is : doc ≡ doc_in c.args.docnos.now told.text = told.doc_is ∙ ap (λ names. doc_in names told.text) (sym c.requires.asked.names) in
     let docno : c.in_ok-docno.field-0 ≡ told.text =
     c.in_ok-docno.ensures ∙ ap (λ (names : List Text). docno_of names doc.0) c.requires.asked.names
     ∙ ap (λ (d : DocId). docno_of (names_of H) d.0) told.doc_is ∙ docno-back (names_of H) told.text told.known in
     let titled : c.in_ok-from_slice.field-0 ≡ title H topic = c.in_ok-from_slice.ensures.text ∙ c.title.ensures topic at.number_is in
     let many = ap length c.desk-desk.ensures in
-    let number_is : c.len.result + 1 ≡ length (leases H) + 1 = omega (arith, many, c.len.ensures.len, desk-long H campaign.assessment.leases known.assessed.knows.leased) in
+    let number_is : c.len.result + 1 ≡ length (leases H) + 1 =
+    omega (arith, many, c.len.ensures.len, desk-long H campaign.assessment.leases known.assessed.knows.leased) in
     let until : now + c.rules-rules.result.now.term ≡ now + (rules_of H).term = ap (λ (r : Rules). now + r.term) c.rules-rules.ensures in
     let last = now + c.rules-rules.result.now.term in
     let leased : ℕ → Text → Text → ℕ → Text → Reply = λ n t d u title. reply.Leased n t d u title in
-    let reply_is : leased (c.len.result + 1) c.in_ok-copy.field-0 c.in_ok-docno.field-0 last c.in_ok-from_slice.field-0 ≡ leased (length (leases H) + 1) topic told.text (now + (rules_of H).term) (title H topic) =
+    let reply_is : leased (c.len.result + 1) c.in_ok-copy.field-0 c.in_ok-docno.field-0 last c.in_ok-from_slice.field-0
+    ≡ leased (length (leases H) + 1) topic told.text (now + (rules_of H).term) (title H topic) =
     ap (λ n. leased n c.in_ok-copy.field-0 c.in_ok-docno.field-0 last c.in_ok-from_slice.field-0) number_is
     ∙ ap (λ t. leased (length (leases H) + 1) t c.in_ok-docno.field-0 last c.in_ok-from_slice.field-0) c.in_ok-copy.ensures.copy
     ∙ ap (λ d. leased (length (leases H) + 1) topic d last c.in_ok-from_slice.field-0) docno
@@ -168,7 +193,7 @@ returns c =
     ∙ ap (λ title. leased (length (leases H) + 1) topic told.text (now + (rules_of H).term) title) titled in
     let granted = lease-granted H who now topic campaign.phase known.phase_is c.if-not-is_in.ensures at.listed few told.text told.named_is in
     let lease : Lease = record { number = length (leases H) + 1; assessor = who.name; topic = topic; doc = told.text; until = now + (rules_of H).term } in (
-      ap (ruled H who now) c.requires.asked.asked.command_is ∙ sym granted ∙ ap Ok (sym reply_is),
+      ap (command_outcome H who now) c.requires.asked.asked.command_is ∙ sym granted ∙ ap Ok (sym reply_is),
       record {
         command_is = (topic, c.requires.asked.asked.command_is);
         lease = lease;
@@ -196,12 +221,14 @@ returns-in_default-named c =
     let knows = knows before.After-from in
     let number = c.in-Some.number in
     let at = at before.After-from in
-    let few : length (live_leases_of H now who.name) < (rules_of H).hold = omega (arith, live_is before.After-from, hold_is before.After-from, c.if-live-from.false) in
+    let few : length (live_leases_of H now who.name) < (rules_of H).hold =
+    omega (arith, live_is before.After-from, hold_is before.After-from, c.if-live-from.false) in
     let s = c.index-topics-number.result.facts in
     let stands = stands before.After-named in
     let queue = c.in_default-named.ensures.0 in
     let is : None ≡ first_open (is_open_in s.need s.marked desk number now who.name) s.pool queue.order =
-    c.in_default-named.ensures.2 ∙ ap (λ (name : Text). first_open (is_open_in s.need s.marked desk number now name) s.pool queue.order) c.bytes-assessor.ensures in
-    ap (ruled H who now) c.requires.asked.asked.command_is
+    c.in_default-named.ensures.2
+    ∙ ap (λ (name : Text). first_open (is_open_in s.need s.marked desk number now name) s.pool queue.order) c.bytes-assessor.ensures in
+    ap (command_outcome H who now) c.requires.asked.asked.command_is
     ∙ sym (lease-nothing H who now topic campaign.phase known.phase_is c.if-not-is_in.ensures at.listed few
     (none-named H ts desk knows topic number at.number_is at.listed s stands queue c.in_default-named.ensures.1 now who.name c.first_that_passes.ensures is))

@@ -1,18 +1,19 @@
 use Rattle.std.proofs.Common.{◌≡◌, ◌<◌, ◌∙◌, Some, ap, length, subst, sym}
 use Rattle.std.specs.Option.{option_map}
 use Rattle.rulebook.specs.Campaign.{level}
-use Rattle.campaign_core.specs.LentTopics.{topic_at}
-use Rattle.campaign_core.specs.Seen.{Seen}
-use Rattle.campaign_core.specs.Topics.{KeptTopic, topic_ids}
-use Rattle.campaign_core.proofs.Printed.LentTopics.{told-at}
+use Rattle.campaign_core.specs.Views.LentTopics.{topic_at}
+use Rattle.campaign_core.specs.StateViews.{StateView}
+use Rattle.campaign_core.specs.Assessments.Topics.{KeptTopic, topic_ids}
+use Rattle.campaign_core.proofs.PageTexts.LentTopics.{told-at}
 use Rattle.campaign_core.proofs.state.State.level.Goals as goal
 
 pub kept_topic-requires-clause-within : goal.kept_topic-requires-clause-within
-kept_topic-requires-clause-within c = subst (λ (s : Seen). c.args.topic < length (topic_ids s.history)) (sym c.self.view_is) c.requires
+kept_topic-requires-clause-within c = subst (λ (s : StateView). c.args.topic < length (topic_ids s.history)) (sym c.self.view_is) c.requires
 
 pub returns : goal.returns
 returns c =
     let H = c.self.inside.campaign.history.items in
     let at = c.kept_topic.ensures in
-    subst (λ (s : Seen). option_map (level s.history) (topic_at s.history c.args.topic) ≡ Some c.level.result) c.self.view_is
-    (told-at H c.args.topic c.kept_topic.result.now.facts (level H) c.level.result at (c.level.ensures ∙ c.grades.ensures.level ∙ ap (λ (k : KeptTopic). k.level) at.is_topic.kept_is))
+    subst (λ (s : StateView). option_map (level s.history) (topic_at s.history c.args.topic) ≡ Some c.level.result) c.self.view_is
+    (told-at H c.args.topic c.kept_topic.result.now.facts (level H) c.level.result at
+    (c.level.ensures ∙ c.grades.ensures.level ∙ ap (λ (k : KeptTopic). k.level) at.is_topic.kept_is))

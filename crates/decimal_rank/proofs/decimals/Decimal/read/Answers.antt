@@ -1,8 +1,8 @@
 use Rattle.std.proofs.Common.{◌<◌, ◌≤◌, length, Ok, ap, ◌∙◌, arith, subst, pos, ◌+ℤ◌, ◌-ℤ◌, ◌/◌, ◌^◌}
 use Rattle.std.specs.List.{list_all}
 use Rattle.std.specs.Str.Parse.{digits_value, without_leading_sign}
-use Rattle.decimal_rank.specs.DecimalText.{is_digit, mantissa_digits, scaled}
-use Rattle.decimal_rank.proofs.DecimalText.Reading.{sized}
+use Rattle.decimal_rank.specs.Decimals.DecimalText.{is_digit, mantissa_digits, scaled_value}
+use Rattle.decimal_rank.proofs.DecimalText.ReadDigits.{sized}
 use Rattle.decimal_rank.proofs.DecimalText.Scores.{of_parts, few_zeros, whole_again, quotient_trimmed, value_made, unwrapped, unwrapped_near}
 use Rattle.decimal_rank.proofs.DecimalText.ScoreTexts.{is_shaped, other_shape, many_digits, far_exponent, has_value, exponent_near}
 use Rattle.decimal_rank.proofs.decimals.Decimal.read.Goals as goal
@@ -79,8 +79,10 @@ returns c =
     let same = unwrapped_near _ _ c.in-Some-exponent_of.ensures.1 (exponent_near c.in-Some.parts.exponent.now c.in-Some-exponent_of.ensures.0) in
     let at = c.last_exponent.ensures.value ∙ ap (λ e. (e +ℤ pos c.significand_of-significand.result.zeros) -ℤ pos (length c.in-Some.parts.fraction.now)) same in
     let kept = unwrapped c.last_exponent.result c.last_exponent.ensures.low c.last_exponent.ensures.high in
-    let scaled_is = c.scaled.ensures ∙ ap (scaled c.in-Some.parts.negative (c.significand_of-significand.result.number / 10 ^ c.kept_zeros.result)) kept in
-    let made = value_made c.args.text.now c.in-Some.parts c.significand_of-significand.result c.kept_zeros.result c.in-Some-exponent_of.exponent c.last_exponent.result c.scaled.result
+    let scaled_is =
+    c.scaled.ensures ∙ ap (scaled_value c.in-Some.parts.negative (c.significand_of-significand.result.number / 10 ^ c.kept_zeros.result)) kept in
+    let made = value_made c.args.text.now c.in-Some.parts c.significand_of-significand.result c.kept_zeros.result
+    c.in-Some-exponent_of.exponent c.last_exponent.result c.scaled.result
     c.in-Some.ensures.1 was c.kept_zeros.ensures c.in-Some-exponent_of.ensures.1 at scaled_is in
     ap Ok made
     ∙ has_value c.args.text.now c.in-Some.ensures.0 (omega (arith, size, c.if-significand-gt-MOST_DIGITS.false))

@@ -1,6 +1,6 @@
 use Rattle.std.proofs.Common.{◌≡◌, ◌∙◌, length, ap}
 use Rattle.std.proofs.lemmas.List.Sorted.{length_permutation}
-use Rattle.decimal_rank.proofs.Standings.Listing.{place_by_entries, length-entries_in}
+use Rattle.decimal_rank.proofs.Standings.ListPlaces.{place_by_entries, length-entries_in}
 use Rattle.decimal_rank.proofs.rankings.Ranking.place_of.Goals as goal
 
 pub returns-clause-place : goal.returns-clause-place

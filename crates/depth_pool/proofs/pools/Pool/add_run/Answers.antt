@@ -30,7 +30,8 @@ invariant_of-self c =
       record {
         by_number = subst AreByNumber (sym c.put_run.ensures) (by_number-with_run new runs pool.by_number fresh);
         holders = holders;
-        count = runs_counted c.put_run.new.runs.items c.add_holders-more.new.index holders _ (c.add_holders-more.ensures.count _ (index_counted runs c.self.inside.index pool.holders _ pool.count));
+        count = runs_counted c.put_run.new.runs.items c.add_holders-more.new.index holders _
+            (c.add_holders-more.ensures.count _ (index_counted runs c.self.inside.index pool.holders _ pool.count));
       },
       λ docs is. absurd (let none : None ≡ Some docs = sym c.take.ensures.after ∙ is in cc),
     )
@@ -44,4 +45,5 @@ pub returns-in-Some-clause-others : goal.returns-in-Some-clause-others
 returns-in-Some-clause-others c =
     let new : Held = record { run = c.args.run; docs = c.in-Some.docs.items } in
     let was : c.self.inside.runs.items ≡ c.args.self.now.runs = ap (λ (view : Holdings). view.runs) c.self.view_is in
-    subst (λ runs. KeepsOthers c.args.self.now.runs runs c.args.run) (sym (c.put_run.ensures ∙ ap (with_run new) was)) (others-with_run new c.args.self.now.runs)
+    subst (λ runs. KeepsOthers c.args.self.now.runs runs c.args.run) (sym (c.put_run.ensures ∙ ap (with_run new) was))
+    (others-with_run new c.args.self.now.runs)

@@ -1,6 +1,6 @@
 use Rattle.std.proofs.Common.{◌+◌, arith, refl}
-use Rattle.drill.specs.Plays.{IsGraded, judging}
-use Rattle.drill.proofs.Counted.{graded-counted, refused-counted}
+use Rattle.drill.specs.Plays.{IsGraded, judging_after}
+use Rattle.drill.proofs.OwnMessages.CountedMessages.{graded-counted, refused-counted}
 use Rattle.drill.proofs.Counts.{after-more}
 use Rattle.drill.proofs.plays.Sender.judge_topic.Goals as goal
 
@@ -19,16 +19,21 @@ judge_next-requires-clause-few_leases g c =
 pub leases-preserved : goal.leases-preserved
 leases-preserved g c =
     let numbers = c.args.self.now.numbers.now in
-    let old = judging c.leases.book.history c.leases.sent in
-    let new = judging c.judge_next.new.book.history c.judge_next.new.sent in
+    let old = judging_after c.leases.book.history c.leases.sent in
+    let new = judging_after c.judge_next.new.book.history c.judge_next.new.sent in
     let counted = c.leases.invariant.counted in
     let few = c.entries_are_few.ensures c.leases.book.history c.stands.ensures.legal in
     let graded = rw c.if-not-is_graded.false at c.in_ok-is_graded.ensures in
     let so_far = c.leases.invariant.graded in
     record {
-      graded = (so_far.0 + 1, after-more (λ k. IsGraded numbers c.args.t) so_far.0 (judging c.args.book.now.history c.args.sent.now) old new so_far.1 graded);
+      graded = (
+        so_far.0
+            + 1,
+        after-more (λ k. IsGraded numbers c.args.t) so_far.0 (judging_after c.args.book.now.history c.args.sent.now) old new so_far.1 graded,
+      );
       counted =
-          (graded-counted c.fronts_stay.ensures c.one_reading.ensures numbers c.args.t old new (omega (arith, counted.messages, counted.entries, few, c.requires.topic)) (omega (arith, counted.entries, few)) counted
+          (graded-counted c.fronts_stay.ensures c.one_reading.ensures numbers c.args.t old new
+          (omega (arith, counted.messages, counted.entries, few, c.requires.topic)) (omega (arith, counted.entries, few)) counted
           graded).0;
     }
 
@@ -36,19 +41,20 @@ leases-preserved g c =
 pub leases-smaller : goal.leases-smaller
 leases-smaller g c =
     let numbers = c.args.self.now.numbers.now in
-    let old = judging c.leases.book.history c.leases.sent in
-    let new = judging c.judge_next.new.book.history c.judge_next.new.sent in
+    let old = judging_after c.leases.book.history c.leases.sent in
+    let new = judging_after c.judge_next.new.book.history c.judge_next.new.sent in
     let counted = c.leases.invariant.counted in
     let few = c.entries_are_few.ensures c.leases.book.history c.stands.ensures.legal in
     let graded = rw c.if-not-is_graded.false at c.in_ok-is_graded.ensures in
     let more =
-    (graded-counted c.fronts_stay.ensures c.one_reading.ensures numbers c.args.t old new (omega (arith, counted.messages, counted.entries, few, c.requires.topic)) (omega (arith, counted.entries, few)) counted graded).1 in
+    (graded-counted c.fronts_stay.ensures c.one_reading.ensures numbers c.args.t old new
+    (omega (arith, counted.messages, counted.entries, few, c.requires.topic)) (omega (arith, counted.entries, few)) counted graded).1 in
     omega (arith, few, more)
 
 pub returns-then-not-is_graded-clause-judged : goal.returns-then-not-is_graded-clause-judged
 returns-then-not-is_graded-clause-judged g c = record {
   count = c.leases.invariant.graded.0;
-  last = judging c.leases.book.history c.leases.sent;
+  last = judging_after c.leases.book.history c.leases.sent;
   graded = c.leases.invariant.graded.1;
   refused = rw c.if-not-is_graded.true at c.in_ok-is_graded.ensures;
 }
@@ -57,5 +63,6 @@ pub returns-then-not-is_graded-clause-counted : goal.returns-then-not-is_graded-
 returns-then-not-is_graded-clause-counted g c =
     let counted = c.leases.invariant.counted in
     let few = c.entries_are_few.ensures c.leases.book.history c.stands.ensures.legal in
-    refused-counted c.fronts_stay.ensures c.one_reading.ensures c.args.t (judging c.leases.book.history c.leases.sent) (judging c.judge_next.new.book.history c.judge_next.new.sent)
+    refused-counted c.fronts_stay.ensures c.one_reading.ensures c.args.t (judging_after c.leases.book.history c.leases.sent)
+    (judging_after c.judge_next.new.book.history c.judge_next.new.sent)
     (omega (arith, counted.messages, counted.entries, few, c.requires.topic)) counted (rw c.if-not-is_graded.true at c.in_ok-is_graded.ensures)

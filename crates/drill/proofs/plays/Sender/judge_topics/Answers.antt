@@ -1,6 +1,6 @@
 use Rattle.std.proofs.Common.{arith, refl, subst}
-use Rattle.drill.specs.Plays.{After, IsJudged, judging, unjudged}
-use Rattle.drill.proofs.Counted.{uncounted}
+use Rattle.drill.specs.Plays.{After, IsJudged, before_judging, judging_after}
+use Rattle.drill.proofs.OwnMessages.CountedMessages.{uncounted}
 use Rattle.drill.proofs.Counts.{after-more}
 use Rattle.drill.proofs.Ranges.{few-topics}
 use Rattle.drill.proofs.plays.Sender.judge_topics.Goals as goal
@@ -14,15 +14,17 @@ judge_topic-requires-clause-topic g c = omega (arith, few-topics c.args.self.now
 pub loop-before-preserved : goal.loop-before-preserved
 loop-before-preserved g c = record {
   judged =
-      after-more (IsJudged c.args.self.now.numbers.now) c.loop-before.before (unjudged c.args.book.now.history) (judging c.loop-before.book.history c.loop-before.sent) (judging c.judge_topic.new.book.history c.judge_topic.new.sent)
+      after-more (IsJudged c.args.self.now.numbers.now) c.loop-before.before (before_judging c.args.book.now.history)
+      (judging_after c.loop-before.book.history c.loop-before.sent) (judging_after c.judge_topic.new.book.history c.judge_topic.new.sent)
       c.loop-before.invariant.judged c.in_ok-judge_topic.ensures.judged;
   counted = c.in_ok-judge_topic.ensures.counted;
 }
 
 pub returns : goal.returns
 returns g c = (
-  judging c.loop-before.book.history c.loop-before.sent,
-  subst (λ n. After (IsJudged c.args.self.now.numbers.now) n (unjudged c.args.book.now.history) (judging c.loop-before.book.history c.loop-before.sent))
+  judging_after c.loop-before.book.history c.loop-before.sent,
+  subst (λ n. After (IsJudged c.args.self.now.numbers.now) n (before_judging c.args.book.now.history)
+      (judging_after c.loop-before.book.history c.loop-before.sent))
       (omega (arith, c.loop-before-test.false, c.loop-before.auto.before-end)) c.loop-before.invariant.judged,
   refl,
 )

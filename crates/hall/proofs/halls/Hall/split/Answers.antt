@@ -1,6 +1,6 @@
 -- A pass is split off.
 use Rattle.std.proofs.Common.{rules}
-use Rattle.hall.proofs.Keeping.{splits}
+use Rattle.hall.proofs.SeatSteps.{splits}
 use Rattle.hall.proofs.halls.Hall.split.Goals as goal
 
 pub split_seat-seat-requires : goal.split_seat-seat-requires

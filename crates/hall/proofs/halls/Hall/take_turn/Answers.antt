@@ -1,6 +1,6 @@
 -- The turn is taken where it is free, and nothing else changes.
 use Rattle.std.proofs.Common.{ap, ◌∙◌, rules}
-use Rattle.hall.proofs.Keeping.{takes_from}
+use Rattle.hall.proofs.TurnSteps.{takes_from}
 use Rattle.hall.proofs.halls.Hall.take_turn.Goals as goal
 
 pub compare_exchange-requires : goal.compare_exchange-requires

@@ -1,6 +1,6 @@
 -- What a journal keeps, its images give.
-use Rattle.journal.proofs.Keeping.{keeps_stands, keeps_total}
-use Rattle.journal.proofs.Replaced.{settled_alone}
+use Rattle.journal.proofs.DueRecords.{keeps_stands, keeps_total}
+use Rattle.journal.proofs.Replacements.{settled_alone}
 use Rattle.journal.proofs.Steps.{shut_reads}
 use Rattle.journal.proofs.journals.Journal.stands.Goals as goal
 

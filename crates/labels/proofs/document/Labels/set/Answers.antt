@@ -3,12 +3,13 @@ use Rattle.std.specs.List.{position}
 use Rattle.std.specs.Str.{bytes_eq}
 use Rattle.std.proofs.lemmas.List.Quantifiers.{position-Some}
 use Rattle.labels.specs.declared.given.Given.{Given}
-use Rattle.labels.specs.Labelled.{IsOncePerAssessor, Labelled, with_label}
-use Rattle.labels.proofs.Setting.{none_passes, once_after_set, set_again, set_new}
+use Rattle.labels.specs.DocumentLabels.{IsOncePerAssessor, Labelled, with_label}
+use Rattle.labels.proofs.SetLabels.{none_passes, once_after_set, set_again, set_new}
 use Rattle.labels.proofs.document.Labels.set.Goals as goal
 
 again : (c : goal.After-drop-assessor)
-    → slice_set c.self.inside.given.items c.in-Some.place (record { assessor = c.index_mut.result.now.assessor; grade = c.args.grade }) ≡ with_label c.args.assessor c.args.grade c.self.inside.given.items
+    → slice_set c.self.inside.given.items c.in-Some.place (record { assessor = c.index_mut.result.now.assessor; grade = c.args.grade })
+    ≡ with_label c.args.assessor c.args.grade c.self.inside.given.items
 again c =
     let labels = c.self.inside.given.items in
     let found : position (λ (label : Given). bytes_eq label.assessor c.args.assessor) labels ≡ Some c.in-Some.place = search rules in

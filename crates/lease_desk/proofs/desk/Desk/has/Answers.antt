@@ -1,5 +1,5 @@
 use Rattle.std.proofs.Common.{◌∙◌, ap, nat_lt}
-use Rattle.lease_desk.proofs.Asking.{has_one}
+use Rattle.lease_desk.proofs.CountAnswers.{has_one}
 use Rattle.lease_desk.proofs.desk.Desk.has.Goals as goal
 
 pub returns : goal.returns

@@ -1,5 +1,5 @@
 use Rattle.std.proofs.Common.{◌∙◌}
-use Rattle.lease_desk.proofs.Asking.{on_document}
+use Rattle.lease_desk.proofs.CountAnswers.{on_document}
 use Rattle.lease_desk.proofs.desk.Desk.live_on.Goals as goal
 
 pub returns : goal.returns

@@ -1,8 +1,16 @@
-use Rattle.std.proofs.Common.{◌∙◌}
-use Rattle.measures.proofs.Summing.{one_more_cell}
+use Rattle.std.proofs.Common.{◌∙◌, arith, rules}
+use Rattle.measures.proofs.RunningSums.{one_more_cell}
 use Rattle.measures.proofs.totals.Totals.add.Goals as goal
+
+pub invariant_of-self : goal.invariant_of-self
+invariant_of-self c = record {
+  topics = search rules;
+  ret = search rules;
+  rel = search rules;
+  rel_ret = search rules;
+  values = λ i within. omega (arith, c.self.invariant.values i within, c.values_added-sums.ensures.within i within);
+}
 
 pub returns-clause-sums : goal.returns-clause-sums
 returns-clause-sums c = λ cells are.
-    rw (c.value_of.ensures.value, c.value_of-2.ensures.value, c.value_of-3.ensures.value, c.value_of-4.ensures.value, c.precisions_added-self-inside.ensures.sums)
-    (one_more_cell _ cells c.args.cell.now (c.self.view_is ∙ are))
+    rw (c.values_added-sums.ensures.sums, c.values_of.ensures.values) (one_more_cell _ cells c.args.cell.now (c.self.view_is ∙ are))

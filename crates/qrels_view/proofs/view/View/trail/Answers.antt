@@ -1,8 +1,8 @@
 use Rattle.std.proofs.Common.{◌∙◌, length, ap, sym, subst}
-use Rattle.decimal_rank.specs.Places.{AreDistinct}
+use Rattle.decimal_rank.specs.Rankings.Places.{AreDistinct}
 use Rattle.qrels_view.specs.Grades.{graded_of}
-use Rattle.qrels_view.specs.Seen.{Seen}
-use Rattle.qrels_view.proofs.Sorting.{docs_as_many, docs_once, each_once}
+use Rattle.qrels_view.specs.GradeViews.{GradeView}
+use Rattle.qrels_view.proofs.SortedDocs.{docs_as_many, docs_once, each_once}
 use Rattle.qrels_view.proofs.view.View.trail.Goals as goal
 
 pub returns-clause-once : goal.returns-clause-once
@@ -12,4 +12,5 @@ returns-clause-once c =
 
 pub returns-clause-len : goal.returns-clause-len
 returns-clause-len c =
-    ap length (c.as_slice.ensures.value ∙ c.self.invariant.trail_is) ∙ docs_as_many (graded_of c.self.inside.grades.entries) ∙ ap (λ (view : Seen). length view.graded) c.self.view_is
+    ap length (c.as_slice.ensures.value ∙ c.self.invariant.trail_is) ∙ docs_as_many (graded_of c.self.inside.grades.entries)
+    ∙ ap (λ (view : GradeView). length view.graded) c.self.view_is

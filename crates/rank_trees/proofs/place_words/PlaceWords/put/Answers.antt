@@ -7,7 +7,8 @@ within_words : (words : List ℕ) (on : List Bool) (index : ℕ) → places_in 6
 within_words words on index view within = omega (arith, within, ap length view, places-length 64 words)
 
 pub word_of-word-requires : goal.word_of-word-requires
-word_of-word-requires g c = omega (arith, within_words c.self.inside.words.items c.args.self.now c.args.index c.self.view_is c.requires, ap length c.deref.ensures.value)
+word_of-word-requires g c =
+    omega (arith, within_words c.self.inside.words.items c.args.self.now c.args.index c.self.view_is c.requires, ap length c.deref.ensures.value)
 
 pub index_mut-requires : goal.index_mut-requires
 index_mut-requires g c = omega (arith, within_words c.self.inside.words.items c.args.self.now c.args.index c.self.view_is c.requires, c.self.inside.words.ok)
@@ -16,7 +17,8 @@ pub returns-clause-places : goal.returns-clause-places
 returns-clause-places g c =
     let within = within_words c.self.inside.words.items c.args.self.now c.args.index c.self.view_is c.requires in
     let word = c.word_of-word.ensures.word ∙ ap (λ (words : List ℕ). get_or words (c.args.index / 64) 0) c.deref.ensures.value in
-    places-put c.self.inside.words.items c.args.index c.word_of-word.result c.with_place.result c.args.on within (sym word) (c.with_place.ensures 64 (omega arith))
+    places-put c.self.inside.words.items c.args.index c.word_of-word.result c.with_place.result c.args.on within
+    (sym word) (c.with_place.ensures 64 (omega arith))
     ∙ ap (λ (on : List Bool). set on c.args.index c.args.on) c.self.view_is
 
 pub returns-clause-was : goal.returns-clause-was

@@ -7,12 +7,19 @@ pub read-requires : goal.read-requires
 read-requires g c = let some = one-le-pow c.self.inside.depth 2 (omega arith) in omega (arith, some, c.self.invariant.sums.size)
 
 pub sum_before-requires-clause-within : goal.sum_before-requires-clause-within
-sum_before-requires-clause-within g c = omega (arith, c.requires, list-long c.self.inside.len c.self.inside.depth c.self.inside.nodes c.self.invariant c.args.self.now c.self.view_is, room c.self.inside.len c.self.inside.depth c.self.inside.nodes c.self.invariant)
+sum_before-requires-clause-within g c =
+    omega (
+      arith,
+      c.requires,
+      list-long c.self.inside.len c.self.inside.depth c.self.inside.nodes c.self.invariant c.args.self.now c.self.view_is,
+      room c.self.inside.len c.self.inside.depth c.self.inside.nodes c.self.invariant,
+    )
 
 pub overflow_sub-result : goal.overflow_sub-result
 overflow_sub-result g c =
     let long = list-long c.self.inside.len c.self.inside.depth c.self.inside.nodes c.self.invariant c.args.self.now c.self.view_is in
-    let all = span-le c.self.inside.nodes (2 ^ c.self.inside.depth) c.args.index (2 ^ c.self.inside.depth) (omega (arith, c.requires, long, room c.self.inside.len c.self.inside.depth c.self.inside.nodes c.self.invariant)) in
+    let all = span-le c.self.inside.nodes (2 ^ c.self.inside.depth) c.args.index (2 ^ c.self.inside.depth)
+    (omega (arith, c.requires, long, room c.self.inside.len c.self.inside.depth c.self.inside.nodes c.self.invariant)) in
     let level = span-level c.self.inside.depth c.self.inside.nodes c.self.invariant.sums c.self.inside.depth (omega arith) in
     omega (arith, c.read.ensures.node, c.sum_before.ensures.sum, all, level)
 
@@ -24,4 +31,10 @@ returns-clause-sum g c =
     ∙ ap (λ (leaves : List ℕ). sum (drop c.args.index leaves)) c.self.view_is
 
 pub returns-clause-cost : goal.returns-clause-cost
-returns-clause-cost g c = omega (arith, c.read.ensures.cost, c.sum_before.ensures.cost, list-deep c.self.inside.len c.self.inside.depth c.self.inside.nodes c.self.invariant c.args.self.now c.self.view_is)
+returns-clause-cost g c =
+    omega (
+      arith,
+      c.read.ensures.cost,
+      c.sum_before.ensures.cost,
+      list-deep c.self.inside.len c.self.inside.depth c.self.inside.nodes c.self.invariant c.args.self.now c.self.view_is,
+    )

@@ -3,11 +3,11 @@ use Rattle.std.specs.Prelude.{All}
 use Rattle.std.specs.Vec.{with_items}
 use Rattle.std.proofs.lemmas.List.{length-replicate, length_push, map-id, with_items_is}
 use Rattle.std.proofs.lemmas.List.Elements.{All-push}
-use Rattle.score_index.specs.Kept.{HasEmptyCell, IsKept, IsRoom, IsTopicKept, seen, spare}
+use Rattle.score_index.specs.KeptBoards.{HasEmptyCell, IsKept, IsRoom, IsTopicKept, spare, topic_scores}
 use Rattle.score_index.specs.Places.{Places}
 use Rattle.score_index.specs.declared.rooms.Room.{Room}
-use Rattle.score_index.specs.declared.topics.Topic.{Topic}
-use Rattle.score_index.proofs.Keeping.Boards.{all_seen}
+use Rattle.score_index.specs.declared.topics.ScoredTopic.{ScoredTopic}
+use Rattle.score_index.proofs.KeptTopics.Boards.{all_seen}
 use Rattle.score_index.proofs.board.Board.reserve.Goals.{After-reserve_lists}
 use Rattle.score_index.proofs.board.Board.reserve.Goals as goal
 
@@ -25,10 +25,11 @@ new_room room n relevant lower =
     }
 
 -- topics that are as before but for their room
-kept_with_room : (old new : List Topic) (before rooms : ℕ) → IsKept old before → length new ≡ length old → map seen new ≡ map seen old → All HasEmptyCell new → All (λ topic. rooms ≤ spare topic) new → IsKept new rooms
+kept_with_room : (old new : List ScoredTopic) (before rooms : ℕ) → IsKept old before → length new ≡ length old
+    → map topic_scores new ≡ map topic_scores old → All HasEmptyCell new → All (λ topic. rooms ≤ spare topic) new → IsKept new rooms
 kept_with_room old new before rooms kept long are empties places = record {
   few = omega (arith, kept.few, long);
-  topics_are = all_seen (IsTopicKept) (λ topic. topic) old new (λ topic one. one) (are ∙ sym (map-id (map seen old))) kept.topics_are;
+  topics_are = all_seen (IsTopicKept) (λ topic. topic) old new (λ topic one. one) (are ∙ sym (map-id (map topic_scores old))) kept.topics_are;
   empties = empties;
   places = places;
 }
@@ -39,8 +40,9 @@ items_are c = with_items_is c.self.inside.topics c.reserve_lists.new.topics (ome
 -- the topics, which have places for so many lists
 kept : (c : After-reserve_lists) (rooms : ℕ) → All (λ topic. rooms ≤ spare topic) c.reserve_lists.new.topics → IsKept c.reserve_lists.new.topics rooms
 kept c rooms places =
-    kept_with_room c.self.inside.topics.items c.reserve_lists.new.topics (length c.self.inside.rooms.items) rooms c.self.invariant.0 (omega (arith, c.reserve_lists.auto.topics, ap length c.deref_mut.ensures.value))
-    (c.reserve_lists.ensures.seen ∙ ap (map seen) c.deref_mut.ensures.value)
+    kept_with_room c.self.inside.topics.items c.reserve_lists.new.topics (length c.self.inside.rooms.items) rooms c.self.invariant.0
+    (omega (arith, c.reserve_lists.auto.topics, ap length c.deref_mut.ensures.value))
+    (c.reserve_lists.ensures.seen ∙ ap (map topic_scores) c.deref_mut.ensures.value)
     (c.reserve_lists.ensures.kept.empties (subst (All HasEmptyCell) (sym c.deref_mut.ensures.value) c.self.invariant.0.empties)) places
 
 pub invariant_of-self-in_err-reserve_lists : goal.invariant_of-self-in_err-reserve_lists
@@ -48,9 +50,10 @@ invariant_of-self-in_err-reserve_lists c =
     let all = (goal.at.invariant_of-self-in_err-reserve_lists c).After-reserve_lists in
     let new = c.reserve_lists.new.topics in
     let rooms = length c.self.inside.rooms.items in
-    let before : All (λ (topic : Topic). rooms ≤ spare topic) c.deref_mut.result.now = subst (All (λ (topic : Topic). rooms ≤ spare topic)) (sym c.deref_mut.ensures.value) c.self.invariant.0.places in
+    let before : All (λ (topic : ScoredTopic). rooms ≤ spare topic) c.deref_mut.result.now =
+    subst (All (λ (topic : ScoredTopic). rooms ≤ spare topic)) (sym c.deref_mut.ensures.value) c.self.invariant.0.places in
     let many : rooms ≡ length c.reserve.new.self.items = ap length (sym c.reserve.ensures.items) in (
-      subst (λ (ts : List Topic). IsKept ts (length c.reserve.new.self.items)) (sym (items_are all))
+      subst (λ (ts : List ScoredTopic). IsKept ts (length c.reserve.new.self.items)) (sym (items_are all))
           (subst (IsKept new) many (kept all rooms (c.reserve_lists.ensures.kept.places rooms before))),
       subst (λ (rs : List Room). All IsFresh rs) (sym c.reserve.ensures.items) c.self.invariant.1,
     )
@@ -60,10 +63,14 @@ invariant_of-self-2 c =
     let all = (goal.at.invariant_of-self-2 c).After-reserve_lists in
     let new = c.reserve_lists.new.topics in
     let rooms = length c.push.new.self.items in
-    let pushed = c.push.ensures.items ∙ ap (λ b. cond b (c.reserve.new.self.items ++ c.in_ok-room.room ∷ []) c.reserve.new.self.items) (ap is_ok c.unwrap.ensures) in
+    let pushed =
+    c.push.ensures.items ∙ ap (λ b. cond b (c.reserve.new.self.items ++ c.in_ok-room.room ∷ []) c.reserve.new.self.items) (ap is_ok c.unwrap.ensures) in
     let many : rooms ≡ length c.reserve.new.self.items + 1 = ap length pushed ∙ length_push c.reserve.new.self.items c.in_ok-room.room in
-    let room : All (λ (topic : Topic). rooms ≤ spare topic) new = λ k d within. (let least = c.in_ok-reserve_lists.ensures.room k d within in omega (arith, least, many, c.len-count.ensures, c.reserve.new.self.ok.0)) in
+    let room : All (λ (topic : ScoredTopic). rooms ≤ spare topic) new =
+    λ k d within. (let least = c.in_ok-reserve_lists.ensures.room k d within in omega (arith, least, many, c.len-count.ensures, c.reserve.new.self.ok.0)) in
     let fresh : IsFresh c.in_ok-room.room = new_room c.in_ok-room.room.trees _ c.in_ok-room.ensures.relevant c.in_ok-room.ensures.lower in (
-      subst (λ (ts : List Topic). IsKept ts rooms) (sym (items_are all)) (kept all rooms room),
-      subst (λ (rs : List Room). All IsFresh rs) (sym pushed) (All-push IsFresh c.reserve.new.self.items c.in_ok-room.room (subst (λ (rs : List Room). All IsFresh rs) (sym c.reserve.ensures.items) c.self.invariant.1) fresh),
+      subst (λ (ts : List ScoredTopic). IsKept ts rooms) (sym (items_are all)) (kept all rooms room),
+      subst (λ (rs : List Room). All IsFresh rs) (sym pushed)
+          (All-push IsFresh c.reserve.new.self.items c.in_ok-room.room
+          (subst (λ (rs : List Room). All IsFresh rs) (sym c.reserve.ensures.items) c.self.invariant.1) fresh),
     )

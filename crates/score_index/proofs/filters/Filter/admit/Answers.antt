@@ -27,4 +27,5 @@ pub returns-clause-others : goal.returns-clause-others
 returns-clause-others g c = λ other is.
     let within = bit-within c.self.inside.count c.self.inside.bits c.args.doc c.self.invariant.0 c.self.invariant.1 in
     ap (λ (on : List Bool). admits (bits_of c.self.inside.count on) other) c.put.ensures.places
-    ∙ still-admitted (bits_of c.self.inside.count c.self.inside.bits) (c.args.doc.0 % c.self.inside.count) other within (ap (λ (bits : Bits). admits bits other) c.self.view_is ∙ is)
+    ∙ still-admitted (bits_of c.self.inside.count c.self.inside.bits) (c.args.doc.0 % c.self.inside.count) other within
+    (ap (λ (bits : Bits). admits bits other) c.self.view_is ∙ is)

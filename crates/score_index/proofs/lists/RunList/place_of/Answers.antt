@@ -1,5 +1,5 @@
 use Rattle.std.proofs.Common.{◌∙◌, ap, sym}
-use Rattle.decimal_rank.specs.Places.{place_in}
+use Rattle.decimal_rank.specs.Rankings.Places.{place_in}
 use Rattle.score_index.specs.Scores.{ScoreList}
 use Rattle.score_index.proofs.Admissions.{absent-place}
 use Rattle.score_index.proofs.lists.RunList.place_of.Goals as goal

@@ -1,0 +1,7 @@
+-- The texts so far are the docnos of the documents so far.
+use Rattle.std.proofs.Common.{◌≡◌, map, take}
+use Rattle.decimal_rank.specs.Names.{docno_of}
+use Rattle.campaign_core.proofs.pages.pools.texts.Given as goal
+
+abbrev pub invariant-loop-doc : goal.invariant-loop-doc
+invariant-loop-doc l = l.texts.items ≡ map (λ doc. docno_of l.docnos doc.0) (take l.doc-index l.docs)

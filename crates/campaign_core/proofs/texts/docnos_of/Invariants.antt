@@ -1,8 +1,0 @@
--- The texts so far are the docnos of the documents so far.
-use Rattle.std.proofs.Common.{◌≡◌, map, take}
-use Rattle.decimal_rank.specs.Names.{docno_of}
-use Rattle.campaign_core.specs.Texts.{shown}
-use Rattle.campaign_core.proofs.texts.docnos_of.Given as goal
-
-abbrev pub invariant-loop-doc : goal.invariant-loop-doc
-invariant-loop-doc l = shown l.texts.items ≡ map (λ doc. docno_of l.docnos doc.0) (take l.doc-index l.docs)

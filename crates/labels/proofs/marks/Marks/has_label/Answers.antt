@@ -1,7 +1,0 @@
-use Rattle.std.proofs.Common.{◌∙◌, ap, is_some}
-use Rattle.labels.specs.Marked.{given_at}
-use Rattle.labels.proofs.Entries.{has_one}
-use Rattle.labels.proofs.marks.Marks.has_label.Goals as goal
-
-pub returns : goal.returns
-returns c = c.is_some.ensures ∙ ap is_some c.grade_of.ensures ∙ has_one c.args.assessor.now (given_at c.args.self.now.marked c.args.doc)

@@ -1,0 +1,19 @@
+-- The texts left, each quoted behind a comma, give what all append; neither length nor capacity falls.
+use Rattle.std.proofs.Common.{◌≡◌, ◌≤◌, ◌++◌, ◌∷◌, ℕ, List, length}
+use Rattle.std.specs.Prelude.{vec_capacity}
+use Rattle.std.specs.List.{flat_map}
+use Rattle.routes.specs.Bytes.{comma}
+use Rattle.routes.specs.Json.Objects.{quoted}
+use Rattle.routes.proofs.answers.values.append_others.Given as goal
+
+abbrev pub invariant-loop-rest : goal.invariant-loop-rest
+invariant-loop-rest l = record {
+  bytes : l.initial.out.items ++ flat_map (λ (text : List ℕ). comma ∷ quoted text) l.texts
+      ≡ l.out.items ++ flat_map (λ (text : List ℕ). comma ∷ quoted text) l.rest;
+  before : l.before ≡ length l.initial.out.items;
+  grown : length l.initial.out.items ≤ length l.out.items;
+  capacity : vec_capacity l.initial.out ≤ vec_capacity l.out;
+}
+
+abbrev pub decreases-loop-rest : goal.decreases-loop-rest
+decreases-loop-rest l = length l.rest

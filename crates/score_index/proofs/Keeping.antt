@@ -1,5 +1,0 @@
--- What a board keeps: its topics, their lists, and rooms for more.
-pub mod Boards
-pub mod Listing
-pub mod ListsByRun
-pub mod Rooms

@@ -1,5 +1,0 @@
-use Rattle.std.proofs.lemmas.List.{take_rest}
-use Rattle.trec_formats.proofs.lists.group_at.Goals as goal
-
-pub returns : goal.returns
-returns c = rw take_rest at c.first_group.ensures
