@@ -73,7 +73,11 @@ class Move:
         self.before = journal([spelled(entry) for entry in entries])
         self.area = area(compacted(entries))
         self.place = len(self.before)
-        self.after = self.before[:8] + b"\3" + self.place.to_bytes(7, "little") + self.area
+        self.after = self.moved_from(self.place)
+
+    def moved_from(self, place):
+        """What a compaction leaves of a file of so many bytes: the place behind them stays told."""
+        return self.before[:8] + b"\3" + place.to_bytes(7, "little") + self.area
 
     def folder(self, name, image=None):
         """A folder with such a journal."""

@@ -40,7 +40,7 @@ pub(crate) fn ended_at<W: Threads + Wait + Sync + AllocGlobal, I: Link, R: Door>
     Ok((status.0, disk))
 }
 
-// A door without links.
+/// A door without links.
 fn shut_door(alloc: Global) -> MemoryDoor<MemoryLink>
     ensures { IsShut (told_by result) }
 {

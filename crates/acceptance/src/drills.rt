@@ -6,7 +6,7 @@ use std::sync::Wait;
 use std::test::Fail;
 use std::thread::Threads;
 
-// The status of the program with these words, and what it prints.
+/// The status of the program with these words, and what it prints.
 fn drilled<W: Threads + Wait + Sync + AllocGlobal>(
     rt: &W,
     words: &str,

@@ -5,13 +5,13 @@ use std::net::{Ipv4Addr, Net, OpenListener, OpenStream, Shutdown, TcpListener, T
 use std::process::Abort;
 use std::test::Fail;
 
-// A port that nobody listens on.
+/// A port that nobody listens on.
 fn free_port(rt: &HostRuntime) -> Result<u16, Fail> {
     let listener = TcpListener::bind(rt, (Ipv4Addr::LOCALHOST, 0))?;
     Ok(listener.local_addr()?.port())
 }
 
-// One exchange on a link, and the end of its peer's side.
+/// One exchange on a link, and the end of its peer's side.
 fn assert_talks(rt: &impl Abort, link: &mut impl Link, peer: &mut TcpStream) -> Result<(), Fail> {
     let mut out = [0; 8];
     peer.write_all(b"ask")?;

@@ -19,8 +19,8 @@ use std::sync::{Arc, Wait};
 use std::test::Fail;
 use std::thread::Threads;
 
-// The status of the program with these words over a door and an empty disk, and what the disk has
-// then.
+/// The status of the program with these words over a door and an empty disk, and what the disk has
+/// then.
 fn served_at<W: Threads + Wait + Sync + AllocGlobal, R: Door>(
     rt: &W,
     words: &str,
@@ -41,7 +41,7 @@ fn content_of(alloc: Global, disk: MemoryDisk) -> Result<Vec<u8>, Fail> {
     Ok(Vec::from_slice(alloc, disk.content())?)
 }
 
-// What `check` prints of a disk with these bytes.
+/// What `check` prints of a disk with these bytes.
 fn page_of<W: Threads + Wait + Sync + AllocGlobal>(rt: &W, held: &[u8]) -> Result<Vec<u8>, Fail> {
     let alloc = rt.alloc();
     let mut own = idle_link(alloc);
@@ -50,8 +50,8 @@ fn page_of<W: Threads + Wait + Sync + AllocGlobal>(rt: &W, held: &[u8]) -> Resul
     Ok(Vec::from_slice(alloc, out.written())?)
 }
 
-// A link that gives these bytes. The read and the write at these places fail; none where a place is
-// 0.
+/// A link that gives these bytes. The read and the write at these places fail; none where a place
+/// is 0.
 fn link_with(alloc: Global, bytes: &[u8], read: u64, write: u64) -> Result<MemoryLink, Fail>
     ensures { IfOk result (λ link. IsNew (told_by link)) }
 {
@@ -66,7 +66,7 @@ fn link_with(alloc: Global, bytes: &[u8], read: u64, write: u64) -> Result<Memor
     Ok(link_of(alloc, bytes, b"", reads, writes)?)
 }
 
-// The links and one more, all of them new.
+/// The links and one more, all of them new.
 fn with_link<I: Link + Drop>(links: Vec<I>, link: I) -> Result<Vec<I>, Memory>
     requires all { All (λ link. IsNew (I.seen link)) links.items }
     requires new { IsNew (I.seen link) }
@@ -77,8 +77,8 @@ fn with_link<I: Link + Drop>(links: Vec<I>, link: I) -> Result<Vec<I>, Memory>
     Ok(links)
 }
 
-// Three links: one with these bytes, of which the read and the write at these places fail, and two
-// that give a submission and its page.
+/// Three links: one with these bytes, of which the read and the write at these places fail, and two
+/// that give a submission and its page.
 fn three_links(alloc: Global, bytes: &[u8], read: u64, write: u64) -> Result<Vec<MemoryLink>, Fail>
     ensures { IfOk result (λ links. All (λ link. IsNew (told_by link)) links.items) }
 {
@@ -87,7 +87,7 @@ fn three_links(alloc: Global, bytes: &[u8], read: u64, write: u64) -> Result<Vec
     Ok(with_link(links, link_with(alloc, POOL, 0, 0)?)?)
 }
 
-// The ends and the written bytes of the links that a door was handed, in order.
+/// The ends and the written bytes of the links that a door was handed, in order.
 fn assert_served(rt: &impl Abort, door: &MemoryDoor<MemoryLink>, rows: &[(End, &[u8])]) {
     let served = door.served();
     assert_eq!(rt; served.len(), rows.len());
@@ -157,7 +157,7 @@ fn a_server_ends_with_its_door_or_its_connections(rt: HostRuntime) -> Result<(),
     Ok(())
 }
 
-// A link that asks for the pool once so many answers were written on the next link.
+/// A link that asks for the pool once so many answers were written on the next link.
 fn asking_link(
     alloc: Global,
     answers: &Arc<AtomicU64, Global>,
@@ -175,7 +175,7 @@ fn asking_link(
     ))
 }
 
-// A link that waits for none and gives the topics and a run.
+/// A link that waits for none and gives the topics and a run.
 fn beginning_link(alloc: Global, answers: &Arc<AtomicU64, Global>) -> Result<WaitingLink, Fail>
     ensures { IfOk result (λ link. IsNew (⟦<WaitingLink as Link>⟧.seen link)) }
 {
@@ -188,7 +188,7 @@ fn beginning_link(alloc: Global, answers: &Arc<AtomicU64, Global>) -> Result<Wai
     ))
 }
 
-// Two links, of which the first waits for the second to be answered twice.
+/// Two links, of which the first waits for the second to be answered twice.
 fn two_waiting(alloc: Global) -> Result<Vec<WaitingLink>, Fail>
     ensures { IfOk result
         (λ links. All (λ link. IsNew (⟦<WaitingLink as Link>⟧.seen link)) links.items) }
@@ -199,7 +199,7 @@ fn two_waiting(alloc: Global) -> Result<Vec<WaitingLink>, Fail>
     Ok(with_link(links, beginning_link(alloc, &two)?)?)
 }
 
-// Two links in front of these two, of which each waits for the next to be answered.
+/// Two links in front of these two, of which each waits for the next to be answered.
 fn four_waiting(alloc: Global) -> Result<Vec<WaitingLink>, Fail>
     ensures { IfOk result
         (λ links. All (λ link. IsNew (⟦<WaitingLink as Link>⟧.seen link)) links.items) }
@@ -214,7 +214,7 @@ fn four_waiting(alloc: Global) -> Result<Vec<WaitingLink>, Fail>
     Ok(with_link(links, beginning_link(alloc, &four)?)?)
 }
 
-// Each link but one shows the pool with the run that came on that one.
+/// Each link but one shows the pool with the run that came on that one.
 fn assert_waited(rt: &impl Abort, door: &MemoryDoor<WaitingLink>, last: &[u8], count: usize) {
     let served = door.served();
     let mut shown = 0usize;
@@ -230,7 +230,7 @@ fn assert_waited(rt: &impl Abort, door: &MemoryDoor<WaitingLink>, last: &[u8], c
     assert_eq!(rt; shown.saturating_add(1), count);
 }
 
-// As many workers as links take these links, each of which waits for the next but the last.
+/// As many workers as links take these links, each of which waits for the next but the last.
 fn assert_all_answered<W: Threads + Wait + Sync + AllocGlobal + Abort>(
     rt: &W,
     links: Vec<WaitingLink>,

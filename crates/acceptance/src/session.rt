@@ -47,8 +47,8 @@ pub(crate) fn both(alloc: Global, first: &[u8], second: &[u8]) -> Result<Vec<u8>
     Ok(text)
 }
 
-// Plays a session of the topics and these two pieces, which has to end with this status and to give
-// this answer to them.
+/// Plays a session of the topics and these two pieces, which has to end with this status and to
+/// give this answer to them.
 fn assert_answers<W: Threads + Wait + Sync + AllocGlobal + Abort>(
     rt: &W,
     first: &[u8],

@@ -57,7 +57,7 @@ impl WaitingLink {
     }
 }
 
-// Whether a number of answers was written before the tries were used up.
+/// Whether a number of answers was written before the tries were used up.
 fn comes(answers: &AtomicU64, awaited: u64) -> bool {
     for _ in 0..MOST_TRIES {
         if answers.load(Ordering::SeqCst) >= awaited {

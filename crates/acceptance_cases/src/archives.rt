@@ -34,7 +34,7 @@ pub(crate) fn add_system(
     }
 }
 
-// The place of the release of this name; behind all where there is none.
+/// The place of the release of this name; behind all where there is none.
 fn place_of(releases: &[Kept], name: &str) -> usize {
     for place in 0..releases.len() {
         if releases[place].name.bytes() == name.as_bytes() {

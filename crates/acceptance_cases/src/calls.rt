@@ -181,7 +181,7 @@ fn ended_by<W: Threads + Wait + Sync + AllocGlobal>(
     }
 }
 
-// A door without links.
+/// A door without links.
 fn shut_door(alloc: Global) -> MemoryDoor<MemoryLink>
     ensures { IsShut (told_by result) }
 {
@@ -209,7 +209,7 @@ fn row_of(alloc: Global, file: &File) -> Result<(Text, Text), Memory> {
     Ok((name, Text::from_slice(alloc, &file.bytes)?))
 }
 
-// A link whose clock stands at this moment.
+/// A link whose clock stands at this moment.
 fn link_of(
     alloc: Global,
     pieces: Vec<Text>,
@@ -229,7 +229,7 @@ fn disk_of(alloc: Global, held: &[u8], fail: u64) -> Result<MemoryDisk, Memory> 
     Ok(MemoryDisk::new(Vec::from_slice(alloc, held)?, fails))
 }
 
-// This place alone; none where it is 0.
+/// This place alone; none where it is 0.
 fn places(alloc: Global, place: u64) -> Result<Vec<u64>, Memory> {
     let mut places = Vec::new(alloc);
     if place > 0 {
@@ -250,7 +250,7 @@ fn pieces_of(alloc: Global, exchanges: &[Exchange], part: Part) -> Result<Vec<Te
     Ok(pieces)
 }
 
-// The pieces and one more, where it isn't empty.
+/// The pieces and one more, where it isn't empty.
 fn with_piece(pieces: Vec<Text>, bytes: &[u8]) -> Result<Vec<Text>, Memory>
     requires { IsTrue (are_filled pieces.items) }
     ensures { IfOk result (λ pieces. IsTrue (are_filled pieces.items)) }

@@ -31,8 +31,8 @@ const FILLS: [Fill; 5] = [
     Fill::Byte(77),
 ];
 
-// The bytes at the last sync, the disk now, and what a crash may have torn: the bytes of a range,
-// and the length.
+/// The bytes at the last sync, the disk now, and what a crash may have torn: the bytes of a range,
+/// and the length.
 struct Torn {
     old: Vec<u8>,
     now: MemoryDisk,
@@ -69,7 +69,7 @@ impl Torn {
         })
     }
 
-    // Makes a call that did its work.
+    /// Makes a call that did its work.
     fn make(&mut self, call: &DiskCall) -> Result<(), Unplayed> {
         match call {
             DiskCall::Len | DiskCall::Read { .. } => Ok(()),
@@ -87,7 +87,7 @@ impl Torn {
         }
     }
 
-    // So many bytes from this place on are torn, and those past the least length.
+    /// So many bytes from this place on are torn, and those past the least length.
     fn tear(&mut self, place: usize, count: usize) {
         let length = self.now.content().len();
         self.least = self.least.min(length);
@@ -124,7 +124,7 @@ impl Torn {
         }
     }
 
-    // What a crash may leave, of this length.
+    /// What a crash may leave, of this length.
     fn image(&self, alloc: Global, length: usize, fill: Fill) -> Result<Vec<u8>, Memory> {
         let mut image = Vec::new(alloc);
         for place in 0..length {
@@ -188,7 +188,7 @@ fn told_at<W: Threads + Wait + Sync + AllocGlobal>(
     Ok(told)
 }
 
-// What these first calls tear on a disk that holds these bytes.
+/// What these first calls tear on a disk that holds these bytes.
 fn torn_by(alloc: Global, held: &[u8], calls: &[DiskCall], count: usize) -> Result<Torn, Unplayed> {
     let mut torn = Torn::new(alloc, held)?;
     for place in 0..calls.len().min(count) {
@@ -237,7 +237,7 @@ fn tell_fills<W: Threads + Wait + Sync + AllocGlobal>(
     Ok(())
 }
 
-// Tells how many entries an image has.
+/// Tells how many entries an image has.
 fn tell_image<W: Threads + Wait + Sync + AllocGlobal>(
     rt: &W,
     stage: &Stage,
@@ -252,7 +252,7 @@ fn tell_image<W: Threads + Wait + Sync + AllocGlobal>(
     Ok(told.push_str(entries_of(ended.printed()))?)
 }
 
-// The number behind the first word of what `check` prints.
+/// The number behind the first word of what `check` prints.
 fn entries_of(printed: &[u8]) -> &str {
     let Ok(text) = str::from_utf8(printed) else {
         return "?";

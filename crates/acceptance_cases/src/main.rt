@@ -63,7 +63,7 @@ struct Counts {
     differing: u64,
 }
 
-// What a line comes to: its words, and what is wanted behind the arrow, if there is one.
+/// What a line comes to: its words, and what is wanted behind the arrow, if there is one.
 fn play_words<W: Threads + Wait + Sync + AllocGlobal>(
     rt: &W,
     stage: &mut Stage,
@@ -91,7 +91,7 @@ fn play_words<W: Threads + Wait + Sync + AllocGlobal>(
     Ok(Outcome::Right)
 }
 
-// A line that is played later: a message, or what the next call finds.
+/// A line that is played later: a message, or what the next call finds.
 fn set(
     alloc: Global,
     stage: &mut Stage,
@@ -111,7 +111,7 @@ fn set(
     }
 }
 
-// The words of a line, and what is wanted behind its arrow.
+/// The words of a line, and what is wanted behind its arrow.
 fn parts_of(line: &str) -> (&str, Option<&str>) {
     match line.split_once(" ->") {
         Some((words, wanted)) => (words, Some(wanted.trim_start())),
@@ -119,7 +119,7 @@ fn parts_of(line: &str) -> (&str, Option<&str>) {
     }
 }
 
-// Plays a line, and prints it where it comes to something else, or counts.
+/// Plays a line, and prints it where it comes to something else, or counts.
 fn play<W: Threads + Wait + Sync + AllocGlobal + Print>(
     rt: &W,
     case: &str,
@@ -175,7 +175,7 @@ fn play_lines<W: Threads + Wait + Sync + AllocGlobal + Print>(
     Ok(())
 }
 
-// The lines of this name; none where there are no such.
+/// The lines of this name; none where there are no such.
 fn lines_of<'x>(text: &'x str, name: &str) -> &'x str {
     for block in text.split("\nlines ").skip(1) {
         let (title, lines) = block.split_once('\n').unwrap_or((block, ""));
@@ -190,7 +190,7 @@ fn before_cases(text: &str) -> &str {
     text.split_once("\ncase ").unwrap_or((text, "")).0
 }
 
-// Plays the lines of a case, some of which stand for others.
+/// Plays the lines of a case, some of which stand for others.
 fn play_case_lines<W: Threads + Wait + Sync + AllocGlobal + Print>(
     rt: &W,
     text: &str,
@@ -208,7 +208,7 @@ fn play_case_lines<W: Threads + Wait + Sync + AllocGlobal + Print>(
     Ok(())
 }
 
-// Plays a case on a stage of its own, all of whose messages have to be given in the end.
+/// Plays a case on a stage of its own, all of whose messages have to be given in the end.
 fn play_case<W: Threads + Wait + Sync + AllocGlobal + Print>(
     rt: &W,
     text: &str,
@@ -232,7 +232,7 @@ fn play_case<W: Threads + Wait + Sync + AllocGlobal + Print>(
     )
 }
 
-// The lines before all others.
+/// The lines before all others.
 fn head_of(text: &str) -> &str {
     text.split_once("\nlines ").unwrap_or((text, "")).0
 }

@@ -5,11 +5,11 @@
 use decimal_rank::Memory;
 use std::alloc::Global;
 
-// The measures of a cell, by their lines.
+/// The measures of a cell, by their lines.
 const MEASURES: &str =
     "num_ret num_rel num_rel_ret map Rprec bpref recip_rank P_5 P_10 P_15 P_20 P_30 P_100 P_200 P_500 P_1000";
 
-// How many bytes of a text are shown.
+/// How many bytes of a text are shown.
 const MOST_SHOWN: usize = 600;
 
 /// The bytes of a text.
@@ -49,7 +49,7 @@ fn add_numbered(alloc: Global, part: &[u8], number: u32, out: &mut Vec<u8>) -> R
     Ok(())
 }
 
-// Adds a text, whose parentheses hold the values of score lines.
+/// Adds a text, whose parentheses hold the values of score lines.
 fn add(text: &str, out: &mut Vec<u8>) -> Result<(), Memory> {
     let (plain, groups) = text.split_once('(').unwrap_or((text, ""));
     add_plain(plain, out)?;
@@ -59,7 +59,7 @@ fn add(text: &str, out: &mut Vec<u8>) -> Result<(), Memory> {
     Ok(())
 }
 
-// Adds the score lines of these values, and what stands behind their parenthesis.
+/// Adds the score lines of these values, and what stands behind their parenthesis.
 fn add_group(group: &str, out: &mut Vec<u8>) -> Result<(), Memory> {
     let Some((values, plain)) = group.split_once(')') else {
         return add_plain(group, out);
@@ -100,7 +100,7 @@ fn add_score(
     Ok(out.push(b'\n')?)
 }
 
-// Adds a text whose bytes may have names behind a backslash.
+/// Adds a text whose bytes may have names behind a backslash.
 fn add_plain(text: &str, out: &mut Vec<u8>) -> Result<(), Memory> {
     let (first, named) = text.split_once('\\').unwrap_or((text, ""));
     add_lines(first.as_bytes(), out)?;
@@ -110,7 +110,7 @@ fn add_plain(text: &str, out: &mut Vec<u8>) -> Result<(), Memory> {
     Ok(())
 }
 
-// Adds the byte of the name at the front, and what stands behind it.
+/// Adds the byte of the name at the front, and what stands behind it.
 fn add_named(part: &[u8], out: &mut Vec<u8>) -> Result<(), Memory> {
     match part {
         [] => Ok(()),

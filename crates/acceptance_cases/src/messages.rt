@@ -14,7 +14,7 @@ use crate::stages::Unplayed;
 use decimal_rank::Memory;
 use std::alloc::Global;
 
-// The keys of the callers.
+/// The keys of the callers.
 const KEYS: &str = "\
 org ORGANISERORGAN01
 grp GROUPGROUPGROUP1
@@ -22,7 +22,7 @@ other OTHERGROUPOTHER1
 p ASSESSORASSESS01
 q ASSESSORASSESS02";
 
-// Each status with its reason.
+/// Each status with its reason.
 const REASONS: &str = "\
 200 OK
 201 Created
@@ -55,7 +55,7 @@ impl Drop for Exchange {
     }
 }
 
-// What stands behind this word in a table of lines.
+/// What stands behind this word in a table of lines.
 fn of_word<'x>(table: &'x str, word: &str) -> Option<&'x str> {
     for line in table.lines() {
         let (first, rest) = cut(line);
@@ -90,7 +90,7 @@ pub(crate) fn request_of(alloc: Global, line: &str) -> Result<Vec<u8>, Memory> {
     Ok(text)
 }
 
-// The fields of a caller's key and number.
+/// The fields of a caller's key and number.
 fn add_caller(alloc: Global, caller: &str, text: &mut Vec<u8>) -> Result<(), Memory> {
     let (name, number) = caller.split_once('#').unwrap_or((caller, ""));
     if let Some(key) = of_word(KEYS, name) {

@@ -90,7 +90,7 @@ pub(crate) fn told(alloc: Global, ended: &Ended) -> Result<String, Memory> {
     Ok(format!(in alloc; "{status} {text}")?)
 }
 
-// The first message that is answered otherwise, and what is written from there on.
+/// The first message that is answered otherwise, and what is written from there on.
 fn told_answer(alloc: Global, ended: &Ended, exchanges: &[Exchange]) -> Result<String, Memory> {
     let count = answered_count(ended.answered(), exchanges);
     let rest = behind(ended.answered(), &exchanges[..count]).unwrap_or(&[]);

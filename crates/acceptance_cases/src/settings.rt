@@ -28,7 +28,7 @@ pub(crate) fn play_settings<W: Threads + Wait + Sync + AllocGlobal>(
     Ok(Outcome::Other(told(alloc, &ended)?))
 }
 
-// A stage with the changed settings alone.
+/// A stage with the changed settings alone.
 fn changed(alloc: Global, stage: &Stage, change: &str) -> Result<Stage, Unplayed> {
     let (old, new) = change.split_once(" =>").ok_or(Unplayed)?;
     let old = bytes_of(alloc, old)?;
@@ -41,7 +41,7 @@ fn changed(alloc: Global, stage: &Stage, change: &str) -> Result<Stage, Unplayed
     Ok(other)
 }
 
-// The text with these bytes in place of the first that are the old ones.
+/// The text with these bytes in place of the first that are the old ones.
 fn replaced(alloc: Global, text: &[u8], old: &[u8], new: &[u8]) -> Result<Vec<u8>, Unplayed> {
     for place in 0..text.len() {
         if let Some(behind) = text[place..].strip_prefix(old) {

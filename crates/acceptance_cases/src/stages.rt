@@ -151,7 +151,7 @@ impl Stage {
         Err(Unplayed)
     }
 
-    // The call of this kind at this place fails.
+    /// The call of this kind at this place fails.
     fn fail(&mut self, words: &str) -> Result<(), Unplayed> {
         let (kind, place) = cut(words);
         let place = place.parse::<u64>().ok().ok_or(Unplayed)?;
@@ -173,7 +173,7 @@ impl Stage {
         Ok(())
     }
 
-    // Adds a text to the file that is named before it, which may begin anew.
+    /// Adds a text to the file that is named before it, which may begin anew.
     fn put(&mut self, alloc: Global, words: &str, is_new: bool) -> Result<(), Memory> {
         let (name, text) = cut(words);
         let place = place_of(&self.files, name);
@@ -226,7 +226,7 @@ impl Stage {
     }
 }
 
-// The place of the file of this name; behind all files where there is none.
+/// The place of the file of this name; behind all files where there is none.
 fn place_of(files: &[File], name: &str) -> usize {
     for place in 0..files.len() {
         if files[place].name.as_slice() == name.as_bytes() {

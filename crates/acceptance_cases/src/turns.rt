@@ -10,10 +10,10 @@ use std::alloc::Global;
 use std::sync::Wait;
 use std::thread::Threads;
 
-// More turns than any session here has.
+/// More turns than any session here has.
 const MOST_TURNS: usize = 10_000;
 
-// The answer to a command that a fault of the disk kept out.
+/// The answer to a command that a fault of the disk kept out.
 const FAULT: &[u8] =
     b"HTTP/1.1 503 Service Unavailable\r\nContent-Type: application/json\r\nContent-Length: 17\r\n\r\n{\"fault\":\"disk\"}\n";
 
@@ -42,7 +42,7 @@ enum Turn {
     Breaks,
 }
 
-// How many turns came to what.
+/// How many turns came to what.
 #[derive(Drop)]
 struct Tally {
     turns: usize,
@@ -143,18 +143,18 @@ fn first(count: usize) -> Part {
     }
 }
 
-// Whether a session ended well, with each answer as it has to be.
+/// Whether a session ended well, with each answer as it has to be.
 fn is_whole(ended: &Ended, stage: &Stage) -> bool {
     ended.status == 0 && is_answered(ended.answered(), &stage.exchanges)
 }
 
-// Exactly these first messages are answered.
+/// Exactly these first messages are answered.
 fn are_first_answered(ended: &Ended, stage: &Stage, count: usize) -> bool {
     count <= stage.exchanges.len() && is_answered(ended.answered(), &stage.exchanges[..count])
 }
 
-// A read gives one message. Those before the one that fails are answered and kept, and the status
-// is 10. The last read finds the end.
+/// A read gives one message. Those before the one that fails are answered and kept, and the status
+/// is 10. The last read finds the end.
 fn fail_read<W: Threads + Wait + Sync + AllocGlobal>(
     rt: &W,
     stage: &Stage,
@@ -175,8 +175,8 @@ fn fail_read<W: Threads + Wait + Sync + AllocGlobal>(
     Ok(turn_if(holds(rt, stage, ended.held(), first(before))?, Turn::Holds))
 }
 
-// An answer is one write. Those before the one that fails are written, its own message is kept too,
-// and the status is 8.
+/// An answer is one write. Those before the one that fails are written, its own message is kept
+/// too, and the status is 8.
 fn fail_write<W: Threads + Wait + Sync + AllocGlobal>(
     rt: &W,
     stage: &Stage,
@@ -196,8 +196,8 @@ fn fail_write<W: Threads + Wait + Sync + AllocGlobal>(
     Ok(turn_if(holds(rt, stage, ended.held(), first(place))?, Turn::Holds))
 }
 
-// In opening the status is 5, nothing is answered, and the campaign is as it was. Else the status
-// is 0.
+/// In opening the status is 5, nothing is answered, and the campaign is as it was. Else the status
+/// is 0.
 fn fail_disk_call<W: Threads + Wait + Sync + AllocGlobal>(
     rt: &W,
     stage: &Stage,
@@ -221,7 +221,7 @@ fn fail_disk_call<W: Threads + Wait + Sync + AllocGlobal>(
     }
 }
 
-// The status is 5, and the campaign is as it was.
+/// The status is 5, and the campaign is as it was.
 fn fail_compaction<W: Threads + Wait + Sync + AllocGlobal>(
     rt: &W,
     stage: &Stage,
@@ -241,9 +241,9 @@ fn fail_compaction<W: Threads + Wait + Sync + AllocGlobal>(
     Ok(turn_if(ended.status == 5 && same, Turn::Holds))
 }
 
-// One message, which is accepted otherwise, is answered by a fault; all other answers are those of
-// the session without it. The journal is that session's too; or it has the command at its end,
-// where none was accepted since.
+/// One message, which is accepted otherwise, is answered by a fault; all other answers are those of
+/// the session without it. The journal is that session's too; or it has the command at its end,
+/// where none was accepted since.
 fn fail_command<W: Threads + Wait + Sync + AllocGlobal>(
     rt: &W,
     stage: &Stage,
@@ -268,8 +268,8 @@ fn fail_command<W: Threads + Wait + Sync + AllocGlobal>(
     Ok(turn_if(holds(rt, stage, ended.held(), part)?, Turn::HoldsMore))
 }
 
-// The answers behind the fault that answers this message, where they are those of the session
-// without it.
+/// The answers behind the fault that answers this message, where they are those of the session
+/// without it.
 fn later_answers<'x>(
     ended: &'x Ended,
     other: &Ended,
@@ -288,7 +288,7 @@ fn later_answers<'x>(
     }
 }
 
-// Whether a command was accepted, by the answers.
+/// Whether a command was accepted, by the answers.
 fn has_accepted(answers: &[u8]) -> bool {
     for place in 0..answers.len() {
         if answers[place..].starts_with(ACCEPTED) {
@@ -298,7 +298,7 @@ fn has_accepted(answers: &[u8]) -> bool {
     false
 }
 
-// The text of all messages comes in two pieces, and the session is as it has to be.
+/// The text of all messages comes in two pieces, and the session is as it has to be.
 fn cut_at<W: Threads + Wait + Sync + AllocGlobal>(
     rt: &W,
     stage: &Stage,

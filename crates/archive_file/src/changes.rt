@@ -32,7 +32,7 @@ pub(crate) fn make(archive: &mut Archive, change: Change<'_>) -> Result<(), Keep
     }
 }
 
-// (over any store, so that the file's is in the types of one call alone)
+/// (over any store, so that the file's is in the types of one call alone)
 fn commit<S: Alter>(archive: &mut Connection<S>, change: Change<'_>) -> Result<(), Error> {
     if !archive.is_autocommit() {
         return Err(Error::SqliteFailure(ErrorCode::TransactionState));

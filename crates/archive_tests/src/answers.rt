@@ -93,7 +93,7 @@ fn pairs(alloc: Global, all: &[Kept], first: &str, second: &str) -> Option<Strin
     .ok()
 }
 
-// The records, where each release is sound.
+/// The records, where each release is sound.
 fn records(alloc: Global, all: &[Kept]) -> Option<String> {
     if !are_sound(all) {
         return None;

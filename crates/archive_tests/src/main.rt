@@ -35,7 +35,7 @@ struct Counts {
     differing: u64,
 }
 
-// Counts what some words are told, and prints it where it isn't what is wanted.
+/// Counts what some words are told, and prints it where it isn't what is wanted.
 fn tell(
     rt: &HostRuntime,
     words: &str,
@@ -51,7 +51,7 @@ fn tell(
     Ok(())
 }
 
-// The words of a line, and what stands behind its arrow.
+/// The words of a line, and what stands behind its arrow.
 fn cut(line: &str) -> (&str, &str) {
     line.split_once(" ->").unwrap_or((line, ""))
 }
@@ -73,7 +73,7 @@ fn play_lines<K: Keeper>(
     Ok(())
 }
 
-// The numbers of some words.
+/// The numbers of some words.
 fn numbers(rt: &HostRuntime, words: &str) -> Option<Vec<u64>> {
     let mut numbers = Vec::new(rt.alloc());
     for word in words.split(' ') {
@@ -107,7 +107,7 @@ fn play_in_file(rt: &HostRuntime, first: &str, lines: &str, counts: &mut Counts)
     file.remove(rt)
 }
 
-// Plays the lines of a case in the archive that its first line tells.
+/// Plays the lines of a case in the archive that its first line tells.
 fn play_case(rt: &HostRuntime, case: &str, counts: &mut Counts) -> io::Result<()> {
     let (first, lines) = case.split_once('\n').unwrap_or((case, ""));
     counts.cases = counts.cases.saturating_add(1);

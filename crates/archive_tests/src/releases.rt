@@ -32,7 +32,7 @@ fn system(alloc: Global, run: &str, map: u64) -> Result<System, Memory> {
     })
 }
 
-// Each number is another one, so that none can stand in another's place.
+/// Each number is another one, so that none can stand in another's place.
 fn summary(map: u64) -> Summary {
     let part = map / 16;
     Summary {

@@ -42,7 +42,7 @@ pub(crate) fn make_room(
     }
 }
 
-// Makes room for a run with these lists: on the board too, unless its lists are to wait.
+/// Makes room for a run with these lists: on the board too, unless its lists are to wait.
 fn make_run_room(
     topics: &mut Topics,
     waiting: &mut Waiting,
@@ -133,7 +133,7 @@ pub(crate) fn make<L: Ledger>(
     }
 }
 
-// Adds a run, for which there is room: its lists come on the board, or wait.
+/// Adds a run, for which there is room: its lists come on the board, or wait.
 fn enter(topics: &mut Topics, waiting: &mut Waiting, run: RunId, lists: Vec<Ranking>)
     requires room { HasRunRoom waiting.old.on_board lists.items topics.old waiting.old }
     requires is_new { IsNewRun run (with_waiting_lists waiting.old.runs (topics_facts topics.old)) }

@@ -111,7 +111,7 @@ impl Fronts {
         Ok(())
     }
 
-    // Takes the fronts out that stand at a name, or makes new ones.
+    /// Takes the fronts out that stand at a name, or makes new ones.
     fn take(&mut self, name: &[u8]) -> Result<OwnFronts, Memory>
         ensures rest { (need : ℕ) (marked : List LabelledDocument) (runs : List Held)
             → AreFronts need marked runs self.old → AreFronts need marked runs self.new }
@@ -131,7 +131,7 @@ impl Fronts {
     }
 }
 
-// The fronts that stand at a name.
+/// The fronts that stand at a name.
 fn own_of<'a>(all: &'a [OwnFronts], name: &[u8]) -> Option<&'a OwnFronts>
     ensures { option_map (λ own. own.now) result
         ≡ find (λ own. bytes_eq own.assessor name.now) all.now }
@@ -139,14 +139,14 @@ fn own_of<'a>(all: &'a [OwnFronts], name: &[u8]) -> Option<&'a OwnFronts>
     all.iter().find(|own| own.assessor.bytes() == name)
 }
 
-// Where the fronts stand that stand at a name.
+/// Where the fronts stand that stand at a name.
 fn place_of(all: &[OwnFronts], name: &[u8]) -> Option<usize>
     ensures { result ≡ position (λ own. bytes_eq own.assessor name.now) all.now }
 {
     all.iter().position(|own| own.assessor.bytes() == name)
 }
 
-// At which name the fronts of an assessor stand.
+/// At which name the fronts of an assessor stand.
 fn whose(need: u32, assessor: &[u8]) -> &[u8]
     ensures { result.now ≡ whose need assessor.now }
 {
@@ -163,7 +163,7 @@ pub fn front_of(fronts: &[usize], run: RunId) -> usize
     }
 }
 
-// Puts the front of a run back to its first document.
+/// Puts the front of a run back to its first document.
 fn restart(own: &mut OwnFronts, run: RunId)
     ensures { own.new ≡ front_restarted run own.old }
 {
@@ -173,7 +173,7 @@ fn restart(own: &mut OwnFronts, run: RunId)
     }
 }
 
-// Puts the front of a run, with room for it and for those of lower numbers.
+/// Puts the front of a run, with room for it and for those of lower numbers.
 fn put(fronts: &mut Vec<usize>, run: RunId, front: usize) -> Result<(), Memory>
     ensures here { slice_index_or fronts.new.items run.0 0
         ≡ (if is_ok result then front else slice_index_or fronts.old.items run.0 0) }
@@ -187,8 +187,8 @@ fn put(fronts: &mut Vec<usize>, run: RunId, front: usize) -> Result<(), Memory>
     Ok(())
 }
 
-// Leads fronts on past documents that are done, up to the first run of the order that holds another
-// one.
+/// Leads fronts on past documents that are done, up to the first run of the order that holds
+/// another one.
 fn advance<L: Ledger>(
     own: &mut OwnFronts,
     order: &[RunId],
@@ -211,7 +211,7 @@ fn advance<L: Ledger>(
     Ok(())
 }
 
-// The place, from 0, of the first document of a run from a place on that isn't done.
+/// The place, from 0, of the first document of a run from a place on that isn't done.
 fn front_from<L: Ledger>(
     assessor: &[u8],
     run: RunId,
@@ -234,7 +234,7 @@ fn front_from<L: Ledger>(
     count
 }
 
-// Whether a document is done for an assessor.
+/// Whether a document is done for an assessor.
 fn is_done(marks: &TopicLabels, need: u32, assessor: &[u8], doc: DocId) -> bool
     ensures { result ≡ is_done need marks.now.marked assessor.now doc }
 {

@@ -46,7 +46,7 @@ pub(crate) fn reserve_lists(board: &mut Board, lists: &[Ranking]) -> Result<(), 
     Ok(())
 }
 
-// Makes room for a list that has documents.
+/// Makes room for a list that has documents.
 fn reserve_list(board: &mut Board, list: &Ranking) -> Result<(), Memory>
     ensures room { OnOk result ((len : ℕ) → rooms_for len board.new
         ≡ rooms_for len board.old + (if has_length len list.now then 1 else 0)) }
@@ -112,7 +112,7 @@ pub(crate) fn list_runs(topics: Topics, runs: Vec<WaitingRun>) -> Result<Topics,
     Ok(topics)
 }
 
-// Puts the lists of a run on the board, one for each topic.
+/// Puts the lists of a run on the board, one for each topic.
 fn list_run(topics: &mut Topics, run: RunId, lists: Vec<Ranking>) -> Result<(), Memory>
     requires as_many { length lists.items ≡ length topics.old.topics }
     requires is_new { (on : ℕ) → (topics_facts topics.old).lists run on ≡ None }

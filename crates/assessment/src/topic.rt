@@ -178,7 +178,7 @@ impl AssessedTopic {
         }
     }
 
-    // Gives a document the grade that it has by its labels and rulings.
+    /// Gives a document the grade that it has by its labels and rulings.
     fn regrade<L: Ledger>(&mut self, doc: DocId, steps: &mut Steps<L>) -> GradeChange
         requires room { AwaitsGrade self.old }
         requires few_grades { length self.old.facts.graded < 268435456 }
@@ -193,7 +193,7 @@ impl AssessedTopic {
         GradeChange { before, after }
     }
 
-    // Brings the grade `new` of a document, whose grade was `old`, to the grades and to the queue.
+    /// Brings the grade `new` of a document, whose grade was `old`, to the grades and to the queue.
     fn put_grade<L: Ledger>(
         &mut self,
         doc: DocId,
@@ -293,7 +293,7 @@ impl AssessedTopic {
     }
 }
 
-// Whether a grade is relevant at a level.
+/// Whether a grade is relevant at a level.
 fn relevance(level: u8, grade: Option<u8>) -> Option<bool>
     ensures { result ≡ option_map (nat_le level) grade }
 {

@@ -184,7 +184,7 @@ impl Topics {
     }
 }
 
-// The level of each topic.
+/// The level of each topic.
 fn levels_of(alloc: Global, rules: &[TopicRules]) -> Result<Vec<u8>, Memory>
     ensures { IfOk result (λ levels. levels.items ≡ map (λ one. one.level) rules.now) }
 {
@@ -195,7 +195,7 @@ fn levels_of(alloc: Global, rules: &[TopicRules]) -> Result<Vec<u8>, Memory>
     Ok(levels)
 }
 
-// The topics before any run.
+/// The topics before any run.
 fn each_new(alloc: Global, given: Vec<TopicRules>) -> Result<Vec<AssessedTopic>, Memory>
     ensures { IfOk result (λ topics. map facts_of topics.items ≡ map new_topic given.items) }
 {

@@ -81,6 +81,7 @@ impl<D: Disk> Book<D> {
         self.state.entries()
     }
 
+    /// The campaign's phase.
     pub fn phase(&self) -> Phase
         ensures { result ≡ phase_of self.now.history }
     {
@@ -172,7 +173,7 @@ impl<D: Disk> Book<D> {
     }
 }
 
-// Journals the prepared entry, and adds it once that is done.
+/// Journals the prepared entry, and adds it once that is done.
 fn accept<D: Disk>(
     alloc: Global,
     state: &mut State,

@@ -22,7 +22,7 @@ use journal::{Area, Disk, Failed, Frame, Journal, ReplaceEnd};
 use rulebook::Rules;
 use std::alloc::Global;
 
-// the bytes in front of a journal's records
+/// the bytes in front of a journal's records
 const HEADER_BYTES: u64 = 16;
 
 /// What a compaction comes to.
@@ -53,7 +53,7 @@ pub fn compact<D: Disk>(alloc: Global, disk: D, rules: Rules) -> (D, CompactEnd)
     }
 }
 
-// Compacts an open journal, whose records these are.
+/// Compacts an open journal, whose records these are.
 fn compact_open<D: Disk>(
     alloc: Global,
     journal: Journal<D>,
@@ -82,7 +82,7 @@ fn compact_open<D: Disk>(
     }
 }
 
-// Adds the founding entry to a journal without records, of which nothing is to be packed.
+/// Adds the founding entry to a journal without records, of which nothing is to be packed.
 fn found<D: Disk>(alloc: Global, journal: Journal<D>, rules: Rules) -> (D, CompactEnd)
     requires laws { Laws }
     requires rules { IsTrue (are_rules rules) }
@@ -112,7 +112,7 @@ fn found<D: Disk>(alloc: Global, journal: Journal<D>, rules: Rules) -> (D, Compa
     }
 }
 
-// Packs the records of a journal, and puts what is packed in their place.
+/// Packs the records of a journal, and puts what is packed in their place.
 fn compact_records<D: Disk>(
     alloc: Global,
     journal: Journal<D>,
@@ -155,7 +155,7 @@ fn compact_records<D: Disk>(
     }
 }
 
-// The area of the packed records.
+/// The area of the packed records.
 fn packed_area(alloc: Global, records: &[Vec<u8>]) -> Result<Area, Memory>
     requires laws { Laws }
     requires story { (H : History) × IsStory (payloads_of records.now) H }
@@ -166,7 +166,7 @@ fn packed_area(alloc: Global, records: &[Vec<u8>]) -> Result<Area, Memory>
     Area::of(alloc, &payloads)
 }
 
-// A journal's bytes, or those of one with this area where they are fewer.
+/// A journal's bytes, or those of one with this area where they are fewer.
 fn lesser(before: u64, area: u64) -> u64
     requires { 16 ≤ before }
     ensures { result ≡ min before (16 + area) }

@@ -30,7 +30,7 @@ pub(crate) fn frame_of(alloc: Global, core: &EntryCore) -> Result<Frame, Memory>
     Frame::of(alloc, &bytes)
 }
 
-// Mends where something is due. Then nothing is pending.
+/// Mends where something is due. Then nothing is pending.
 fn mend_first<D: Disk>(journal: &mut Journal<D>, pending: &mut Pending) -> Result<(), Failed>
     ensures keeps { (H : History) → KeepsBook D.seen journal.old H pending.old
         → KeepsBook D.seen journal.new H pending.new }

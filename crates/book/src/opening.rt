@@ -64,8 +64,8 @@ pub(crate) fn fault_of(fault: OpenFault) -> BookFault
     }
 }
 
-// Makes a book of an open journal, whose records these are. Each is freed once its entries are
-// there.
+/// Makes a book of an open journal, whose records these are. Each is freed once its entries are
+/// there.
 fn take_up<D: Disk>(
     alloc: Global,
     opening: u64,
@@ -94,7 +94,7 @@ fn take_up<D: Disk>(
     }
 }
 
-// Makes a book of a journal without records.
+/// Makes a book of a journal without records.
 fn start<D: Disk>(
     alloc: Global,
     opening: u64,
@@ -115,7 +115,7 @@ fn start<D: Disk>(
     }
 }
 
-// Adds the founding entry to a journal without records.
+/// Adds the founding entry to a journal without records.
 fn establish<D: Disk>(
     alloc: Global,
     opening: u64,
@@ -139,7 +139,7 @@ fn establish<D: Disk>(
     }
 }
 
-// The book of a journal and of the entries that it keeps.
+/// The book of a journal and of the entries that it keeps.
 fn reopen<D: Disk>(alloc: Global, opening: u64, journal: Journal<D>, state: State) -> Book<D>
     requires settled { KeepsStory (D.seen journal.disk).images journal.place state.history }
     requires within { EndsWithin journal.place state.history }

@@ -19,7 +19,7 @@ use record_codec::{CodecFault, MOST_BUNDLED, is_brief, read_payload, write_bundl
 use rulebook::EntryCore;
 use std::alloc::Global;
 
-// Ends the bundle that has begun, where it has entries.
+/// Ends the bundle that has begun, where it has entries.
 fn end_part(
     alloc: Global,
     payloads: &mut Vec<Vec<u8>>,
@@ -43,7 +43,7 @@ fn end_part(
     Ok(())
 }
 
-// Adds the spelling of an entry.
+/// Adds the spelling of an entry.
 fn put_single(alloc: Global, payloads: &mut Vec<Vec<u8>>, core: &EntryCore) -> Result<(), Memory>
     requires spelled { IsTrue (has_spelling core.now) }
     requires fits { length (entry_bytes core.now) ≤ max_entry_bytes }
@@ -58,7 +58,7 @@ fn put_single(alloc: Global, payloads: &mut Vec<Vec<u8>>, core: &EntryCore) -> R
     Ok(())
 }
 
-// Packs an entry that no bundle may have.
+/// Packs an entry that no bundle may have.
 fn pack_single(
     alloc: Global,
     payloads: &mut Vec<Vec<u8>>,
@@ -79,7 +79,7 @@ fn pack_single(
     Ok(())
 }
 
-// Packs an entry as the first one of the next bundle.
+/// Packs an entry as the first one of the next bundle.
 fn pack_first(
     alloc: Global,
     payloads: &mut Vec<Vec<u8>>,
@@ -101,7 +101,7 @@ fn pack_first(
     Ok(())
 }
 
-// Packs one entry: by its spelling, or as the next one of a bundle.
+/// Packs one entry: by its spelling, or as the next one of a bundle.
 fn pack_core(
     alloc: Global,
     payloads: &mut Vec<Vec<u8>>,
@@ -126,7 +126,7 @@ fn pack_core(
     Ok(())
 }
 
-// Packs entries, one after another.
+/// Packs entries, one after another.
 fn pack_cores(
     alloc: Global,
     payloads: &mut Vec<Vec<u8>>,
@@ -147,7 +147,7 @@ fn pack_cores(
     Ok(())
 }
 
-// Packs the entries that a record spells.
+/// Packs the entries that a record spells.
 fn pack_record(
     alloc: Global,
     payloads: &mut Vec<Vec<u8>>,

@@ -27,8 +27,8 @@ fn are_equal(first: &[u8], second: &[u8]) -> bool
     first == second
 }
 
-// The campaign that a first record founds, and whether its rules are the wanted ones: whether the
-// record is the spelling of their founding entry.
+/// The campaign that a first record founds, and whether its rules are the wanted ones: whether the
+/// record is the spelling of their founding entry.
 fn begun(alloc: Global, first: &[u8], rules: Rules) -> Result<(Replay, bool), BookFault>
     requires laws { Laws }
     requires rules { IsTrue (are_rules rules) }
@@ -45,7 +45,7 @@ fn begun(alloc: Global, first: &[u8], rules: Rules) -> Result<(Replay, bool), Bo
     }
 }
 
-// What a campaign comes to behind whose first entry those of other records were entered.
+/// What a campaign comes to behind whose first entry those of other records were entered.
 fn ended(
     replay: Replay,
     entered: Result<bool, Memory>,
@@ -101,7 +101,7 @@ pub(crate) fn replay(
     }
 }
 
-// Its entries, entered again.
+/// Its entries, entered again.
 fn replayed_owned(
     alloc: Global,
     first: &[u8],

@@ -38,7 +38,7 @@ const ARCHIVE: &str = "campaign.archive";
 const WEAKER: &str =
     "campaign: the system's random source doesn't answer; tables hash with a secret of the clocks";
 
-// The words after the program's name; none where one of them isn't UTF-8.
+/// The words after the program's name; none where one of them isn't UTF-8.
 fn words(rt: &HostRuntime, alloc: Global) -> Result<Vec<String>, AllocError> {
     let mut words = Vec::new(alloc);
     match env::args(rt) {
@@ -53,7 +53,7 @@ fn words(rt: &HostRuntime, alloc: Global) -> Result<Vec<String>, AllocError> {
     Ok(words)
 }
 
-// Tells why the program ends with this status. The shelf and the door told of theirs, 4 and 6.
+/// Tells why the program ends with this status. The shelf and the door told of theirs, 4 and 6.
 fn tell(rt: &HostRuntime, alloc: Global, words: &[String], status: Status) {
     match status.0 {
         2 => tell_usage(rt, words),
@@ -63,7 +63,7 @@ fn tell(rt: &HostRuntime, alloc: Global, words: &[String], status: Status) {
     }
 }
 
-// Reads the settings again, and tells what is wrong with them.
+/// Reads the settings again, and tells what is wrong with them.
 fn look_at_settings(rt: &HostRuntime, alloc: Global) {
     let Ok(text) = FileShelf::new(rt).read_file(alloc, SETTINGS.as_bytes()) else {
         return;
@@ -71,7 +71,7 @@ fn look_at_settings(rt: &HostRuntime, alloc: Global) {
     tell_settings(rt, alloc, SETTINGS, &text);
 }
 
-// Whether the words are those of `eval`, which has no settings.
+/// Whether the words are those of `eval`, which has no settings.
 fn is_evaluation(words: &[String]) -> bool {
     match words {
         [word, ..] => word.as_str() == "eval",
@@ -79,7 +79,7 @@ fn is_evaluation(words: &[String]) -> bool {
     }
 }
 
-// The journal's file, behind a symbolic link too; none where there is no such file yet.
+/// The journal's file, behind a symbolic link too; none where there is no such file yet.
 fn journal_file(rt: &HostRuntime) -> Result<Option<PathBuf>, AllocError> {
     match fs::canonicalize(rt, JOURNAL) {
         Ok(path) => Ok(Some(path)),
@@ -88,7 +88,7 @@ fn journal_file(rt: &HostRuntime) -> Result<Option<PathBuf>, AllocError> {
     }
 }
 
-// What the system tells at the start: the words, and the journal's file.
+/// What the system tells at the start: the words, and the journal's file.
 fn start(rt: &HostRuntime, alloc: Global) -> Result<(Vec<String>, Option<PathBuf>), AllocError> {
     let words = words(rt, alloc)?;
     Ok((words, journal_file(rt)?))

@@ -10,6 +10,7 @@ pub struct ReportingShelf<F: Shelf, E: Eprint> {
 }
 
 impl<F: Shelf, E: Eprint> ReportingShelf<F, E> {
+    /// This shelf, whose failures are told there.
     pub fn new(shelf: F, errors: E) -> ReportingShelf<F, E> {
         ReportingShelf { shelf, errors }
     }

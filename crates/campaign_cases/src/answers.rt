@@ -49,7 +49,7 @@ fn word(text: &Text) -> Option<&str> {
     str::from_utf8(text.bytes()).ok()
 }
 
-// A document of the topic 1, and another one behind its topic.
+/// A document of the topic 1, and another one behind its topic.
 fn placed(alloc: Global, topic: &Text, doc: &Text) -> Option<String> {
     let topic = word(topic)?;
     let doc = word(doc)?;
@@ -68,7 +68,7 @@ fn pool_words(alloc: Global, docs: &[Text]) -> Option<String> {
     Some(words)
 }
 
-// A page, whose lines end with a mark of their own.
+/// A page, whose lines end with a mark of their own.
 fn page(alloc: Global, text: &str) -> Option<String> {
     let start = if text.is_empty() { "page" } else { "page " };
     let mut words = String::from_str(alloc, start).ok()?;

@@ -25,7 +25,7 @@ pub(crate) fn founded(alloc: Global, words: &str) -> Option<State> {
     founded_by(alloc, depth, hold, labels == "2", level).ok()
 }
 
-// The level of a word, and 0 where there is no word.
+/// The level of a word, and 0 where there is no word.
 fn own_level(word: &str) -> Option<u8> {
     if word.is_empty() {
         return Some(0);
@@ -64,7 +64,7 @@ fn founded_by(
     State::found(alloc, rules)
 }
 
-// The topic 1 with this level, and none at 0.
+/// The topic 1 with this level, and none at 0.
 fn levels_by(alloc: Global, level: u8) -> Result<Rows<TopicLevel>, Memory>
     ensures { IfOk result (λ levels. levels
         ≡ (if level == 0 then [] else record { topic = codes "1"; level = level } ∷ [])) }
@@ -77,7 +77,7 @@ fn levels_by(alloc: Global, level: u8) -> Result<Rows<TopicLevel>, Memory>
     Ok(Rows::new(levels))
 }
 
-// The list of the topic 1.
+/// The list of the topic 1.
 fn first_topic(alloc: Global) -> Result<Rows<Text>, Memory>
     ensures { IfOk result (λ topics. topics ≡ (codes "1" ∷ [])) }
 {
@@ -124,7 +124,7 @@ fn order(alloc: Global, state: &State) -> Option<String> {
     Some(words)
 }
 
-// What a request is told. Its entry is committed or cancelled.
+/// What a request is told. Its entry is committed or cancelled.
 fn told(alloc: Global, door: &Door, state: &mut State, asked: &Asked) -> Option<String> {
     let (who, number, ask) = ask_of(alloc, door, asked)?;
     match state

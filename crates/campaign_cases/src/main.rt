@@ -38,7 +38,7 @@ struct Counts {
     differing: u64,
 }
 
-// Plays a line, and prints it where it isn't told what stands behind its arrow.
+/// Plays a line, and prints it where it isn't told what stands behind its arrow.
 fn play(
     rt: &HostRuntime,
     door: &Door,
@@ -72,7 +72,7 @@ fn play_lines(
     Ok(())
 }
 
-// Plays the lines of a case in its campaign, which ends with them.
+/// Plays the lines of a case in its campaign, which ends with them.
 fn play_in(
     rt: &HostRuntime,
     door: &Door,
@@ -84,7 +84,7 @@ fn play_in(
     play_lines(rt, door, &mut state, lines, counts)
 }
 
-// Plays the lines of a case in a campaign of the rules that its first line tells.
+/// Plays the lines of a case in a campaign of the rules that its first line tells.
 fn play_case(rt: &HostRuntime, door: &Door, case: &str, counts: &mut Counts) -> io::Result<()> {
     let (rules, lines) = case.split_once('\n').unwrap_or((case, ""));
     let Some(state) = founded(rt.alloc(), rules) else {
@@ -94,7 +94,7 @@ fn play_case(rt: &HostRuntime, door: &Door, case: &str, counts: &mut Counts) -> 
     play_in(rt, door, state, lines, counts)
 }
 
-// Plays the cases of standard input, and tells how they went.
+/// Plays the cases of standard input, and tells how they went.
 fn play_all(rt: &HostRuntime, door: &Door) -> io::Result<ExitCode> {
     let text = io::read_to_string(rt.alloc(), rt.reader())?;
     let mut counts = Counts {

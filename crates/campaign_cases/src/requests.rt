@@ -16,9 +16,9 @@ use routes::{AskReader, KeyRow, Keys, Paths, are_rows};
 use rulebook::{Ask, Caller, Role};
 use std::alloc::Global;
 
-// Each verb, and the method, the path and the body of its request: `$` is the first word behind the
-// verb, `%` the second, `@` the lines of a run of the second's letters by rank, and `|` ends a
-// line. A stray run has a list of the topic 9.
+/// Each verb, and the method, the path and the body of its request: `$` is the first word behind
+/// the verb, `%` the second, `@` the lines of a run of the second's letters by rank, and `|` ends a
+/// line. A stray run has a list of the topic 9.
 const FORMS: &str = r#"topics POST /topics <top>|<num> 1|<title> pooling|</top>|
 topics-2 POST /topics <top>|<num> 1|<title> pooling|</top>|<top>|<num> 2|<title> pooling|</top>|
 submit POST /runs/$ @
@@ -42,10 +42,10 @@ table GET /table
 release-qrels GET /releases/$/qrels
 release-scores GET /releases/$/scores"#;
 
-// The most bytes of a request's body.
+/// The most bytes of a request's body.
 const MOST_BODY: usize = 16_777_216;
 
-// The method, the path and the body of a verb.
+/// The method, the path and the body of a verb.
 fn form_of(verb: &str) -> Option<&'static str> {
     for line in FORMS.lines() {
         let (word, form) = cut(line);
@@ -92,7 +92,7 @@ pub(crate) fn asked_of(line: &str) -> Option<Asked<'_>> {
     })
 }
 
-// The caller and the number behind its mark.
+/// The caller and the number behind its mark.
 fn caller_of(word: &str) -> (&str, Option<&str>) {
     match word.split_once('#') {
         Some((caller, number)) => (caller, Some(number)),
@@ -161,7 +161,8 @@ fn fields(alloc: Global, asked: &Asked) -> Result<Rows<HttpField>, Memory> {
     Ok(Rows::new(fields))
 }
 
-// The lines of a run of these documents on the topic 1, and behind a slash of those on the topic 2.
+/// The lines of a run of these documents on the topic 1, and behind a slash of those on the topic
+/// 2.
 fn add_run(alloc: Global, docs: &str, out: &mut Vec<u8>) -> Result<(), Memory> {
     let (first, second) = docs.split_once('/').unwrap_or((docs, ""));
     add_list(alloc, "1", first, out)?;
@@ -176,7 +177,7 @@ fn add_list(alloc: Global, topic: &str, docs: &str, out: &mut Vec<u8>) -> Result
     Ok(())
 }
 
-// A part of a form with the words of a request in it.
+/// A part of a form with the words of a request in it.
 fn filled(alloc: Global, part: &str, asked: &Asked) -> Result<Text, Memory> {
     let mut out = Vec::new(alloc);
     for byte in part.as_bytes() {

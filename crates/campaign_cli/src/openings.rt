@@ -66,7 +66,7 @@ pub(crate) fn own_settings<F: Shelf>(alloc: Global, shelf: &mut F) -> Result<Set
     }
 }
 
-// Opens the campaign of these settings.
+/// Opens the campaign of these settings.
 fn open_settings<D: Disk>(
     alloc: Global,
     settings: Settings,

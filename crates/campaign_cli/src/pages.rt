@@ -45,7 +45,7 @@ pub(crate) fn page_of<D: Disk>(
     }
 }
 
-// The text of a page.
+/// The text of a page.
 fn page_text(alloc: Global, reply: Reply) -> Text
     requires { (page : PageText) × (reply ≡ PageReply page) }
     ensures { (page : PageText) → reply ≡ PageReply page → result ≡ page }

@@ -109,7 +109,7 @@ impl Replay {
     }
 }
 
-// Adds the entry of a core that may come next, where the rules add it.
+/// Adds the entry of a core that may come next, where the rules add it.
 fn enter_next(
     campaign: &mut Campaign,
     docnos: &mut Names,
@@ -144,7 +144,7 @@ fn enter_next(
     }
 }
 
-// Whether an entry may come next.
+/// Whether an entry may come next.
 fn is_next(campaign: &Campaign, numbers: &RequestNumbers, core: &EntryCore) -> Result<bool, Memory>
     requires known { IsKnown campaign.now }
     requires numbers { numbers.now ≡ numbers_of campaign.now.history.items }
@@ -160,7 +160,7 @@ fn is_next(campaign: &Campaign, numbers: &RequestNumbers, core: &EntryCore) -> R
     Ok(campaign.moment_after(core.moment) == core.moment)
 }
 
-// Whether a caller used its number before.
+/// Whether a caller used its number before.
 fn is_used(history: &[Entry], numbers: &RequestNumbers, core: &EntryCore) -> Result<bool, Memory>
     requires { numbers.now ≡ numbers_of history.now }
     ensures { IfOk result
@@ -173,7 +173,7 @@ fn is_used(history: &[Entry], numbers: &RequestNumbers, core: &EntryCore) -> Res
     Ok(place.is_some())
 }
 
-// Adds an entry that is ready. Nobody counts the steps here.
+/// Adds an entry that is ready. Nobody counts the steps here.
 fn commit<L: Ledger>(campaign: &mut Campaign, entry: Entry, blank: Blank)
     requires known { IsKnown campaign.old }
     requires ready { IsReady campaign.old entry }

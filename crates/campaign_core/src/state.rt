@@ -147,6 +147,7 @@ impl State {
         self.campaign.history.len() as u32
     }
 
+    /// The campaign's phase.
     pub fn phase(&self) -> Phase
         ensures { result ≡ phase_of self.now.history }
     {

@@ -29,7 +29,7 @@ const MOST_TAKEN: usize = 1 << 40;
 /// The most bytes of one read.
 const CHUNK: usize = 8192;
 
-// Answers the whole requests that the stream has. True is that nothing but line ends is left.
+/// Answers the whole requests that the stream has. True is that nothing but line ends is left.
 fn answer_all<T: Teller, I: Link>(
     alloc: Global,
     teller: &mut T,
@@ -77,8 +77,8 @@ enum ReadFault {
     Memory,
 }
 
-// Reads a piece into the stream, by way of the chunk, and returns how many bytes it has: none at
-// the end.
+/// Reads a piece into the stream, by way of the chunk, and returns how many bytes it has: none at
+/// the end.
 fn read_piece<I: Link>(
     link: &mut I,
     stream: &mut AskStream,
@@ -102,8 +102,8 @@ fn read_piece<I: Link>(
     }
 }
 
-// The end where so many bytes were taken: at as many as may be, Worn stands for Ended, Cut and
-// Refused.
+/// The end where so many bytes were taken: at as many as may be, Worn stands for Ended, Cut and
+/// Refused.
 fn last_end(end: End, taken: usize) -> End
     ensures { result ≡ last_end end taken }
 {
@@ -124,7 +124,7 @@ fn at_end(clean: bool) -> End
     if clean { End::Ended } else { End::Cut }
 }
 
-// Reads and answers to the end of the connection.
+/// Reads and answers to the end of the connection.
 fn converse_by<T: Teller, I: Link>(
     alloc: Global,
     teller: &mut T,

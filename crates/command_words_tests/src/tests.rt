@@ -9,7 +9,7 @@ static FORMS: [CommandForm<'static>; 2] = [
     ("serve", &[], &["port", "workers", "connections"]),
 ];
 
-// Words, and the command with its values that they give; nothing, where they give none.
+/// Words, and the command with its values that they give; nothing, where they give none.
 const COMMANDS: &str = "\
 serve --port 1 --workers 2 --connections 3 => serve 1 2 3
  => 
@@ -59,7 +59,7 @@ help serve =>
 -- => 
 --serve => ";
 
-// Words, and whether a number from 1 to 65535 stands there.
+/// Words, and whether a number from 1 to 65535 stands there.
 const PORTS: &str = "\
 1 => 1
 0000000001 => 1
@@ -81,7 +81,7 @@ fn words_of(alloc: Global, line: &str) -> Result<Vec<String>, Fail> {
     Ok(words)
 }
 
-// The command that the words give, and its values.
+/// The command that the words give, and its values.
 fn told(alloc: Global, words: &[String]) -> Result<String, Fail> {
     let mut text = String::new(alloc);
     let command = read_command(alloc, &FORMS, words).ok().ok_or("no memory")?;

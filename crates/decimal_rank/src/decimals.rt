@@ -166,7 +166,7 @@ impl Decimal {
         }
     }
 
-    // The order of the values, by all their digits.
+    /// The order of the values, by all their digits.
     #[inline(never)]
     fn compare_whole(&self, other: &Decimal) -> Ordering
         ensures { result ≡ decimal_cmp self.now other.now }
@@ -179,7 +179,7 @@ impl Decimal {
         }
     }
 
-    // The order of the values without their signs.
+    /// The order of the values without their signs.
     fn compare_size(&self, other: &Decimal) -> Ordering
         ensures { result ≡ decimal_cmp (magnitude_of self.now) (magnitude_of other.now) }
     {
@@ -192,7 +192,7 @@ impl Decimal {
     }
 }
 
-// The canonical text of a sign, digits and an exponent.
+/// The canonical text of a sign, digits and an exponent.
 fn write_parts(alloc: Global, negative: bool, digits: u128, exponent: i16) -> Result<Text, Memory>
     ensures { IfOk result (λ text. text
         ≡ canonical (record { negative = negative; digits = digits; exponent = exponent })) }
@@ -206,7 +206,7 @@ fn write_parts(alloc: Global, negative: bool, digits: u128, exponent: i16) -> Re
     Ok(Text::new(text.into_bytes()))
 }
 
-// Ten to so many.
+/// Ten to so many.
 fn power(exponent: u8) -> u128
     requires { exponent ≤ 38 }
     ensures { result ≡ 10 ^ exponent }
@@ -214,8 +214,8 @@ fn power(exponent: u8) -> u128
     POWERS[exponent as usize]
 }
 
-// The exponent of the last digit that isn't 0, of the exponent that is written, the zeros behind
-// this digit and the digits behind the point.
+/// The exponent of the last digit that isn't 0, of the exponent that is written, the zeros behind
+/// this digit and the digits behind the point.
 fn last_exponent(written: i16, zeros: u16, fraction: usize) -> i16
     requires low { negsuc 399 ≤ℤ written }
     requires high { written ≤ℤ pos 400 }
@@ -228,8 +228,8 @@ fn last_exponent(written: i16, zeros: u16, fraction: usize) -> i16
     written + zeros as i16 - fraction as i16
 }
 
-// The decimal of a sign, so many digits with so many zeros at their end, and the exponent of the
-// last digit before these.
+/// The decimal of a sign, so many digits with so many zeros at their end, and the exponent of the
+/// last digit before these.
 fn scaled(negative: bool, digits: u128, count: u8, zeros: u8, exponent: i16) -> Decimal
     requires few { count ≤ 38 }
     requires below { digits < 10 ^ count }
@@ -256,7 +256,7 @@ fn scaled(negative: bool, digits: u128, count: u8, zeros: u8, exponent: i16) -> 
     keyed(negative, leading, padding, last)
 }
 
-// The decimal of a sign, 38 digits with this padding, and the exponent of the last.
+/// The decimal of a sign, 38 digits with this padding, and the exponent of the last.
 fn keyed(negative: bool, leading: u128, padding: u8, last: i16) -> Decimal
     requires some { leading ≢ 0 }
     requires aligned { IsAligned negative leading padding last }
@@ -271,7 +271,7 @@ fn keyed(negative: bool, leading: u128, padding: u8, last: i16) -> Decimal
     }
 }
 
-// The key of a sign, 38 digits and the exponent of the last.
+/// The key of a sign, 38 digits and the exponent of the last.
 fn key(negative: bool, leading: u128, last: i16) -> i64
     requires some { leading ≢ 0 }
     requires below { leading < 10 ^ 38 }
@@ -282,7 +282,7 @@ fn key(negative: bool, leading: u128, last: i16) -> i64
     signed(negative, size_key(leading, last))
 }
 
-// A number with a sign.
+/// A number with a sign.
 fn signed(negative: bool, size: u64) -> i64
     requires { size < 2 ^ 63 }
     ensures { result ≡ signed_number negative size }
@@ -294,7 +294,7 @@ fn signed(negative: bool, size: u64) -> i64
     }
 }
 
-// The key without a sign: the exponent, and behind it the first digits.
+/// The key without a sign: the exponent, and behind it the first digits.
 fn size_key(leading: u128, last: i16) -> u64
     requires some { leading ≢ 0 }
     requires below { leading < 10 ^ 38 }
@@ -306,7 +306,7 @@ fn size_key(leading: u128, last: i16) -> u64
     raised(last) * EXPONENT_STEP + (leading / KEYED_DIGITS) as u64
 }
 
-// An exponent, from -2000.
+/// An exponent, from -2000.
 fn raised(exponent: i16) -> u64
     requires low { negsuc 1999 ≤ℤ exponent }
     requires high { exponent ≤ℤ pos 1999 }

@@ -26,6 +26,7 @@ impl Model for FailurePlan {
 }
 
 impl FailurePlan {
+    /// The calls at these places fail, counted from 0.
     pub fn new(fails: Vec<u64>) -> FailurePlan
         ensures { result ≡ record { fails = fails.items; calls = 0 } }
     {

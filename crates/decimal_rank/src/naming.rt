@@ -32,6 +32,7 @@ impl Model for Names {
 }
 
 impl Names {
+    /// No names.
     pub fn new(alloc: Global) -> Names
         ensures { result ≡ [] }
     {
@@ -40,6 +41,7 @@ impl Names {
         }
     }
 
+    /// How many names there are.
     pub fn len(&self) -> u32
         ensures len { result ≡ length self.now }
         ensures distinct { IsDistinct bytes_eq self.now }
@@ -66,6 +68,7 @@ impl Names {
         self.set.truncate(len as usize);
     }
 
+    /// The number of a name, if it has one.
     pub fn find(&self, name: &[u8]) -> Option<DocId>
         ensures { option_map (λ doc. doc.0) result ≡ number_of self.now name.now }
     {
@@ -73,6 +76,7 @@ impl Names {
         Some(DocId(index as u32))
     }
 
+    /// The name of a number.
     pub fn name(&self, doc: DocId) -> &[u8]
         requires { doc.0 < length self.now }
         ensures { slice_get self.now doc.0 ≡ Some result.now }

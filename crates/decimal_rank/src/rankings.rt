@@ -55,7 +55,7 @@ pub struct Ranking {
     entries: CountedList<Entry>,
 }
 
-// A document and its place, from 1.
+/// A document and its place, from 1.
 #[derive(Clone, Copy, Debug)]
 struct Entry {
     doc: u32,
@@ -79,7 +79,7 @@ pub fn rank(alloc: Global, lines: &[Scored], names: &Names) -> Result<Ranking, R
     Ok(Ranking::listed(docs)?)
 }
 
-// The least line whose document stands on an earlier one, after that one, counted from 1.
+/// The least line whose document stands on an earlier one, after that one, counted from 1.
 fn first_repeat(alloc: Global, lines: &[Scored]) -> Result<Option<(u32, u32)>, Memory>
     requires { length lines.now ≤ 1000 }
     ensures { IfOk result
@@ -96,7 +96,7 @@ fn first_repeat(alloc: Global, lines: &[Scored]) -> Result<Option<(u32, u32)>, M
     Ok(None)
 }
 
-// The documents of lines, each once, by rank.
+/// The documents of lines, each once, by rank.
 fn by_rank(alloc: Global, lines: &[Scored], names: &Names) -> Result<Vec<DocId>, Memory>
     requires docs { All (λ line. line.doc.0 < length names.now) lines.now }
     requires distinct { AreDistinct (map (λ line. line.doc) lines.now) }
@@ -121,7 +121,7 @@ fn docs_of(alloc: Global, order: &[&Scored]) -> Result<Vec<DocId>, Memory>
     Ok(order.iter().map(|line| line.doc).collect(alloc)?)
 }
 
-// The order of two lines by score, and at equal scores by docno.
+/// The order of two lines by score, and at equal scores by docno.
 #[tactic(auto, unfolding(crate::specs::Rankings::Ranks::standing_cmp))]
 fn standing(names: &Names, a: &Scored, b: &Scored) -> Ordering
     ensures { result ≡ standing_cmp (standing_of names.now a.now) (standing_of names.now b.now) }
@@ -189,7 +189,7 @@ impl Ranking {
     }
 }
 
-// The documents with their places, by document.
+/// The documents with their places, by document.
 fn entries_of(alloc: Global, docs: &[DocId]) -> Result<Vec<Entry>, Memory>
     requires { length docs.now ≤ 1000 }
     ensures { IfOk result (λ entries. AreEntries docs.now entries.items) }
@@ -213,7 +213,7 @@ fn placed(alloc: Global, docs: &[DocId]) -> Result<Vec<Entry>, Memory>
     Ok(entries)
 }
 
-// The place that stands beside a document in entries by document.
+/// The place that stands beside a document in entries by document.
 fn place_among<L: Ledger>(
     entries: &CountedList<Entry>,
     doc: u32,

@@ -44,12 +44,14 @@ impl<T: PartialEq> PartialEq for Rows<T> {
 }
 
 impl<T> Rows<T> {
+    /// These items as rows.
     pub fn new(items: Vec<T>) -> Rows<T>
         ensures { result ≡ items.items }
     {
         Rows { items }
     }
 
+    /// The rows, in order.
     pub fn items(&self) -> &[T]
         ensures { result.now ≡ self.now }
     {

@@ -31,7 +31,7 @@ pub struct Text {
     kept: StoredBytes,
 }
 
-// Where the bytes of a text stand.
+/// Where the bytes of a text stand.
 #[derive(Debug, Drop)]
 enum StoredBytes {
     // in place, the first of an array
@@ -72,7 +72,7 @@ impl Text {
         Ok(Text::short(bytes))
     }
 
-    // A text in place.
+    /// A text in place.
     fn short(bytes: &[u8]) -> Text
         requires { length bytes.now ≤ 23 }
         ensures { result ≡ bytes.now }
@@ -87,6 +87,7 @@ impl Text {
         }
     }
 
+    /// The text's bytes.
     pub fn bytes(&self) -> &[u8]
         ensures { result.now ≡ self.now }
     {

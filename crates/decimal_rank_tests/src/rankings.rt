@@ -28,7 +28,7 @@ fn line(doc: DocId, score: &[u8]) -> Result<Scored, Fail>
     Ok(Scored { doc, score })
 }
 
-// The documents by rank, and each document's place.
+/// The documents by rank, and each document's place.
 fn by_rank<L: Ledger>(alloc: Global, ranking: &Ranking, blank: Blank) -> Result<Vec<u32>, Fail>
     requires name { blank.name ≡ L.name }
     requires parts { blank.parts ≡ L.parts }

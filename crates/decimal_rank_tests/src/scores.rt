@@ -4,7 +4,7 @@ use std::alloc::Global;
 use std::cmp::Ordering;
 use std::test::Fail;
 
-// Each row is a score and its canonical text, or the fault.
+/// Each row is a score and its canonical text, or the fault.
 const SCORES: &str = "\
 2 2
 2.00 2
@@ -61,7 +61,7 @@ inf shape
 0x10 shape
 ";
 
-// The canonical text of a score, or the fault.
+/// The canonical text of a score, or the fault.
 fn outcome(alloc: Global, score: &[u8]) -> Result<Text, Memory> {
     match Decimal::read(score) {
         Ok(decimal) => decimal.write(alloc),
@@ -81,7 +81,7 @@ fn scores_are_read_and_written(rt: HostRuntime) -> Result<(), Fail> {
     Ok(())
 }
 
-// A 7 and so many zeros behind it.
+/// A 7 and so many zeros behind it.
 fn seven(alloc: Global, zeros: usize) -> Result<Vec<u8>, Memory> {
     let mut score = vec![in alloc; b'7']?;
     for _ in 0..zeros {
@@ -100,7 +100,7 @@ fn at_most_400_bytes_are_read(rt: HostRuntime) -> Result<(), Fail> {
     Ok(())
 }
 
-// Each row is two scores and their order.
+/// Each row is two scores and their order.
 const ORDERS: &str = "\
 0 = 000
 7 = 007

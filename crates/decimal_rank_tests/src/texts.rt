@@ -38,7 +38,7 @@ fn rows_lend_their_items(rt: HostRuntime) -> Result<(), Fail> {
     Ok(())
 }
 
-// Whether a text is a number, and the number up to 255.
+/// Whether a text is a number, and the number up to 255.
 const NUMBERS: [(&[u8], bool, u64); 4] = [
     (b"", false, 0),
     (b"0", true, 0),

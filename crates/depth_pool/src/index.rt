@@ -16,7 +16,7 @@ use std::collections::BTreeMap;
 /// The runs that hold each document, by number. Up to eight stand in the entry itself.
 pub(crate) type Index = BTreeMap<DocId, SmallVec<RunId, 8>>;
 
-// Makes room for one more run at a document.
+/// Makes room for one more run at a document.
 fn make_room(index: &mut Index, alloc: Global, doc: DocId) -> Result<(), Memory>
     ensures room { OnOk result (has_room index.new doc ≡ true) }
     ensures holders { (other : DocId) → holders_at index.new other ≡ holders_at index.old other }
@@ -32,7 +32,7 @@ fn make_room(index: &mut Index, alloc: Global, doc: DocId) -> Result<(), Memory>
     Ok(())
 }
 
-// Puts a run in by number, where there is room.
+/// Puts a run in by number, where there is room.
 fn put_holder(holders: &mut SmallVec<RunId, 8>, run: RunId)
     requires { HasRoomFor holders.old 1 }
     ensures items { holders.new.items ≡ with_holder run holders.old.items }
@@ -42,7 +42,7 @@ fn put_holder(holders: &mut SmallVec<RunId, 8>, run: RunId)
     holders.insert(place, run).unwrap();
 }
 
-// The index before which a run stands by number.
+/// The index before which a run stands by number.
 fn place_of(holders: &[RunId], run: RunId) -> usize
     ensures { result ≡ position_or_len (λ holder. nat_lt run.0 holder.0) holders.now }
 {
@@ -54,7 +54,7 @@ fn place_of(holders: &[RunId], run: RunId) -> usize
     holders.len()
 }
 
-// Makes room for one more run at each document. On an error no entry is left for it.
+/// Makes room for one more run at each document. On an error no entry is left for it.
 pub(crate) fn make_rooms(index: &mut Index, alloc: Global, docs: &[DocId]) -> Result<(), Memory>
     ensures room { OnOk result (All (λ doc. has_room index.new doc ≡ true) docs.now) }
     ensures none_left { OnErr result (All (λ doc. is_vacant index.new doc ≡ false) docs.now) }
@@ -67,7 +67,7 @@ pub(crate) fn make_rooms(index: &mut Index, alloc: Global, docs: &[DocId]) -> Re
     made
 }
 
-// Makes room for one more run at each document, up to the first for which there is no memory.
+/// Makes room for one more run at each document, up to the first for which there is no memory.
 fn try_rooms(index: &mut Index, alloc: Global, docs: &[DocId]) -> Result<(), Memory>
     ensures room { OnOk result (All (λ doc. has_room index.new doc ≡ true) docs.now) }
     ensures holders { (other : DocId) → holders_at index.new other ≡ holders_at index.old other }
@@ -78,7 +78,7 @@ fn try_rooms(index: &mut Index, alloc: Global, docs: &[DocId]) -> Result<(), Mem
     Ok(())
 }
 
-// Takes the entry of each document out where no run stands at it.
+/// Takes the entry of each document out where no run stands at it.
 pub(crate) fn drop_empties(index: &mut Index, docs: &[DocId])
     ensures gone { All (λ doc. is_vacant index.new doc ≡ false) docs.now }
     ensures holders { (other : DocId) → holders_at index.new other ≡ holders_at index.old other }
@@ -88,7 +88,7 @@ pub(crate) fn drop_empties(index: &mut Index, docs: &[DocId])
     }
 }
 
-// Takes the entry of a document out where no run stands at it.
+/// Takes the entry of a document out where no run stands at it.
 fn drop_empty(index: &mut Index, doc: DocId)
     ensures gone { is_vacant index.new doc ≡ false }
     ensures others { (other : DocId) → is_vacant index.old other ≡ false
@@ -102,7 +102,7 @@ fn drop_empty(index: &mut Index, doc: DocId)
     }
 }
 
-// Puts a run at a document where there is room. Tells whether it is the first there.
+/// Puts a run at a document where there is room. Tells whether it is the first there.
 fn add_holder(index: &mut Index, doc: DocId, run: RunId) -> bool
     requires { has_room index.old doc ≡ true }
     ensures holders { (other : DocId) → holders_at index.new other ≡ (if doc.0 == other.0 then
@@ -121,7 +121,7 @@ fn add_holder(index: &mut Index, doc: DocId, run: RunId) -> bool
     }
 }
 
-// Puts a run at each document. Gives how many more documents have a holder then.
+/// Puts a run at each document. Gives how many more documents have a holder then.
 pub(crate) fn add_holders(index: &mut Index, docs: &[DocId], run: RunId) -> usize
     requires { IsReserved index.old docs.now }
     ensures count { (count : ℕ) → IsCount (has_holder index.old) count
@@ -139,7 +139,7 @@ pub(crate) fn add_holders(index: &mut Index, docs: &[DocId], run: RunId) -> usiz
     more
 }
 
-// Takes a run away from a document. Tells whether it was the last there.
+/// Takes a run away from a document. Tells whether it was the last there.
 fn remove_holder(index: &mut Index, doc: DocId, run: RunId) -> bool
     ensures holders { (other : DocId) → holders_at index.new other ≡ (if doc.0 == other.0 then
         without_holder run (holders_at index.old other) else holders_at index.old other) }
@@ -153,7 +153,7 @@ fn remove_holder(index: &mut Index, doc: DocId, run: RunId) -> bool
     }
 }
 
-// Takes a run out. Tells whether it was the last.
+/// Takes a run out. Tells whether it was the last.
 fn take_holder(holders: &mut SmallVec<RunId, 8>, run: RunId) -> bool
     ensures items { holders.new.items ≡ without_holder run holders.old.items }
     ensures len { length holders.new.items ≤ length holders.old.items }
@@ -166,7 +166,7 @@ fn take_holder(holders: &mut SmallVec<RunId, 8>, run: RunId) -> bool
     had_one && holders.is_empty()
 }
 
-// Takes a run away from each document. Gives how many documents fewer have a holder then.
+/// Takes a run away from each document. Gives how many documents fewer have a holder then.
 pub(crate) fn remove_holders(index: &mut Index, docs: &[DocId], run: RunId) -> usize
     ensures count { (count : ℕ) → IsCount (has_holder index.new) count
         → IsCount (has_holder index.old) (count + result) }
@@ -185,7 +185,7 @@ pub(crate) fn remove_holders(index: &mut Index, docs: &[DocId], run: RunId) -> u
     fewer
 }
 
-// The documents that have a holder.
+/// The documents that have a holder.
 pub(crate) fn docs_held(index: &Index, alloc: Global) -> Result<Vec<DocId>, Memory>
     ensures docs { IfOk result (λ docs. docs.items ≡ held_docs index.now.entries) }
     ensures ordered { IsOrdered doc_cmp index.now }

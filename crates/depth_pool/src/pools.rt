@@ -178,7 +178,7 @@ impl Pool {
     }
 }
 
-// Gives reserved room back.
+/// Gives reserved room back.
 fn forget(index: &mut Index, reserved: &mut Option<Vec<DocId>>)
     ensures gone { IfSome reserved.old
         (λ docs. All (λ doc. is_vacant index.new doc ≡ false) docs.items) }
@@ -190,7 +190,7 @@ fn forget(index: &mut Index, reserved: &mut Option<Vec<DocId>>)
     }
 }
 
-// The first documents of a ranking, at most so many as the depth.
+/// The first documents of a ranking, at most so many as the depth.
 fn first_docs<L: Ledger>(
     alloc: Global,
     ranking: &Ranking,

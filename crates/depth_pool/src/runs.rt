@@ -20,7 +20,7 @@ pub fn is_among(run: RunId, runs: &[RunId]) -> bool
     runs.binary_search(&run).is_ok()
 }
 
-// A run, and the documents that it holds by rank.
+/// A run, and the documents that it holds by rank.
 #[derive(Drop)]
 pub(crate) struct RunDocs {
     pub(crate) run: RunId,
@@ -35,7 +35,7 @@ impl Model for RunDocs {
     ghost view = { λ held. record { run = held.run; docs = held.docs.items } };
 }
 
-// Puts a run in by number, where there is room.
+/// Puts a run in by number, where there is room.
 pub(crate) fn put_run(runs: &mut Vec<RunDocs>, held: RunDocs)
     requires { vec_len runs.old < vec_capacity runs.old }
     ensures { runs.new.items ≡ with_run held runs.old.items }
@@ -44,7 +44,7 @@ pub(crate) fn put_run(runs: &mut Vec<RunDocs>, held: RunDocs)
     runs.insert(place, held).unwrap();
 }
 
-// The index of the first run with a greater number.
+/// The index of the first run with a greater number.
 fn place_after(runs: &[RunDocs], run: RunId) -> usize
     ensures { result ≡ position_or_len (λ held. nat_lt run.0 held.run.0) runs.now }
 {
@@ -56,7 +56,7 @@ fn place_after(runs: &[RunDocs], run: RunId) -> usize
     runs.len()
 }
 
-// Takes a run out, and gives the documents that it held.
+/// Takes a run out, and gives the documents that it held.
 pub(crate) fn take_run(runs: &mut Vec<RunDocs>, run: RunId) -> Vec<DocId>
     requires by_number { AreByNumber runs.old.items }
     requires is_in { IsTrue (has_run run runs.old.items) }
@@ -70,7 +70,7 @@ pub(crate) fn take_run(runs: &mut Vec<RunDocs>, run: RunId) -> Vec<DocId>
     docs
 }
 
-// The document that a run holds at a place by rank, in one step. Nothing else gives an entry out.
+/// The document that a run holds at a place by rank, in one step. Nothing else gives an entry out.
 pub(crate) fn doc_at<L: Ledger>(
     runs: &[RunDocs],
     run: RunId,
@@ -87,7 +87,7 @@ pub(crate) fn doc_at<L: Ledger>(
     docs[place]
 }
 
-// The documents that a run holds.
+/// The documents that a run holds.
 pub(crate) fn docs_of(runs: &[RunDocs], run: RunId) -> &[DocId]
     requires { AreByNumber runs.now }
     ensures { result.now ≡ pool_docs runs.now run }
@@ -98,7 +98,7 @@ pub(crate) fn docs_of(runs: &[RunDocs], run: RunId) -> &[DocId]
     }
 }
 
-// The index of a run, or the number of runs where it isn't there.
+/// The index of a run, or the number of runs where it isn't there.
 fn index_of(runs: &[RunDocs], run: RunId) -> usize
     requires { AreByNumber runs.now }
     ensures { result ≡ position_or_len (λ held. held.run.0 == run.0) runs.now }

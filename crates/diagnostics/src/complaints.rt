@@ -12,7 +12,7 @@ use std::alloc::Global;
 use toml::{Table, Value};
 use trec_formats::is_name;
 
-// The greatest grade that a byte can tell.
+/// The greatest grade that a byte can tell.
 const MOST_GRADE: i64 = 255;
 
 /// A fault of settings, with the line of the text where it stands, if that was found.
@@ -34,8 +34,8 @@ pub fn tell_settings(errors: &impl Eprint, alloc: Global, name: &str, text: &[u8
     };
 }
 
-// The sentence on the first fault of settings that are refused, with its line where that was found;
-// none where they aren't refused.
+/// The sentence on the first fault of settings that are refused, with its line where that was
+/// found; none where they aren't refused.
 fn complaint_of(alloc: Global, text: &[u8]) -> Result<Option<String>, Memory>
     ensures refused { IfOk result
         (λ complaint. IfSome complaint (λ _. settings_of text.now ≡ None)) }
@@ -78,7 +78,7 @@ fn told(alloc: Global, line: Option<usize>, fault: Fault) -> Result<String, Memo
     }
 }
 
-// The fault on the least line; those whose line wasn't found come behind the others.
+/// The fault on the least line; those whose line wasn't found come behind the others.
 fn first_fault<'a>(text: &str, table: &'a Table) -> Option<Finding<'a>> {
     let keys = earlier(unknown_key(text, table), number_fault(text, table));
     let topics = earlier(doubles_fault(text, table), levels_fault(text, table));
@@ -132,7 +132,7 @@ fn number_fault<'a>(text: &str, table: &Table) -> Option<Finding<'a>> {
     found
 }
 
-// A number that is missing has no line, though a topic's level may have one.
+/// A number that is missing has no line, though a topic's level may have one.
 fn line_of_number(text: &str, table: &Table, key: &str) -> Option<usize> {
     match table.get(key) {
         Some(_) => line_of_key(text, 0, key),
@@ -140,12 +140,12 @@ fn line_of_number(text: &str, table: &Table, key: &str) -> Option<usize> {
     }
 }
 
-// The greatest grade that the settings allow, where they tell one.
+/// The greatest grade that the settings allow, where they tell one.
 fn top_grade_of(table: &Table) -> i64 {
     integer_at(table, "top_grade").unwrap_or(MOST_GRADE)
 }
 
-// Each number is from 1 on.
+/// Each number is from 1 on.
 fn fault_of_number<'a>(table: &Table, key: &'static str, high: i64) -> Option<Fault<'a>> {
     let low = 1;
     if table.get(key).is_none() {
@@ -174,7 +174,7 @@ fn doubles_fault<'a>(text: &str, table: &Table) -> Option<Finding<'a>> {
     }
 }
 
-// Whether a value is an array of names, each before the next.
+/// Whether a value is an array of names, each before the next.
 fn are_doubles(value: &Value) -> bool {
     let Some(items) = value.as_array() else {
         return false;
@@ -199,8 +199,8 @@ fn levels_fault<'a>(text: &str, table: &Table) -> Option<Finding<'a>> {
     }
 }
 
-// Whether a value is an array of tables with a topic and its level alone, each topic before the
-// next.
+/// Whether a value is an array of tables with a topic and its level alone, each topic before the
+/// next.
 fn are_levels(value: &Value, top_grade: i64) -> bool {
     let Some(items) = value.as_array() else {
         return false;
@@ -215,7 +215,7 @@ fn are_levels(value: &Value, top_grade: i64) -> bool {
     items.len() <= MAX_TOPICS as usize
 }
 
-// The topic of a table that has a topic and its level alone.
+/// The topic of a table that has a topic and its level alone.
 fn topic_with_level(item: &Value, top_grade: i64) -> Option<&str> {
     let topic = text_at(item, "topic")?;
     let table = item.as_table()?;
@@ -259,7 +259,7 @@ fn fault_among<'a>(text: &str, callers: &'a [Value]) -> Option<Finding<'a>> {
     None
 }
 
-// The first fault of a caller, with the key that it is of.
+/// The first fault of a caller, with the key that it is of.
 fn fault_of_caller<'a>(caller: usize, value: &'a Value) -> Option<(&'a str, Fault<'a>)> {
     let Some(table) = value.as_table() else {
         return Some(("", Fault::Callers));
@@ -291,7 +291,7 @@ fn text_at<'a>(value: &'a Value, key: &str) -> Option<&'a str> {
     }
 }
 
-// Whether one of the callers before this one has its name or its key.
+/// Whether one of the callers before this one has its name or its key.
 fn repeat<'a>(before: &[Value], caller: usize, value: &Value) -> Option<(&'static str, Fault<'a>)> {
     for (place, other) in before.iter().enumerate() {
         let first = place.saturating_add(1);

@@ -51,7 +51,7 @@ pub fn line_of_place(text: &[u8], place: usize) -> usize {
     line
 }
 
-// Whether a line is the header of a caller.
+/// Whether a line is the header of a caller.
 fn is_header(line: &str) -> bool {
     match line.trim_start().strip_prefix("[[") {
         Some(rest) => rest.trim_start_matches(is_behind_key).starts_with("caller"),
@@ -59,7 +59,7 @@ fn is_header(line: &str) -> bool {
     }
 }
 
-// Whether a line gives this key, or is the header of a table of its name.
+/// Whether a line gives this key, or is the header of a table of its name.
 fn is_of_key(line: &str, key: &str) -> bool {
     match line.trim_start_matches(is_before_key).strip_prefix(key) {
         Some(rest) => rest.trim_start_matches(is_behind_key).starts_with(ends_key),

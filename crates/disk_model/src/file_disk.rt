@@ -34,8 +34,8 @@ impl<'a, R: Files<File = File> + Drop> FileDisk<'a, R> {
     }
 }
 
-// Opens the file, or makes it, and locks it. Its folder is synced where it can be, so that a new
-// file outlasts a power cut.
+/// Opens the file, or makes it, and locks it. Its folder is synced where it can be, so that a new
+/// file outlasts a power cut.
 fn open_locked<R: Files<File = File>>(files: &R, path: &str) -> io::Result<File> {
     if is_link(files, path) {
         return Err(ErrorKind::InvalidInput.into());
@@ -59,7 +59,7 @@ fn open_locked<R: Files<File = File>>(files: &R, path: &str) -> io::Result<File>
     }
 }
 
-// Whether the path is a symbolic link, whose folder isn't that of its file.
+/// Whether the path is a symbolic link, whose folder isn't that of its file.
 fn is_link<R: Files<File = File>>(files: &R, path: &str) -> bool {
     match fs::symlink_metadata(files, path) {
         Ok(found) => found.is_symlink(),
@@ -67,9 +67,9 @@ fn is_link<R: Files<File = File>>(files: &R, path: &str) -> bool {
     }
 }
 
-// Has later reads come from the disk. Where a sync failed, the system may take what it holds in
-// memory for synced, and answer the next sync by Ok: a process that is started then would read what
-// no disk has.
+/// Has later reads come from the disk. Where a sync failed, the system may take what it holds in
+/// memory for synced, and answer the next sync by Ok: a process that is started then would read
+/// what no disk has.
 fn read_from_the_disk(file: &File) -> io::Result<()> {
     file.sync_data()?;
     match libc::posix_fadvise(file.as_raw_fd(), 0, 0, libc::POSIX_FADV_DONTNEED) {
@@ -85,7 +85,7 @@ fn read_from_the_disk(file: &File) -> io::Result<()> {
     }
 }
 
-// Whether the file's system knows no such advice.
+/// Whether the file's system knows no such advice.
 fn is_unknown_advice(kind: ErrorKind) -> bool {
     matches!(kind, ErrorKind::InvalidInput | ErrorKind::Unsupported)
 }
@@ -98,8 +98,8 @@ fn sync_folder<R: Files<File = File>>(files: &R, path: &str) -> io::Result<()> {
     fs::open(files, folder)?.sync_all()
 }
 
-// Whether a folder's sync failed since this folder can't be read, or since its file system syncs no
-// folders: then the file is a disk all the same.
+/// Whether a folder's sync failed since this folder can't be read, or since its file system syncs
+/// no folders: then the file is a disk all the same.
 fn is_not_for_folders(kind: ErrorKind) -> bool {
     matches!(
         kind,
@@ -107,7 +107,7 @@ fn is_not_for_folders(kind: ErrorKind) -> bool {
     )
 }
 
-// The file, opened where it isn't open yet.
+/// The file, opened where it isn't open yet.
 fn opened<'f, R: Files<File = File>>(
     files: &R,
     path: &str,
@@ -126,7 +126,7 @@ fn length_of(file: &File) -> io::Result<u64> {
     Ok(file.metadata()?.len())
 }
 
-// What is synced in a file that no folder has any more goes with the process that has it open.
+/// What is synced in a file that no folder has any more goes with the process that has it open.
 fn sync_kept(file: &File) -> io::Result<()> {
     file.sync_data()?;
     if file.metadata()?.nlink() == 0 {
@@ -135,7 +135,7 @@ fn sync_kept(file: &File) -> io::Result<()> {
     Ok(())
 }
 
-// Reads on where a read gives less, and takes an interrupted one up again.
+/// Reads on where a read gives less, and takes an interrupted one up again.
 fn read_whole(file: &File, place: u64, out: &mut [u8]) -> io::Result<()> {
     let mut done = 0;
     for _ in 0..u64::MAX {
@@ -152,7 +152,7 @@ fn read_whole(file: &File, place: u64, out: &mut [u8]) -> io::Result<()> {
     Err(ErrorKind::TimedOut.into())
 }
 
-// Writes on where a write takes less, and takes an interrupted one up again.
+/// Writes on where a write takes less, and takes an interrupted one up again.
 fn write_whole(file: &File, place: u64, piece: &[u8]) -> io::Result<()> {
     let mut done = 0;
     for _ in 0..u64::MAX {
@@ -169,7 +169,7 @@ fn write_whole(file: &File, place: u64, piece: &[u8]) -> io::Result<()> {
     Err(ErrorKind::TimedOut.into())
 }
 
-// What a call on the file came to, with its failure counted.
+/// What a call on the file came to, with its failure counted.
 fn counted<T: Drop>(outcome: io::Result<T>, faults: &mut u64) -> Result<T, Failed>
     ensures { HasCause faults.old faults.new result }
 {

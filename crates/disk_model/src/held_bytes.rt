@@ -110,7 +110,7 @@ impl HeldBytes {
     }
 }
 
-// Keeps the content of the start, before it is changed.
+/// Keeps the content of the start, before it is changed.
 fn keep_start(start: &mut Option<Vec<u8>>, content: &Vec<u8>) -> Result<(), Memory>
     ensures begun { (later : List ℕ)
         → OnOk result (begun_with start.new later ≡ begun_with start.old content.now.items) }
@@ -125,7 +125,7 @@ fn keep_start(start: &mut Option<Vec<u8>>, content: &Vec<u8>) -> Result<(), Memo
     }
 }
 
-// Writes the piece over what is there, and past the end.
+/// Writes the piece over what is there, and past the end.
 fn overwrite(content: &mut Vec<u8>, place: usize, piece: &[u8]) -> Result<(), Memory>
     requires { place ≤ length content.old.items }
     ensures ok { OnOk result (content.new.items ≡ written place piece.now content.old.items) }

@@ -87,7 +87,7 @@ impl MemoryDisk {
         self.wants
     }
 
-    // Counts a fault.
+    /// Counts a fault.
     fn fault(&mut self) -> Failed
         ensures { self.new ≡ record self.old { faults = one_more self.old.faults } }
     {
@@ -95,7 +95,7 @@ impl MemoryDisk {
         Failed
     }
 
-    // Counts a fault for want of memory.
+    /// Counts a fault for want of memory.
     fn want(&mut self) -> Failed
         ensures { self.new ≡ record self.old {
           faults = one_more self.old.faults;

@@ -5,7 +5,7 @@ use std::string::String;
 use std::test::Fail;
 use std::{env, fs, process};
 
-// A file of this process alone, in the system's folder for such files.
+/// A file of this process alone, in the system's folder for such files.
 fn path_of(rt: &HostRuntime, name: &str) -> Result<String, Fail> {
     Ok(format!(in rt.alloc();
         "{}/campaign_{}_{}",
@@ -15,7 +15,7 @@ fn path_of(rt: &HostRuntime, name: &str) -> Result<String, Fail> {
     )?)
 }
 
-// What a disk gives from its front, and how many bytes it has.
+/// What a disk gives from its front, and how many bytes it has.
 fn front_of<R: std::rt::Files<File = fs::File> + Drop>(
     disk: &mut FileDisk<'_, R>,
 ) -> Result<([u8; 3], u64), Failed> {

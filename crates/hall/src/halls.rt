@@ -20,12 +20,12 @@ use std::marker::{Brand, Model};
 use std::snapshot::Snapshot;
 use std::sync::Wait;
 
-// the words of the table: whether the turn is taken, and the number of entries
+/// the words of the table: whether the turn is taken, and the number of entries
 const LOCK: usize = 0;
 
 const COUNT: usize = 1;
 
-// what the lock word says
+/// what the lock word says
 const FREE: u64 = 0;
 
 const TAKEN: u64 = 1;

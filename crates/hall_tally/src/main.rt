@@ -16,7 +16,7 @@ use std::{env, io};
 use tallies::{Tally, are_in_order};
 use workers::{Crowd, Round, work};
 
-// What the words ask for: the workers, and how many notes each writes.
+/// What the words ask for: the workers, and how many notes each writes.
 fn asked(words: &[String]) -> Option<(Crowd, u32)> {
     let [_, workers, notes] = words else {
         return None;

@@ -17,6 +17,7 @@ pub enum Crowd {
 }
 
 impl Crowd {
+    /// How many workers it has.
     pub fn size(self) -> u32 {
         match self {
             Crowd::One => 1,
@@ -35,7 +36,7 @@ pub enum Round {
     Notes(u32),
 }
 
-// Whether a count has the note that was written before it.
+/// Whether a count has the note that was written before it.
 fn is_among(written: Told, counted: Told) -> bool {
     match (written, counted) {
         (Told::At(place), Told::Counted(notes)) => place <= notes,
@@ -43,7 +44,7 @@ fn is_among(written: Told, counted: Told) -> bool {
     }
 }
 
-// One worker counts so often.
+/// One worker counts so often.
 fn count<R: Wait>(rt: &R, hall: &Hall<Tally>, mut pass: Pass<Tally>, counts: u32) -> Pass<Tally>
     requires { pass.hall ≡ hall.now }
     ensures { result.hall ≡ hall.now }
@@ -54,8 +55,8 @@ fn count<R: Wait>(rt: &R, hall: &Hall<Tally>, mut pass: Pass<Tally>, counts: u32
     pass
 }
 
-// One worker writes its notes. It stops where a count hasn't the note, so that the list then lacks
-// some.
+/// One worker writes its notes. It stops where a count hasn't the note, so that the list then lacks
+/// some.
 fn write<R: Wait>(
     rt: &R,
     hall: &Hall<Tally>,

@@ -35,7 +35,7 @@ pub fn find_named<'a>(fields: &'a [HttpField], name: &str) -> Option<(&'a [u8], 
     None
 }
 
-// The length of a body that the value of `Content-Length` states.
+/// The length of a body that the value of `Content-Length` states.
 fn length_of_value(value: &[u8]) -> Result<u32, WireFault>
     ensures { result ≡ length_of_value value.now }
 {

@@ -37,7 +37,7 @@ pub(crate) struct Look {
     pub(crate) left: Option<u32>,
 }
 
-// The head with the length of its body, or the fault of its fields.
+/// The head with the length of its body, or the fault of its fields.
 fn with_length(head: Head, head_len: usize) -> Found
     ensures { result ≡ found_with head head_len (body_length head.method head.fields) }
 {
@@ -64,7 +64,7 @@ fn with_length(head: Head, head_len: usize) -> Found
     }
 }
 
-// What stands at the front of a message whose head has this length.
+/// What stands at the front of a message whose head has this length.
 fn read_message(alloc: Global, message: &[u8], head_len: usize) -> Result<Found, Memory>
     requires head { head_length (take 8192 message.now) ≡ Some head_len }
     requires inside { head_len ≤ length message.now }
@@ -82,7 +82,7 @@ fn read_message(alloc: Global, message: &[u8], head_len: usize) -> Result<Found,
     }
 }
 
-// The bytes that a head may have.
+/// The bytes that a head may have.
 fn head_bytes(message: &[u8]) -> &[u8]
     ensures { result.now ≡ take 8192 message.now }
 {
@@ -93,7 +93,7 @@ fn head_bytes(message: &[u8]) -> &[u8]
     }
 }
 
-// What stands at the front of bytes that begin with no CR or LF.
+/// What stands at the front of bytes that begin with no CR or LF.
 fn find_front(alloc: Global, message: &[u8], searched: usize) -> Result<Found, Memory>
     requires bounded { length message.now < 2 ^ 63 }
     requires searched { IsSearched message.now searched }
@@ -131,7 +131,7 @@ pub(crate) fn look_at(
     }
 }
 
-// The step where no body was begun.
+/// The step where no body was begun.
 fn look_for_head(alloc: Global, bytes: &[u8], searched: usize) -> Result<Look, Memory>
     requires { IsSearched (behind_line_ends bytes.now) searched }
     ensures step { IfOk result
@@ -175,7 +175,7 @@ fn look_for_head(alloc: Global, bytes: &[u8], searched: usize) -> Result<Look, M
     }
 }
 
-// The step where so many bytes of a body are still to be given.
+/// The step where so many bytes of a body are still to be given.
 fn look_in_body(alloc: Global, bytes: &[u8], left: u32) -> Result<Look, Memory>
     ensures step { IfOk result
         (λ look. BodySteps left bytes.now look.step (behind_look bytes.now look)) }

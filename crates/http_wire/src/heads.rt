@@ -50,7 +50,7 @@ pub(crate) fn pass_line_ends(bytes: &[u8]) -> (usize, &[u8])
     (count, left)
 }
 
-// How many bytes the empty line in front has.
+/// How many bytes the empty line in front has.
 fn empty_line(bytes: &[u8]) -> usize
     ensures value { result ≡ line_end_length bytes.now }
     ensures inside { result ≤ length bytes.now }
@@ -77,7 +77,7 @@ pub(crate) fn find_head_from(bytes: &[u8], searched: usize) -> Option<usize>
     }
 }
 
-// How many bytes a head in front has.
+/// How many bytes a head in front has.
 fn find_head(bytes: &[u8]) -> Option<usize>
     ensures value { result ≡ head_length bytes.now }
     ensures inside { IfSome result (λ count. count ≤ length bytes.now) }

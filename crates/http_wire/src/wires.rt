@@ -36,7 +36,7 @@ impl Model for Wire {
     ghost invariant = { IsKept };
 }
 
-// The bytes that are not done with.
+/// The bytes that are not done with.
 fn left_of(bytes: &[u8], done: usize) -> &[u8]
     requires { done ≤ length bytes.now }
     ensures { result.now ≡ drop done bytes.now }
@@ -44,8 +44,8 @@ fn left_of(bytes: &[u8], done: usize) -> &[u8]
     &bytes[done..]
 }
 
-// Drops the bytes that are done with where they are more than those that are left, so that each
-// byte that stays is moved for one that goes. Gives how many at the front are done with then.
+/// Drops the bytes that are done with where they are more than those that are left, so that each
+/// byte that stays is moved for one that goes. Gives how many at the front are done with then.
 fn drop_done(bytes: &mut Vec<u8>, done: usize) -> usize
     requires { done ≤ length bytes.old.items }
     ensures left { drop result bytes.new.items ≡ drop done bytes.old.items }
@@ -60,6 +60,7 @@ fn drop_done(bytes: &mut Vec<u8>, done: usize) -> usize
 }
 
 impl Wire {
+    /// A wire on which nothing came yet.
     pub fn new(alloc: Global) -> Wire
         ensures { result ≡ wire_at [] None }
     {

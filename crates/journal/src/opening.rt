@@ -80,7 +80,7 @@ pub(crate) fn take_up<D: Disk>(alloc: Global, disk: &mut D) -> Result<Records, O
     reopen(alloc, disk, &bytes)
 }
 
-// All bytes of the disk, which are then the only ones that a crash leaves.
+/// All bytes of the disk, which are then the only ones that a crash leaves.
 fn read_all<D: Disk>(alloc: Global, disk: &mut D) -> Result<Vec<u8>, OpenFault>
     ensures alone { IfOk result (λ bytes. (image : List ℕ) → (D.seen disk.new).images image
         → image ≡ bytes.items) }
@@ -116,7 +116,7 @@ fn zeros(alloc: Global, count: usize) -> Result<Vec<u8>, Memory>
     Ok(bytes)
 }
 
-// Makes an empty journal of a disk that has no more bytes than one.
+/// Makes an empty journal of a disk that has no more bytes than one.
 fn found<D: Disk>(disk: &mut D) -> Result<(), Failed>
     requires { (image : List ℕ) → (D.seen disk.old).images image → length image ≤ 17 }
     ensures founded { OnOk result ((image : List ℕ) → (D.seen disk.new).images image
@@ -130,8 +130,8 @@ fn found<D: Disk>(disk: &mut D) -> Result<(), Failed>
     Ok(())
 }
 
-// Reads the records of these bytes, which are the only ones that a crash leaves, and mends their
-// end; or moves them on where they were being moved.
+/// Reads the records of these bytes, which are the only ones that a crash leaves, and mends their
+/// end; or moves them on where they were being moved.
 fn reopen<D: Disk>(alloc: Global, disk: &mut D, bytes: &[u8]) -> Result<Records, OpenFault>
     requires alone { (image : List ℕ) → (D.seen disk.old).images image → image ≡ bytes.now }
     requires long { 17 < length bytes.now }
@@ -158,7 +158,7 @@ fn reopen<D: Disk>(alloc: Global, disk: &mut D, bytes: &[u8]) -> Result<Records,
     }
 }
 
-// The records stand behind the header.
+/// The records stand behind the header.
 fn mend_end<D: Disk>(alloc: Global, disk: &mut D, bytes: &[u8]) -> Result<Records, OpenFault>
     requires alone { (image : List ℕ) → (D.seen disk.old).images image → image ≡ bytes.now }
     requires marked { take 8 bytes.now ≡ mark }
@@ -185,7 +185,7 @@ fn mend_end<D: Disk>(alloc: Global, disk: &mut D, bytes: &[u8]) -> Result<Record
     Ok(Records { payloads, place })
 }
 
-// The records stand at the place that is told, and are moved behind the header.
+/// The records stand at the place that is told, and are moved behind the header.
 fn move_on<D: Disk>(alloc: Global, disk: &mut D, bytes: &[u8]) -> Result<Records, OpenFault>
     requires alone { (image : List ℕ) → (D.seen disk.old).images image → image ≡ bytes.now }
     requires marked { take 8 bytes.now ≡ mark }

@@ -77,7 +77,7 @@ pub(crate) fn due_at(bytes: &[u8], place: usize) -> Due
     }
 }
 
-// The length of the payload of the record that begins here, where one does.
+/// The length of the payload of the record that begins here, where one does.
 fn record_at(bytes: &[u8], place: usize) -> Option<usize>
     requires { place ≤ length bytes.now }
     ensures none { IfNone result (records 0 (drop place bytes.now) ≡ []) }
@@ -95,7 +95,7 @@ fn record_at(bytes: &[u8], place: usize) -> Option<usize>
     }
 }
 
-// The length that is told behind an open gate, where so many bytes are there.
+/// The length that is told behind an open gate, where so many bytes are there.
 fn payload_length(behind: &[u8]) -> Option<usize>
     ensures none { IfNone result (is_whole behind.now ≡ false) }
     ensures some { IfSome result

@@ -43,7 +43,7 @@ pub(crate) fn replace_records<D: Disk>(
     }
 }
 
-// Nothing is due.
+/// Nothing is due.
 fn put_records<D: Disk>(disk: &mut D, place: u64, area: &[u8]) -> ReplaceEnd
     requires settled { HasSettled (D.seen disk.old).images place }
     requires area { (all : List (List ℕ)) × IsArea area.now all }

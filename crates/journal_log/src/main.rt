@@ -18,7 +18,7 @@ enum Logged {
     Fault(OpenFault),
 }
 
-// What the words ask for: the file, how many records, and of how many bytes.
+/// What the words ask for: the file, how many records, and of how many bytes.
 fn asked(words: &[String]) -> Option<(&str, u32, usize)>
     ensures { IfSome result (λ asked. asked.2 ≤ 2 ^ 25) }
 {
@@ -48,7 +48,7 @@ fn frame_of(alloc: Global, bytes: usize) -> Result<Frame, Memory>
     Frame::of(alloc, &payload)
 }
 
-// Adds records up to the first that isn't acknowledged. How many were.
+/// Adds records up to the first that isn't acknowledged. How many were.
 fn add<D: Disk>(journal: &mut Journal<D>, frame: &Frame, records: u32) -> u32 {
     for added in 0..records {
         if !journal.has_room(frame) || journal.append(frame).is_err() {

@@ -82,7 +82,7 @@ fn make(alloc: Global, disk: &mut Replayed, call: &DiskCall) -> Result<(), Fail>
     Ok(())
 }
 
-// These items with a piece at this place, or at their end where it is behind that.
+/// These items with a piece at this place, or at their end where it is behind that.
 fn with_piece<T: Copy>(
     alloc: Global,
     items: &[T],
@@ -136,7 +136,7 @@ fn image(alloc: Global, disk: &Replayed, fill: Fill, length: usize) -> Result<Ve
     Ok(bytes)
 }
 
-// A byte that never was written where there is none.
+/// A byte that never was written where there is none.
 fn byte_at(bytes: &[u8], place: usize) -> u8 {
     match bytes.get(place) {
         Some(byte) => *byte,

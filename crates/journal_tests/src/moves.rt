@@ -6,13 +6,13 @@ use journal::{Area, Journal, ReplaceEnd};
 use std::alloc::Global;
 use std::test::Fail;
 
-// The one record `abc` behind a header of which the place 30 was told, and which was turned back.
+/// The one record `abc` behind a header of which the place 30 was told, and which was turned back.
 const MOVED: [u8; 25] = *b"POOLJRNL\x03\x1e\0\0\0\0\0\0\x01\x03\0\0\0abc\0";
 
-// The two old records, where the place 30 was told.
+/// The two old records, where the place 30 was told.
 const TOLD: [u8; 30] = *b"POOLJRNL\x01\x1e\0\0\0\0\0\0\x01\x02\0\0\0ab\x01\x01\0\0\0c\0";
 
-// The area of one payload; None where there is no memory.
+/// The area of one payload; None where there is no memory.
 fn area_of(alloc: Global, payload: &[u8]) -> Option<Area> {
     if payload.len() > 100 {
         return None;
@@ -22,7 +22,7 @@ fn area_of(alloc: Global, payload: &[u8]) -> Option<Area> {
     Area::of(alloc, &payloads).ok()
 }
 
-// What a replacement by this payload's record comes to, and the disk.
+/// What a replacement by this payload's record comes to, and the disk.
 fn replaced(journal: Journal<MemoryDisk>, area: Area) -> Option<(MemoryDisk, ReplaceEnd)> {
     if journal.length() > 1000 {
         return None;
@@ -45,7 +45,7 @@ pub(crate) fn replaced_where(
     }
 }
 
-// What a journal with these bytes tells as its length.
+/// What a journal with these bytes tells as its length.
 fn length_of(alloc: Global, bytes: &[u8]) -> Result<Option<u64>, Fail> {
     match open_copy(alloc, bytes, Vec::new(alloc))? {
         Ok((journal, _payloads)) => {
@@ -92,7 +92,7 @@ fn an_area_that_takes_no_more_bytes_is_moved_in(rt: HostRuntime) -> Result<(), F
     Ok(())
 }
 
-// What an opening leaves where this call failed in a replacement.
+/// What an opening leaves where this call failed in a replacement.
 #[test]
 fn a_move_that_failed_at_a_call_is_undone_or_goes_on(rt: HostRuntime) -> Result<(), Fail> {
     let alloc = rt.alloc();
@@ -117,8 +117,8 @@ fn a_move_that_failed_at_a_call_is_undone_or_goes_on(rt: HostRuntime) -> Result<
     Ok(())
 }
 
-// What a replacement comes to behind an append that failed at its last call, where this call fails
-// too.
+/// What a replacement comes to behind an append that failed at its last call, where this call fails
+/// too.
 fn replaced_behind_a_fault(
     alloc: Global,
     fail: u64,

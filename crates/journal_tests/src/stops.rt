@@ -20,7 +20,7 @@ fn a_stop_in_a_move_leaves_the_old_records_or_the_new(rt: HostRuntime) -> Result
     Ok(())
 }
 
-// The disk after an append where this call fails, and one behind it.
+/// The disk after an append where this call fails, and one behind it.
 fn after_two(alloc: Global, fail: u64) -> Result<Option<MemoryDisk>, Fail> {
     match open_copy(alloc, &WHOLE, vec![in alloc; fail]?)? {
         Ok((mut journal, _payloads)) => {
@@ -58,7 +58,7 @@ fn a_stop_in_an_append_or_a_mend_leaves_one_record_more_or_none(
     Ok(())
 }
 
-// The disk of an opening where this call fails, and whether it was opened.
+/// The disk of an opening where this call fails, and whether it was opened.
 fn after_opening(alloc: Global, bytes: &[u8], fail: u64) -> Result<(MemoryDisk, bool), Fail> {
     match open_copy(alloc, bytes, vec![in alloc; fail]?)? {
         Ok((journal, _payloads)) => Ok((journal.close(), true)),
@@ -82,8 +82,8 @@ fn a_stop_in_an_opening_that_founds_leaves_no_record(rt: HostRuntime) -> Result<
     Ok(())
 }
 
-// Whether a mend is made where this call failed in an append before it and that one fails in it,
-// whether it is due then, whether the next one is made, and what is left.
+/// Whether a mend is made where this call failed in an append before it and that one fails in it,
+/// whether it is due then, whether the next one is made, and what is left.
 fn mended(
     alloc: Global,
     first: u64,

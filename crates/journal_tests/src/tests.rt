@@ -5,16 +5,16 @@ use journal::{Failed, OpenFault};
 use std::alloc::Global;
 use std::test::Fail;
 
-// A third behind them, `d`.
+/// A third behind them, `d`.
 const MENDED: [u8; 36] =
     *b"POOLJRNL\x01\0\0\0\0\0\0\0\x01\x02\0\0\0ab\x01\x01\0\0\0c\x01\x01\0\0\0d\0";
 
-// Where the first record ends, and the second.
+/// Where the first record ends, and the second.
 const FIRST_END: usize = 23;
 
 const SECOND_END: usize = 29;
 
-// What two appends leave on an empty disk, where each is answered Ok.
+/// What two appends leave on an empty disk, where each is answered Ok.
 fn after_two(alloc: Global) -> Result<Option<Vec<u8>>, Fail> {
     match open_copy(alloc, b"", Vec::new(alloc))? {
         Ok((mut journal, _records)) => {
@@ -41,7 +41,7 @@ fn an_empty_disk_becomes_a_journal_with_what_is_added(rt: HostRuntime) -> Result
     Ok(())
 }
 
-// How many records these bytes give, and what an opening leaves of them.
+/// How many records these bytes give, and what an opening leaves of them.
 fn left_of(alloc: Global, bytes: &[u8]) -> Result<(Result<usize, OpenFault>, Vec<u8>), Fail> {
     match open_copy(alloc, bytes, Vec::new(alloc))? {
         Ok((journal, records)) => {
@@ -142,8 +142,8 @@ fn other_bytes_are_refused_or_mended(rt: HostRuntime) -> Result<(), Fail> {
     Ok(())
 }
 
-// What an append leaves of two records, and how many calls were done, where this call of the disk
-// fails in the append before it.
+/// What an append leaves of two records, and how many calls were done, where this call of the disk
+/// fails in the append before it.
 fn after_fault(alloc: Global, failing: u64) -> Result<Option<(Vec<u8>, usize)>, Fail> {
     match open_copy(alloc, &WHOLE, vec![in alloc; failing]?)? {
         Ok((mut journal, _records)) => {

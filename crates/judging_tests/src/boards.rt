@@ -13,7 +13,7 @@ use std::alloc::Global;
 use std::process::Abort;
 use std::test::Fail;
 
-// A change of a board.
+/// A change of a board.
 #[derive(Clone, Copy)]
 enum Call {
     // the list of a run on a topic, by rank
@@ -23,7 +23,7 @@ enum Call {
     Grade(u16, u32, Option<u8>),
 }
 
-// False where a call's condition doesn't hold.
+/// False where a call's condition doesn't hold.
 fn play(alloc: Global, scored: &mut Scored, call: &Call) -> Result<bool, Fail> {
     match call {
         Call::Submit(run, topic, docs) => scored.submit(alloc, *run, *topic, docs),
@@ -39,8 +39,8 @@ const X: u16 = 0;
 
 const Y: u16 = 1;
 
-// What a cell has: the documents, the relevant ones of the topic and of the list, and of those the
-// ones within the first R ranks; the first relevant rank; the sum of AP; and bpref over what.
+/// What a cell has: the documents, the relevant ones of the topic and of the list, and of those the
+/// ones within the first R ranks; the first relevant rank; the sum of AP; and bpref over what.
 type Figures = (u32, u32, u32, u32, u32, u64, (u64, u64));
 
 fn figures_of(scored: &Scored, run: u16, topic: u16) -> Option<Figures> {
@@ -61,10 +61,10 @@ const HALF: u64 = 500_000_000_000_000;
 
 const THIRD: u64 = 333_333_333_333_333;
 
-// Calls, each with the cell of X on topic 0 after it.
+/// Calls, each with the cell of X on topic 0 after it.
 type Row = (Call, Figures);
 
-// A relevant document isn't in the list of X.
+/// A relevant document isn't in the list of X.
 fn rows_of_a_document_outside() -> [Row; 10] {
     [
         // judged before the run comes
@@ -90,7 +90,7 @@ fn rows_of_a_document_outside() -> [Row; 10] {
     ]
 }
 
-// A ruling, and then labels that no more agree.
+/// A ruling, and then labels that no more agree.
 fn rows_of_a_ruling() -> [Row; 5] {
     [
         (Call::Submit(X, 0, &[B, E, A]), (3, 0, 0, 0, 0, 0, (0, 1))),
@@ -104,7 +104,7 @@ fn rows_of_a_ruling() -> [Row; 5] {
     ]
 }
 
-// Two runs, and all their documents judged.
+/// Two runs, and all their documents judged.
 fn rows_of_two_runs() -> [Row; 9] {
     [
         (Call::Submit(X, 0, &[A, B, E]), (3, 0, 0, 0, 0, 0, (0, 1))),
@@ -120,7 +120,7 @@ fn rows_of_two_runs() -> [Row; 9] {
     ]
 }
 
-// Grades below a level of 2 count as judged.
+/// Grades below a level of 2 count as judged.
 fn rows_of_level_two() -> [Row; 4] {
     [
         (Call::Submit(X, 0, &[A, B, E]), (3, 0, 0, 0, 0, 0, (0, 1))),
@@ -130,7 +130,7 @@ fn rows_of_level_two() -> [Row; 4] {
     ]
 }
 
-// That the cell of X on topic 0, which has this level, is so after each call.
+/// That the cell of X on topic 0, which has this level, is so after each call.
 fn expect_cells(rt: &impl Abort, alloc: Global, level: u8, rows: &[Row]) -> Result<(), Fail> {
     let mut scored = Scored::new(alloc, level, 1)?;
     expect_cells_on(rt, alloc, &mut scored, rows)
@@ -158,7 +158,7 @@ fn the_cell_after_each_change(rt: HostRuntime) -> Result<(), Fail> {
     expect_cells(&rt, alloc, 2, &rows_of_level_two())
 }
 
-// A document of grade 1 is relevant on topic 1 alone, where topic 0 has the level 2.
+/// A document of grade 1 is relevant on topic 1 alone, where topic 0 has the level 2.
 #[test]
 fn each_topic_has_its_level(rt: HostRuntime) -> Result<(), Fail> {
     let mut scored = Scored::new(rt.alloc(), 2, 1)?;
@@ -177,7 +177,7 @@ fn expect_levels(rt: &impl Abort, alloc: Global, scored: &mut Scored) -> Result<
     Ok(())
 }
 
-// What a summary has: the counted topics, the counts, and the means but for those at cutoffs.
+/// What a summary has: the counted topics, the counts, and the means but for those at cutoffs.
 type Means = (u32, [u64; 3], [u64; 4]);
 
 fn means_of(summary: &Summary) -> Means {
@@ -188,7 +188,7 @@ fn means_of(summary: &Summary) -> Means {
     )
 }
 
-// Calls, each with the means of X after it.
+/// Calls, each with the means of X after it.
 fn mean_rows() -> [(Call, Means); 9] {
     [
         // no topic counts
@@ -248,7 +248,7 @@ fn expect_means(rt: &impl Abort, alloc: Global, scored: &mut Scored) -> Result<(
     Ok(())
 }
 
-// Calls, each with the number of documents that X and Y have on topics 0 and 1 after it.
+/// Calls, each with the number of documents that X and Y have on topics 0 and 1 after it.
 fn held_rows() -> [(Call, [Option<u32>; 4]); 5] {
     [
         (Call::Submit(Y, 1, &[C, A]), [None, None, None, Some(2)]),

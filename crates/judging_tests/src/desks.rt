@@ -14,8 +14,8 @@ const Q: u8 = b'q';
 
 const R: u8 = b'r';
 
-// Grants a lease to an assessor of one letter, and tells its number: none where the desk has a
-// thousand.
+/// Grants a lease to an assessor of one letter, and tells its number: none where the desk has a
+/// thousand.
 fn grant(
     alloc: Global,
     desk: &mut Desk,
@@ -32,7 +32,7 @@ fn grant(
     Ok(Some(desk.grant(assessor, topic, DocId(doc), until)))
 }
 
-// Ends a lease. False where there is none of this number, and where it has an end.
+/// Ends a lease. False where there is none of this number, and where it has an end.
 fn end(desk: &mut Desk, number: u32, how: LeaseEnd) -> bool {
     if let Some(lease) = desk.find(number)
         && lease.end.is_none()
@@ -43,7 +43,7 @@ fn end(desk: &mut Desk, number: u32, how: LeaseEnd) -> bool {
     false
 }
 
-// Grants five leases, of which the last has an earlier moment than those before it.
+/// Grants five leases, of which the last has an earlier moment than those before it.
 fn grant_five(alloc: Global, desk: &mut Desk) -> Result<(), Fail> {
     let leases = [
         (P, 0, 5, 1600),
@@ -58,8 +58,8 @@ fn grant_five(alloc: Global, desk: &mut Desk) -> Result<(), Fail> {
     Ok(())
 }
 
-// What a desk tells at a moment: the live leases on the document, of the assessor and on the topic,
-// and whether the assessor has one on the document.
+/// What a desk tells at a moment: the live leases on the document, of the assessor and on the
+/// topic, and whether the assessor has one on the document.
 type Told = (u32, u32, u32, bool);
 
 fn told(desk: &Desk, assessor: u8, topic: u16, doc: u32, now: u64) -> Told {
@@ -99,7 +99,7 @@ fn expect_moments(rt: &impl Abort, alloc: Global, desk: &mut Desk) -> Result<(),
     Ok(())
 }
 
-// Ends the leases 3 and 2 of five.
+/// Ends the leases 3 and 2 of five.
 fn end_two(rt: &impl Abort, alloc: Global, desk: &mut Desk) -> Result<(), Fail> {
     grant_five(alloc, desk)?;
     assert!(rt; end(desk, 3, LeaseEnd::Graded));
@@ -157,7 +157,7 @@ fn expect_leases(rt: &impl Abort, alloc: Global, desk: &mut Desk) -> Result<(), 
     Ok(())
 }
 
-// A lease as a plain list keeps it.
+/// A lease as a plain list keeps it.
 #[derive(Clone, Copy)]
 struct Plain {
     assessor: u8,
@@ -171,7 +171,7 @@ fn is_live(lease: &Plain, now: u64) -> bool {
     !lease.is_ended && now < lease.until
 }
 
-// What a walk over the whole list tells.
+/// What a walk over the whole list tells.
 fn plainly_told(list: &[Plain], assessor: u8, topic: u16, doc: u32, now: u64) -> Told {
     let mut told: Told = (0, 0, 0, false);
     for lease in list {
@@ -186,7 +186,7 @@ fn plainly_told(list: &[Plain], assessor: u8, topic: u16, doc: u32, now: u64) ->
     told
 }
 
-// Grants a lease or ends one, on a desk and on a plain list.
+/// Grants a lease or ends one, on a desk and on a plain list.
 fn step(
     alloc: Global,
     desk: &mut Desk,

@@ -6,7 +6,7 @@ use std::alloc::Global;
 use std::process::Abort;
 use std::test::Fail;
 
-// What happens to a document.
+/// What happens to a document.
 #[derive(Drop)]
 enum Call {
     // an assessor's grade
@@ -14,7 +14,7 @@ enum Call {
     Rule(u8),
 }
 
-// The labels after these calls.
+/// The labels after these calls.
 fn played(alloc: Global, calls: &[Call]) -> Result<Labels, Fail> {
     let mut labels = Labels::new(alloc);
     for call in calls {
@@ -147,7 +147,7 @@ fn the_grades_of_the_first_two_assessors(rt: HostRuntime) -> Result<(), Fail> {
     Ok(())
 }
 
-// What happens to a document of a topic.
+/// What happens to a document of a topic.
 #[derive(Drop)]
 enum LabelStep {
     // an assessor's grade
@@ -155,7 +155,7 @@ enum LabelStep {
     Rule(u32, u8),
 }
 
-// Marks a document. False where a ruling comes before the first label.
+/// Marks a document. False where a ruling comes before the first label.
 fn play_at(alloc: Global, marks: &mut TopicLabels, mark: &LabelStep) -> Result<bool, Fail> {
     match mark {
         LabelStep::Set(doc, assessor, grade) => {
@@ -195,8 +195,8 @@ const B: u32 = 2;
 
 const C: u32 = 9;
 
-// Marks of three documents, after each of which: the document, its labels, its effective grade
-// where two labels are needed, and the documents that show a disagreement.
+/// Marks of three documents, after each of which: the document, its labels, its effective grade
+/// where two labels are needed, and the documents that show a disagreement.
 type Row = (LabelStep, u32, u32, Option<u8>, &'static [DocId]);
 
 fn rows() -> [Row; 9] {

@@ -8,7 +8,7 @@ use std::alloc::Global;
 use std::process::Abort;
 use std::test::Fail;
 
-// Gives a document a grade, or takes it away. False where the trail has no room for one more.
+/// Gives a document a grade, or takes it away. False where the trail has no room for one more.
 fn grade(view: &mut View, doc: u32, new: Option<u8>) -> Result<bool, Fail> {
     if view.trail().len() >= 1000 {
         return Ok(false);
@@ -25,8 +25,8 @@ const B: u32 = 1;
 
 const E: u32 = 2;
 
-// A document and its new grade, and after it the relevant documents, the others with a grade, and
-// the trail.
+/// A document and its new grade, and after it the relevant documents, the others with a grade, and
+/// the trail.
 type Step = (u32, Option<u8>, u32, u32, &'static [DocId]);
 
 fn steps() -> [Step; 9] {
@@ -98,7 +98,7 @@ fn expect_level(rt: &impl Abort, view: &mut View) -> Result<(), Fail> {
     Ok(())
 }
 
-// Whether each document of the trail has a name.
+/// Whether each document of the trail has a name.
 fn are_named(view: &View, names: &Names) -> bool
     ensures { OnTrue result (All (λ graded. graded.doc.0 < length names.now) view.now.graded) }
 {
@@ -111,7 +111,7 @@ fn are_named(view: &View, names: &Names) -> bool
     true
 }
 
-// The qrels text after a line. It is empty where a document has no name.
+/// The qrels text after a line. It is empty where a document has no name.
 fn text_after(alloc: Global, line: &[u8], view: &View, names: &Names) -> Result<Vec<u8>, Fail> {
     let mut out = Vec::new(alloc);
     if are_named(view, names) {
@@ -121,7 +121,7 @@ fn text_after(alloc: Global, line: &[u8], view: &View, names: &Names) -> Result<
     Ok(out)
 }
 
-// Four docnos, of the documents 0 to 3.
+/// Four docnos, of the documents 0 to 3.
 fn docnos(alloc: Global) -> Result<Names, Fail> {
     let mut names = Names::new(alloc);
     for name in [b"d9", b"d3", b"E9", b"d1"] {
@@ -137,7 +137,7 @@ fn add(alloc: Global, names: &mut Names, name: &[u8]) -> Result<(), Fail> {
     Ok(())
 }
 
-// A document and its new grade.
+/// A document and its new grade.
 type Grade = (u32, Option<u8>);
 
 const GRADES: [Grade; 5] = [
@@ -182,7 +182,7 @@ fn a_kept_order_gives_the_same_lines(rt: HostRuntime) -> Result<(), Fail> {
     expect_same_lines(&rt, alloc, &names, &GRADES[2..3], &mut order)
 }
 
-// After each of these grades a reading with the kept order gives the lines of one without.
+/// After each of these grades a reading with the kept order gives the lines of one without.
 fn expect_same_lines(
     rt: &impl Abort,
     alloc: Global,
@@ -198,7 +198,7 @@ fn expect_same_lines(
     Ok(())
 }
 
-// Whether a reading with a kept order gives the text of a reading without one.
+/// Whether a reading with a kept order gives the text of a reading without one.
 fn is_same_text(
     alloc: Global,
     view: &View,

@@ -104,7 +104,7 @@ impl QueuedTopic {
     }
 }
 
-// Adds a run to a pool and to its queue.
+/// Adds a run to a pool and to its queue.
 fn add(pool: &mut Pool, queue: &mut Queue, run: RunId, ranking: &Ranking)
     requires pool_room { pool.old.room ≡ Some (take pool.old.depth ranking.now) }
     requires queue_room { 1 ≤ queue.old.spare }
@@ -120,7 +120,7 @@ fn add(pool: &mut Pool, queue: &mut Queue, run: RunId, ranking: &Ranking)
     queue.enter(run, pool);
 }
 
-// Takes a run out of a queue and its pool.
+/// Takes a run out of a queue and its pool.
 fn take_out(pool: &mut Pool, queue: &mut Queue, run: RunId)
     requires is_in { Contains queue.old.order run }
     requires in_order { IsInOrder pool.old.runs queue.old.trail queue.old.order }
@@ -133,7 +133,7 @@ fn take_out(pool: &mut Pool, queue: &mut Queue, run: RunId)
     order_outlasts_other_runs();
 }
 
-// Judges a document that isn't on the trail.
+/// Judges a document that isn't on the trail.
 fn judge_counted<L: Ledger>(
     queue: &mut Queue,
     pool: &Pool,
@@ -183,7 +183,7 @@ fn is_judged(trail: &[Judged], doc: DocId) -> bool
     false
 }
 
-// The documents by number, as a ranking.
+/// The documents by number, as a ranking.
 fn ranking_of(alloc: Global, docs: &[u32]) -> Result<Ranking, Fail> {
     let mut listed = Vec::new(alloc);
     for doc in 0..DOCS {

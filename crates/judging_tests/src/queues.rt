@@ -10,7 +10,7 @@ use std::alloc::Global;
 use std::process::Abort;
 use std::test::Fail;
 
-// What happens to a topic.
+/// What happens to a topic.
 enum Call {
     // a run that holds these documents
     Submit(&'static [u32]),
@@ -19,7 +19,7 @@ enum Call {
     Regrade(u32, Option<bool>),
 }
 
-// Whether the call's conditions held.
+/// Whether the call's conditions held.
 fn play(alloc: Global, topic: &mut QueuedTopic, call: &Call) -> Result<bool, Fail> {
     match call {
         Call::Submit(docs) => {
@@ -32,7 +32,7 @@ fn play(alloc: Global, topic: &mut QueuedTopic, call: &Call) -> Result<bool, Fai
     }
 }
 
-// The runs X, Y and Z, by submission.
+/// The runs X, Y and Z, by submission.
 const X: RunId = RunId(0);
 
 const Y: RunId = RunId(1);
@@ -83,14 +83,14 @@ fn expect_orders(
     Ok(())
 }
 
-// A run of a campaign that is played at random: what it holds, and whether it is live.
+/// A run of a campaign that is played at random: what it holds, and whether it is live.
 #[derive(Drop)]
 struct Entrant {
     docs: Vec<u32>,
     is_live: bool,
 }
 
-// Which documents the next run holds: about half of them.
+/// Which documents the next run holds: about half of them.
 fn drawn(alloc: Global, dice: &mut Pcg32) -> Result<Vec<u32>, Fail> {
     let mut docs = Vec::new(alloc);
     for doc in 0..DOCS {
@@ -108,7 +108,7 @@ fn holds(entrants: &[Entrant], run: usize, doc: DocId) -> bool {
     }
 }
 
-// The last document of the trail that has a grade and that one of the two alone holds decides.
+/// The last document of the trail that has a grade and that one of the two alone holds decides.
 fn is_before(entrants: &[Entrant], trail: &[Judged], first: usize, second: usize) -> bool {
     for judged in trail.iter().rev() {
         let held = holds(entrants, first, judged.doc);
@@ -121,7 +121,7 @@ fn is_before(entrants: &[Entrant], trail: &[Judged], first: usize, second: usize
     first < second
 }
 
-// How many live runs come before a run.
+/// How many live runs come before a run.
 fn rank_of(entrants: &[Entrant], trail: &[Judged], run: usize) -> usize {
     let mut rank = 0usize;
     for (other, entrant) in entrants.iter().enumerate() {
@@ -132,7 +132,7 @@ fn rank_of(entrants: &[Entrant], trail: &[Judged], run: usize) -> usize {
     rank
 }
 
-// Whether these are the live runs, each at its place.
+/// Whether these are the live runs, each at its place.
 fn is_sorted(entrants: &[Entrant], trail: &[Judged], order: &[RunId]) -> bool {
     let mut live = 0usize;
     for (run, entrant) in entrants.iter().enumerate() {
@@ -148,7 +148,7 @@ fn is_sorted(entrants: &[Entrant], trail: &[Judged], order: &[RunId]) -> bool {
     order.len() == live
 }
 
-// One random step of a campaign.
+/// One random step of a campaign.
 fn step(
     alloc: Global,
     topic: &mut QueuedTopic,

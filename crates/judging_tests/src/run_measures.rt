@@ -59,8 +59,8 @@ fn unjudged_and_lower_grades_are_not_relevant(rt: HostRuntime) {
     assert_eq!(rt; cell.ap_sum, 333_333_333_333_333 + 2 * 166_666_666_666_666);
 }
 
-// That the relevant documents within the first R ranks, the rank of the first one, and bpref's
-// numerator and denominator are these.
+/// That the relevant documents within the first R ranks, the rank of the first one, and bpref's
+/// numerator and denominator are these.
 fn expect_cell(rt: &impl Abort, cell: &Cell, expected: (u32, u32, u64, u64)) {
     let found = (cell.r_prec, cell.first, cell.bpref_num, cell.bpref_den);
     assert_eq!(rt; found, expected);
@@ -178,7 +178,7 @@ fn four_decimals_round_half_upwards(rt: HostRuntime) -> Result<(), Fail> {
     Ok(())
 }
 
-// The lines of a cell of run X on topic 1.
+/// The lines of a cell of run X on topic 1.
 fn printed(alloc: Global, cell: &Cell) -> Result<Vec<u8>, Fail>
     requires { IsSound cell.now }
 {
@@ -187,7 +187,7 @@ fn printed(alloc: Global, cell: &Cell) -> Result<Vec<u8>, Fail>
     Ok(out)
 }
 
-// Such lines, from a measure and its value in each row.
+/// Such lines, from a measure and its value in each row.
 fn spelled(alloc: Global, rows: &str) -> Result<Vec<u8>, Fail> {
     let mut out = b"=".to_vec(alloc)?;
     for row in rows.lines() {

@@ -11,7 +11,7 @@ use std::marker::Brand;
 use std::sync::ledger::{Blank, Ledger};
 use std::test::Fail;
 
-// Three rankings of the documents 0 to 5. The first is longer than the depth of 3.
+/// Three rankings of the documents 0 to 5. The first is longer than the depth of 3.
 fn ranking_of(alloc: Global, run: RunId) -> Result<Ranking, Fail>
     ensures { IfOk result (λ ranking. All (λ doc. doc.0 < 6) ranking) }
 {
@@ -23,7 +23,7 @@ fn ranking_of(alloc: Global, run: RunId) -> Result<Ranking, Fail>
     Ok(Ranking::listed(docs)?)
 }
 
-// Adds a run with its ranking.
+/// Adds a run with its ranking.
 fn submit(alloc: Global, pool: &mut Pool, run: RunId) -> Result<(), Fail>
     requires is_new { has_run run pool.old.runs ≡ false }
     requires named { All (λ held. All (λ doc. doc.0 < 6) held.docs) pool.old.runs }
@@ -37,7 +37,7 @@ fn submit(alloc: Global, pool: &mut Pool, run: RunId) -> Result<(), Fail>
     Ok(())
 }
 
-// A pool of depth 3 with three runs that came in this order.
+/// A pool of depth 3 with three runs that came in this order.
 fn filled(alloc: Global, first: RunId, second: RunId, third: RunId) -> Result<Pool, Fail>
     requires before { first ≢ second }
     requires between { first ≢ third }
@@ -52,7 +52,7 @@ fn filled(alloc: Global, first: RunId, second: RunId, third: RunId) -> Result<Po
     Ok(pool)
 }
 
-// Each document and each run that holds it.
+/// Each document and each run that holds it.
 fn held<L: Ledger>(alloc: Global, pool: &Pool, blank: Blank) -> Result<Vec<(u32, u16)>, Fail>
     requires name { blank.name ≡ L.name }
     requires parts { blank.parts ≡ L.parts }
@@ -68,7 +68,7 @@ fn held<L: Ledger>(alloc: Global, pool: &Pool, blank: Blank) -> Result<Vec<(u32,
     Ok(pairs)
 }
 
-// Whether a run holds just these documents, by rank.
+/// Whether a run holds just these documents, by rank.
 fn are_held<L: Ledger>(pool: &Pool, run: RunId, docs: &[DocId], blank: Blank) -> bool
     requires name { blank.name ≡ L.name }
     requires parts { blank.parts ≡ L.parts }
@@ -86,7 +86,7 @@ fn are_held<L: Ledger>(pool: &Pool, run: RunId, docs: &[DocId], blank: Blank) ->
     true
 }
 
-// Whether each of three runs holds a document.
+/// Whether each of three runs holds a document.
 fn holders_told<L: Ledger>(pool: &Pool, doc: u32, blank: Blank) -> [bool; 3]
     requires name { blank.name ≡ L.name }
     requires parts { blank.parts ≡ L.parts }
@@ -174,7 +174,7 @@ fn the_documents_of_a_run_stand_by_rank(rt: HostRuntime) -> Result<(), Fail> {
     Ok(())
 }
 
-// Names of the documents 0 to 5, whose order isn't that of the numbers.
+/// Names of the documents 0 to 5, whose order isn't that of the numbers.
 fn six_names(alloc: Global) -> Result<Names, Fail> {
     let mut names = Names::new(alloc);
     for docno in [b"F", b"B", b"E", b"A", b"D", b"C"] {

@@ -6,14 +6,14 @@ ghost use Rattle.labels.specs.Grades.{common_grade, grades_differ};
 
 use decimal_rank::Text;
 
-// The last grade that an assessor gave a document.
+/// The last grade that an assessor gave a document.
 #[derive(Drop)]
 pub(crate) struct Given {
     pub(crate) assessor: Text,
     pub(crate) grade: u8,
 }
 
-// The index of an assessor's label.
+/// The index of an assessor's label.
 pub(crate) fn place_of(given: &[Given], assessor: &[u8]) -> Option<usize>
     ensures { result ≡ position (λ label. bytes_eq label.assessor assessor.now) given.now }
 {
@@ -22,14 +22,14 @@ pub(crate) fn place_of(given: &[Given], assessor: &[u8]) -> Option<usize>
         .position(|label| label.assessor.bytes() == assessor)
 }
 
-// The grade of the label at a place.
+/// The grade of the label at a place.
 pub(crate) fn grade_at(given: &[Given], place: usize) -> Option<u8>
     ensures { result ≡ slice_get (map (λ label. label.grade) given.now) place }
 {
     Some(given.get(place)?.grade)
 }
 
-// The grade of so many labels that agree.
+/// The grade of so many labels that agree.
 pub(crate) fn common(given: &[Given], need: u32) -> Option<u8>
     ensures { result ≡ common_grade need (map (λ label. label.grade) given.now) }
 {
@@ -41,14 +41,14 @@ pub(crate) fn common(given: &[Given], need: u32) -> Option<u8>
     }
 }
 
-// Whether each label is this grade.
+/// Whether each label is this grade.
 fn is_each(given: &[Given], grade: u8) -> bool
     ensures { result ≡ list_all (λ label. label.grade == grade) given.now }
 {
     given.iter().all(|label| label.grade == grade)
 }
 
-// Whether there are two labels, and they differ.
+/// Whether there are two labels, and they differ.
 pub(crate) fn are_two_that_differ(given: &[Given]) -> bool
     ensures { result ≡ grades_differ (map (λ label. label.grade) given.now) }
 {

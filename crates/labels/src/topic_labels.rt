@@ -14,7 +14,7 @@ use std::alloc::Global;
 use std::marker::Model;
 use std::mem::replace;
 
-// The labels by the number of the document, in the order of the first labels.
+/// The labels by the number of the document, in the order of the first labels.
 type ByNumber = IndexMap<u32, Labels>;
 
 /// The labels of all documents of one topic, and the last ruling on each. A document gets in with
@@ -159,7 +159,7 @@ impl TopicLabels {
     }
 }
 
-// Makes room for one more label of a document.
+/// Makes room for one more label of a document.
 fn make_room(marked: &mut ByNumber, fresh: &mut Labels, doc: DocId) -> Result<(), Memory>
     ensures marked { documents_of marked.new.entries ≡ documents_of marked.old.entries }
     ensures given { fresh.new.given ≡ fresh.old.given }
@@ -176,8 +176,8 @@ fn make_room(marked: &mut ByNumber, fresh: &mut Labels, doc: DocId) -> Result<()
     }
 }
 
-// Puts an assessor's grade at a document, for which there is room: whether it is the document's
-// first label.
+/// Puts an assessor's grade at a document, for which there is room: whether it is the document's
+/// first label.
 fn put_label(
     marked: &mut ByNumber,
     fresh: &mut Labels,
@@ -211,7 +211,7 @@ fn put_label(
     }
 }
 
-// Puts the grade of a ruling at a document that is there.
+/// Puts the grade of a ruling at a document that is there.
 fn put_ruling(marked: &mut ByNumber, doc: DocId, grade: u8)
     requires { IsTrue (is_labelled_document (documents_of marked.old.entries) doc) }
     ensures marked { documents_of marked.new.entries
@@ -225,7 +225,7 @@ fn put_ruling(marked: &mut ByNumber, doc: DocId, grade: u8)
     }
 }
 
-// The number of labels of a document.
+/// The number of labels of a document.
 fn count_of(marked: &ByNumber, doc: DocId) -> u32
     ensures count { result ≡ length (given_at (documents_of marked.now.entries) doc) }
     ensures once_per_assessor { IsOncePerAssessor (given_at (documents_of marked.now.entries) doc) }
@@ -236,7 +236,7 @@ fn count_of(marked: &ByNumber, doc: DocId) -> u32
     }
 }
 
-// The documents that show a disagreement, in their order.
+/// The documents that show a disagreement, in their order.
 fn disagreements_of(alloc: Global, marked: &ByNumber, need: u32) -> Result<Vec<DocId>, Memory>
     ensures { IfOk result
         (λ docs. docs.items ≡ disagreeing need (documents_of marked.now.entries)) }

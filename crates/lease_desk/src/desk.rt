@@ -167,7 +167,7 @@ impl Desk {
         self.count_on(topic, doc, Some(assessor), now) > 0
     }
 
-    // How many leases on a document are live: of one assessor, or of all.
+    /// How many leases on a document are live: of one assessor, or of all.
     fn count_on(&self, topic: u16, doc: DocId, assessor: Option<&[u8]>, now: u64) -> u32
         ensures { result ≡ count_by (λ lease. same_document (topic, doc.0) (document_of lease)
             && is_asked (option_map (λ name. name.now) assessor.entry) lease

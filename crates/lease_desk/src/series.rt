@@ -12,9 +12,9 @@ use indexmap::IndexMap;
 use std::alloc::Global;
 use std::hash::Hash;
 
-// What stands at a lease: the place of one before it with the same key, past ended ones; the place
-// of one whose link leads here, a hint alone; and the greatest `until` of those with this key up to
-// it.
+/// What stands at a lease: the place of one before it with the same key, past ended ones; the place
+/// of one whose link leads here, a hint alone; and the greatest `until` of those with this key up
+/// to it.
 #[derive(Clone, Copy)]
 pub(crate) struct Link {
     pub(crate) previous: Option<u32>,
@@ -22,7 +22,7 @@ pub(crate) struct Link {
     pub(crate) latest_until: u64,
 }
 
-// A link for each lease in their order, and the place of the newest lease of each key.
+/// A link for each lease in their order, and the place of the newest lease of each key.
 #[derive(Drop)]
 pub(crate) struct Series<K: Eq + Hash + Drop> {
     pub(crate) newest: IndexMap<K, u32, Secret>,
@@ -40,7 +40,7 @@ impl<K: Eq + Hash + Drop> Series<K> {
         }
     }
 
-    // Makes room for one more lease.
+    /// Makes room for one more lease.
     pub(crate) fn reserve(&mut self) -> Result<(), Memory>
         ensures keys_room { OnOk result (1 ≤ spare self.new.newest) }
         ensures links_room { OnOk result (vec_len self.new.links < vec_capacity self.new.links) }
@@ -52,7 +52,7 @@ impl<K: Eq + Hash + Drop> Series<K> {
         Ok(())
     }
 
-    // Adds a lease with this key behind these.
+    /// Adds a lease with this key behind these.
     pub(crate) fn add(&mut self, leases: &[Lease], key: K, until: u64)
         requires keys_room { 1 ≤ spare self.old.newest }
         requires links_room { vec_len self.old.links < vec_capacity self.old.links }
@@ -71,7 +71,7 @@ impl<K: Eq + Hash + Drop> Series<K> {
         add_link(&mut self.links, leases, newest, until);
     }
 
-    // Leaves a lease that ends out of the walks.
+    /// Leaves a lease that ends out of the walks.
     pub(crate) fn leave_out(&mut self, place: u32)
         requires within { place < length self.old.links.items }
         requires back { LeadEarlier self.old.links.items }
@@ -83,7 +83,7 @@ impl<K: Eq + Hash + Drop> Series<K> {
     }
 }
 
-// Adds a link behind the newest lease of a key.
+/// Adds a link behind the newest lease of a key.
 fn add_link(links: &mut Vec<Link>, leases: &[Lease], newest: Option<u32>, until: u64)
     requires room { vec_len links.old < vec_capacity links.old }
     requires few { vec_len links.old < 2 ^ 32 }
@@ -108,7 +108,7 @@ fn add_link(links: &mut Vec<Link>, leases: &[Lease], newest: Option<u32>, until:
         .unwrap();
 }
 
-// The newest lease of a key, or the one that its link leads to where it has ended.
+/// The newest lease of a key, or the one that its link leads to where it has ended.
 fn unended(leases: &[Lease], links: &[Link], newest: Option<u32>) -> Option<u32>
     requires as_many { length links.now ≡ length leases.now }
     requires within { up_to newest ≤ length links.now }
@@ -124,7 +124,7 @@ fn unended(leases: &[Lease], links: &[Link], newest: Option<u32>) -> Option<u32>
     links[place as usize].previous
 }
 
-// Where the link behind a place leads to it, it leads now to where the place's link leads.
+/// Where the link behind a place leads to it, it leads now to where the place's link leads.
 fn lead_past(links: &mut [Link], place: u32)
     requires within { place < length links.old }
     requires back { LeadEarlier links.old }
@@ -139,7 +139,7 @@ fn lead_past(links: &mut [Link], place: u32)
     }
 }
 
-// The place whose link leads to this one, where the hint is right.
+/// The place whose link leads to this one, where the hint is right.
 fn behind(links: &[Link], place: u32) -> Option<u32>
     requires { place < length links.now }
     ensures within { IfSome result (λ behind. behind < length links.now) }
@@ -154,7 +154,7 @@ fn behind(links: &[Link], place: u32) -> Option<u32>
     None
 }
 
-// The greatest `until` up to a place.
+/// The greatest `until` up to a place.
 fn latest_at(links: &[Link], place: Option<u32>) -> u64
     requires { up_to place ≤ length links.now }
     ensures { result ≡ latest_at links.now place }

@@ -8,8 +8,8 @@ ghost use Rattle.lease_desk.specs.declared.leases.Lease.{Lease};
 use crate::leases::Lease;
 use crate::series::Link;
 
-// How many leases of one key are live: of one assessor, or of all. The walk goes from the newest
-// back to where no earlier one can be live.
+/// How many leases of one key are live: of one assessor, or of all. The walk goes from the newest
+/// back to where no earlier one can be live.
 pub(crate) fn count_live(
     leases: &[Lease],
     links: &[Link],
@@ -40,7 +40,7 @@ pub(crate) fn count_live(
     count
 }
 
-// Whether a lease is live, and of the assessor that is asked for.
+/// Whether a lease is live, and of the assessor that is asked for.
 fn counts(lease: &Lease, assessor: Option<&[u8]>, now: u64) -> bool
     ensures { result ≡ is_asked (option_map (λ name. name.now) assessor.entry) lease.now
         && is_lease_live lease.now now }

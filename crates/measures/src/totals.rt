@@ -112,7 +112,7 @@ pub fn mean(cells: &[Cell]) -> Summary
     totals.mean()
 }
 
-// The sums of each measure with its value on one more topic.
+/// The sums of each measure with its value on one more topic.
 fn values_added(
     sums: &[u128; MEASURE_COUNT],
     values: &[u64; MEASURE_COUNT],
@@ -131,7 +131,7 @@ fn values_added(
     added
 }
 
-// A sum divided by the number of topics, rounded down; 0 where there is none.
+/// A sum divided by the number of topics, rounded down; 0 where there is none.
 fn share(sum: u128, topics: u32) -> u64
     requires { sum ≤ topics * 10 ^ 15 }
     ensures value { result ≡ (if topics == 0 then 0 else sum / topics) }

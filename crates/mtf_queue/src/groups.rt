@@ -17,15 +17,15 @@ use depth_pool::{Pool, RunId};
 use std::marker::Brand;
 use std::sync::ledger::{Blank, Ledger};
 
-// A run, and the number of its group: of two groups the one with the lower number comes first.
+/// A run, and the number of its group: of two groups the one with the lower number comes first.
 #[derive(Clone, Copy, PartialEq, Eq, PartialOrd, Ord)]
 pub(crate) struct Member {
     pub(crate) group: usize,
     pub(crate) run: RunId,
 }
 
-// Puts the runs in the order of the rule. Each document of the trail is looked up at most once.
-// There is room for each run among the members, and for two groups of it among the sizes.
+/// Puts the runs in the order of the rule. Each document of the trail is looked up at most once.
+/// There is room for each run among the members, and for two groups of it among the sizes.
 pub(crate) fn sort_by_rule(
     order: &mut Vec<RunId>,
     members: &mut Vec<Member>,
@@ -47,7 +47,7 @@ pub(crate) fn sort_by_rule(
     take_runs(order, members.as_slice());
 }
 
-// All runs in one group, by number.
+/// All runs in one group, by number.
 fn put_in_one_group(members: &mut Vec<Member>, order: &[RunId])
     requires { length order.now ≤ vec_capacity members.old }
     ensures runs { IsPermutation (map first_group order.now) members.new.items }
@@ -58,7 +58,7 @@ fn put_in_one_group(members: &mut Vec<Member>, order: &[RunId])
     members.sort_unstable();
 }
 
-// All runs in one group, in their order.
+/// All runs in one group, in their order.
 fn fill(members: &mut Vec<Member>, order: &[RunId])
     requires { length order.now ≤ vec_capacity members.old }
     ensures runs { members.new.items ≡ map first_group order.now }
@@ -74,7 +74,7 @@ fn fill(members: &mut Vec<Member>, order: &[RunId])
     }
 }
 
-// The runs of the members, in their order.
+/// The runs of the members, in their order.
 fn take_runs(order: &mut Vec<RunId>, members: &[Member])
     requires { length members.now ≤ vec_len order.old }
     ensures { order.new.items ≡ map member_run members.now }
@@ -85,7 +85,7 @@ fn take_runs(order: &mut Vec<RunId>, members: &[Member])
     }
 }
 
-// Cuts the groups by the documents of the trail, the newest first, and sorts the runs by them.
+/// Cuts the groups by the documents of the trail, the newest first, and sorts the runs by them.
 fn cut_groups<L: Ledger>(
     members: &mut Vec<Member>,
     sizes: &mut Vec<usize>,
@@ -116,7 +116,7 @@ fn cut_groups<L: Ledger>(
     members.sort_unstable();
 }
 
-// Cuts the groups by a judged document. Tells whether some runs may still be in one group.
+/// Cuts the groups by a judged document. Tells whether some runs may still be in one group.
 fn cut_by<L: Ledger>(
     members: &mut Vec<Member>,
     sizes: &mut Vec<usize>,
@@ -142,8 +142,8 @@ fn cut_by<L: Ledger>(
     }
 }
 
-// Cuts each group in two by a document, its first side and the others. Tells whether some runs are
-// still in one group.
+/// Cuts each group in two by a document, its first side and the others. Tells whether some runs are
+/// still in one group.
 fn cut(members: &mut Vec<Member>, sizes: &mut Vec<usize>, holders: &[RunId], relevant: bool) -> bool
     requires room { 2 * vec_len members.old ≤ vec_capacity sizes.old }
     requires ascending { AllPairs (λ a b. a.0 < b.0) holders.now }
@@ -163,8 +163,8 @@ fn cut(members: &mut Vec<Member>, sizes: &mut Vec<usize>, holders: &[RunId], rel
     number(members, sizes)
 }
 
-// Gives each run the number of its half: the lower one on the first side of a document with these
-// holders.
+/// Gives each run the number of its half: the lower one on the first side of a document with these
+/// holders.
 fn halve(members: &mut Vec<Member>, holders: &[RunId], relevant: bool)
     requires ascending { AllPairs (λ a b. a.0 < b.0) holders.now }
     requires by_run { AreMembersByRun members.old.items }
@@ -180,7 +180,7 @@ fn halve(members: &mut Vec<Member>, holders: &[RunId], relevant: bool)
     }
 }
 
-// The index of the first holder, of those from an index on, whose number isn't lower than a run's.
+/// The index of the first holder, of those from an index on, whose number isn't lower than a run's.
 fn holder_from(holders: &[RunId], from: usize, run: RunId) -> usize
     requires ascending { AllPairs (λ a b. a.0 < b.0) holders.now }
     ensures passed { KeepsFrom run (drop from holders.now) (drop result holders.now) }
@@ -194,7 +194,7 @@ fn holder_from(holders: &[RunId], from: usize, run: RunId) -> usize
     holders.len()
 }
 
-// Whether a run is the holder at an index, from which on no holder has a lower number.
+/// Whether a run is the holder at an index, from which on no holder has a lower number.
 fn is_at(holders: &[RunId], index: usize, run: RunId) -> bool
     requires ascending { AllPairs (λ a b. a.0 < b.0) holders.now }
     requires ahead { All (λ holder. run.0 ≤ holder.0) (drop index holders.now) }
@@ -206,8 +206,8 @@ fn is_at(holders: &[RunId], index: usize, run: RunId) -> bool
     }
 }
 
-// Numbers the groups anew, each by how many runs stand in lower ones. Tells whether some runs are
-// in one group.
+/// Numbers the groups anew, each by how many runs stand in lower ones. Tells whether some runs are
+/// in one group.
 fn number(members: &mut Vec<Member>, sizes: &mut Vec<usize>) -> bool
     requires room { 2 * vec_len members.old ≤ vec_capacity sizes.old }
     requires within { All (λ member. member.group
@@ -225,7 +225,7 @@ fn number(members: &mut Vec<Member>, sizes: &mut Vec<usize>) -> bool
     largest > 1
 }
 
-// How many runs each group has, of twice as many groups as there are runs.
+/// How many runs each group has, of twice as many groups as there are runs.
 fn count(sizes: &mut Vec<usize>, members: &[Member])
     requires room { 2 * length members.now ≤ vec_capacity sizes.old }
     requires within { All (λ member. member.group < 2 * length members.now) members.now }
@@ -240,7 +240,7 @@ fn count(sizes: &mut Vec<usize>, members: &[Member])
     }
 }
 
-// Puts the sum of those before it in the place of each size. Gives the greatest size.
+/// Puts the sum of those before it in the place of each size. Gives the greatest size.
 fn add_up(sizes: &mut Vec<usize>) -> usize
     requires { sum sizes.old.items < 2 ^ 63 }
     ensures sums { AreSumsBefore sizes.old.items sizes.new.items }
@@ -259,7 +259,7 @@ fn add_up(sizes: &mut Vec<usize>) -> usize
     largest
 }
 
-// Gives each group the number that stands at the place of its old one.
+/// Gives each group the number that stands at the place of its old one.
 fn put_numbers(members: &mut Vec<Member>, numbers: &[usize])
     requires { All (λ member. member.group < length numbers.now) members.old.items }
     ensures numbered { members.new.items ≡ map (numbered_by numbers.now) members.old.items }

@@ -7,8 +7,8 @@ ghost use Rattle.mtf_queue.specs.Rule.{moved_runs, trail_regraded};
 use crate::rule::Judged;
 use depth_pool::{RunId, is_among};
 
-// Puts the runs first that a judged document with these holders puts first. The others wait in a
-// buffer with room for them.
+/// Puts the runs first that a judged document with these holders puts first. The others wait in a
+/// buffer with room for them.
 pub(crate) fn move_group(
     order: &mut Vec<RunId>,
     behind: &mut Vec<RunId>,
@@ -36,7 +36,7 @@ pub(crate) fn move_group(
     order.extend_from_slice(behind.as_slice()).unwrap();
 }
 
-// Takes a run out.
+/// Takes a run out.
 pub(crate) fn remove_run(order: &mut Vec<RunId>, run: RunId)
     ensures runs { order.new.items ≡ filter (λ other. not (other.0 == run.0)) order.old.items }
     ensures len { vec_len order.new ≤ vec_len order.old }
@@ -44,7 +44,7 @@ pub(crate) fn remove_run(order: &mut Vec<RunId>, run: RunId)
     order.retain(|other| other.0 != run.0);
 }
 
-// Gives the document at an index another grade. Tells whether it had another one.
+/// Gives the document at an index another grade. Tells whether it had another one.
 pub(crate) fn set_grade(trail: &mut Vec<Judged>, index: usize, relevant: Option<bool>) -> bool
     requires { index < vec_len trail.old }
     ensures trail { trail.new.items ≡ trail_regraded trail.old.items index relevant }

@@ -18,7 +18,7 @@ pub struct Judged {
     pub relevant: Option<bool>,
 }
 
-// The index at which a run goes into an order of other runs: behind those that come before it.
+/// The index at which a run goes into an order of other runs: behind those that come before it.
 pub(crate) fn place_of(order: &[RunId], run: RunId, trail: &[Judged], pool: &Pool) -> usize
     requires is_new { ¬ Contains order.now run }
     requires in_order { AllPairs (IsBefore (pool_holds pool.now.runs) trail.now) order.now }
@@ -29,7 +29,7 @@ pub(crate) fn place_of(order: &[RunId], run: RunId, trail: &[Judged], pool: &Poo
     order.partition_point(|other| compare(trail, pool, *other, run).is_lt())
 }
 
-// Which of two runs is first by the rule.
+/// Which of two runs is first by the rule.
 fn compare(trail: &[Judged], pool: &Pool, first: RunId, second: RunId) -> Ordering
     ensures { result ≡ rule_cmp (pool_holds pool.now.runs) (reverse trail.now) first second }
 {

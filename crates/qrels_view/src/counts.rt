@@ -53,7 +53,7 @@ impl Counts {
     }
 }
 
-// A count after one document was counted or not, and now is or not.
+/// A count after one document was counted or not, and now is or not.
 fn recount(count: u32, was: bool, is: bool) -> u32
     requires least { as_number was ≤ count }
     requires most { recounted_from count was is < 2 ^ 32 }

@@ -60,7 +60,7 @@ impl DocnoOrder {
     }
 }
 
-// The documents by docno, whose places are then in this order.
+/// The documents by docno, whose places are then in this order.
 fn arranged(
     places: &mut Vec<u32>,
     grades: &IndexMap<u32, Option<u8>>,
@@ -85,7 +85,7 @@ fn arranged(
     Ok(placed)
 }
 
-// Takes in the places of all of so many documents. Where there were more, it begins anew.
+/// Takes in the places of all of so many documents. Where there were more, it begins anew.
 fn follow(places: &mut Vec<u32>, len: usize) -> Result<(), Memory>
     requires each_once { HasFirstPlaces places.old.items }
     requires few { len < 2 ^ 32 }
@@ -99,7 +99,7 @@ fn follow(places: &mut Vec<u32>, len: usize) -> Result<(), Memory>
     Ok(())
 }
 
-// Leaves no place where there are more than so many.
+/// Leaves no place where there are more than so many.
 fn clear_beyond(places: &mut Vec<u32>, len: usize)
     requires each_once { HasFirstPlaces places.old.items }
     ensures each_once { HasFirstPlaces places.new.items }
@@ -110,7 +110,7 @@ fn clear_beyond(places: &mut Vec<u32>, len: usize)
     }
 }
 
-// The documents at these places.
+/// The documents at these places.
 fn placed(
     alloc: Global,
     grades: &IndexMap<u32, Option<u8>>,
@@ -126,7 +126,7 @@ fn placed(
     Ok(placed)
 }
 
-// The document at a place. Behind the trail it is one without a grade.
+/// The document at a place. Behind the trail it is one without a grade.
 fn placed_at(grades: &IndexMap<u32, Option<u8>>, place: u32) -> Placed
     ensures { result ≡ placed_at (graded_of grades.now.entries) place }
 {

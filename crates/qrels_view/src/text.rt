@@ -8,14 +8,14 @@ use crate::grades::{Graded, Placed};
 use decimal_rank::{DocId, Memory, Names, append_qrel};
 use std::cmp::Ordering;
 
-// The order of two documents by docno.
+/// The order of two documents by docno.
 pub(crate) fn by_docno(names: &Names, a: DocId, b: DocId) -> Ordering
     ensures { result ≡ docno_cmp names.now a b }
 {
     names.name_or_empty(a).cmp(names.name_or_empty(b))
 }
 
-// Appends the lines of documents in this very order, or leaves the bytes as they were.
+/// Appends the lines of documents in this very order, or leaves the bytes as they were.
 pub(crate) fn write_lines(
     topic: &[u8],
     names: &Names,
@@ -36,7 +36,7 @@ pub(crate) fn write_lines(
     Ok(())
 }
 
-// Appends the line of a document that has a grade.
+/// Appends the line of a document that has a grade.
 fn write_line(topic: &[u8], names: &Names, one: Graded, out: &mut Vec<u8>) -> Result<(), Memory>
     ensures { Adds out.old out.new (qrels_line topic.now names.now one) result }
 {

@@ -165,7 +165,7 @@ impl View {
     }
 }
 
-// Gives a document a grade. It keeps its place, and goes last where it wasn't there.
+/// Gives a document a grade. It keeps its place, and goes last where it wasn't there.
 fn put_grade(
     trail: &mut Vec<DocId>,
     grades: &mut IndexMap<u32, Option<u8>>,

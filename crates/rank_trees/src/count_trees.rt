@@ -103,7 +103,7 @@ impl CountTree {
     }
 }
 
-// How many of so many first places of a word are on.
+/// How many of so many first places of a word are on.
 fn count_of(word: u64, count: u32) -> u32
     requires { count < 64 }
     ensures count { (on : List Bool) → word ≡ number_of_bits on
@@ -113,7 +113,7 @@ fn count_of(word: u64, count: u32) -> u32
     (word & ((1u64 << count) - 1)).count_ones()
 }
 
-// The place of a word, from 0, that is on and has so many before it that are.
+/// The place of a word, from 0, that is on and has so many before it that are.
 fn nth_on(word: u64, number: u32) -> u32
     ensures place { (on : List Bool) → word ≡ number_of_bits on → length on ≤ 64
         → number < count_on on → IsNth on number result }

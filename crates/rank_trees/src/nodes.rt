@@ -7,7 +7,7 @@ use std::alloc::Global;
 use std::marker::Model;
 use std::sync::ledger::Ledger;
 
-// Numbers that nothing reads but `read` and `change`. Contracts see the list of them.
+/// Numbers that nothing reads but `read` and `change`. Contracts see the list of them.
 #[derive(Drop)]
 pub(crate) struct Nodes {
     items: Vec<u64>,
@@ -22,7 +22,7 @@ impl Model for Nodes {
 }
 
 impl Nodes {
-    // So many nodes, all 0.
+    /// So many nodes, all 0.
     pub(crate) fn new(alloc: Global, len: usize) -> Result<Nodes, Memory>
         ensures { IfOk result (λ nodes. nodes ≡ replicate len 0) }
     {
@@ -30,7 +30,7 @@ impl Nodes {
         Ok(Nodes { items })
     }
 
-    // A node, in one step.
+    /// A node, in one step.
     pub(crate) fn read<L: Ledger>(&self, node: usize, steps: &mut Steps<L>) -> u64
         requires { node < length self.now }
         ensures node { result ≡ slice_index self.now node }
@@ -40,7 +40,7 @@ impl Nodes {
         self.items[node]
     }
 
-    // Takes one number away from a node and adds another, in one step.
+    /// Takes one number away from a node and adds another, in one step.
     pub(crate) fn change<L: Ledger>(
         &mut self,
         node: usize,

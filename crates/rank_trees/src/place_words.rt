@@ -33,7 +33,7 @@ impl PlaceWords {
         Ok(PlaceWords { words })
     }
 
-    // The places from one on to the end of its word, in one step.
+    /// The places from one on to the end of its word, in one step.
     pub(crate) fn from<L: Ledger>(&self, index: u32, steps: &mut Steps<L>) -> u64
         requires { index < length self.now }
         ensures places { result ≡ number_of_bits (take (64 - index % 64) (drop index self.now)) }
@@ -64,7 +64,7 @@ impl PlaceWords {
     }
 }
 
-// The word of a place, in one step.
+/// The word of a place, in one step.
 fn word_of<L: Ledger>(words: &[u64], index: u32, steps: &mut Steps<L>) -> u64
     requires { index / 64 < length words.now }
     ensures word { result ≡ slice_index words.now (index / 64) }
@@ -74,7 +74,7 @@ fn word_of<L: Ledger>(words: &[u64], index: u32, steps: &mut Steps<L>) -> u64
     words[index as usize / 64]
 }
 
-// Whether a place of a word is on.
+/// Whether a place of a word is on.
 fn is_on(word: u64, place: u32) -> bool
     requires { place < 64 }
     ensures { result ≡ (word / 2 ^ place % 2 == 1) }
@@ -82,7 +82,7 @@ fn is_on(word: u64, place: u32) -> bool
     (word >> place) % 2 == 1
 }
 
-// A word with a place put on or off.
+/// A word with a place put on or off.
 fn with_place(word: u64, place: u32, on: bool) -> u64
     requires { place < 64 }
     ensures { (width : ℕ) → place < width

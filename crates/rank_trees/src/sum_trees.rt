@@ -10,7 +10,7 @@ use std::alloc::Global;
 use std::marker::Model;
 use std::sync::ledger::Ledger;
 
-// The sums of leaves. Contracts see the list of the leaves.
+/// The sums of leaves. Contracts see the list of the leaves.
 #[derive(Drop)]
 pub(crate) struct SumTree {
     len: u32,
@@ -30,7 +30,7 @@ impl Model for SumTree {
 }
 
 impl SumTree {
-    // Leaves numbered from 0 to the last one, all 0.
+    /// Leaves numbered from 0 to the last one, all 0.
     pub(crate) fn new(alloc: Global, last: u32) -> Result<SumTree, Memory>
         requires { last ≤ 63 }
         ensures { IfOk result (λ leaves. leaves ≡ replicate (last + 1) 0) }
@@ -44,7 +44,7 @@ impl SumTree {
         })
     }
 
-    // Takes one number away from a leaf and adds another.
+    /// Takes one number away from a leaf and adds another.
     pub(crate) fn change<L: Ledger>(
         &mut self,
         index: u32,
@@ -62,7 +62,7 @@ impl SumTree {
         change_leaf(&mut self.nodes, self.depth, index, less, more, steps);
     }
 
-    // The sum of the leaves before one.
+    /// The sum of the leaves before one.
     pub(crate) fn sum_before<L: Ledger>(&self, index: u32, steps: &mut Steps<L>) -> u64
         requires { index < length self.now }
         ensures sum { result ≡ sum (take index self.now) }
@@ -71,7 +71,7 @@ impl SumTree {
         sum_before(&self.nodes, self.depth, index, steps)
     }
 
-    // The sum of the leaves from one on.
+    /// The sum of the leaves from one on.
     pub(crate) fn sum_from<L: Ledger>(&self, index: u32, steps: &mut Steps<L>) -> u64
         requires { index < length self.now }
         ensures sum { result ≡ sum (drop index self.now) }
@@ -80,8 +80,8 @@ impl SumTree {
         self.nodes.read(1, steps) - sum_before(&self.nodes, self.depth, index, steps)
     }
 
-    // The leaf at which the sum of the leaves first exceeds a number, and what those before it
-    // leave of the number.
+    /// The leaf at which the sum of the leaves first exceeds a number, and what those before it
+    /// leave of the number.
     pub(crate) fn find<L: Ledger>(&self, number: u64, steps: &mut Steps<L>) -> Option<(u32, u64)>
         ensures leaf { MatchOption result (sum self.now ≤ number)
             (λ found. IsReached self.now number found.0 found.1) }
@@ -91,7 +91,7 @@ impl SumTree {
     }
 }
 
-// The depth at which a level has more nodes than the last leaf's number.
+/// The depth at which a level has more nodes than the last leaf's number.
 fn depth_for(last: u32) -> u32
     requires { last ≤ 63 }
     ensures depth { result ≡ levels last }
@@ -106,7 +106,7 @@ fn depth_for(last: u32) -> u32
     depth
 }
 
-// Takes one number away from a leaf and each node above it, and adds another.
+/// Takes one number away from a leaf and each node above it, and adds another.
 fn change_leaf<L: Ledger>(
     nodes: &mut Nodes,
     depth: u32,
@@ -132,8 +132,8 @@ fn change_leaf<L: Ledger>(
     }
 }
 
-// The sum of the leaves before an index, from the leaves up: where a path comes from the right,
-// what stands to its left is added.
+/// The sum of the leaves before an index, from the leaves up: where a path comes from the right,
+/// what stands to its left is added.
 fn sum_before<L: Ledger>(nodes: &Nodes, depth: u32, index: u32, steps: &mut Steps<L>) -> u64
     requires sums { AreNodeSums depth nodes.now }
     requires within { index < 2 ^ depth }
@@ -153,8 +153,8 @@ fn sum_before<L: Ledger>(nodes: &Nodes, depth: u32, index: u32, steps: &mut Step
     sum
 }
 
-// The leaf at which the sum of the leaves first exceeds a number, from the root down, and what
-// those before it leave of the number.
+/// The leaf at which the sum of the leaves first exceeds a number, from the root down, and what
+/// those before it leave of the number.
 fn find_leaf<L: Ledger>(
     nodes: &Nodes,
     depth: u32,

@@ -82,7 +82,7 @@ impl WeightTree {
     }
 }
 
-// What a place weighs where it is on, and 0 where it is off.
+/// What a place weighs where it is on, and 0 where it is off.
 fn weight_if(on: bool, place: u32) -> u64
     requires { 1 ≤ place }
     ensures weight { result ≡ (if on then weight place else 0) }
@@ -91,7 +91,7 @@ fn weight_if(on: bool, place: u32) -> u64
     if on { weight(place) } else { 0 }
 }
 
-// What so many first places of a word weigh that are on, where the word begins at a place.
+/// What so many first places of a word weigh that are on, where the word begins at a place.
 fn weights_of(word: u64, first: u32, count: u32) -> u64
     requires from_one { 1 ≤ first }
     requires few { first ≤ 1000 }

@@ -17,7 +17,7 @@ fn is_same(core: &EntryCore, other: &EntryCore) -> bool {
         && core.command.is_same(&other.command)
 }
 
-// Whether the bytes are a payload of these entries, each line of which spells one.
+/// Whether the bytes are a payload of these entries, each line of which spells one.
 fn are_read(alloc: Global, bytes: &[u8], entries: &str) -> Result<bool, Fail> {
     let cores = read_payload(alloc, bytes).ok().ok_or("a payload")?;
     let mut left = cores.iter();
@@ -67,8 +67,8 @@ fn a_bundle_that_is_cut_is_none(rt: HostRuntime) -> Result<(), Fail> {
     Ok(())
 }
 
-// The front of a bundle, an assessor's Lease the first of its entries, and behind it so many
-// Grades.
+/// The front of a bundle, an assessor's Lease the first of its entries, and behind it so many
+/// Grades.
 fn with_grades(alloc: Global, front: &str, grades: u32) -> Result<Vec<u8>, Fail> {
     let mut bytes = hex::decode(alloc, front)?;
     for _ in 0..grades {

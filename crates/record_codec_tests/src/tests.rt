@@ -7,7 +7,7 @@ use rulebook::{Caller, Command, EntryCore, Role};
 use std::alloc::Global;
 use std::test::Fail;
 
-// p's grade 2 of lease 1 under number 7, at moment 1000.
+/// p's grade 2 of lease 1 under number 7, at moment 1000.
 const GRADE: [u8; 26] = *b"\x01p\x03\x01\x07\0\0\0\0\0\0\0\xe8\x03\0\0\0\0\0\0\x06\x01\0\0\0\x02";
 
 fn is_command(command: &Command, name: &str) -> bool {
@@ -27,7 +27,7 @@ fn is_command(command: &Command, name: &str) -> bool {
     own == name
 }
 
-// Whether bytes are read as this command and written as they were.
+/// Whether bytes are read as this command and written as they were.
 fn is_read(alloc: Global, bytes: &[u8], name: &str) -> bool {
     let Ok(core) = read_entry(alloc, bytes) else {
         return false;
@@ -99,7 +99,7 @@ fn a_spelling_is_appended(rt: HostRuntime) -> Result<(), Fail> {
     Ok(())
 }
 
-// The digits of a number below 1,000, the highest first.
+/// The digits of a number below 1,000, the highest first.
 fn digits(number: u32) -> [u8; 3] {
     [
         b'0' + (number / 100 % 10) as u8,
@@ -108,8 +108,8 @@ fn digits(number: u32) -> [u8; 3] {
     ]
 }
 
-// Bytes, and behind them a count of so many short texts, which differ and ascend below 1,001 of
-// them.
+/// Bytes, and behind them a count of so many short texts, which differ and ascend below 1,001 of
+/// them.
 fn with_texts(alloc: Global, front: &str, count: u32) -> Result<Vec<u8>, Fail> {
     let mut bytes = hex::decode(alloc, front)?;
     bytes.extend_from_slice(&count.to_le_bytes())?;
@@ -121,7 +121,7 @@ fn with_texts(alloc: Global, front: &str, count: u32) -> Result<Vec<u8>, Fail> {
     Ok(bytes)
 }
 
-// Bytes, then a long text of so many spaces, then other bytes.
+/// Bytes, then a long text of so many spaces, then other bytes.
 fn with_spaces(alloc: Global, front: &str, count: u16, back: &[u8]) -> Result<Vec<u8>, Fail> {
     let mut bytes = hex::decode(alloc, front)?;
     bytes.extend_from_slice(&count.to_le_bytes())?;

@@ -65,7 +65,7 @@ fn write_body(out: &mut Vec<u8>, answer: &Answered) -> Result<(), Memory>
     }
 }
 
-// The text of an answer that is a page.
+/// The text of an answer that is a page.
 fn page_of(answer: &Answered) -> Option<&[u8]>
     ensures { MatchOption result (is_json answer.now ≡ true) (λ page. IsPage answer.now page.now) }
 {
@@ -91,8 +91,8 @@ fn page_in(reply: &Reply) -> Option<&[u8]>
     }
 }
 
-// Appends the text of an answer whose body is JSON. The body is written once, and the head, which
-// has its length, is put in front of it.
+/// Appends the text of an answer whose body is JSON. The body is written once, and the head, which
+/// has its length, is put in front of it.
 #[tactic(auto, unfolding(crate::specs::Answers::text_of))]
 fn write_object(answer: &Answered, close: bool, out: &mut Vec<u8>) -> Result<(), Memory>
     requires { is_json answer.now ≡ true }

@@ -88,7 +88,7 @@ impl Drop for AskReader {
     }
 }
 
-// What is kept of a body of which nothing came so far: nothing of a GET.
+/// What is kept of a body of which nothing came so far: nothing of a GET.
 fn begin_body(alloc: Global, place: Route) -> Result<Body, Memory>
     ensures { IfOk result (BeginsBody place) }
 {
@@ -98,7 +98,7 @@ fn begin_body(alloc: Global, place: Route) -> Result<Body, Memory>
     }
 }
 
-// The same at a POST: a run's body goes to its reader, and another one is gathered.
+/// The same at a POST: a run's body goes to its reader, and another one is gathered.
 fn begin_posted(alloc: Global, place: Route) -> Result<Body, Memory>
     ensures { IfOk result (BeginsBody place) }
 {
@@ -109,7 +109,7 @@ fn begin_posted(alloc: Global, place: Route) -> Result<Body, Memory>
     }
 }
 
-// The reader of a run of which nothing came so far.
+/// The reader of a run of which nothing came so far.
 #[inline(never)]
 fn begin_run(alloc: Global) -> Result<Box<RunReader>, Memory>
     ensures after { IfOk result (λ reader. IsAfter [] reader.value) }
@@ -137,7 +137,7 @@ fn begin_opened(alloc: Global, opening: &Opening, path: &[u8]) -> Result<Opened,
     })
 }
 
-// What a head comes to.
+/// What a head comes to.
 fn begin<'a>(
     alloc: Global,
     paths: &'a Paths,
@@ -157,7 +157,7 @@ fn begin<'a>(
     }
 }
 
-// Keeps a piece of a body.
+/// Keeps a piece of a body.
 fn keep(body: &mut Body, piece: &[u8]) -> Result<(), Memory>
     requires { BodyHasRoom body.old (length piece.now) }
     ensures kept { OnOk result ((told : List ℕ) → KeepsBody told body.old
@@ -177,7 +177,7 @@ fn keep(body: &mut Body, piece: &[u8]) -> Result<(), Memory>
     }
 }
 
-// Reads a piece of the body, where the head has no fault.
+/// Reads a piece of the body, where the head has no fault.
 fn read_on(progress: &mut AskProgress, piece: &[u8]) -> Result<(), Memory>
     requires { MayGo progress.old (length piece.now) }
     ensures ok { OnOk result ((opening : Result SeenOpening RouteFault) (path body : List ℕ)
@@ -201,7 +201,7 @@ fn read_on(progress: &mut AskProgress, piece: &[u8]) -> Result<(), Memory>
     }
 }
 
-// What is asked at a row, by what is kept of the body.
+/// What is asked at a row, by what is kept of the body.
 fn ask_of(alloc: Global, place: Route, text: &[u8], body: Body) -> Result<Ask, RouteFault>
     requires known { IsRow place }
     requires fitting { IsTrue (fits place.parameter text.now) }
@@ -218,7 +218,7 @@ fn ask_of(alloc: Global, place: Route, text: &[u8], body: Body) -> Result<Ask, R
     }
 }
 
-// What a request is read as whose body is whole.
+/// What a request is read as whose body is whole.
 fn end_opened(alloc: Global, opened: Opened) -> Result<(Caller, Option<u64>, Ask), RouteFault>
     requires addressable { IsAddressable opened }
     requires few { IsFew 16777216 opened.body }

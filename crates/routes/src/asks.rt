@@ -22,7 +22,7 @@ use rulebook::{Ask, Caller, Command, Query};
 use std::alloc::Global;
 use trec_formats::{FormatEnd, RunReader, read_topics};
 
-// The fault of a text that isn't of its format.
+/// The fault of a text that isn't of its format.
 fn fault_of(end: FormatEnd) -> RouteFault
     ensures { result ≡ fault_of end }
 {
@@ -68,7 +68,7 @@ pub(crate) fn ask_run(alloc: Global, run: &[u8], reader: RunReader) -> Result<As
     }
 }
 
-// The command of an empty body.
+/// The command of an empty body.
 fn with_nothing(body: &[u8], command: Command) -> Result<Ask, RouteFault>
     ensures { IsRead (λ told. told ≡ with_nothing body.now (Act command)) result }
 {

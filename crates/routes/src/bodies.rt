@@ -20,7 +20,7 @@ pub(crate) struct Judgement {
     pub(crate) grade: u8,
 }
 
-// The value of a JSON text.
+/// The value of a JSON text.
 #[tactic(auto, using(crate::proofs::JsonBodies::TextMatches::value_read, crate::proofs::JsonBodies::TextMatches::no_value))]
 fn read_json(alloc: Global, body: &[u8]) -> Result<Option<Value>, Memory>
     ensures { IfOk result (λ found. option_map view found ≡ json_of body.now) }

@@ -25,7 +25,7 @@ pub(crate) struct Opening<'a> {
     pub(crate) number: Option<u64>,
 }
 
-// The row of a path whose parameter fits.
+/// The row of a path whose parameter fits.
 #[tactic(auto, using(crate::proofs::JsonBodies::TextMatches::is_text, crate::proofs::JsonBodies::TextMatches::is_no_text))]
 fn find_place(paths: &Paths, path: &[u8]) -> Result<Route, RouteFault>
     ensures place { GivesOrFaults (λ place. place) result (route_of path.now) }
@@ -74,7 +74,7 @@ fn row_of_key<'a>(keys: &'a Keys, key: &[u8]) -> Result<&'a KeyRow, RouteFault>
     }
 }
 
-// The row of the one key of the fields.
+/// The row of the one key of the fields.
 fn find_row<'a>(keys: &'a Keys, fields: &[HttpField]) -> Result<&'a KeyRow, RouteFault>
     ensures row { GivesOrFaults (λ row. row.now) result
         (row_at keys.now (values_named (codes "x-campaign-key") fields.now)) }
@@ -118,7 +118,7 @@ fn with_number(text: &[u8]) -> Result<Option<u64>, RouteFault>
     }
 }
 
-// The one number of the fields, or none.
+/// The one number of the fields, or none.
 fn find_number(fields: &[HttpField]) -> Result<Option<u64>, RouteFault>
     ensures number { result ≡ number_in_fields fields.now }
     ensures small { IfOk result (λ number. IsTrue (is_number number)) }

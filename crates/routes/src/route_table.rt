@@ -115,7 +115,7 @@ static ROWS: [Row; 18] = [
     ),
 ];
 
-// Adds a path as a route that conflicts with none.
+/// Adds a path as a route that conflicts with none.
 fn add_row(router: &mut Router<Route>, path: &str, place: Route) -> Result<(), Memory>
     requires { IsTrue (is_free_route (parse_route path.now) router.old) }
     ensures { OnOk result (router.new ≡ with_row_route router.old (path.now, place)) }
@@ -130,7 +130,7 @@ fn add_row(router: &mut Router<Route>, path: &str, place: Route) -> Result<(), M
     }
 }
 
-// Adds the paths of some rows as routes, in their order.
+/// Adds the paths of some rows as routes, in their order.
 fn add_rows(router: &mut Router<Route>, rows: &[Row]) -> Result<(), Memory>
     requires { IsTrue (are_free router.old
         (map (λ row. (row.0.now, route_at row.1 row.2 row.3 row.4)) rows.now)) }
@@ -176,6 +176,7 @@ impl Drop for Paths {
 }
 
 impl Paths {
+    /// The paths of the whole table.
     pub fn new(alloc: Global) -> Result<Paths, Memory>
         ensures { IfOk result (λ paths. paths ≡ table) }
     {

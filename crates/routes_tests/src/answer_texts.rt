@@ -77,7 +77,7 @@ fn refused(refusal: Refusal) -> Answered {
     }
 }
 
-// Each refusal with the answer's status and body.
+/// Each refusal with the answer's status and body.
 const REFUSALS: [(Refusal, &str, &str); 8] = [
     (
         Refusal::NothingLeft,

@@ -21,7 +21,7 @@ fn tell_number(told: &mut Vec<u8>, number: u32) -> Result<(), Memory> {
     tell(told, digits.format(number).as_bytes())
 }
 
-// The number of a command behind a mark, where it has one.
+/// The number of a command behind a mark, where it has one.
 fn tell_numbered(told: &mut Vec<u8>, number: Option<u64>) -> Result<(), Memory> {
     let Some(number) = number else {
         return Ok(());
@@ -147,7 +147,7 @@ fn feed_bytes(reader: &mut AskReader, bytes: &[u8]) -> Result<(), Memory>
     Ok(())
 }
 
-// What a request is read as whose body comes in pieces of one byte.
+/// What a request is read as whose body comes in pieces of one byte.
 fn read_in_bytes(
     alloc: Global,
     request: HttpRequest,

@@ -8,7 +8,7 @@ use std::alloc::Global;
 use std::process::Abort;
 use std::test::Fail;
 
-// Bodies of topics and of runs.
+/// Bodies of topics and of runs.
 const TEXTS: &str =
     r#"POST /topics o - <top>|<num> Number: 401|<title> pooling|</top>| => org topics 401 pooling
 POST /topics o - <top>| => {"kind":"tag","line":2,"refusal":"format"}
@@ -22,7 +22,7 @@ POST /runs/X g - 1 Q0 ^ 1 3 X| => {"kind":"docno","line":1,"refusal":"format"}
 POST /runs/X g - 1~Q0~~a 1~3 X => grp submit X 1 1 a
 POST /runs/X g - - => {"kind":"empty","line":0,"refusal":"format"}"#;
 
-// Bodies that are objects, and some that have to be empty.
+/// Bodies that are objects, and some that have to be empty.
 const OBJECTS: &str = r#"POST /leases/1/grade a - {"grade":2} => ann grade 1 2
 POST /leases/1/grade a - {"gr\u0061de":2} => ann grade 1 2
 POST /leases/1/grade a - {"grade":300,"grade":2} => ann grade 1 2
@@ -41,7 +41,7 @@ POST /topics/1/rule o - {"grade":255,"doc":"a\"b"} => org rule 1 a"b 255
 POST /open o - x => {"fault":"body"}
 POST /runs/X/withdraw g - x => {"fault":"body"}"#;
 
-// Paths with their parameters and methods.
+/// Paths with their parameters and methods.
 const PATHS: &str = r#"POST /open o - - => org open
 POST /topics/1/lease a - - => ann lease 1
 POST /leases/0/release a - - => ann release 0
@@ -69,7 +69,7 @@ GET /releases/4294967296/qrels o - - => {"fault":"route"}
 GET /releases/1 o - - => {"fault":"route"}
 PUT /open - - - => {"fault":"method"}"#;
 
-// Keys, roles and numbers.
+/// Keys, roles and numbers.
 const CALLERS: &str = r#"GET /topics/1/pool g - - => {"fault":"role"}
 POST /runs/X/withdraw a - - => {"fault":"role"}
 POST /publish g - - => {"fault":"role"}
@@ -90,7 +90,7 @@ POST /open o +1 - => {"fault":"number"}
 POST /open o 1,1 - => {"fault":"number"}
 GET /qrels o 1,x - => org qrels"#;
 
-// Tries each row, read whole and in pieces.
+/// Tries each row, read whole and in pieces.
 fn try_rows(rt: &impl Abort, alloc: Global, rows: &str) -> Result<(), Fail> {
     let keys = keys(alloc)?;
     for row in rows.lines() {
@@ -125,7 +125,7 @@ fn a_caller_has_a_key_a_role_and_a_number(rt: HostRuntime) -> Result<(), Fail> {
     try_rows(&rt, rt.alloc(), CALLERS)
 }
 
-// A run of one line, whose second field has so many bytes.
+/// A run of one line, whose second field has so many bytes.
 fn long_run(alloc: Global, count: usize) -> Result<Text, Memory> {
     let mut bytes = Vec::new(alloc);
     bytes.extend_from_slice(b"1 ")?;

@@ -11,7 +11,7 @@ fn field(alloc: Global, name: &[u8], value: &[u8]) -> Result<HttpField, Memory> 
     })
 }
 
-// Adds a field for each of these values, which commas part; a minus is none.
+/// Adds a field for each of these values, which commas part; a minus is none.
 fn add_fields<'x>(
     alloc: Global,
     fields: &mut Vec<HttpField>,
@@ -26,7 +26,7 @@ fn add_fields<'x>(
     Ok(())
 }
 
-// The fields of these keys and numbers.
+/// The fields of these keys and numbers.
 fn fields(alloc: Global, keys: &str, numbers: &str) -> Result<Rows<HttpField>, Memory> {
     let mut fields = Vec::new(alloc);
     add_fields(alloc, &mut fields, b"X-Campaign-Key", keys)?;
@@ -34,7 +34,7 @@ fn fields(alloc: Global, keys: &str, numbers: &str) -> Result<Rows<HttpField>, M
     Ok(Rows::new(fields))
 }
 
-// The byte for which one of a body's column stands.
+/// The byte for which one of a body's column stands.
 fn meant(byte: u8) -> u8 {
     match byte {
         b'|' => b'\n',
@@ -44,7 +44,7 @@ fn meant(byte: u8) -> u8 {
     }
 }
 
-// The lines of a body, which bars end; a minus is no body.
+/// The lines of a body, which bars end; a minus is no body.
 fn body(alloc: Global, lines: &str) -> Result<Text, Memory> {
     let mut bytes = Vec::new(alloc);
     if lines == "-" {

@@ -5,8 +5,8 @@ use http_wire::{HttpHead, Step, Wire, WireFault, find_named, write_answer};
 use std::alloc::Global;
 use std::test::Fail;
 
-// A head, its lines cut by `|`, and what is told of its bytes; a full stop is that the request is
-// whole.
+/// A head, its lines cut by `|`, and what is told of its bytes; a full stop is that the request is
+/// whole.
 const MESSAGES: &str = "\
 GET /a HTTP/1.1|Host: h| => GET /a.
 GET /a HTTP/1.1|Content-Length: 0|content-length: 0| => 400
@@ -81,7 +81,7 @@ fn each_message_is_a_request_or_its_fault(rt: HostRuntime) -> Result<(), Fail> {
     Ok(())
 }
 
-// Two requests, one behind the other.
+/// Two requests, one behind the other.
 const TWO_REQUESTS: &str = "\
 POST /runs/X HTTP/1.1\r
 Host: h\r
@@ -97,7 +97,7 @@ Host: h
 
 ";
 
-// Tells the requests and the pieces that are there.
+/// Tells the requests and the pieces that are there.
 fn tell_requests(wire: &mut Wire, told: &mut Vec<u8>) -> Result<(), Fail> {
     for _ in 0..7 {
         let step = wire.next()?;

@@ -65,14 +65,17 @@ pub fn limits_are_the_rules()
     ensures { LimitsAreTheRules }
 {}
 
+/// A legal list has at most `MAX_ENTRIES` entries.
 pub fn entries_are_few()
     ensures { EntriesAreFew }
 {}
 
+/// A legal list has at most `MAX_RUNS` runs.
 pub fn runs_are_few()
     ensures { RunsAreFew }
 {}
 
+/// The moments of a legal list are at most `MAX_MOMENT`.
 pub fn moments_are_in_time()
     ensures { MomentsAreInTime }
 {}

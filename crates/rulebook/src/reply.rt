@@ -88,6 +88,7 @@ pub enum Reply {
 }
 
 impl Reply {
+    /// A copy of all that is told.
     pub fn copy(&self, alloc: Global) -> Result<Reply, Memory>
         ensures { IfOk result (λ copy. copy ≡ self.now) }
     {

@@ -19,6 +19,7 @@ pub struct Caller {
 }
 
 impl Caller {
+    /// A copy of the name and the role.
     pub fn copy(&self) -> Result<Caller, Memory>
         ensures { IfOk result (λ copy. copy ≡ self.now) }
     {

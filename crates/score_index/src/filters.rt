@@ -9,9 +9,9 @@ use std::alloc::Global;
 use std::marker::Model;
 use std::sync::ledger::Ledger;
 
-// Bits, of which a document has the one whose place is the remainder of its number by how many
-// there are. Of the documents that weren't admitted, those that share their bits with one that was
-// pass too.
+/// Bits, of which a document has the one whose place is the remainder of its number by how many
+/// there are. Of the documents that weren't admitted, those that share their bits with one that was
+/// pass too.
 #[derive(Drop)]
 pub(crate) struct Filter {
     count: u32,
@@ -30,7 +30,7 @@ impl Model for Filter {
 }
 
 impl Filter {
-    // A filter for so many documents, with 32 bits for each. It admits none.
+    /// A filter for so many documents, with 32 bits for each. It admits none.
     pub(crate) fn new(alloc: Global, docs: u32) -> Result<Filter, Memory>
         requires { docs ≤ 1000 }
     {
@@ -41,7 +41,7 @@ impl Filter {
         })
     }
 
-    // Admits a document from now on.
+    /// Admits a document from now on.
     pub(crate) fn admit<L: Ledger>(&mut self, doc: DocId, steps: &mut Steps<L>)
         ensures admitted { admits self.new doc ≡ true }
         ensures others { (other : OneDoc) → admits self.old other ≡ true
@@ -50,7 +50,7 @@ impl Filter {
         self.bits.put(doc.0 % self.count, true, steps);
     }
 
-    // Whether a document passes, in one step: each that was admitted does.
+    /// Whether a document passes, in one step: each that was admitted does.
     pub(crate) fn admits<L: Ledger>(&self, doc: DocId, steps: &mut Steps<L>) -> bool
         ensures admits { result ≡ admits self.now doc }
         ensures cost { steps.new ≡ steps.old + 1 }
@@ -59,7 +59,7 @@ impl Filter {
     }
 }
 
-// Admits the documents of a ranking.
+/// Admits the documents of a ranking.
 pub(crate) fn admit_all<L: Ledger>(filter: &mut Filter, ranking: &Ranking, steps: &mut Steps<L>)
     ensures { AdmitsAll filter.new ranking.now }
 {

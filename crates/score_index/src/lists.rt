@@ -23,11 +23,12 @@ use std::cmp::Ordering;
 use std::marker::Model;
 use std::sync::ledger::{Blank, Ledger};
 
-// A run's list on a topic, with a filter that admits its documents, and with what its cell is taken
-// from: its places, its sums, and how many of the topic's documents are relevant and judged lower.
-//
-// What each change of a grade reads stands together, since a list that doesn't have the document
-// reads no more.
+/// A run's list on a topic, with a filter that admits its documents, and with what its cell is
+/// taken from: its places, its sums, and how many of the topic's documents are relevant and judged
+/// lower.
+///
+/// What each change of a grade reads stands together, since a list that doesn't have the document
+/// reads no more.
 #[derive(Drop)]
 pub(crate) struct RunList {
     filter: Filter,
@@ -60,8 +61,8 @@ impl Model for RunList {
 }
 
 impl RunList {
-    // The list of a run in a room for it, with the grades of a view, where the topic has these
-    // counts.
+    /// The list of a run in a room for it, with the grades of a view, where the topic has these
+    /// counts.
     pub(crate) fn listed<L: Ledger>(
         run: RunId,
         ranking: Ranking,
@@ -105,7 +106,7 @@ impl RunList {
         }
     }
 
-    // Gives a document of the topic another mark, where the topic has these counts then.
+    /// Gives a document of the topic another mark, where the topic has these counts then.
     pub(crate) fn regrade<L: Ledger>(
         &mut self,
         doc: DocId,
@@ -128,7 +129,7 @@ impl RunList {
         }
     }
 
-    // The place of a document, from 1. It is looked for where the filter admits the document.
+    /// The place of a document, from 1. It is looked for where the filter admits the document.
     fn place_of<L: Ledger>(&self, doc: DocId, steps: &mut Steps<L>) -> Option<u32>
         ensures place { result ≡ place_in self.now.docs doc }
         ensures cost { steps.new ≤ steps.old + levels (length self.now.docs) + 2 }
@@ -139,7 +140,7 @@ impl RunList {
         self.ranking.place_of(doc, steps)
     }
 
-    // Gives a place another mark, where the topic has these counts then.
+    /// Gives a place another mark, where the topic has these counts then.
     fn remark<L: Ledger>(
         &mut self,
         place: u32,
@@ -159,7 +160,7 @@ impl RunList {
         self.cell = cell_from(&self.trees, self.sums, counts, steps);
     }
 
-    // Follows the counts of the topic, where another document's mark changed.
+    /// Follows the counts of the topic, where another document's mark changed.
     fn follow<L: Ledger>(&mut self, counts: Counts, steps: &mut Steps<L>)
         requires counts { CanFollow counts.relevant counts.non_relevant self.old }
         ensures list { self.new ≡ list_recounted counts.relevant counts.non_relevant self.old }
@@ -184,14 +185,14 @@ fn is_of(list: &RunList, run: RunId) -> bool
     list.run.0 == run.0
 }
 
-// How a list's run stands to a run.
+/// How a list's run stands to a run.
 fn order_of(list: &RunList, run: RunId) -> Ordering
     ensures { result ≡ nat_cmp list.now.run.0 run.0 }
 {
     list.run.0.cmp(&run.0)
 }
 
-// The list of a run, among lists by run.
+/// The list of a run, among lists by run.
 pub(crate) fn list_of(lists: &[RunList], run: RunId) -> Option<&RunList>
     requires { AreByRun lists.now }
     ensures { option_copied result ≡ find (is_of_run run) lists.now }
@@ -202,14 +203,14 @@ pub(crate) fn list_of(lists: &[RunList], run: RunId) -> Option<&RunList>
     }
 }
 
-// Whether a list's run is less than a run.
+/// Whether a list's run is less than a run.
 fn is_before(list: &RunList, run: RunId) -> bool
     ensures { result ≡ nat_lt list.now.run.0 run.0 }
 {
     list.run.0 < run.0
 }
 
-// The place of one more list among lists by run.
+/// The place of one more list among lists by run.
 pub(crate) fn place_for(lists: &[RunList], run: RunId) -> usize
     requires { AreByRun lists.now }
     ensures within { result ≤ length lists.now }
@@ -219,7 +220,7 @@ pub(crate) fn place_for(lists: &[RunList], run: RunId) -> usize
     lists.partition_point(|list| is_before(list, run))
 }
 
-// Takes the lists of a run out.
+/// Takes the lists of a run out.
 pub(crate) fn drop_lists(lists: &mut Vec<RunList>, run: RunId)
     ensures items { lists.new.items ≡ without run lists.old.items }
     ensures len { vec_len lists.new ≤ vec_len lists.old }
@@ -228,7 +229,7 @@ pub(crate) fn drop_lists(lists: &mut Vec<RunList>, run: RunId)
     lists.retain(|list| !is_of(list, run));
 }
 
-// Gives a document of the topic another mark in each list.
+/// Gives a document of the topic another mark in each list.
 pub(crate) fn regrade_lists<L: Ledger>(
     lists: &mut [RunList],
     doc: DocId,
@@ -250,7 +251,7 @@ pub(crate) fn regrade_lists<L: Ledger>(
     }
 }
 
-// Marks each place by the grade of its document.
+/// Marks each place by the grade of its document.
 fn mark_places<L: Ledger>(
     trees: &mut Trees,
     ranking: &Ranking,

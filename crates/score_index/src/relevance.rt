@@ -5,7 +5,7 @@ ghost use Rattle.score_index.specs.KeptSums.{is_lower_standing, is_relevant_stan
 
 use decimal_rank::{is_non_relevant, is_relevant};
 
-// What the grade of a document makes of it.
+/// What the grade of a document makes of it.
 #[derive(Clone, Copy, Debug, PartialEq, Eq)]
 pub(crate) enum Relevance {
     Relevant,

@@ -7,7 +7,7 @@ use crate::trees::Trees;
 use decimal_rank::Memory;
 use std::alloc::Global;
 
-// The places and the filter of a list that is added later: no place is judged.
+/// The places and the filter of a list that is added later: no place is judged.
 #[derive(Drop)]
 pub(crate) struct Room {
     pub(crate) trees: Trees,
@@ -15,7 +15,7 @@ pub(crate) struct Room {
 }
 
 impl Room {
-    // Room for a list of so many documents.
+    /// Room for a list of so many documents.
     pub(crate) fn new(alloc: Global, len: u32) -> Result<Room, Memory>
         requires { len ≤ 1000 }
         ensures relevant { IfOk result (λ room. room.trees.relevant ≡ replicate len false) }
@@ -27,7 +27,7 @@ impl Room {
     }
 }
 
-// Takes a room for a list of this length out.
+/// Takes a room for a list of this length out.
 pub(crate) fn take_room(rooms: &mut Vec<Room>, len: usize) -> Room
     requires room { 0 < count_by (λ room. room == len) (map room_size rooms.old.items) }
     requires fresh { All (λ room. IsRoom room.trees) rooms.old.items }
@@ -43,7 +43,7 @@ pub(crate) fn take_room(rooms: &mut Vec<Room>, len: usize) -> Room
     rooms.remove(place)
 }
 
-// The place of the first room for a list of this length.
+/// The place of the first room for a list of this length.
 fn room_for(rooms: &[Room], len: usize) -> Option<usize>
     ensures { result ≡ position (λ room. room_size room == len) rooms.now }
 {

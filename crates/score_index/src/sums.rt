@@ -17,8 +17,8 @@ use measures::{CUTOFFS, Cell, bpref_den};
 use qrels_view::Counts;
 use std::sync::ledger::Ledger;
 
-// How many places are relevant, in all and within each cutoff; the sum of precisions; and the sum
-// of what each relevant place has left of the cap.
+/// How many places are relevant, in all and within each cutoff; the sum of precisions; and the sum
+/// of what each relevant place has left of the cap.
 #[derive(Clone, Copy, Debug)]
 pub(crate) struct Sums {
     pub(crate) rel_ret: u32,
@@ -27,14 +27,14 @@ pub(crate) struct Sums {
     pub(crate) preferences: u64,
 }
 
-// The cap of a topic with these counts.
+/// The cap of a topic with these counts.
 pub(crate) fn cap_of(counts: Counts) -> u32
     ensures { result ≡ min counts.relevant counts.non_relevant }
 {
     counts.relevant.min(counts.non_relevant)
 }
 
-// The sums of a list of which nothing is judged.
+/// The sums of a list of which nothing is judged.
 pub(crate) fn no_sums() -> Sums
     ensures { (cap : ℕ) (places : Places) → IsRoom places → length places.relevant ≤ 1000
         → AreSums cap places result }
@@ -47,7 +47,7 @@ pub(crate) fn no_sums() -> Sums
     }
 }
 
-// The sums after a place becomes relevant, or no longer is; in the trees it isn't.
+/// The sums after a place becomes relevant, or no longer is; in the trees it isn't.
 fn moved_relevant<L: Ledger>(
     trees: &Trees,
     sums: Sums,
@@ -81,7 +81,7 @@ fn moved_relevant<L: Ledger>(
     }
 }
 
-// The sums after a place becomes judged lower, or no longer is; in the trees it is.
+/// The sums after a place becomes judged lower, or no longer is; in the trees it is.
 fn moved_lower<L: Ledger>(
     trees: &Trees,
     sums: Sums,
@@ -105,7 +105,7 @@ fn moved_lower<L: Ledger>(
     with_preferences(sums, sums.preferences + past)
 }
 
-// The sums after the cap moved, by one at most.
+/// The sums after the cap moved, by one at most.
 fn with_cap<L: Ledger>(trees: &Trees, sums: Sums, from: u32, to: u32, steps: &mut Steps<L>) -> Sums
     requires caps { AreNear from to }
     requires sums { AreSums from trees.now sums }
@@ -123,7 +123,7 @@ fn with_cap<L: Ledger>(trees: &Trees, sums: Sums, from: u32, to: u32, steps: &mu
     sums
 }
 
-// Has the sums follow the cap, which moves by one at most. Where it stays they aren't touched.
+/// Has the sums follow the cap, which moves by one at most. Where it stays they aren't touched.
 pub(crate) fn follow_cap<L: Ledger>(
     trees: &Trees,
     sums: &mut Sums,
@@ -150,7 +150,7 @@ fn with_preferences(sums: Sums, preferences: u64) -> Sums
     moved
 }
 
-// A count within a cutoff after a place is counted, or no longer is, where it is within it.
+/// A count within a cutoff after a place is counted, or no longer is, where it is within it.
 fn moved_count(count: u32, place: u32, cutoff: u32, on: bool) -> u32
     requires { count ≤ 1000 }
     ensures { result ≡ (if on then count + as_number (nat_le place cutoff) else count - as_number
@@ -163,7 +163,7 @@ fn moved_count(count: u32, place: u32, cutoff: u32, on: bool) -> u32
     count.saturating_sub(here)
 }
 
-// The counts within all cutoffs after that.
+/// The counts within all cutoffs after that.
 fn moved_counts(at: [u32; 9], place: u32, on: bool) -> [u32; 9]
     requires { (i : ℕ) → i < 9 → slice_index at i ≤ 1000 }
     ensures { (counts : ℕ → ℕ)
@@ -183,7 +183,7 @@ fn moved_counts(at: [u32; 9], place: u32, on: bool) -> [u32; 9]
     ]
 }
 
-// Takes the mark of a place away.
+/// Takes the mark of a place away.
 pub(crate) fn take_mark<L: Ledger>(
     trees: &mut Trees,
     sums: Sums,
@@ -214,7 +214,7 @@ pub(crate) fn take_mark<L: Ledger>(
     }
 }
 
-// Gives a place, which is not judged, a mark.
+/// Gives a place, which is not judged, a mark.
 pub(crate) fn put_mark<L: Ledger>(
     trees: &mut Trees,
     sums: Sums,
@@ -247,7 +247,7 @@ pub(crate) fn put_mark<L: Ledger>(
     }
 }
 
-// Gives a place another mark, while the cap moves by one at most.
+/// Gives a place another mark, while the cap moves by one at most.
 pub(crate) fn remark<L: Ledger>(
     trees: &mut Trees,
     sums: Sums,
@@ -271,7 +271,7 @@ pub(crate) fn remark<L: Ledger>(
     with_cap(trees, put, caps.0, caps.1, steps)
 }
 
-// The cell of a list whose topic has these counts.
+/// The cell of a list whose topic has these counts.
 pub(crate) fn cell_from<L: Ledger>(
     trees: &Trees,
     sums: Sums,
@@ -290,8 +290,8 @@ pub(crate) fn cell_from<L: Ledger>(
     cell_with(trees, sums, r_prec, first, counts)
 }
 
-// Has the cell of a list whose places stay follow the topic's counts, of which that of the relevant
-// documents moves by one at most.
+/// Has the cell of a list whose places stay follow the topic's counts, of which that of the
+/// relevant documents moves by one at most.
 pub(crate) fn follow_counts<L: Ledger>(
     trees: &Trees,
     sums: &Sums,
@@ -315,7 +315,7 @@ pub(crate) fn follow_counts<L: Ledger>(
     cell.bpref_den = bpref_den(counts.relevant, counts.non_relevant);
 }
 
-// How many of so many first places are relevant, after that number moved by one at most.
+/// How many of so many first places are relevant, after that number moved by one at most.
 fn moved_r_prec<L: Ledger>(
     trees: &Trees,
     r_prec: u32,

@@ -20,8 +20,8 @@ use qrels_view::Counts;
 use std::alloc::Global;
 use std::sync::ledger::Ledger;
 
-// A topic: the grade from which on a document is relevant, how many documents are relevant, how
-// many have a grade and aren't, the cell of a run that has no list, and the runs' lists.
+/// A topic: the grade from which on a document is relevant, how many documents are relevant, how
+/// many have a grade and aren't, the cell of a run that has no list, and the runs' lists.
 #[derive(Drop)]
 pub(crate) struct ScoredTopic {
     pub(crate) level: u8,
@@ -31,7 +31,7 @@ pub(crate) struct ScoredTopic {
     pub(crate) lists: Vec<RunList>,
 }
 
-// Topics of these levels, without grades and lists.
+/// Topics of these levels, without grades and lists.
 pub(crate) fn new_topics(alloc: Global, levels: &[u8]) -> Result<Vec<ScoredTopic>, Memory>
     ensures empties { IfOk result (λ topics. All HasEmptyCell topics.items) }
     ensures topics { IfOk result
@@ -56,7 +56,7 @@ fn new_topic(alloc: Global, level: u8) -> ScoredTopic
     }
 }
 
-// Makes room for so many more lists on each topic.
+/// Makes room for so many more lists on each topic.
 pub(crate) fn reserve_lists(topics: &mut [ScoredTopic], count: usize) -> Result<(), Memory>
     ensures seen { map topic_scores topics.new ≡ map topic_scores topics.old }
     ensures room { OnOk result (All (λ topic. count ≤ spare topic) topics.new) }
@@ -68,7 +68,7 @@ pub(crate) fn reserve_lists(topics: &mut [ScoredTopic], count: usize) -> Result<
     Ok(())
 }
 
-// Adds a list, at the place of its run.
+/// Adds a list, at the place of its run.
 pub(crate) fn add_list(topic: &mut ScoredTopic, list: RunList)
     requires room { 1 ≤ spare topic.old }
     requires by_run { AreByRun topic.old.lists.items }
@@ -80,7 +80,7 @@ pub(crate) fn add_list(topic: &mut ScoredTopic, list: RunList)
     topic.lists.insert(place, list).unwrap();
 }
 
-// Takes the lists of a run out.
+/// Takes the lists of a run out.
 pub(crate) fn drop_run(topics: &mut [ScoredTopic], run: RunId)
     ensures seen { map topic_scores topics.new
         ≡ map (scores_without_run run) (map topic_scores topics.old) }
@@ -91,7 +91,7 @@ pub(crate) fn drop_run(topics: &mut [ScoredTopic], run: RunId)
     }
 }
 
-// Gives a document, whose grade now is `old`, the grade `new`, or takes its grade away.
+/// Gives a document, whose grade now is `old`, the grade `new`, or takes its grade away.
 pub(crate) fn regrade<L: Ledger>(
     topic: &mut ScoredTopic,
     doc: DocId,
@@ -121,7 +121,7 @@ pub(crate) fn regrade<L: Ledger>(
     regrade_lists(&mut topic.lists, doc, old, new, counts, steps);
 }
 
-// The cell of a run, which without a list is that of the empty list.
+/// The cell of a run, which without a list is that of the empty list.
 pub(crate) fn cell_in(topic: &ScoredTopic, run: RunId) -> &Cell
     requires kept { IsTopicKept (topic_scores topic.now) }
     requires empty { HasEmptyCell topic.now }
@@ -134,7 +134,7 @@ pub(crate) fn cell_in(topic: &ScoredTopic, run: RunId) -> &Cell
     }
 }
 
-// Adds the cell of a run where the topic has a document with a grade.
+/// Adds the cell of a run where the topic has a document with a grade.
 pub(crate) fn add_cell(totals: &mut Totals, topic: &ScoredTopic, run: RunId)
     requires few { totals.old.topics + 1 < 2 ^ 32 }
     requires kept { IsTopicKept (topic_scores topic.now) }

@@ -11,7 +11,7 @@ use std::alloc::Global;
 use std::marker::Model;
 use std::sync::ledger::Ledger;
 
-// The places of a list. Contracts see which are relevant and which are judged lower.
+/// The places of a list. Contracts see which are relevant and which are judged lower.
 #[derive(Drop)]
 pub(crate) struct Trees {
     len: u32,
@@ -33,7 +33,7 @@ impl Model for Trees {
 }
 
 impl Trees {
-    // So many places, none of them judged.
+    /// So many places, none of them judged.
     pub(crate) fn new(alloc: Global, len: u32) -> Result<Trees, Memory>
         requires { len ≤ 1000 }
         ensures relevant { IfOk result (λ places. places.relevant ≡ replicate len false) }
@@ -47,7 +47,7 @@ impl Trees {
         })
     }
 
-    // How many places there are.
+    /// How many places there are.
     pub(crate) fn len(&self) -> u32
         ensures len { result ≡ length self.now.relevant }
         ensures few { length self.now.relevant ≤ 1000 }
@@ -56,7 +56,7 @@ impl Trees {
         self.len
     }
 
-    // Makes a place relevant, or not.
+    /// Makes a place relevant, or not.
     pub(crate) fn set_relevant<L: Ledger>(&mut self, place: u32, on: bool, steps: &mut Steps<L>)
         requires from_one { 1 ≤ place }
         requires within { place ≤ length self.old.relevant }
@@ -68,7 +68,7 @@ impl Trees {
         self.weights.set(place, on, steps);
     }
 
-    // Makes a place judged lower, or not.
+    /// Makes a place judged lower, or not.
     pub(crate) fn set_lower<L: Ledger>(&mut self, place: u32, on: bool, steps: &mut Steps<L>)
         requires from_one { 1 ≤ place }
         requires within { place ≤ length self.old.relevant }
@@ -79,7 +79,7 @@ impl Trees {
         self.lower.set(place, on, steps);
     }
 
-    // What a place adds to the sum of precisions where it becomes relevant.
+    /// What a place adds to the sum of precisions where it becomes relevant.
     pub(crate) fn precision_gain<L: Ledger>(&self, place: u32, steps: &mut Steps<L>) -> u64
         requires from_one { 1 ≤ place }
         requires within { place ≤ length self.now.relevant }
@@ -90,7 +90,7 @@ impl Trees {
         found * weight(place) + self.weights.above(place, steps)
     }
 
-    // What the places judged lower above a place leave of the cap.
+    /// What the places judged lower above a place leave of the cap.
     pub(crate) fn left_above<L: Ledger>(&self, place: u32, cap: u32, steps: &mut Steps<L>) -> u64
         requires from_one { 1 ≤ place }
         requires within { place ≤ length self.now.relevant }
@@ -100,8 +100,8 @@ impl Trees {
         u64::from(cap.saturating_sub(self.lower.below(place, steps)))
     }
 
-    // How many relevant places, of which there are `all`, have at most the cap of places judged
-    // lower above them.
+    /// How many relevant places, of which there are `all`, have at most the cap of places judged
+    /// lower above them.
     pub(crate) fn reached<L: Ledger>(&self, cap: u32, all: u32, steps: &mut Steps<L>) -> u32
         requires { all ≡ count_on self.now.relevant }
         ensures reached { result ≡ cap_reached_places cap 0 self.now.relevant self.now.lower }
@@ -114,7 +114,7 @@ impl Trees {
         }
     }
 
-    // The same, of the relevant places behind a place.
+    /// The same, of the relevant places behind a place.
     pub(crate) fn reached_past<L: Ledger>(
         &self,
         place: u32,
@@ -133,8 +133,8 @@ impl Trees {
         u64::from(reached.saturating_sub(self.relevant.below(place + 1, steps)))
     }
 
-    // How many of the first places are relevant, where `all` are: past the last place these are
-    // all.
+    /// How many of the first places are relevant, where `all` are: past the last place these are
+    /// all.
     pub(crate) fn relevant_to<L: Ledger>(&self, rank: u32, all: u32, steps: &mut Steps<L>) -> u32
         requires { all ≡ count_on self.now.relevant }
         ensures count { result ≡ count_on (take rank self.now.relevant) }
@@ -146,7 +146,7 @@ impl Trees {
         self.relevant.below(rank + 1, steps)
     }
 
-    // How many relevant places have this rank: 1, or none.
+    /// How many relevant places have this rank: 1, or none.
     pub(crate) fn relevant_at<L: Ledger>(&self, rank: u32, steps: &mut Steps<L>) -> u32
         requires { 1 ≤ rank }
         ensures more { count_on (take rank self.now.relevant)
@@ -160,7 +160,7 @@ impl Trees {
         u32::from(self.relevant.is_on(rank, steps))
     }
 
-    // The first relevant place, or 0.
+    /// The first relevant place, or 0.
     pub(crate) fn first_relevant<L: Ledger>(&self, steps: &mut Steps<L>) -> u32
         ensures first { result ≡ first_from 1 self.now.relevant }
         ensures cost { steps.new ≤ steps.old + (levels (length self.now.relevant) + 1) }

@@ -123,7 +123,7 @@ fn topic_key(keys: &DocumentKeys, newest: &[u8], newest_key: u64, topic: &[u8]) 
     new_key(keys, topic)
 }
 
-// apart, since it's rarely called
+/// apart, since it's rarely called
 #[inline(never)]
 fn new_key(keys: &DocumentKeys, topic: &[u8]) -> u64
     ensures { result ≡ text_key keys.now.secret topic.now }

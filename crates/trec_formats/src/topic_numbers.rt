@@ -17,7 +17,7 @@ pub fn topic_number(topics: &Names, topic: &[u8]) -> Option<DocId>
     number_among(topics, topic)
 }
 
-// apart, since it's rarely called
+/// apart, since it's rarely called
 #[inline(never)]
 fn number_among(topics: &Names, topic: &[u8]) -> Option<DocId>
     ensures { option_map (λ number. number.0) result ≡ number_of topics.now topic.now }

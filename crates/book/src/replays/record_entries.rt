@@ -13,8 +13,8 @@ use record_codec::{CodecFault, read_payload};
 use rulebook::{EntryCore, MAX_ENTRY_BYTES};
 use std::alloc::Global;
 
-// Adds the entry of a core, where the rules accept one after those that are there. False is that
-// they accept none.
+/// Adds the entry of a core, where the rules accept one after those that are there. False is that
+/// they accept none.
 fn enter(replay: &mut Replay, core: EntryCore) -> Result<bool, Memory>
     requires laws { Laws }
     requires spelled { IsTrue (has_spelling core) }
@@ -28,7 +28,7 @@ fn enter(replay: &mut Replay, core: EntryCore) -> Result<bool, Memory>
     replay.enter(core)
 }
 
-// Adds the entries of cores, one after another, up to one that the rules don't accept.
+/// Adds the entries of cores, one after another, up to one that the rules don't accept.
 fn enter_cores(replay: &mut Replay, cores: Vec<EntryCore>) -> Result<bool, Memory>
     requires laws { Laws }
     requires fit { AreFit cores.items }

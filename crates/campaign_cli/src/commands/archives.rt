@@ -46,7 +46,7 @@ pub(crate) fn archive_campaign<F: Shelf, D: Disk, K: Keeper>(
     }
 }
 
-// Puts the release of a book's campaign into the archive.
+/// Puts the release of a book's campaign into the archive.
 fn archive_book<D: Disk, K: Keeper>(
     alloc: Global,
     name: &[u8],
@@ -79,7 +79,7 @@ fn archive_book<D: Disk, K: Keeper>(
     }
 }
 
-// What an archive keeps of a published campaign.
+/// What an archive keeps of a published campaign.
 fn release_of<D: Disk>(alloc: Global, name: &[u8], book: &mut Book<D>) -> Result<Kept, Memory>
     requires name { IsTrue (is_name name.now) }
     requires published { phase book.old.history ≡ Published }
@@ -97,7 +97,7 @@ fn release_of<D: Disk>(alloc: Global, name: &[u8], book: &mut Book<D>) -> Result
     })
 }
 
-// Puts a release into the archive, and tells what came of that.
+/// Puts a release into the archive, and tells what came of that.
 fn put<K: Keeper>(alloc: Global, name: &[u8], kept: &Kept, keeper: &mut K) -> Outcome
     requires { IsTrue (is_sound kept.now) }
     ensures puts { PutsRelease name.now kept.now (K.seen keeper.old) (K.seen keeper.new)

@@ -35,7 +35,7 @@ fn word_of(phase: Phase) -> &'static [u8]
     }
 }
 
-// The table of the runs.
+/// The table of the runs.
 fn table_of<D: Disk>(alloc: Global, book: &mut Book<D>) -> Result<Text, Memory>
     ensures same { book.new ≡ book.old }
     ensures table { IfOk result (λ text. text ≡ table_page book.old.history) }

@@ -38,7 +38,7 @@ pub(crate) fn compact_campaign<F: Shelf, D: Disk>(
     }
 }
 
-// Compacts the journal of the campaign of these settings, and tells what came of that.
+/// Compacts the journal of the campaign of these settings, and tells what came of that.
 fn compact_journal<D: Disk>(
     alloc: Global,
     settings: Settings,

@@ -42,7 +42,7 @@ pub(crate) fn show_campaign<F: Shelf, D: Disk>(
     }
 }
 
-// Tells a text of a campaign.
+/// Tells a text of a campaign.
 fn show<D: Disk>(alloc: Global, display: Display, book: Book<D>) -> (Outcome, D)
     ensures shown { SaysOrShort Done (text_by display book.history) (ending_of result.0) }
     ensures disk { result.1 ≡ book.disk }
@@ -54,7 +54,7 @@ fn show<D: Disk>(alloc: Global, display: Display, book: Book<D>) -> (Outcome, D)
     }
 }
 
-// What is printed of a campaign.
+/// What is printed of a campaign.
 fn text_of<D: Disk>(alloc: Global, display: Display, book: &mut Book<D>) -> Result<Vec<u8>, Memory>
     ensures same { book.new ≡ book.old }
     ensures text { IfOk result (λ text. text.items ≡ text_by display book.old.history) }

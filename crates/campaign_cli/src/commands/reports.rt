@@ -78,7 +78,7 @@ fn cause_of(end: KeepEnd) -> Cause
     }
 }
 
-// That the archive has no release of a name.
+/// That the archive has no release of a name.
 fn unknown(alloc: Global, name: &[u8]) -> Outcome
     ensures { SaysOrShort Unknown (no_release_line name.now) (ending_of result) }
 {

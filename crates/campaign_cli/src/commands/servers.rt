@@ -39,7 +39,7 @@ pub(crate) fn run_server<W: Threads + Wait + Sync, F: Shelf, D: Disk + Send, R: 
     }
 }
 
-// Answers the requests of the links of a door by a campaign.
+/// Answers the requests of the links of a door by a campaign.
 fn serve_links<W: Threads + Wait + Sync, D: Disk + Send, R: Door>(
     rt: &W,
     alloc: Global,

@@ -31,7 +31,7 @@ pub(crate) fn hold_session<W, F: Shelf, I: Link, D: Disk>(
     }
 }
 
-// Answers the requests of a link by a campaign.
+/// Answers the requests of a link by a campaign.
 fn answer_link<R, I: Link, D: Disk>(
     rt: &R,
     alloc: Global,

@@ -18,6 +18,7 @@ pub struct FileShelf<R: Files> {
 }
 
 impl<R: Files + Drop> FileShelf<R> {
+    /// A shelf of the system's files, of which no call failed yet.
     pub fn new(files: R) -> FileShelf<R>
         ensures { ⟦<FileShelf<R> as Shelf>⟧.seen result
             ≡ record { files = None; faults = 0; misses = 0 } }

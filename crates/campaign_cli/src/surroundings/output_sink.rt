@@ -12,6 +12,7 @@ pub struct OutputSink<R: Print> {
 }
 
 impl<R: Print + Drop> OutputSink<R> {
+    /// A sink to which nothing was written yet.
     pub fn new(output: R) -> OutputSink<R>
         ensures { ⟦<OutputSink<R> as Output>⟧.writing result
             ≡ record { written = None; faults = 0 } }

@@ -28,7 +28,7 @@ pub(crate) fn add_docnos(
     Ok(numbers)
 }
 
-// Adds docnos, and their numbers to those before them.
+/// Adds docnos, and their numbers to those before them.
 fn add_all(
     alloc: Global,
     docnos: &mut Names,

@@ -58,7 +58,7 @@ pub(crate) fn next_stream<R: Clock>(runtime: &R, listener: &TcpListener) -> Opti
     None
 }
 
-// One connection, set up. One that can't be is closed.
+/// One connection, set up. One that can't be is closed.
 fn taken(listener: &TcpListener) -> Result<TcpStream, Failure> {
     match listener.accept() {
         Ok((stream, _)) => match hasten(&stream) {

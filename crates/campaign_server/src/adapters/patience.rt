@@ -93,7 +93,7 @@ impl Patience {
         Err(ErrorKind::TimedOut.into())
     }
 
-    // Whether the peer took too long.
+    /// Whether the peer took too long.
     fn is_over<R: Clock>(self, runtime: &R) -> bool {
         has_passed(runtime, self.since, MOST_SECONDS)
     }

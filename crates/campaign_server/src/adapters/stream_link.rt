@@ -20,6 +20,7 @@ pub struct StreamLink<R: Input + Print + Clock> {
 }
 
 impl<R: Input + Print + Clock + Drop> StreamLink<R> {
+    /// A link of which nothing was read or written yet.
     pub fn new(runtime: R) -> StreamLink<R>
         ensures { ⟦<StreamLink<R> as Link>⟧.seen result ≡ counts_of 0 0 0 }
     {

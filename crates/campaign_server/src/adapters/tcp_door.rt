@@ -60,9 +60,9 @@ impl<R: Clock + Drop> Link for TcpLink<R> {
         record { taken = refl; left = refl; last = refl; written = refl; moments = refl } };
 }
 
-// Ends the sending side, and drops what the peer still sends, for two seconds at most, since each
-// read waits for one: a connection that is closed with bytes unread is reset, and its peer may then
-// lose the last answer.
+/// Ends the sending side, and drops what the peer still sends, for two seconds at most, since each
+/// read waits for one: a connection that is closed with bytes unread is reset, and its peer may
+/// then lose the last answer.
 fn close<R: Clock>(runtime: &R, stream: &mut TcpStream) {
     let _ = stream.shutdown(Shutdown::Write);
     let since = now(runtime);
@@ -145,7 +145,7 @@ impl<R: Net<Listener = TcpListener, Stream = TcpStream> + Clock + Copy + Send + 
         }
     }
 
-    // (a link that failed, or whose peer sends nothing more, is closed at once)
+    /// (a link that failed, or whose peer sends nothing more, is closed at once)
     fn finish(mut link: TcpLink<R>) {
         if !link.ended && link.read_faults == 0 && link.write_faults == 0 {
             close(&link.runtime, &mut link.stream);

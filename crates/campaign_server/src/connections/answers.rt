@@ -27,7 +27,7 @@ fn is_query(ask: &Ask) -> bool
     matches!(ask, Ask::See(_))
 }
 
-// What a request is answered at a moment, by what it asks or its first fault.
+/// What a request is answered at a moment, by what it asks or its first fault.
 fn act<T: Teller>(teller: &mut T, reading: ReadRequest, moment: u64) -> Answered
     requires latest { moment ≤ MAX_MOMENT }
     requires asked { MayBeAsked reading }

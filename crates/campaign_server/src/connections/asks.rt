@@ -105,7 +105,7 @@ impl<'a> Drop for AskStream<'a> {
     }
 }
 
-// Begins the request of a head.
+/// Begins the request of a head.
 fn begin(alloc: Global, paths: &Paths, keys: &Keys, head: &HttpHead, present: &mut Present)
     ensures { Begins keys.now head.now present.new }
 {
@@ -116,7 +116,7 @@ fn begin(alloc: Global, paths: &Paths, keys: &Keys, head: &HttpHead, present: &m
     };
 }
 
-// Reads a piece of the body.
+/// Reads a piece of the body.
 fn take_piece(present: &mut Present, piece: &[u8])
     requires { PieceFits present.old (length piece.now) }
     ensures { PieceOn present.old piece.now present.new }
@@ -133,7 +133,7 @@ fn take_piece(present: &mut Present, piece: &[u8])
     }
 }
 
-// What a request is read as whose body is whole. None is begun behind it.
+/// What a request is read as whose body is whole. None is begun behind it.
 fn end(present: &mut Present) -> AskStep
     requires { IsBegun present.old }
     ensures reading { EndsWith present.old result }
@@ -153,7 +153,7 @@ fn end(present: &mut Present) -> AskStep
     }
 }
 
-// One step of the wire.
+/// One step of the wire.
 fn take_step(
     alloc: Global,
     paths: &Paths,
@@ -186,7 +186,7 @@ fn take_step(
     }
 }
 
-// Steps on up to a whole request, or for as long as bytes are there.
+/// Steps on up to a whole request, or for as long as bytes are there.
 fn step_on(
     alloc: Global,
     paths: &Paths,

@@ -30,8 +30,8 @@ impl Model for Buffer {
     ghost invariant = { λ buffer. 4096 ≤ vec_capacity buffer.text };
 }
 
-// Writes the text of an answer in place of what stands there, or that of want of memory where there
-// is none for it.
+/// Writes the text of an answer in place of what stands there, or that of want of memory where
+/// there is none for it.
 fn put_text(text: &mut Vec<u8>, answered: &Answered, close: bool)
     requires { 4096 ≤ vec_capacity text.old }
     ensures text { (text.new.items ≡ text_of answered.now close)
@@ -47,7 +47,7 @@ fn put_text(text: &mut Vec<u8>, answered: &Answered, close: bool)
     }
 }
 
-// Writes the answer of want of memory, for which there is room.
+/// Writes the answer of want of memory, for which there is room.
 fn put_memory(text: &mut Vec<u8>, close: bool)
     requires empty { text.old.items ≡ [] }
     requires room { 4096 ≤ vec_capacity text.old }

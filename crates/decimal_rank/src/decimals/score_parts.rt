@@ -60,7 +60,7 @@ fn point_of(text: &[u8]) -> Option<usize>
     text.iter().position(|byte| *byte == b'.')
 }
 
-// What stands before the point, and behind it.
+/// What stands before the point, and behind it.
 fn cut_at_point(text: &[u8]) -> (&[u8], &[u8])
     ensures before { result.0.now ≡ before_first is_point text.now }
     ensures behind { result.1.now ≡ after_first is_point text.now }
@@ -71,7 +71,7 @@ fn cut_at_point(text: &[u8]) -> (&[u8], &[u8])
     }
 }
 
-// What stands before the mark, and behind it where it stands.
+/// What stands before the mark, and behind it where it stands.
 fn cut_at_mark(text: &[u8]) -> (&[u8], Option<&[u8]>)
     ensures before { result.0.now ≡ before_first is_exponent_mark text.now }
     ensures behind { MatchOption result.1 ((list_any is_exponent_mark text.now ≡ false)
@@ -85,14 +85,14 @@ fn cut_at_mark(text: &[u8]) -> (&[u8], Option<&[u8]>)
     }
 }
 
-// Whether the parts around the point are digits, and at least one.
+/// Whether the parts around the point are digits, and at least one.
 fn are_mantissa_digits(whole: &[u8], fraction: &[u8]) -> bool
     ensures { result ≡ are_digits (whole.now ++ fraction.now) }
 {
     (!whole.is_empty() || !fraction.is_empty()) && are_all_digits(whole) && are_all_digits(fraction)
 }
 
-// Whether an exponent that is written is an optional sign and digits.
+/// Whether an exponent that is written is an optional sign and digits.
 fn is_exponent(written: Option<&[u8]>) -> bool
     ensures { MatchOption written.entry (result ≡ true)
         (λ part. result ≡ are_digits (without_leading_sign part.now)) }

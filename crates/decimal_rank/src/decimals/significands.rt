@@ -20,7 +20,7 @@ pub(crate) struct Significand {
 }
 
 impl Significand {
-    // One more digit.
+    /// One more digit.
     fn with(self, byte: u8) -> Significand
         requires digit { IsTrue (is_digit byte) }
         requires few { self.count < 400 }
@@ -39,7 +39,7 @@ impl Significand {
         }
     }
 
-    // The number with one more digit, which isn't kept behind 38.
+    /// The number with one more digit, which isn't kept behind 38.
     fn number_with(self, byte: u8) -> u128
         requires digit { IsTrue (is_digit byte) }
         requires below { self.number < 10 ^ min self.count 38 }

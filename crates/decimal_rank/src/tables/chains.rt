@@ -17,7 +17,7 @@ pub struct Chains {
     links: Vec<Link>,
 }
 
-// The bucket of an item, and the item that came to it before.
+/// The bucket of an item, and the item that came to it before.
 #[derive(Clone, Copy, Debug)]
 struct Link {
     bucket: u32,

@@ -26,7 +26,7 @@ impl Secret {
         Secret::of_answer(status, &bytes)
     }
 
-    // Of the bytes that the random source gave, where its status says that it answered.
+    /// Of the bytes that the random source gave, where its status says that it answered.
     fn of_answer(status: i32, bytes: &[u8]) -> Secret
         ensures { status ≡ pos 0 → result ≡ secret_of bytes.now }
     {

@@ -54,7 +54,7 @@ impl Area {
     }
 }
 
-// The records of these payloads, and a closed gate.
+/// The records of these payloads, and a closed gate.
 fn records_of(alloc: Global, payloads: &[Vec<u8>]) -> Result<Vec<u8>, Memory>
     requires { All (λ payload. length payload.items ≤ 2 ^ 25) payloads.now }
     ensures { IfOk result (λ bytes. IsArea bytes.items (payloads_of payloads.now)) }

@@ -37,7 +37,7 @@ pub(crate) fn move_in<D: Disk>(disk: &mut D, place: u64, area: &[u8]) -> Result<
     Ok(())
 }
 
-// Tells in the header the place behind the closed gate at this place, and writes the area there.
+/// Tells in the header the place behind the closed gate at this place, and writes the area there.
 fn place_area<D: Disk>(disk: &mut D, place: u64, area: &[u8]) -> Result<(), Failed>
     requires settled { HasSettled (D.seen disk.old).images place }
     requires area { (all : List (List ℕ)) × IsArea area.now all }
@@ -55,7 +55,7 @@ fn place_area<D: Disk>(disk: &mut D, place: u64, area: &[u8]) -> Result<(), Fail
     write_both_through(disk, TOLD_PLACE as u64, &told[..7], start, area)
 }
 
-// Has the records at the place count.
+/// Has the records at the place count.
 fn turn<D: Disk>(disk: &mut D, place: u64) -> Result<(), Failed>
     requires placed { (old all : List (List ℕ))
         × IsOneImage (D.seen disk.old).images (IsPlaced place old all) }
@@ -90,7 +90,7 @@ pub(crate) fn settle<D: Disk>(disk: &mut D, area: &[u8]) -> Result<(), Failed>
     Ok(())
 }
 
-// Writes the area behind the header.
+/// Writes the area behind the header.
 fn put_behind_header<D: Disk>(disk: &mut D, area: &[u8]) -> Result<(), Failed>
     requires turned { HasTurned (D.seen disk.old).images area.now }
     ensures moved { OnOk result ((place : ℕ) (all : List (List ℕ))
@@ -104,7 +104,7 @@ fn put_behind_header<D: Disk>(disk: &mut D, area: &[u8]) -> Result<(), Failed>
     write_through(disk, HEADER_LENGTH as u64, area)
 }
 
-// Has the records behind the header count again.
+/// Has the records behind the header count again.
 fn turn_back<D: Disk>(disk: &mut D) -> Result<(), Failed>
     requires moved { (place : ℕ) × (all : List (List ℕ))
         × IsOneImage (D.seen disk.old).images (IsMoved place all) }

@@ -12,14 +12,14 @@ use std::alloc::Global;
 use std::process::Abort;
 use std::test::Fail;
 
-// How many documents, runs and topics a course has.
+/// How many documents, runs and topics a course has.
 const DOCS: u32 = 8;
 
 const RUNS: u16 = 4;
 
 const TOPICS: u16 = 2;
 
-// The list of a run on a topic.
+/// The list of a run on a topic.
 #[derive(Drop)]
 struct Listed {
     run: u16,
@@ -27,7 +27,7 @@ struct Listed {
     docs: Vec<u32>,
 }
 
-// What a board is told: each list, and the grade of each document on topics 0 and 1.
+/// What a board is told: each list, and the grade of each document on topics 0 and 1.
 #[derive(Drop)]
 struct Told {
     lists: Vec<Listed>,
@@ -71,7 +71,7 @@ impl Told {
         self.grades_on(topic).iter().any(|grade| grade.is_some())
     }
 
-    // The grades of a run's documents by rank.
+    /// The grades of a run's documents by rank.
     fn by_rank(&self, alloc: Global, run: u16, topic: u16) -> Result<Vec<Option<u8>>, Fail> {
         let mut grades = Vec::new(alloc);
         for list in &self.lists {
@@ -85,7 +85,7 @@ impl Told {
     }
 }
 
-// The cell of a run on a topic, as it was told.
+/// The cell of a run on a topic, as it was told.
 fn cell_told(alloc: Global, told: &Told, run: u16, topic: u16) -> Result<Option<Cell>, Fail>
     ensures { IfOk result (λ cell. IfSome cell IsSound) }
 {
@@ -93,7 +93,7 @@ fn cell_told(alloc: Global, told: &Told, run: u16, topic: u16) -> Result<Option<
     Ok(plain_cell(by_rank.as_slice(), told.grades_on(topic)))
 }
 
-// Adds the cell of a run on a topic where a document has a grade.
+/// Adds the cell of a run on a topic where a document has a grade.
 fn add_cell(
     alloc: Global,
     told: &Told,
@@ -122,7 +122,7 @@ fn summary_told(alloc: Global, told: &Told, run: u16) -> Result<Summary, Fail> {
     Ok(mean(cells.as_slice()))
 }
 
-// Whether the board tells what it was told, of a run.
+/// Whether the board tells what it was told, of a run.
 fn agrees(alloc: Global, scored: &Scored, told: &Told, run: u16) -> Result<bool, Fail> {
     for topic in 0..TOPICS {
         if scored.cell(run, topic) != cell_told(alloc, told, run, topic)? {
@@ -132,7 +132,7 @@ fn agrees(alloc: Global, scored: &Scored, told: &Told, run: u16) -> Result<bool,
     Ok(scored.summary(run) == summary_told(alloc, told, run)?)
 }
 
-// A list of documents, each once.
+/// A list of documents, each once.
 fn drawn(alloc: Global, dice: &mut Pcg32) -> Result<Vec<u32>, Fail> {
     let mut docs = Vec::new(alloc);
     for _ in 0..dice.next_u32() % DOCS {
@@ -144,7 +144,7 @@ fn drawn(alloc: Global, dice: &mut Pcg32) -> Result<Vec<u32>, Fail> {
     Ok(docs)
 }
 
-// Adds a list.
+/// Adds a list.
 fn submit(
     alloc: Global,
     scored: &mut Scored,
@@ -161,7 +161,7 @@ fn submit(
     Ok(())
 }
 
-// Gives a document a grade from 0 to 2, or takes its grade away.
+/// Gives a document a grade from 0 to 2, or takes its grade away.
 fn grade(scored: &mut Scored, told: &mut Told, dice: &mut Pcg32) -> Result<(), Fail> {
     let topic = (dice.next_u32() % u32::from(TOPICS)) as u16;
     let doc = dice.next_u32() % DOCS;

@@ -114,7 +114,7 @@ fn reserve_and_drop(board: &mut Board, ranking: &Ranking) -> Result<(), Fail>
     Ok(())
 }
 
-// Adds the list of a run. False where it has one there.
+/// Adds the list of a run. False where it has one there.
 fn add(
     board: &mut Board,
     run: RunId,
@@ -136,7 +136,7 @@ fn add(
     Ok(true)
 }
 
-// Gives a document a grade, or takes its grade away. False where a thousand documents had grades.
+/// Gives a document a grade, or takes its grade away. False where a thousand documents had grades.
 fn regrade(
     board: &mut Board,
     topic: u16,
@@ -185,7 +185,7 @@ fn regrade_counted<L: Ledger>(
     board.regrade(topic, doc, old, new, &mut steps);
 }
 
-// The documents in this order, each where it stands first.
+/// The documents in this order, each where it stands first.
 fn ranking_of(alloc: Global, docs: &[u32]) -> Result<Ranking, Fail> {
     let mut listed = Vec::new(alloc);
     for doc in docs {

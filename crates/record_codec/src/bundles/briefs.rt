@@ -122,8 +122,8 @@ pub(crate) fn put_brief(command: Brief, out: &mut Vec<u8>) -> Result<(), Memory>
     }
 }
 
-// Each lease number and each grade that the types hold may be spelled; these two tests cost
-// nothing.
+/// Each lease number and each grade that the types hold may be spelled; these two tests cost
+/// nothing.
 fn is_lease(lease: u32) -> bool
     ensures { result ≡ nat_lt lease (2 ^ 32) }
 {

@@ -6,7 +6,7 @@ ghost use Rattle.record_codec.specs.BundleGrammar.{groups_read, varint_read};
 use crate::cursor::Cursor;
 use crate::faults::CodecFault;
 
-// A number and the groups above it stay below 2^64 where these are below this.
+/// A number and the groups above it stay below 2^64 where these are below this.
 const HIGH_BOUND: u64 = 1 << 57;
 
 /// A number of so many groups at most, the lowest first.

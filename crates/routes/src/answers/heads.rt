@@ -6,10 +6,10 @@ ghost use Rattle.http_wire.specs.Answers.{answer_text, head_text, is_status};
 use decimal_rank::Memory;
 use http_wire::write_head;
 
-// More than a head with any status and length takes.
+/// More than a head with any status and length takes.
 const MOST_HEAD: usize = 300;
 
-// Brings what is behind the first `size` bytes to their front; there is room for it in `head`.
+/// Brings what is behind the first `size` bytes to their front; there is room for it in `head`.
 fn bring_to_front(text: &mut [u8], size: usize, head: &mut [u8])
     requires { length text.old ≡ size + length head.old }
     ensures { text.new ≡ drop size text.old ++ take size text.old }
@@ -20,7 +20,7 @@ fn bring_to_front(text: &mut [u8], size: usize, head: &mut [u8])
     text[..count].copy_from_slice(head);
 }
 
-// Brings what is behind the first `size` of the bytes from this place on to their front.
+/// Brings what is behind the first `size` of the bytes from this place on to their front.
 fn bring_forward(out: &mut Vec<u8>, before: usize, size: usize)
     requires within { before + size ≤ vec_len out.old }
     requires few { vec_len out.old ≤ before + size + 300 }

@@ -12,7 +12,7 @@ use decimal_rank::{Memory, append, append_all};
 /// A member of an object: its name, and its value.
 pub(crate) type Member<'a> = (&'a str, Value<'a>);
 
-// Appends a name and a value behind these bytes.
+/// Appends a name and a value behind these bytes.
 fn append_named(
     out: &mut Vec<u8>,
     front: &[u8],
@@ -33,14 +33,14 @@ fn append_named(
     }
 }
 
-// Appends a member behind these bytes.
+/// Appends a member behind these bytes.
 fn append_member(out: &mut Vec<u8>, front: &[u8], member: &Member<'_>) -> Result<(), Memory>
     ensures { Adds out.old out.new (front.now ++ shown_text member.now) result }
 {
     append_named(out, front, member.0, &member.1)
 }
 
-// Appends members, each behind a comma, or leaves the bytes as they were.
+/// Appends members, each behind a comma, or leaves the bytes as they were.
 #[tactic(auto, using(decimal_rank::proofs::GrowingBytes::ByteParts::part_fits, decimal_rank::proofs::GrowingBytes::ByteParts::part_added))]
 fn append_others(out: &mut Vec<u8>, members: &[Member<'_>]) -> Result<(), Memory>
     ensures { Adds out.old out.new (further_members members.now) result }
@@ -59,7 +59,7 @@ fn append_others(out: &mut Vec<u8>, members: &[Member<'_>]) -> Result<(), Memory
     Ok(())
 }
 
-// Appends the first member behind a brace, and the others behind commas.
+/// Appends the first member behind a brace, and the others behind commas.
 fn append_members(
     out: &mut Vec<u8>,
     first: &Member<'_>,
@@ -79,7 +79,7 @@ fn append_members(
     }
 }
 
-// Appends an object of a first member and others.
+/// Appends an object of a first member and others.
 fn append_some(out: &mut Vec<u8>, first: &Member<'_>, others: &[Member<'_>]) -> Result<(), Memory>
     ensures { Adds out.old out.new
         (((codes "{" ++ shown_text first.now) ++ further_members others.now) ++ codes "}\n")

@@ -36,21 +36,21 @@ fn quantity_name(quantity: Quantity) -> &'static [u8]
     }
 }
 
-// The member that names a refusal.
+/// The member that names a refusal.
 fn refused(name: &'static [u8]) -> Member<'static>
     ensures { shown result ≡ refused name.now }
 {
     ("refusal", Value::Word(name))
 }
 
-// Appends what a refusal says that has its name alone.
+/// Appends what a refusal says that has its name alone.
 fn write_name(out: &mut Vec<u8>, name: &'static [u8]) -> Result<(), Memory>
     ensures { Adds out.old out.new (object (refused name.now ∷ [])) result }
 {
     append_object(out, &[refused(name)])
 }
 
-// Appends what a refusal says that tells a number before its name.
+/// Appends what a refusal says that tells a number before its name.
 fn write_number(
     out: &mut Vec<u8>,
     key: &'static str,
@@ -103,7 +103,7 @@ pub(crate) fn write_refusal(out: &mut Vec<u8>, refusal: Refusal) -> Result<(), M
     }
 }
 
-// What the kind of a format fault tells beside its name.
+/// What the kind of a format fault tells beside its name.
 #[tactic(auto, using(crate::proofs::AnswerTexts::AnswerSizes::kind_short))]
 fn kind_member(kind: Kind) -> Option<Member<'static>>
     ensures member { option_to_list (option_map shown result) ≡ kind_members kind }
@@ -122,7 +122,7 @@ fn kind_member(kind: Kind) -> Option<Member<'static>>
     }
 }
 
-// Appends what a fault of a run's or of the topics' text says.
+/// Appends what a fault of a run's or of the topics' text says.
 #[tactic(auto, using(crate::proofs::AnswerTexts::AnswerSizes::format_few))]
 fn write_format(out: &mut Vec<u8>, fault: FormatFault) -> Result<(), Memory>
     ensures adds { Adds out.old out.new (object (format_members fault)) result }

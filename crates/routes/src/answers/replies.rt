@@ -38,7 +38,7 @@ fn write_submitted(out: &mut Vec<u8>, run: &[u8], topics: u32, lines: u32) -> Re
     )
 }
 
-// What a lease says, by its number, its end and its texts.
+/// What a lease says, by its number, its end and its texts.
 fn write_leased<'x>(
     out: &mut Vec<u8>,
     lease: u32,

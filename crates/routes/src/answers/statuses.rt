@@ -48,7 +48,7 @@ pub(crate) fn reply_status(reply: &Reply, asked: bool) -> u16
     }
 }
 
-// The status of a reply that is no refusal.
+/// The status of a reply that is no refusal.
 fn success_status(asked: bool) -> u16
     ensures status { result ≡ success_status asked }
     ensures known { IsTrue (is_status result) }

@@ -34,7 +34,7 @@ fn append_byte(out: &mut Vec<u8>, byte: u8) -> Result<(), Memory>
     }
 }
 
-// Appends the text, or leaves the bytes as they were.
+/// Appends the text, or leaves the bytes as they were.
 #[tactic(auto, using(decimal_rank::proofs::GrowingBytes::ByteParts::part_fits, decimal_rank::proofs::GrowingBytes::ByteParts::part_added))]
 fn append_escaped(out: &mut Vec<u8>, text: &[u8]) -> Result<(), Memory>
     ensures { Adds out.old out.new (escaped text.now) result }
@@ -53,14 +53,14 @@ fn append_escaped(out: &mut Vec<u8>, text: &[u8]) -> Result<(), Memory>
     Ok(())
 }
 
-// Whether a text has no `"` and no `\`.
+/// Whether a text has no `"` and no `\`.
 fn is_unmarked(text: &[u8]) -> bool
     ensures { result ≡ list_all is_unmarked_byte text.now }
 {
     text.iter().all(|byte| *byte != b'"' && *byte != b'\\')
 }
 
-// Appends the text with its escapes. One without any is copied whole.
+/// Appends the text with its escapes. One without any is copied whole.
 #[tactic(auto, using(crate::proofs::AnswerTexts::ByteParts::escaped_same))]
 fn append_text(out: &mut Vec<u8>, text: &[u8]) -> Result<(), Memory>
     ensures { Adds out.old out.new (escaped text.now) result }
@@ -86,7 +86,7 @@ fn append_behind(out: &mut Vec<u8>, front: &[u8], text: &[u8]) -> Result<(), Mem
     }
 }
 
-// Appends a text and the quote behind it; these bytes, with the quote before it, stand in front.
+/// Appends a text and the quote behind it; these bytes, with the quote before it, stand in front.
 fn append_quoted(out: &mut Vec<u8>, front: &[u8], text: &[u8]) -> Result<(), Memory>
     ensures { Adds out.old out.new ((front.now ++ escaped text.now) ++ quote ∷ []) result }
 {
@@ -101,7 +101,7 @@ fn append_quoted(out: &mut Vec<u8>, front: &[u8], text: &[u8]) -> Result<(), Mem
     }
 }
 
-// Appends texts between quotes, each behind a comma, or leaves the bytes as they were.
+/// Appends texts between quotes, each behind a comma, or leaves the bytes as they were.
 #[tactic(auto, using(decimal_rank::proofs::GrowingBytes::ByteParts::part_fits, decimal_rank::proofs::GrowingBytes::ByteParts::part_added))]
 fn append_others(out: &mut Vec<u8>, texts: &[Text]) -> Result<(), Memory>
     ensures { Adds out.old out.new (further_texts texts.now) result }
@@ -120,7 +120,7 @@ fn append_others(out: &mut Vec<u8>, texts: &[Text]) -> Result<(), Memory>
     Ok(())
 }
 
-// Appends the first text behind a bracket, and the others behind commas.
+/// Appends the first text behind a bracket, and the others behind commas.
 fn append_texts(out: &mut Vec<u8>, first: &[u8], others: &[Text]) -> Result<(), Memory>
     ensures { Adds out.old out.new
         ((codes "[" ++ quoted first.now) ++ further_texts others.now) result }
@@ -136,7 +136,7 @@ fn append_texts(out: &mut Vec<u8>, first: &[u8], others: &[Text]) -> Result<(), 
     }
 }
 
-// Appends an array of a first text and others.
+/// Appends an array of a first text and others.
 fn append_some(out: &mut Vec<u8>, first: &[u8], others: &[Text]) -> Result<(), Memory>
     ensures { Adds out.old out.new
         (((codes "[" ++ quoted first.now) ++ further_texts others.now) ++ codes "]") result }

@@ -33,6 +33,7 @@ impl Model for Docnos {
 }
 
 impl Docnos {
+    /// No docnos.
     pub fn new(alloc: Global) -> Docnos
         ensures { result ≡ [] }
     {
@@ -52,6 +53,7 @@ impl Docnos {
         })
     }
 
+    /// How many docnos there are.
     pub fn len(&self) -> usize
         ensures { result ≡ length self.now }
     {

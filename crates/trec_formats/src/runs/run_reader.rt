@@ -302,6 +302,7 @@ fn end_progress(alloc: Global, progress: RunProgress) -> Result<PackedRun, Forma
 }
 
 impl RunReader {
+    /// A reader to which no bytes were fed.
     pub fn new(alloc: Global) -> RunReader
         ensures after { IsAfter [] result }
         ensures fed { result.fed ≡ 0 }
