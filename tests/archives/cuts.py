@@ -12,15 +12,19 @@ from tests.archives.stock import has_tables, only_whole
 from tests.script import FOLDER
 
 
+# how many pairs of calls are begun at once, at least and at most: up to one of which a call finds the file taken
+LEAST_PAIRS, MOST_PAIRS = 12, 200
+
+
 def try_two(first, second):
-    """Two campaigns archive into one file at the same time: how often one of them found it taken."""
+    """Two campaigns archive into one file at the same time: how often, and how many calls found it taken."""
     shared = copied(FOLDER, "shared")
     open(os.path.join(shared, ARCHIVE), "w").close()
     folders = [copied(path, f"one-of-two-{number}", *CAMPAIGN) for number, (path, _) in enumerate((first, second))]
     for folder in folders:
         linked(folder, shared)
-    releases, taken = {}, 0
-    for number in range(12):
+    releases, taken, number = {}, 0, 0
+    while number < LEAST_PAIRS or taken == 0 and number < MOST_PAIRS:
         pair = list(zip(folders, (f"a{number}", f"b{number}")))
         ended = [child.wait() for child in [began(folder, "archive", name) for folder, name in pair]]
         same(f"two at once: their statuses {ended}", sorted(ended) in ([0, 0], [0, 12]), True)
@@ -32,6 +36,7 @@ def try_two(first, second):
         for (folder, name), status in zip(pair, ended):
             word = "kept" if status == 0 else "archived"
             ends("after two at once", folder, f"archive {name}", 0, f"{word} {name}\n")
+        number += 1
     writer = sqlite3.connect(os.path.join(shared, ARCHIVE), isolation_level=None)
     writer.execute("BEGIN IMMEDIATE")
     ends("while sqlite3 writes", folders[0], "archive c", 12, "")
@@ -39,7 +44,7 @@ def try_two(first, second):
     writer.execute("ROLLBACK")
     writer.close()
     ends("after sqlite3 has ended", folders[0], "archive c", 0, "archived c\n")
-    return taken
+    return number, taken
 
 
 def limited(most):

@@ -6,8 +6,8 @@ import itertools
 import os
 import random
 import re
+import resource
 import subprocess
-import time
 
 from tests.archives.calls import ARCHIVE, USAGE, copied, ends, ran, same
 from tests.archives.campaigns import BYTES
@@ -91,17 +91,23 @@ def try_nothing():
     same("folder after reports", os.listdir(path), [])
 
 
+def processor_seconds():
+    """The seconds that the processor worked on calls so far."""
+    spent = resource.getrusage(resource.RUSAGE_CHILDREN)
+    return spent.ru_utime + spent.ru_stime
+
+
 def try_large(path):
-    """30 releases of 256 systems, filled in by Python's sqlite3: exported in under a second."""
+    """30 releases of 256 systems, filled in by Python's sqlite3: exported in under a second of the processor."""
     large = copied(path, "large", ARCHIVE)
     dice = random.Random(30)
     maps = lambda year: [(f"run-{place}", f"group-{place % 9}", 50, dice.random()) for place in range(1, 257)]
     fill(large, [(f"trec-{year}", *row) for year in range(30) for row in maps(year)], "")
     times = []
     for _ in range(3):
-        begun = time.perf_counter()
+        before = processor_seconds()
         status, text, _ = ran(large, "export")
-        times.append(time.perf_counter() - begun)
+        times.append(processor_seconds() - before)
     same("large archive: the export", (status, list(csv.reader(io.StringIO(text)))), (0, records(reported(large))))
     same(f"large archive: {min(times):.2f} s, under a second", min(times) < 1, True)
     releases = reported(large)

@@ -54,8 +54,10 @@ class Person:
 
     def is_told(self, part):
         page = self.page
-        page.until(lambda: part in page.told(), f"{self.name} isn't told {part!r}, but {page.told()!r}")
-        has(f"{self.name} is told", page.told(), part)
+        # (what was found is held: the page may tell the next thing by then)
+        looks = lambda: [told for told in [page.told()] if part in told]
+        (told,) = page.until(looks, f"{self.name} isn't told {part!r}, but {page.told()!r}")
+        has(f"{self.name} is told", told, part)
 
 
 class Assessor(Person):

@@ -2,6 +2,7 @@
 
 import os
 import random
+import signal
 import subprocess
 import time
 from collections import Counter
@@ -68,8 +69,8 @@ class Kills:
         is_under_way = child.poll() is None
         child.kill()
         status, printed = ended(child)
-        if status == 0 and printed != self.move.printed(self.move.place):
-            fail(f"a compaction prints {printed}")
+        if status not in (0, -signal.SIGKILL) or status == 0 and printed != self.move.printed(self.move.place):
+            fail(f"a compaction that is killed ends with {status} and prints {printed}")
         return is_under_way
 
     def round(self, number):
@@ -82,11 +83,12 @@ class Kills:
         if is_under_way:
             self.under_way += 1
             self.steps[self.move.step(image)] += 1
-        # (so that two of three are under way, however busy the machine is)
-        elif is_moving:
-            self.moves *= 0.9
+        # (so that two of three are under way, however busy the machine is, and was when they were timed)
+        change = 1.05 if is_under_way else 0.9
+        if is_moving:
+            self.moves *= change
         else:
-            self.lasts *= 0.9
+            self.lasts *= change
         self.hold_opened(what, number % 2 == 0)
 
     def hold_opened(self, what, is_checked_first):

@@ -43,6 +43,10 @@ class Run:
     def threads(self):
         return len(os.listdir(f"/proc/{self.process.pid}/task"))
 
+    def is_refused(self):
+        """Whether the call of its number was made."""
+        return os.path.exists(self.mark)
+
     def told(self):
         with open(self.errors, "rb") as file:
             return file.read()
@@ -62,7 +66,7 @@ class Run:
 
     def effect(self, status, shorts):
         """What the refused call came to, behind so many answers 507; None where none was refused. Its folder goes."""
-        refused = int(os.path.exists(self.mark))
+        refused = int(self.is_refused())
         shutil.rmtree(self.path)
         if shorts + (status == 7) > refused:
             self.wrong(f"calls refused: {refused}, answers 507: {shorts}, status {status}")

@@ -56,7 +56,8 @@ def talk(client, port, rows):
         line.send(request[:PART])
     last.send(rows[-1][0])
     is_answered, has_threads = comes(last, SOON), client.run.threads() >= len(rows)
-    if has_threads and not is_answered:
+    # (as long as no call was refused, a thread is late and not missing)
+    if not is_answered and (has_threads or not client.run.is_refused()):
         is_answered = comes(last, LATE)
     order = list(zip(lines, rows))
     # (where a worker is missing, the others have the first connections)

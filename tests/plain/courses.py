@@ -123,9 +123,9 @@ def play_courses(cases, count):
     for _ in range(count):
         lines += course(dice)
     asked = sum(" -> " in line for line in lines)
+    lines.append(f"\ncases {count + 1}, lines {asked}")
     ran = subprocess.run([cases], input="".join(f"{line}\n" for line in lines), capture_output=True, text=True)
-    tell(ran.stdout.removesuffix("\n"))
+    tell(f"{asked} lines of {count + 1} cases: " + ran.stdout.removesuffix("\n"))
     tell(", ".join(f"{name} {number}" for name, number in tried.items()))
-    wanted = f"cases {count + 1}, lines {asked}, of which told something else 0\n"
-    if status := ran.returncode or ran.stdout != wanted or not is_enough(count):
+    if status := ran.returncode or ran.stdout != "each case passes\n" or not is_enough(count):
         sys.exit(status)

@@ -11,6 +11,8 @@ from tests.servers.clients import Client, is_accepted
 from tests.servers.paths import without_clock
 from tests.servers.server import Server
 
+# how long a lease is live, in seconds: longer than it takes to ask all again
+TERM = 86400
 CALLERS = {ORGANISER: b"org", GROUP: b"grp", ASSESSORS[0]: b"p", ASSESSORS[1]: b"q"}
 
 
@@ -34,7 +36,7 @@ class History:
     """A journal, and what a session that begins with its first entries answers to each of these rows."""
 
     def __init__(self, journal, rows):
-        self.journal, self.path = journal, fresh("clients-session")
+        self.journal, self.path = journal, fresh("clients-session", term=TERM)
         self.payloads, self.ends = records(journal)
         self.queries = [row for row in rows if row[0] == "GET"]
         self.told, self.taken = {}, set()
@@ -114,7 +116,7 @@ def asked_at_once(served):
 
 
 def sixteen_clients():
-    served = fresh("clients")
+    served = fresh("clients", term=TERM)
     session(served, message("POST", "/topics", ORGANISER, TOPICS))
     clients = asked_at_once(served)
     history = History(journal_of(served), list({row: None for client in clients for row, _ in client.said}))

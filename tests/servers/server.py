@@ -6,6 +6,7 @@ import re
 import socket
 import subprocess
 import time
+from contextlib import suppress
 
 from tests.script import PROGRAM, fail
 
@@ -28,8 +29,10 @@ PORTS = iter(random.sample(range(20000, 30000), 10000))
 
 def free_port():
     """A port that nobody has here."""
-    with open("/proc/net/tcp") as table:
-        taken = table.read()
+    taken = ""
+    for name in ("tcp", "tcp6"):
+        with suppress(FileNotFoundError), open(f"/proc/net/{name}") as table:
+            taken += table.read()
     return next(port for port in PORTS if f":{port:04X} " not in taken)
 
 

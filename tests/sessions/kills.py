@@ -1,5 +1,6 @@
 """Sessions over a real journal that are killed at random moments; see tests/crashes."""
 
+import fcntl
 import random
 import subprocess
 import time
@@ -8,10 +9,12 @@ from tests.campaigns import ASSESSORS, GROUP, ORGANISER, TOPICS, fresh, message
 from tests.script import PROGRAM, WORDS, fail, tell
 
 ROUNDS, SEED = int(WORDS[0]), int(WORDS[1])
-# how many commands wait when a session begins, how many answers are read at most before it is killed, and how many have
-# to be acknowledged in a session on the average
-WAITING, MOST_READ, WANTED = 300, 40, 10
-DONE = b'{"done":true}\n'
+# how many commands wait when a session begins, and how many answers are read at most before it is killed
+WAITING, MOST_READ = 300, 40
+# how many bytes of answers a session may be ahead of what is read of it: some 45, so that it comes to none of its last
+# commands before it is killed, however late this script reads on
+AHEAD = 4096
+CREATED, DONE = b"201 Created\r\n", b'{"done":true}\n'
 chance = random.Random(SEED)
 
 
@@ -56,9 +59,16 @@ def read_until(child, count):
     return written
 
 
+def are_created(written):
+    """Whether each answer is a 201, of which the last may be cut."""
+    _, *whole, last = written.split(b"HTTP/1.1 ")
+    return all(answer.startswith(CREATED) for answer in whole) and last[: len(CREATED)] == CREATED[: len(last)]
+
+
 def killed(path, number):
-    """How many 201 a session writes, from this ruling on, before it is killed: behind at least one that was read."""
+    """How many 201 a session writes, from this ruling on, before it is killed: some that were read, and not all."""
     child = subprocess.Popen([PROGRAM, "session"], cwd=path, stdin=subprocess.PIPE, stdout=subprocess.PIPE)
+    fcntl.fcntl(child.stdout, fcntl.F_SETPIPE_SZ, AHEAD)
     child.stdin.write(b"".join(ruling(number + i) for i in range(WAITING)))
     child.stdin.flush()
     written = read_until(child, 1)
@@ -70,11 +80,12 @@ def killed(path, number):
     child.kill()
     written += child.stdout.read()
     child.wait()
-    if written.count(b"HTTP/1.1 ") != written.count(b"HTTP/1.1 201 Created\r\n") and not written.endswith(b"HTTP/1.1 "):
+    acknowledged = written.count(DONE)
+    if not count <= acknowledged < WAITING:
+        wrong(f"a session acknowledged {acknowledged} commands, {count} of which were awaited: {written[-80:]!r}")
+    if not are_created(written):
         wrong(f"a ruling is answered otherwise: {written[:80]!r}")
-    if not written.count(DONE):
-        wrong(f"a session acknowledged no command: {written[:80]!r}")
-    return written.count(DONE)
+    return acknowledged
 
 
 def begun():
@@ -97,7 +108,7 @@ def hold_last(path, held):
 
 def kill_sessions():
     path = begun()
-    held = told = more = under_way = 0
+    held = told = more = 0
     for _ in range(ROUNDS):
         acknowledged = killed(path, held)
         now = entries(path) - FIRST
@@ -107,12 +118,6 @@ def kill_sessions():
             wrong(f"{now - held} commands are held, and {acknowledged} were acknowledged")
         more += now - held - acknowledged
         told += acknowledged
-        under_way += acknowledged < WAITING
         held = now
         hold_last(path, held)
-    if told < WANTED * ROUNDS:
-        wrong(f"only {told} commands were acknowledged in {ROUNDS} sessions before they were killed")
-    if under_way < ROUNDS * 9 // 10:
-        wrong(f"only {under_way} of {ROUNDS} sessions were killed before their last command")
-    tell(f"{ROUNDS} sessions were killed, {under_way} of them under way; each of {told} acknowledged commands is there,"
-         f" and {more} more")
+    tell(f"{ROUNDS} sessions were killed under way; each of {told} acknowledged commands is there, and {more} more")

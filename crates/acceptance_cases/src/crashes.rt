@@ -164,11 +164,7 @@ pub(crate) fn play_crash<W: Threads + Wait + Sync + AllocGlobal>(
     wanted: &str,
 ) -> Result<Outcome, Unplayed> {
     let place = place.parse::<usize>().ok().ok_or(Unplayed)?;
-    let told = told_at(rt, stage, place)?;
-    if told.as_str() == wanted {
-        return Ok(Outcome::Right);
-    }
-    Ok(Outcome::Other(told))
+    Ok(Outcome::of(told_at(rt, stage, place)?, wanted))
 }
 
 fn told_at<W: Threads + Wait + Sync + AllocGlobal>(

@@ -1,7 +1,6 @@
 //! Plays cases of the whole program: calls of its top call over files, an output, a link, a disk
 //! and an archive in memory, each with what it has to come to. It reads them from standard input
-//! and prints each line that comes to something else, the counts of each loop, and how many lines
-//! there were.
+//! and prints each line that comes to something else, or that each case passes.
 //!
 //!     lines judging
 //!     org POST /topics <top>|<num> 1|<title> pooling|</top>| -> 201 {"topics":1}|
@@ -14,8 +13,10 @@
 //!     campaign session -> 0
 //!     campaign check -> 0 entries 3|phase judging|
 //!
-//! The lines before all others begin each case, and `begins` stands for the lines of this name.
-//! Another line may be
+//!     cases 1, lines 6
+//!
+//! The lines before all others begin each case, and `begins` stands for the lines of this name. The
+//! last line says how many cases there are, and how many lines they play. Another line may be
 //!
 //!     org GET /table -> 200        a message of the link, and its answer (`messages`)
 //!     file q.txt 1 0 A 1|          what the next calls find (`stages`)
@@ -24,7 +25,8 @@
 //!                                  its own, and have to be answered so (`sessions`)
 //!     holds POOLJRNL*              what the disk holds now; a star is any bytes behind
 //!     settings hold = 2 => .. ->   a `check` under other settings (`settings`)
-//!     each read fails              a loop over the session of the messages (`turns`)
+//!     each read fails -> 23        a loop over the session of the messages, and how many turns it
+//!                                  takes (`turns`)
 //!     crash 8 -> write 1 2 1 2 1   what a crash leaves behind a call on the disk (`crashes`)
 //!
 //! In all texts bytes have marks (`marks`). What can't be played is told `?`.
@@ -82,7 +84,7 @@ fn play_words<W: Threads + Wait + Sync + AllocGlobal>(
         return play_crash(rt, stage, rest, told);
     }
     if verb == "each" {
-        return play_turns(rt, stage, kind_of(rest).ok_or(Unplayed)?);
+        return play_turns(rt, stage, kind_of(rest).ok_or(Unplayed)?, told);
     }
     if verb == "holds" {
         return play_held(rt.alloc(), stage, rest);
@@ -119,7 +121,7 @@ fn parts_of(line: &str) -> (&str, Option<&str>) {
     }
 }
 
-/// Plays a line, and prints it where it comes to something else, or counts.
+/// Plays a line, and prints it where it comes to something else.
 fn play<W: Threads + Wait + Sync + AllocGlobal + Print>(
     rt: &W,
     case: &str,
@@ -129,23 +131,10 @@ fn play<W: Threads + Wait + Sync + AllocGlobal + Print>(
 ) -> io::Result<()> {
     let (words, wanted) = parts_of(line);
     counts.lines = counts.lines.saturating_add(1);
-    match play_words(rt, stage, words, wanted) {
-        Ok(outcome) => tell(rt, case, words, &outcome, counts),
+    match &play_words(rt, stage, words, wanted) {
+        Ok(Outcome::Right) => Ok(()),
+        Ok(Outcome::Other(told)) => tell_other(rt, case, words, told.as_str(), counts),
         Err(Unplayed) => tell_other(rt, case, words, "?", counts),
-    }
-}
-
-fn tell(
-    rt: &impl Print,
-    case: &str,
-    words: &str,
-    outcome: &Outcome,
-    counts: &mut Counts,
-) -> io::Result<()> {
-    match outcome {
-        Outcome::Right => Ok(()),
-        Outcome::Other(told) => tell_other(rt, case, words, told.as_str(), counts),
-        Outcome::Count(count) => println!(rt; "{case}: {words}: {count}"),
     }
 }
 
@@ -240,6 +229,7 @@ fn head_of(text: &str) -> &str {
 fn main(rt: HostRuntime) -> io::Result<ExitCode> {
     let text = io::read_to_string(rt.alloc(), rt.reader())?;
     let text = text.as_str();
+    let (text, counted) = text.split_once("\ncases ").unwrap_or((text, ""));
     let mut counts = Counts {
         cases: 0,
         lines: 0,
@@ -248,11 +238,28 @@ fn main(rt: HostRuntime) -> io::Result<ExitCode> {
     for case in text.split("\ncase ").skip(1) {
         play_case(&rt, text, case, &mut counts)?;
     }
+    tell_end(&rt, counted.trim_end(), &counts)
+}
+
+/// Tells that each case passes, where there are as many as is said, one at least, and no line comes
+/// to something else.
+fn tell_end<W: AllocGlobal + Print>(
+    rt: &W,
+    counted: &str,
+    counts: &Counts,
+) -> io::Result<ExitCode> {
     let Counts {
         cases,
         lines,
         differing,
-    } = counts;
-    println!(rt; "cases {cases}, lines {lines}, of which came to something else {differing}")?;
+    } = *counts;
+    let own = format!(in rt.alloc(); "{cases}, lines {lines}")?;
+    if cases == 0 || own.as_str() != counted {
+        println!(rt; "cases {counted} -> {own}")?;
+        return Ok(ExitCode::from(1));
+    }
+    if differing == 0 {
+        println!(rt; "each case passes")?;
+    }
     Ok(ExitCode::from(u8::from(differing > 0)))
 }

@@ -6,15 +6,24 @@ pub(crate) enum Outcome {
     Right,
     /// Something else, which this tells.
     Other(String),
-    /// A count, which is printed.
-    Count(String),
 }
 
 impl Drop for Outcome {
     fn drop(self) {
         match self {
             Outcome::Right => {}
-            Outcome::Other(_) | Outcome::Count(_) => {}
+            Outcome::Other(_) => {}
+        }
+    }
+}
+
+impl Outcome {
+    /// What a line comes to that tells this, by what is wanted.
+    pub(crate) fn of(told: String, wanted: &str) -> Outcome {
+        if told.as_str() == wanted {
+            Outcome::Right
+        } else {
+            Outcome::Other(told)
         }
     }
 }

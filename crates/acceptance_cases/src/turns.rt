@@ -1,6 +1,10 @@
 //! A session in which each call fails in turn, until none does: a read or a write of its link, or a
 //! call on its disk; or whose text is cut at each byte. And a compaction in which each call on its
 //! disk fails in turn. What has to hold is said at the function of each kind.
+//!
+//!     each read fails -> 23
+//!
+//! Behind the arrow stands how many turns there are.
 use crate::calls::{ALL, Ended, Part, called, checked, cut_session, held_session};
 use crate::outcomes::Outcome;
 use crate::sessions::{answered_count, behind, holds, is_answered, is_held_alike};
@@ -81,11 +85,12 @@ pub(crate) fn kind_of(words: &str) -> Option<Kind> {
     None
 }
 
-/// Takes each turn of a kind, and counts them.
+/// Takes each turn of a kind, and tells their count where another one is wanted.
 pub(crate) fn play_turns<W: Threads + Wait + Sync + AllocGlobal>(
     rt: &W,
     stage: &Stage,
     kind: Kind,
+    wanted: &str,
 ) -> Result<Outcome, Unplayed> {
     let alloc = rt.alloc();
     let mut tally = Tally {
@@ -95,7 +100,7 @@ pub(crate) fn play_turns<W: Threads + Wait + Sync + AllocGlobal>(
     };
     for place in 1..MOST_TURNS {
         match take_turn(rt, stage, kind, place)? {
-            Turn::Over => return Ok(Outcome::Count(counted(alloc, &tally)?)),
+            Turn::Over => return Ok(Outcome::of(counted(alloc, &tally)?, wanted)),
             Turn::Breaks => return Ok(Outcome::Other(format!(in alloc; "breaks at {place}")?)),
             turn => tally.note(turn),
         }

@@ -8,9 +8,8 @@ use Rattle.rulebook.specs.declared.ask.Ask.TheVariants.{Act}
 use Rattle.rulebook.specs.declared.entry.Entry.{Entry}
 use Rattle.rulebook.specs.declared.entry.EntryCore.{EntryCore}
 use Rattle.rulebook.specs.Histories.Additions.{IsAdded}
-use Rattle.rulebook.specs.Campaign.{History}
+use Rattle.rulebook.specs.Campaign.{History, may_give}
 use Rattle.rulebook.specs.Histories.Legal.{IsAccepted, IsLegal, is_well_addressed}
-use Rattle.rulebook.specs.Requests.Roles.{may_give}
 use Rattle.rulebook.specs.Spelling.{entry_bytes, has_spelling}
 use Rattle.book.specs.Laws.{Laws}
 use Rattle.book.specs.Opening.Replays.{Enters}

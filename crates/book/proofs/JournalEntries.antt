@@ -1,7 +1,9 @@
 -- What a journal keeps, said of a book's entries.
-use Rattle.std.proofs.Common.{◌≡◌, ◌≢◌, inl, inr, ⊎_elim, ℕ, ◌+◌, List, [], ◌∷◌, ◌++◌, Option, None, Some, Bool, true, false, length, refl, sym, ap, subst, ◌∙◌, arith}
+use Rattle.std.proofs.Common.{◌≡◌, ◌≢◌, ◌⊎◌, ◌≤◌, inl, inr, ⊎_elim, ℕ, ◌+◌, List, [], ◌∷◌, ◌++◌, Option, None, Some, Bool, true, false, length, refl, sym, ap, subst, ◌∙◌, arith}
+use Rattle.std.specs.Prelude.{Err, Ok, Result}
 use Rattle.std.proofs.lemmas.List.{append-nil, map-append}
 use Rattle.std.proofs.lemmas.List.Sums.{sum_by_push}
+use Rattle.decimal_rank.specs.Causes.{Rose}
 use Rattle.disk_model.specs.Disks.{DiskState, EachMoment, OnlyNow}
 use Rattle.journal.specs.declared.dues.Due.{Due}
 use Rattle.journal.specs.declared.dues.Due.TheVariants.{Nothing, Cut, Gate}
@@ -15,7 +17,7 @@ use Rattle.rulebook.specs.Histories.Legal.{IsAccepted, IsLegal}
 use Rattle.rulebook.specs.Spelling.{entry_bytes}
 use Rattle.rulebook.specs.Words.{Text}
 use Rattle.book.specs.Images.{HoldsEntries, HoldsOneOf, HoldsWith, ImagesHold}
-use Rattle.book.specs.JournaledEntries.{EndsWithin, KeepsBook, spelled}
+use Rattle.book.specs.JournaledEntries.{EndsWithin, KeepsBook, KeepsEntry, spelled}
 use Rattle.book.specs.Stories.{IsStory, spellings}
 use Rattle.book.proofs.Histories.{legal_push}
 use Rattle.book.proofs.Payloads.UnfoldedPayloads.{story_push}
@@ -204,3 +206,23 @@ both_moments seen old mid new H pending e first second =
 pub mend_only_moments : {D : Type 0} (seen : D → DiskState) (old new : D) (H : History) (pending : Option Entry) (e : Entry)
     → EachMoment seen old new (HoldsWith H pending) → EachMoment seen old new (HoldsOneOf H pending (e ∷ []))
 mend_only_moments seen old new H pending e = weaker seen old new (HoldsWith H pending) (HoldsOneOf H pending (e ∷ [])) (one_pending H pending e)
+
+-- where the mend failed
+pub keep_failed : {D T E : Type 0} (seen : D → DiskState) (old new : JournalState D) (pending pending' : Option Entry) (e : Entry)
+    (result : Result T E) (error : E) → result ≡ Err error → new.place ≡ old.place
+    → ((H : History) → IsAccepted H e → KeepsBook seen old H pending → KeepsBook seen new H pending')
+    → (pending' ≡ pending) ⊎ (pending' ≡ Some e)
+    → ((H : History) → IsAccepted H e → KeepsBook seen old H pending → EachMoment seen old.disk new.disk (HoldsOneOf H pending (e ∷ [])))
+    → (seen old.disk).faults ≤ (seen new.disk).faults → Rose (seen old.disk).faults (seen new.disk).faults
+    → KeepsEntry seen old new pending pending' e result
+keep_failed seen old new pending pending' e (Ok value) error is place kept same moments later rose = absurd (cc is)
+keep_failed seen old new pending pending' e (Err other) error is place kept same moments later rose = record {
+  added = tt;
+  none = tt;
+  place = tt;
+  place_err = place;
+  kept = kept;
+  pending_is = same;
+  any_moment = moments;
+  cause = record { later = later; failed = rose };
+}

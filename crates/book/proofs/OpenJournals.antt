@@ -1,17 +1,18 @@
 -- An open journal as a book, by what its records are.
-use Rattle.std.proofs.Common.{◌≡◌, ◌≢◌, inl, inr, ℕ, ◌-◌, ◌<◌, ◌≤◌, List, [], ◌∷◌, Option, None, Some, Vec, length, take, drop, get_or, refl, sym, ap, subst, ◌∙◌, arith}
-use Rattle.std.specs.Prelude.{IfErr, IfOk, IfSome, Result, Ok, Err, slice_index_or}
+use Rattle.std.proofs.Common.{◌≡◌, inl, inr, ℕ, ◌-◌, ◌<◌, ◌≤◌, List, [], ◌∷◌, Option, None, Some, Vec, length, take, drop, get_or, refl, sym, ap, subst, ◌∙◌, arith}
+use Rattle.std.specs.Prelude.{IfErr, IfOk, Result, Ok, Err, slice_index_or}
 use Rattle.std.specs.List.{remove}
 use Rattle.std.specs.declared.alloc.Global.{Global}
 use Rattle.std.proofs.lemmas.List.{take_all}
 use Rattle.decimal_rank.specs.Causes.{Rose}
-use Rattle.disk_model.specs.Disks.{DiskState, EachMoment, NoFurther, OnlyNow}
+use Rattle.disk_model.specs.Disks.{DiskState, EachMoment, OnlyNow}
 use Rattle.journal.specs.declared.dues.Due.TheVariants.{Nothing}
 use Rattle.journal.specs.declared.opening.OpenFault.{OpenFault}
 use Rattle.journal.specs.declared.opening.OpenFault.TheVariants as open_fault
 use Rattle.journal.specs.Format.{decode}
 use Rattle.journal.specs.Journals.{JournalState}
 use Rattle.journal.specs.KeptRecords.{HoldsRecordsOfOne, payloads as payloads_of}
+use Rattle.journal.specs.Openings.{NotRecovered}
 use Rattle.journal.specs.Moments.{DecodesAs, Turned, Turns, joined, started, weaker}
 use Rattle.rulebook.specs.declared.rules.Rules.{Rules}
 use Rattle.rulebook.specs.Campaign.{History}
@@ -24,7 +25,7 @@ use Rattle.book.specs.JournaledEntries.{EndsWithin, IsKept}
 use Rattle.book.specs.Opening.Openings.{Causes, Establishes, Opened, OpensTo, OpensWith, ReadsPayloads, Refused}
 use Rattle.book.specs.Opening.Replays.{Stops}
 use Rattle.book.specs.Stories.{IsStory}
-use Rattle.book.specs.Opening.OpenJournals.{GivenUp, KeepsStory, TakenUp, TakesUp, WhyNot, book_fault_of}
+use Rattle.book.specs.Opening.OpenJournals.{GivenUp, KeepsStory, IsBookOf, OpensRecords, WhyNot, book_fault_of}
 use Rattle.book.proofs.JournalEntries.{settled_keeps}
 
 -- the records by their first
@@ -81,11 +82,11 @@ module _ {D : Type 0} (seen : D → DiskState) where
     pub given_up : (why : BookFault) → Stops rules payloads why → GivenUp seen rules payloads opening disk disk why
     given_up why stops = record { causes = why_not why stops; later = omega arith; moments = records_stay }
 
-    pub taken_up : (book : BookView D) (H : History) → book ≡ record { disk = disk; history = H; pending = None; opening = opening }
+    pub is_book_of : (book : BookView D) (H : History) → book ≡ record { disk = disk; history = H; pending = None; opening = opening }
         → IsSound seen book → OpensWith rules payloads H
-        → TakenUp seen rules payloads opening disk book
-    taken_up book H is sound opens =
-        subst (λ (book : BookView D). TakenUp seen rules payloads opening disk book) (sym is)
+        → IsBookOf seen rules payloads opening disk book
+    is_book_of book H is sound opens =
+        subst (λ (book : BookView D). IsBookOf seen rules payloads opening disk book) (sym is)
         (record { opens = opens; alone = refl; opening_is = refl; sound = subst (IsSound seen) is sound; later = omega arith; moments = records_stay })
 
   -- the founding entry was to be added
@@ -93,9 +94,9 @@ module _ {D : Type 0} (seen : D → DiskState) where
       (later : (seen old).faults ≤ (seen new).faults) where
     pub established : (book : BookView D) (H : History) → book ≡ record { disk = new; history = H; pending = None; opening = opening }
         → IsSound seen book → H ≡ founding rules ∷ []
-        → TakenUp seen rules [] opening old book
+        → IsBookOf seen rules [] opening old book
     established book H is sound founded =
-        subst (λ (book : BookView D). TakenUp seen rules [] opening old book) (sym is)
+        subst (λ (book : BookView D). IsBookOf seen rules [] opening old book) (sym is)
         (record { opens = founded; alone = refl; opening_is = refl; sound = subst (IsSound seen) is sound; later = later; moments = moments })
 
     pub not_established : (why : BookFault) → why ≡ fault.Disk → Rose (seen old).faults (seen new).faults → GivenUp seen rules [] opening old new why
@@ -134,7 +135,7 @@ module _ {D : Type 0} (seen : D → DiskState) (rules : Rules) (disk mid : D) wh
 
   opened : (payloads : List Text) (opening : ℕ) (book : BookView D) → opening ≡ (seen disk).faults → (seen disk).faults ≤ (seen mid).faults
       → ReadsPayloads (seen disk).content payloads → Turned seen disk mid (DecodesAs (seen disk).content)
-      → TakenUp seen rules payloads opening mid book → Opened seen rules disk book
+      → IsBookOf seen rules payloads opening mid book → Opened seen rules disk book
   opened payloads opening book opening_is later reads turned taken = record {
     payloads = payloads;
     reads = reads;
@@ -166,13 +167,13 @@ module _ {D : Type 0} (seen : D → DiskState) (rules : Rules) (disk mid : D) wh
 
   pub opened_result : (payloads : List Text) (opening : ℕ) → opening ≡ (seen disk).faults → (seen disk).faults ≤ (seen mid).faults
       → ReadsPayloads (seen disk).content payloads → Turned seen disk mid (DecodesAs (seen disk).content)
-      → (result : Result (BookView D) (D × BookFault)) → TakesUp seen rules payloads opening mid result → IfOk result (Opened seen rules disk)
+      → (result : Result (BookView D) (D × BookFault)) → OpensRecords seen rules payloads opening mid result → IfOk result (Opened seen rules disk)
   opened_result payloads opening opening_is later reads turned (Ok book) taken = opened payloads opening book opening_is later reads turned taken
   opened_result payloads opening opening_is later reads turned (Err given) taken = tt
 
   pub refused_result : (payloads : List Text) (opening : ℕ) → (seen disk).faults ≤ (seen mid).faults
       → ReadsPayloads (seen disk).content payloads → Turned seen disk mid (DecodesAs (seen disk).content)
-      → (result : Result (BookView D) (D × BookFault)) → TakesUp seen rules payloads opening mid result
+      → (result : Result (BookView D) (D × BookFault)) → OpensRecords seen rules payloads opening mid result
       → IfErr result (λ given. Refused seen rules disk given.0 given.1)
   refused_result payloads opening later reads turned (Ok book) taken = tt
   refused_result payloads opening later reads turned (Err given) taken = refused payloads opening given.0 given.1 later reads turned taken
@@ -188,20 +189,12 @@ module _ {D : Type 0} (seen : D → DiskState) (rules : Rules) (disk after : D) 
         (decodes_to seen rules disk after) turned.turned;
   })
 
-  pub not_opened : (why : OpenFault) → (why ≡ open_fault.Header → IfSome (seen disk).content (λ bytes. decode bytes ≡ None))
-      → (why ≢ open_fault.Disk → ((seen after).content ≡ (seen disk).content) × NoFurther (seen disk).images (seen after).images)
-      → (why ≡ open_fault.Disk → Rose (seen disk).faults (seen after).faults)
-      → (seen disk).faults ≤ (seen after).faults → Turns seen disk after (DecodesAs (seen disk).content)
-      → (told : BookFault) → told ≡ book_fault_of why → Refused seen rules disk after told
-  not_opened why header untouched rose later turns told is =
-      subst (λ (told : BookFault). Refused seen rules disk after told) (sym is) (by why header untouched rose)
+  pub not_opened : (why : OpenFault) → NotRecovered seen disk after why → (told : BookFault) → told ≡ book_fault_of why → Refused seen rules disk after told
+  not_opened why left told is = subst (λ (told : BookFault). Refused seen rules disk after told) (sym is) (by why left)
     where
-      by : (why : OpenFault) → (why ≡ open_fault.Header → IfSome (seen disk).content (λ bytes. decode bytes ≡ None))
-          → (why ≢ open_fault.Disk → ((seen after).content ≡ (seen disk).content) × NoFurther (seen disk).images (seen after).images)
-          → (why ≡ open_fault.Disk → Rose (seen disk).faults (seen after).faults)
-          → Refused seen rules disk after (book_fault_of why)
-      by open_fault.Disk header untouched rose = record { causes = rose refl; later = later; moments = turns_on turns }
-      by open_fault.Header header untouched rose =
-          let same = untouched (λ is. cc) in
-          record { causes = (header refl, same.0, same.1); later = later; moments = turns_on turns }
-      by open_fault.Memory header untouched rose = record { causes = tt; later = later; moments = turns_on turns }
+      by : (why : OpenFault) → NotRecovered seen disk after why → Refused seen rules disk after (book_fault_of why)
+      by open_fault.Disk left = record { causes = left.rose refl; later = left.later; moments = turns_on left.any_moment }
+      by open_fault.Header left =
+          let same = left.untouched (λ is. cc) in
+          record { causes = (left.header refl, same.0, same.1); later = left.later; moments = turns_on left.any_moment }
+      by open_fault.Memory left = record { causes = tt; later = left.later; moments = turns_on left.any_moment }

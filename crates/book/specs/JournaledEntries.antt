@@ -1,6 +1,6 @@
 -- What a journal keeps for a book, and what the journaling of an entry comes to.
-use Rattle.std.specs.Prelude.{◌≡◌, ◌⊎◌, ℕ, ◌+◌, ◌≤◌, ◌^◌, List, [], ◌∷◌, ◌++◌, Option, None, Some, IsTrue, is_some, length}
-use Rattle.decimal_rank.specs.Causes.{Rose}
+use Rattle.std.specs.Prelude.{◌≡◌, ◌⊎◌, ℕ, ◌+◌, ◌≤◌, ◌^◌, List, [], ◌∷◌, ◌++◌, Option, None, Some, IsTrue, OnErr, OnOk, Result, is_some, length}
+use Rattle.decimal_rank.specs.Causes.{HasCause, Rose}
 use Rattle.disk_model.specs.Disks.{DiskState, EachMoment}
 use Rattle.journal.specs.Format.{place_behind}
 use Rattle.journal.specs.Journals.{JournalState}
@@ -52,6 +52,18 @@ module _ {D : Type 0} (seen : D → DiskState) where
     pub within : EndsWithin parts.journal.place parts.history
     pub rose : IsTrue (is_some parts.pending) → Rose opening (seen parts.journal.disk).faults
     pub opened : opening ≤ (seen parts.journal.disk).faults
+
+  -- the call that adds an entry's record, from one state of the journal, and of what is pending, to another
+  pub record KeepsEntry {T E : Type 0} (old new : JournalState D) (pending pending' : Option Entry) (e : Entry) (result : Result T E) : Type 0 where
+    pub added : OnOk result ((H : History) → IsAccepted H e → KeepsBook seen old H pending → KeepsBook seen new (H ++ e ∷ []) None)
+    pub none : OnOk result (pending' ≡ None)
+    pub place : OnOk result (new.place ≡ old.place + 5 + length (entry_bytes e.core))
+    pub place_err : OnErr result (new.place ≡ old.place)
+    pub kept : OnErr result ((H : History) → IsAccepted H e → KeepsBook seen old H pending → KeepsBook seen new H pending')
+    pub pending_is : OnErr result ((pending' ≡ pending) ⊎ (pending' ≡ Some e))
+    pub any_moment : (H : History) → IsAccepted H e → KeepsBook seen old H pending
+        → EachMoment seen old.disk new.disk (HoldsOneOf H pending (e ∷ []))
+    pub cause : HasCause (seen old.disk).faults (seen new.disk).faults result
 
   -- the entry was added; or the disk failed, and what was pending is so still or the entry is; or there was no memory
   abbrev pub JournalsEntry : BookParts D → Entry → Answer → BookParts D → Type 0

@@ -70,7 +70,7 @@ fn compact_open<D: Disk>(
 {
     journal.stands();
     match records {
-        [] => found(alloc, journal, rules),
+        [] => compact_empty(alloc, journal, rules),
         [first, others @ ..] => match replayed(alloc, first, others, rules) {
             Ok(replay) => {
                 let entries = replay.entries();
@@ -83,7 +83,7 @@ fn compact_open<D: Disk>(
 }
 
 /// Adds the founding entry to a journal without records, of which nothing is to be packed.
-fn found<D: Disk>(alloc: Global, journal: Journal<D>, rules: Rules) -> (D, CompactEnd)
+fn compact_empty<D: Disk>(alloc: Global, journal: Journal<D>, rules: Rules) -> (D, CompactEnd)
     requires laws { Laws }
     requires rules { IsTrue (are_rules rules) }
     requires settled { Settled (D.seen journal.disk).images journal.place [] }

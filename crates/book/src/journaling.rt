@@ -1,12 +1,11 @@
 //! The journaling of an entry: what is due is mended, and then its record is added.
-ghost use Rattle.std.specs.Prelude.{◌≡◌, ◌⊎◌, ◌+◌, ◌≤◌, ◌^◌, [], ◌∷◌, ◌++◌, None, Some, IfOk, IsTrue, OnErr, OnOk, length};
+ghost use Rattle.std.specs.Prelude.{◌≡◌, ◌+◌, ◌≤◌, ◌^◌, None, IfOk, IsTrue, OnErr, OnOk, length};
 ghost use Rattle.decimal_rank.specs.Causes.{HasCause};
 ghost use Rattle.disk_model.specs.Disks.{EachMoment};
 ghost use Rattle.rulebook.specs.Campaign.{History};
-ghost use Rattle.rulebook.specs.Histories.Legal.{IsAccepted};
 ghost use Rattle.rulebook.specs.Spelling.{entry_bytes, has_spelling};
-ghost use Rattle.book.specs.Images.{HoldsOneOf, HoldsWith};
-ghost use Rattle.book.specs.JournaledEntries.{KeepsBook};
+ghost use Rattle.book.specs.Images.{HoldsWith};
+ghost use Rattle.book.specs.JournaledEntries.{KeepsBook, KeepsEntry};
 
 pub(crate) mod commits;
 pub(crate) mod pending;
@@ -65,24 +64,8 @@ pub(crate) fn keep<D: Disk>(
 ) -> Result<(), Failed>
     requires frame { frame.now ≡ entry_bytes prepared.now.core }
     requires room { journal.old.place + 6 + length (entry_bytes prepared.now.core) ≤ 2 ^ 40 }
-    ensures added { OnOk result ((H : History) → IsAccepted H prepared.now
-        → KeepsBook D.seen journal.old H pending.old
-        → KeepsBook D.seen journal.new (H ++ prepared.now ∷ []) None) }
-    ensures none { OnOk result (pending.new ≡ None) }
-    ensures place { OnOk result
-        (journal.new.place ≡ journal.old.place + 5 + length (entry_bytes prepared.now.core)) }
-    ensures place_err { OnErr result (journal.new.place ≡ journal.old.place) }
-    ensures kept { OnErr result ((H : History) → IsAccepted H prepared.now
-        → KeepsBook D.seen journal.old H pending.old
-        → KeepsBook D.seen journal.new H pending.new) }
-    ensures pending { OnErr result
-        ((pending.new ≡ pending.old) ⊎ (pending.new ≡ Some prepared.now)) }
-    ensures any_moment { (H : History) → IsAccepted H prepared.now
-        → KeepsBook D.seen journal.old H pending.old
-        → EachMoment D.seen journal.old.disk journal.new.disk
-        (HoldsOneOf H pending.old (prepared.now ∷ [])) }
-    ensures cause { HasCause (D.seen journal.old.disk).faults
-        (D.seen journal.new.disk).faults result }
+    ensures { KeepsEntry D.seen journal.old journal.new pending.old pending.new
+        prepared.now result }
 {
     mend_first(journal, pending)?;
     match journal.append(frame) {

@@ -21,7 +21,7 @@ ghost use Rattle.book.specs.Books.{IsSound};
 ghost use Rattle.book.specs.Opening.Openings.{Opened, Refused};
 ghost use Rattle.book.specs.JournaledEntries.{EndsWithin};
 ghost use Rattle.book.specs.Stories.{IsStory};
-ghost use Rattle.book.specs.Opening.OpenJournals.{KeepsStory, TakesUp, book_fault_of};
+ghost use Rattle.book.specs.Opening.OpenJournals.{KeepsStory, OpensRecords, book_fault_of};
 
 use crate::books::Book;
 use crate::faults::BookFault;
@@ -47,7 +47,7 @@ impl<D: Disk> Book<D> {
         rule_laws();
         let opening = disk.faults();
         match Journal::open(alloc, disk) {
-            Ok((journal, records)) => take_up(alloc, opening, journal, records, rules),
+            Ok((journal, records)) => open_records(alloc, opening, journal, records, rules),
             Err((disk, fault)) => Err((disk, fault_of(fault))),
         }
     }
@@ -66,7 +66,7 @@ pub(crate) fn fault_of(fault: OpenFault) -> BookFault
 
 /// Makes a book of an open journal, whose records these are. Each is freed once its entries are
 /// there.
-fn take_up<D: Disk>(
+fn open_records<D: Disk>(
     alloc: Global,
     opening: u64,
     journal: Journal<D>,
@@ -80,7 +80,7 @@ fn take_up<D: Disk>(
         (payloads_of records.items) }
     requires nothing_due { journal.due ≡ Nothing }
     requires later { opening ≤ (D.seen journal.disk).faults }
-    ensures { TakesUp D.seen rules (payloads_of records.items) opening journal.disk result }
+    ensures { OpensRecords D.seen rules (payloads_of records.items) opening journal.disk result }
 {
     if records.len() == 0 {
         return start(alloc, opening, journal, rules);
@@ -89,7 +89,7 @@ fn take_up<D: Disk>(
     let mut others = records;
     let first = others.remove(0);
     match replay(alloc, &first, others, rules) {
-        Ok(state) => Ok(reopen(alloc, opening, journal, state)),
+        Ok(state) => Ok(book_of(alloc, opening, journal, state)),
         Err(fault) => Err((journal.close(), fault)),
     }
 }
@@ -106,7 +106,7 @@ fn start<D: Disk>(
     requires settled { Settled (D.seen journal.disk).images journal.place [] }
     requires nothing_due { journal.due ≡ Nothing }
     requires later { opening ≤ (D.seen journal.disk).faults }
-    ensures { TakesUp D.seen rules [] opening journal.disk result }
+    ensures { OpensRecords D.seen rules [] opening journal.disk result }
 {
     journal.stands();
     match founded(alloc, rules) {
@@ -129,18 +129,18 @@ fn establish<D: Disk>(
     requires later { opening ≤ (D.seen journal.disk).faults }
     requires founded { IsStory (frame.now ∷ []) state.history }
     ensures { (rules : CampaignRules) → state.history ≡ founding rules ∷ []
-        → TakesUp D.seen rules [] opening journal.disk result }
+        → OpensRecords D.seen rules [] opening journal.disk result }
 {
     let mut journal = journal;
     journal.stands();
     match journal.append(frame) {
-        Ok(()) => Ok(reopen(alloc, opening, journal, state)),
+        Ok(()) => Ok(book_of(alloc, opening, journal, state)),
         Err(Failed) => Err((journal.close(), BookFault::Disk)),
     }
 }
 
 /// The book of a journal and of the entries that it keeps.
-fn reopen<D: Disk>(alloc: Global, opening: u64, journal: Journal<D>, state: State) -> Book<D>
+fn book_of<D: Disk>(alloc: Global, opening: u64, journal: Journal<D>, state: State) -> Book<D>
     requires settled { KeepsStory (D.seen journal.disk).images journal.place state.history }
     requires within { EndsWithin journal.place state.history }
     requires nothing_due { journal.due ≡ Nothing }

@@ -1,6 +1,6 @@
 //! Plays cases of a campaign: requests at moments of their own, each with what it has to be told.
-//! It reads them from standard input and prints each line that is told something else, and how many
-//! there were.
+//! It reads them from standard input and prints each line that is told something else, or that each
+//! case passes.
 //!
 //!     # a lease ends at its moment
 //!     campaign 3 2 1
@@ -11,9 +11,12 @@
 //!     p 1600 grade 1 0 -> refused Expired { until: 1600 }
 //!     entries -> 5
 //!
+//!     cases 1, lines 6
+//!
 //! `campaign` founds one of this depth, this hold, and so many labels that a document of the topic
 //! 1 needs; a fourth number is a level of that topic's own. Its other rules stand in `founded_by`.
-//! In a page `|` ends a line. A line that can't be played is told `?`.
+//! In a page `|` ends a line. A line that can't be played is told `?`. The last line of all says how
+//! many cases and lines stand before it.
 //!
 //! - The cases: `stdin`; `tests/courses` plays random ones, beside a plain walk over what happened.
 //! - `campaigns`: the campaign of a case, and what it tells a line. `requests`: the request of a
@@ -97,20 +100,35 @@ fn play_case(rt: &HostRuntime, door: &Door, case: &str, counts: &mut Counts) -> 
 /// Plays the cases of standard input, and tells how they went.
 fn play_all(rt: &HostRuntime, door: &Door) -> io::Result<ExitCode> {
     let text = io::read_to_string(rt.alloc(), rt.reader())?;
+    let text = text.as_str();
+    let (text, counted) = text.split_once("\ncases ").unwrap_or((text, ""));
     let mut counts = Counts {
         cases: 0,
         lines: 0,
         differing: 0,
     };
-    for case in text.as_str().split("\ncampaign ").skip(1) {
+    for case in text.split("\ncampaign ").skip(1) {
         play_case(rt, door, case, &mut counts)?;
     }
+    tell_end(rt, counted.trim_end(), &counts)
+}
+
+/// Tells that each case passes, where there are as many as is said, one at least, and no line is
+/// told something else.
+fn tell_end(rt: &HostRuntime, counted: &str, counts: &Counts) -> io::Result<ExitCode> {
     let Counts {
         cases,
         lines,
         differing,
-    } = counts;
-    println!(rt; "cases {cases}, lines {lines}, of which told something else {differing}")?;
+    } = *counts;
+    let own = format!(in rt.alloc(); "{cases}, lines {lines}")?;
+    if cases == 0 || own.as_str() != counted {
+        println!(rt; "cases {counted} -> {own}")?;
+        return Ok(ExitCode::from(1));
+    }
+    if differing == 0 {
+        println!(rt; "each case passes")?;
+    }
     Ok(ExitCode::from(u8::from(differing > 0)))
 }
 

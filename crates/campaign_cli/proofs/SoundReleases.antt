@@ -1,5 +1,5 @@
--- What is known of sound releases: the maps of a run's history are means, and a comparison may take them.
-use Rattle.std.proofs.Common.{◌≡◌, ◌≤◌, ℕ, ◌&&◌, Bool, true, false, List, [], ◌∷◌, length, leb-true, refl, ◌∙◌}
+-- The maps of a run's history, of sound releases, are means.
+use Rattle.std.proofs.Common.{◌≡◌, ◌∙◌, ◌&&◌, ℕ, Bool, true, false, List, [], ◌∷◌, length, refl}
 use Rattle.std.specs.Prelude.{find, fold, bytes_eq, nat_le}
 use Rattle.std.specs.List.{flat_map, list_all, position_or_len}
 use Rattle.std.specs.Option.{option_map_or}
@@ -11,6 +11,7 @@ use Rattle.archive_reports.specs.Histories.{history_of, history_row}
 use Rattle.archive_reports.specs.Orders.{by_name, is_before, with_kept}
 use Rattle.release_archive.specs.declared.kept.Kept.{Kept}
 use Rattle.release_archive.specs.Releases.{is_sound}
+use Rattle.rulebook.specs.Requests.Limits.{max_runs}
 use Rattle.rulebook.specs.declared.systems.System.{System}
 use Rattle.rulebook.specs.Spelling.{differ}
 use Rattle.rulebook.specs.Reports.Systems.{are_means, are_sound_systems, is_mean, is_sound_system, runs_of}
@@ -56,8 +57,8 @@ found_mean name run (system ∷ others) all =
 row_mean : (run : List ℕ) (kept : Kept) → is_sound kept ≡ true → list_all has_mean (history_row run kept) ≡ true
 row_mean run kept sound =
     let systems = (and_parts (is_name kept.name) (are_sound_systems kept.systems) sound).1 in
-    let few = (and_parts (nat_le (length kept.systems) 256 && list_all is_sound_system kept.systems) (differ (runs_of kept.systems)) systems).0 in
-    found_mean kept.name run kept.systems (and_parts (nat_le (length kept.systems) 256) (list_all is_sound_system kept.systems) few).1
+    let few = (and_parts (nat_le (length kept.systems) max_runs && list_all is_sound_system kept.systems) (differ (runs_of kept.systems)) systems).0 in
+    found_mean kept.name run kept.systems (and_parts (nat_le (length kept.systems) max_runs) (list_all is_sound_system kept.systems) few).1
 
 rows_mean : (run : List ℕ) (releases : List Kept) → list_all is_sound releases ≡ true → list_all has_mean (flat_map (history_row run) releases) ≡ true
 rows_mean run [] all = refl
@@ -69,16 +70,3 @@ rows_mean run (kept ∷ others) all =
 
 pub history_means : (run : List ℕ) (all : List Kept) → list_all is_sound all ≡ true → list_all has_mean (history_of run all) ≡ true
 history_means run all sound = rows_mean run (by_name all) (sorted_all all [] sound refl)
-
--- a sound release has at most 256 systems, no two of one run name
-
-pub few_systems : (kept : Kept) → is_sound kept ≡ true → length kept.systems ≤ 256
-few_systems kept sound =
-    let systems = (and_parts (is_name kept.name) (are_sound_systems kept.systems) sound).1 in
-    let few = (and_parts (nat_le (length kept.systems) 256 && list_all is_sound_system kept.systems) (differ (runs_of kept.systems)) systems).0 in
-    leb-true (length kept.systems) 256 (and_parts (nat_le (length kept.systems) 256) (list_all is_sound_system kept.systems) few).0
-
-pub systems_differ : (kept : Kept) → is_sound kept ≡ true → differ (runs_of kept.systems) ≡ true
-systems_differ kept sound =
-    let systems = (and_parts (is_name kept.name) (are_sound_systems kept.systems) sound).1 in
-    (and_parts (nat_le (length kept.systems) 256 && list_all is_sound_system kept.systems) (differ (runs_of kept.systems)) systems).1

@@ -138,18 +138,18 @@ abbrev pub request_of_words : List (String Global) → Request
 request_of_words words = request_of (map string_bytes words)
 
 -- what a command of the program stands for
-abbrev pub meant : Command → Request
-meant (command.Eval run qrels) = Eval run.now qrels.now
-meant command.Session = Session
-meant (command.Serve numbers) = Serve numbers
-meant (command.Drill numbers) = Drill numbers
-meant (command.Show display) = Show display
-meant command.Compact = Compact
-meant (command.Archive name) = Archive name.now
-meant (command.RunHistory run) = RunHistory run.now
-meant (command.Compare first second) = Compare first.now second.now
-meant command.Export = Export
-meant command.Usage = Nothing
+abbrev pub request_of_command : Command → Request
+request_of_command (command.Eval run qrels) = Eval run.now qrels.now
+request_of_command command.Session = Session
+request_of_command (command.Serve numbers) = Serve numbers
+request_of_command (command.Drill numbers) = Drill numbers
+request_of_command (command.Show display) = Show display
+request_of_command command.Compact = Compact
+request_of_command (command.Archive name) = Archive name.now
+request_of_command (command.RunHistory run) = RunHistory run.now
+request_of_command (command.Compare first second) = Compare first.now second.now
+request_of_command command.Export = Export
+request_of_command command.Usage = Nothing
 
 -- a server has 1 to 16 workers, and takes one connection at least; the numbers of a drill are within their ranges; releases and runs have names
 abbrev pub IsInRange : Command → Type 0

@@ -7,7 +7,7 @@ ghost use Rattle.campaign_cli.specs.Causes.{ending_of};
 ghost use Rattle.campaign_cli.specs.Endings.{Ends, kind_of};
 ghost use Rattle.campaign_cli.specs.Kinds.{CommandEnded};
 ghost use Rattle.campaign_cli.specs.Surroundings.Outside.{AreSame, outside_behind, outside_of};
-ghost use Rattle.campaign_cli.specs.Requests.{IsInRange, meant, request_of_words};
+ghost use Rattle.campaign_cli.specs.Requests.{IsInRange, request_of_command, request_of_words};
 
 use crate::commands::archives::archive_campaign;
 use crate::commands::compactions::compact_campaign;
@@ -100,7 +100,7 @@ fn run_and_tell<
     requires in_range { IsInRange command }
     requires shut { IsShut (R.seen devices.old.door.now) }
     ensures same { AreSame devices.old devices.new }
-    ensures ends { Ends D.seen (meant command.entry)
+    ensures ends { Ends D.seen (request_of_command command.entry)
         (outside_behind F.seen I.seen R.seen K.seen devices.old (O.writing out.old) disk)
         (outside_behind F.seen I.seen R.seen K.seen devices.new (O.writing out.new) result.1)
         result.0.0 }
@@ -120,7 +120,8 @@ fn run<W: Threads + Wait + Sync, F: Shelf, I: Link, D: Disk + Send, R: Door, K: 
     requires in_range { IsInRange command }
     requires shut { IsShut (R.seen devices.old.door.now) }
     ensures same { AreSame devices.old devices.new }
-    ensures ends { (before after : Writing) → CommandEnded (kind_of D.seen (meant command.entry))
+    ensures ends { (before after : Writing)
+        → CommandEnded (kind_of D.seen (request_of_command command.entry))
         (outside_behind F.seen I.seen R.seen K.seen devices.old before disk)
         (outside_behind F.seen I.seen R.seen K.seen devices.new after result.1)
         (ending_of result.0) }

@@ -1,7 +1,7 @@
 //! The commands of the program, and the words of a call as one of them.
 ghost use Rattle.std.specs.Prelude.{◌≡◌, ◌≤◌, IfOk, IfSome, map};
 ghost use Rattle.command_words.specs.Words.{view_of};
-ghost use Rattle.campaign_cli.specs.Requests.{IsInRange, all_three, archive_by, archive_of, compare_by, compare_of, drill_at, drill_by, drill_of, eval_of, history_by, history_request, meant, request_by_name, request_of_words, serve_at, serve_of, three_numbers};
+ghost use Rattle.campaign_cli.specs.Requests.{IsInRange, all_three, archive_by, archive_of, compare_by, compare_of, drill_at, drill_by, drill_of, eval_of, history_by, history_request, request_by_name, request_of_command, request_of_words, serve_at, serve_of, three_numbers};
 
 use crate::commands::displays::Display;
 use campaign_server::ServerNumbers;
@@ -54,7 +54,8 @@ pub enum Command<'a> {
 
 /// The command that the words after the program's name are.
 pub fn read_words<'a>(alloc: Global, words: &'a [String]) -> Result<Command<'a>, Memory>
-    ensures asked { IfOk result (λ command. request_of_words words.now ≡ meant command) }
+    ensures asked { IfOk result
+        (λ command. request_of_words words.now ≡ request_of_command command) }
     ensures in_range { IfOk result (λ command. IsInRange command) }
 {
     match read_command(alloc, &FORMS, words)? {
@@ -65,7 +66,7 @@ pub fn read_words<'a>(alloc: Global, words: &'a [String]) -> Result<Command<'a>,
 
 /// The command of a name and its values, which stand in the order of its form.
 fn command_of<'a>(found: &CommandWords<'a>) -> Command<'a>
-    ensures meant { meant result ≡ request_by_name (view_of found.now) }
+    ensures request { request_of_command result ≡ request_by_name (view_of found.now) }
     ensures in_range { IsInRange result }
 {
     if found.name == "eval" {
@@ -98,7 +99,7 @@ fn command_of<'a>(found: &CommandWords<'a>) -> Command<'a>
 }
 
 fn eval_of<'a>(values: &[&'a str]) -> Command<'a>
-    ensures meant { meant result ≡ eval_of (map (λ value. value.now) values.now) }
+    ensures request { request_of_command result ≡ eval_of (map (λ value. value.now) values.now) }
     ensures in_range { IsInRange result }
 {
     match values {
@@ -115,7 +116,7 @@ const MOST_PORT: u32 = 65535;
 const MOST_WORKERS: u32 = 16;
 
 fn serve_of<'a>(values: &[&'a str]) -> Command<'a>
-    ensures meant { meant result ≡ serve_of (map (λ value. value.now) values.now) }
+    ensures request { request_of_command result ≡ serve_of (map (λ value. value.now) values.now) }
     ensures in_range { IsInRange result }
 {
     match values {
@@ -133,7 +134,7 @@ fn serve_at<'a>(port: Option<u32>, workers: Option<u32>, connections: Option<u32
     requires port { IfSome port (λ n. n ≤ 65535) }
     requires workers { IfSome workers (λ n. (1 ≤ n) × (n ≤ 16)) }
     requires connections { IfSome connections (λ n. 1 ≤ n) }
-    ensures meant { meant result ≡ serve_at port workers connections }
+    ensures request { request_of_command result ≡ serve_at port workers connections }
     ensures in_range { IsInRange result }
 {
     match (port, workers, connections) {
@@ -147,7 +148,7 @@ fn serve_at<'a>(port: Option<u32>, workers: Option<u32>, connections: Option<u32
 }
 
 fn drill_of<'a>(values: &[&'a str]) -> Command<'a>
-    ensures meant { meant result ≡ drill_of (map (λ value. value.now) values.now) }
+    ensures request { request_of_command result ≡ drill_of (map (λ value. value.now) values.now) }
     ensures in_range { IsInRange result }
 {
     match values {
@@ -181,7 +182,7 @@ fn all_three(runs: Option<u32>, topics: Option<u32>, docs: Option<u32>) -> Optio
 
 /// The command with this seed and these sizes, where a campaign is generated from them.
 fn drill_at<'a>(seed: Option<u32>, sizes: Option<(u32, u32, u32)>) -> Command<'a>
-    ensures meant { meant result ≡ drill_at seed sizes }
+    ensures request { request_of_command result ≡ drill_at seed sizes }
     ensures in_range { IsInRange result }
 {
     match (seed, sizes) {
@@ -196,7 +197,7 @@ fn drill_at<'a>(seed: Option<u32>, sizes: Option<(u32, u32, u32)>) -> Command<'a
 }
 
 fn drill_by<'a>(numbers: DrillNumbers) -> Command<'a>
-    ensures meant { meant result ≡ drill_by numbers }
+    ensures request { request_of_command result ≡ drill_by numbers }
     ensures in_range { IsInRange result }
 {
     if are_numbers(&numbers) {
@@ -207,7 +208,7 @@ fn drill_by<'a>(numbers: DrillNumbers) -> Command<'a>
 }
 
 fn archive_of<'a>(values: &[&'a str]) -> Command<'a>
-    ensures meant { meant result ≡ archive_of (map (λ value. value.now) values.now) }
+    ensures request { request_of_command result ≡ archive_of (map (λ value. value.now) values.now) }
     ensures in_range { IsInRange result }
 {
     match values {
@@ -217,7 +218,7 @@ fn archive_of<'a>(values: &[&'a str]) -> Command<'a>
 }
 
 fn archive_by<'a>(name: &'a [u8]) -> Command<'a>
-    ensures meant { meant result ≡ archive_by name.now }
+    ensures request { request_of_command result ≡ archive_by name.now }
     ensures in_range { IsInRange result }
 {
     if is_name(name) {
@@ -228,7 +229,8 @@ fn archive_by<'a>(name: &'a [u8]) -> Command<'a>
 }
 
 fn history_of<'a>(values: &[&'a str]) -> Command<'a>
-    ensures meant { meant result ≡ history_request (map (λ value. value.now) values.now) }
+    ensures request { request_of_command result
+        ≡ history_request (map (λ value. value.now) values.now) }
     ensures in_range { IsInRange result }
 {
     match values {
@@ -238,7 +240,7 @@ fn history_of<'a>(values: &[&'a str]) -> Command<'a>
 }
 
 fn history_by<'a>(run: &'a [u8]) -> Command<'a>
-    ensures meant { meant result ≡ history_by run.now }
+    ensures request { request_of_command result ≡ history_by run.now }
     ensures in_range { IsInRange result }
 {
     if is_name(run) {
@@ -249,7 +251,7 @@ fn history_by<'a>(run: &'a [u8]) -> Command<'a>
 }
 
 fn compare_of<'a>(values: &[&'a str]) -> Command<'a>
-    ensures meant { meant result ≡ compare_of (map (λ value. value.now) values.now) }
+    ensures request { request_of_command result ≡ compare_of (map (λ value. value.now) values.now) }
     ensures in_range { IsInRange result }
 {
     match values {
@@ -259,7 +261,7 @@ fn compare_of<'a>(values: &[&'a str]) -> Command<'a>
 }
 
 fn compare_by<'a>(first: &'a [u8], second: &'a [u8]) -> Command<'a>
-    ensures meant { meant result ≡ compare_by first.now second.now }
+    ensures request { request_of_command result ≡ compare_by first.now second.now }
     ensures in_range { IsInRange result }
 {
     if is_name(first) && is_name(second) {

@@ -27,7 +27,7 @@ pub(crate) struct Inquiry<'a> {
 
 /// What a query is told. The orders are those in which the last pages left the documents with a
 /// grade.
-pub(crate) fn told(
+pub(crate) fn query_reply(
     alloc: Global,
     inquiry: &Inquiry,
     query: Query,

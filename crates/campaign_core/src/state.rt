@@ -23,7 +23,7 @@ pub(crate) mod verdict;
 
 use crate::campaign::Campaign;
 use crate::campaign::submissions::name_of;
-use crate::queries::{Inquiry, told};
+use crate::queries::{Inquiry, query_reply};
 use crate::state::preparations::{kept_reply, prepared};
 use crate::state::request_numbers::RequestNumbers;
 use crate::state::verdict::{Prepared, Verdict};
@@ -262,7 +262,7 @@ impl State {
             who,
             moment,
         };
-        told(alloc, &inquiry, query, &mut self.orders)
+        query_reply(alloc, &inquiry, query, &mut self.orders)
     }
 
     /// The reply to a command whose caller used its number before. What was prepared is dropped.

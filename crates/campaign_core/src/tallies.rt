@@ -5,6 +5,7 @@ ghost use Rattle.assessment.specs.TopicFacts.{facts_of};
 ghost use Rattle.lease_desk.specs.declared.leases.Lease.{Lease};
 ghost use Rattle.rulebook.specs.Campaign.{History, Run};
 ghost use Rattle.rulebook.specs.Judgements.Grades.{non_relevant_count, relevant_count};
+ghost use Rattle.rulebook.specs.Requests.Limits.{max_topics};
 ghost use Rattle.campaign_core.specs.CampaignStates.{IsKnown, KnowsAll, KnowsRun};
 ghost use Rattle.campaign_core.specs.Views.PrintedPages.{IsTopicOf};
 ghost use Rattle.campaign_core.specs.Views.Tallies.{IsBest, IsTally, judged_in, map_of, relevant_in_all};
@@ -45,7 +46,7 @@ pub(crate) fn tally_of(campaign: &Campaign) -> Tally
 
 /// How many documents of all topics are relevant, and how many have an effective grade.
 fn judgements(topics: &[AssessedTopic]) -> (u64, u64)
-    requires { length topics.now ≤ 250 }
+    requires { length topics.now ≤ max_topics }
     ensures { (H : History) (desk : List Lease) → KnowsAll H (map facts_of topics.now) desk
         → (result.0 ≡ relevant_in_all H) × (result.1 ≡ judged_in H) }
 {

@@ -8,12 +8,12 @@ use Rattle.toml.specs.Data.{Data, as_str, as_integer, get}
 use Rattle.trec_formats.specs.Names.{is_between, is_name}
 use Rattle.rulebook.specs.declared.rules.Rules.{Rules}
 use Rattle.rulebook.specs.declared.rules.TopicLevel.{TopicLevel}
-use Rattle.rulebook.specs.Requests.Limits.{max_depth, max_hold, max_term, max_topics}
+use Rattle.rulebook.specs.Requests.Limits.{max_depth, max_hold, max_term, max_top_grade, max_topics}
 use Rattle.rulebook.specs.Spelling.{are_levels, are_rules, are_settings, is_ascending, is_topic_level}
 use Rattle.campaign_settings.specs.declared.faults.SettingsEnd.{SettingsEnd}
 use Rattle.campaign_settings.specs.declared.faults.SettingsEnd.TheVariants as end
 use Rattle.campaign_settings.specs.declared.settings.Settings.{Settings}
-use Rattle.campaign_settings.specs.Settings.{GivesSetting, ascending_levels, callers_at, doubles_of, doubles_setting, level_setting, levels_setting, name_of, name_setting, rules_setting, setting_names, settings_in, taken}
+use Rattle.campaign_settings.specs.Settings.{GivesSetting, ascending_levels, callers_at, doubles_of, doubles_setting, level_setting, levels_setting, name_of, name_setting, rules_setting, setting_names, settings_in, text_if}
 use Rattle.campaign_settings.specs.TomlTables.{array_at, each_of, has_keys, has_known_keys, natural, number_within, text_at, whole_number_at}
 
 -- what was read of what was read
@@ -28,9 +28,9 @@ number_bounds key low high d n e =
     let w = cond_some (is_between low high found.0) found.0 n found.2 in
     subst (λ m. is_between low high m ≡ true) w.1 w.0
 
-named_in : (o : Option (List ℕ)) (name : List ℕ) → option_and_then (taken is_name) o ≡ Some name → is_name name ≡ true
+named_in : (o : Option (List ℕ)) (name : List ℕ) → option_and_then (text_if is_name) o ≡ Some name → is_name name ≡ true
 named_in o name e =
-    let found = between o (taken is_name) name e in
+    let found = between o (text_if is_name) name e in
     let w = cond_some (is_name found.0) found.0 name found.2 in
     subst (λ text. is_name text ≡ true) w.1 w.0
 
@@ -93,7 +93,7 @@ rules_of depth term hold top_grade level doubles levels =
 
 all_within : (depth term hold top_grade level : ℕ) (doubles : List (List ℕ)) (levels : List TopicLevel)
     → is_between 1 max_depth depth ≡ true → is_between 1 max_term term ≡ true → is_between 1 max_hold hold ≡ true
-    → is_between 1 255 top_grade ≡ true → is_between 1 top_grade level ≡ true → list_all is_name doubles ≡ true
+    → is_between 1 max_top_grade top_grade ≡ true → is_between 1 top_grade level ≡ true → list_all is_name doubles ≡ true
     → (nat_le (length doubles) max_topics && is_ascending doubles) ≡ true
     → are_settings (rules_of depth term hold top_grade level doubles levels) ≡ true
 all_within depth term hold top_grade level doubles levels a b c d e f g =
@@ -101,7 +101,7 @@ all_within depth term hold top_grade level doubles levels a b c d e f g =
     let first = is_between 1 max_depth depth in
     let second = is_between 1 max_term term in
     let third = is_between 1 max_hold hold in
-    let fourth = is_between 1 255 top_grade in
+    let fourth = is_between 1 max_top_grade top_grade in
     let fifth = is_between 1 top_grade level in
     let few = nat_le (length doubles) max_topics in
     let names = list_all is_name doubles in
@@ -126,7 +126,7 @@ rules_sound d rules e =
     let depth = between (whole_number_at (codes "depth") 1 max_depth d) _ rules e in
     let term = between (whole_number_at (codes "term") 1 max_term d) _ rules depth.2 in
     let hold = between (whole_number_at (codes "hold") 1 max_hold d) _ rules term.2 in
-    let top_grade = between (whole_number_at (codes "top_grade") 1 255 d) _ rules hold.2 in
+    let top_grade = between (whole_number_at (codes "top_grade") 1 max_top_grade d) _ rules hold.2 in
     let level = between (whole_number_at (codes "level") 1 top_grade.0 d) _ rules top_grade.2 in
     let doubles = between (doubles_setting d) _ rules level.2 in
     let levels = between (levels_setting top_grade.0 d) _ rules doubles.2 in
@@ -139,7 +139,8 @@ rules_sound d rules e =
     (all_within depth.0 term.0 hold.0 top_grade.0 level.0 doubles.0 levels.0
     (number_bounds (codes "depth") 1 max_depth d depth.0 depth.1) (number_bounds (codes "term") 1 max_term d term.0 term.1)
     (number_bounds (codes "hold") 1 max_hold d hold.0 hold.1)
-    (number_bounds (codes "top_grade") 1 255 d top_grade.0 top_grade.1) (number_bounds (codes "level") 1 top_grade.0 d level.0 level.1) sound.0 sound.1)
+    (number_bounds (codes "top_grade") 1 max_top_grade d top_grade.0 top_grade.1)
+    (number_bounds (codes "level") 1 top_grade.0 d level.0 level.1) sound.0 sound.1)
     (all_leveled made leveled.0 leveled.1))
 
 settings_sound : (d : Data) (settings : Settings) → settings_in d ≡ Some settings → are_rules settings.rules ≡ true

@@ -7,7 +7,7 @@ use Rattle.rulebook.specs.declared.rules.Role.{Role}
 use Rattle.rulebook.specs.declared.rules.Role.TheVariants.{Organiser, Group, Assessor}
 use Rattle.rulebook.specs.declared.rules.Rules.{Rules}
 use Rattle.rulebook.specs.declared.rules.TopicLevel.{TopicLevel}
-use Rattle.rulebook.specs.Requests.Limits.{max_depth, max_hold, max_term, max_topics}
+use Rattle.rulebook.specs.Requests.Limits.{max_depth, max_hold, max_term, max_top_grade, max_topics}
 use Rattle.rulebook.specs.Spelling.{is_ascending}
 use Rattle.routes.specs.declared.keys.KeyRow.{KeyRow}
 use Rattle.routes.specs.Keys.{are_rows}
@@ -22,15 +22,15 @@ abbrev pub ◌>>=◌ : {A B : Type 0} → Option A → (A → Option B) → Opti
 found >>= read = option_and_then read found
 
 -- a text that the test takes
-abbrev pub taken : (List ℕ → Bool) → List ℕ → Option (List ℕ)
-taken test text = if test text then Some text else None
+abbrev pub text_if : (List ℕ → Bool) → List ℕ → Option (List ℕ)
+text_if test text = if test text then Some text else None
 
 abbrev pub name_of : Data → Option (List ℕ)
-name_of d = as_str d >>= taken is_name
+name_of d = as_str d >>= text_if is_name
 
 -- the name at a key
 abbrev pub name_setting : List ℕ → Data → Option (List ℕ)
-name_setting key d = text_at key d >>= taken is_name
+name_setting key d = text_at key d >>= text_if is_name
 
 -- the names of the topics whose documents need two labels: at most 250, strictly ascending
 abbrev pub doubles_of : List (List ℕ) → Option (List (List ℕ))
@@ -59,7 +59,7 @@ rules_setting d = do
   depth ← whole_number_at (codes "depth") 1 max_depth d
   term ← whole_number_at (codes "term") 1 max_term d
   hold ← whole_number_at (codes "hold") 1 max_hold d
-  top_grade ← whole_number_at (codes "top_grade") 1 255 d
+  top_grade ← whole_number_at (codes "top_grade") 1 max_top_grade d
   level ← whole_number_at (codes "level") 1 top_grade d
   doubles ← doubles_setting d
   levels ← levels_setting top_grade d
@@ -82,7 +82,7 @@ abbrev pub role_in : Data → Option Role
 role_in d = text_at (codes "role") d >>= role_setting
 
 abbrev pub key_in : Data → Option (List ℕ)
-key_in d = text_at (codes "key") d >>= taken is_key
+key_in d = text_at (codes "key") d >>= text_if is_key
 
 -- a caller: a table with a name, a role and a key, and nothing else
 unfoldable pub caller_setting : Data → Option KeyRow
@@ -92,9 +92,13 @@ caller_setting d = do
   key ← key_in d
   (if has_keys 3 d then Some (record { name = name; role = role; key = key }) else None)
 
--- at most 500 callers, of which no two have one name or one key
+-- the most callers
+abbrev pub most_callers : ℕ
+most_callers = 500
+
+-- so many callers at most, of which no two have one name or one key
 abbrev pub distinct_callers : List KeyRow → Option (List KeyRow)
-distinct_callers rows = if nat_le (length rows) 500 && are_rows rows then Some rows else None
+distinct_callers rows = if nat_le (length rows) most_callers && are_rows rows then Some rows else None
 
 abbrev pub callers_at : Data → Option (List KeyRow)
 callers_at d = array_at (codes "caller") d >>= each_of caller_setting >>= distinct_callers

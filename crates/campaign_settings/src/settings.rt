@@ -4,6 +4,7 @@ ghost use Rattle.std.specs.Cmp.Lexicographic.{slice_cmp};
 ghost use Rattle.std.specs.List.{list_all};
 ghost use Rattle.std.specs.Ordering.{is_lt, nat_cmp};
 ghost use Rattle.toml.specs.View.{view};
+ghost use Rattle.rulebook.specs.Requests.Limits.{max_top_grade};
 ghost use Rattle.rulebook.specs.Spelling.{are_rules, is_ascending};
 ghost use Rattle.campaign_settings.specs.Settings.{GivesSetting, is_key, is_key_byte, name_setting, name_of, key_in, role_in, doubles_setting, level_setting, levels_setting, rules_setting, role_setting, caller_setting, callers_at, settings_in, settings_of};
 ghost use Rattle.campaign_settings.specs.TomlTables.{whole_number_at, each_of};
@@ -136,7 +137,7 @@ fn is_before(name: &Text, next: &Text) -> bool
 
 /// The levels of topics, at most the greatest grade.
 fn levels_at(alloc: Global, tree: &Value, top: u64) -> Result<Rows<TopicLevel>, SettingsEnd>
-    requires { top ≤ 255 }
+    requires { top ≤ max_top_grade }
     ensures { GivesSetting (λ levels. levels) result (levels_setting top (view tree.now)) }
 {
     let Some(items) = items_at(tree, "levels") else {
@@ -153,7 +154,7 @@ fn levels_at(alloc: Global, tree: &Value, top: u64) -> Result<Rows<TopicLevel>, 
 /// The level that each of these is.
 #[tactic(auto, using(crate::proofs::DataPrefixes::begun, crate::proofs::DataPrefixes::more, crate::proofs::DataPrefixes::failed, crate::proofs::DataPrefixes::whole))]
 fn levels_of(alloc: Global, items: &[Value], top: u64) -> Result<Vec<TopicLevel>, SettingsEnd>
-    requires { top ≤ 255 }
+    requires { top ≤ max_top_grade }
     ensures { GivesSetting (λ levels. levels.items) result
         (each_of (level_setting top) (map view items.now)) }
 {
@@ -168,7 +169,7 @@ fn levels_of(alloc: Global, items: &[Value], top: u64) -> Result<Vec<TopicLevel>
 
 #[tactic(auto, unfolding(crate::specs::Settings::level_setting))]
 fn level_of(alloc: Global, value: &Value, top: u64) -> Result<TopicLevel, SettingsEnd>
-    requires { top ≤ 255 }
+    requires { top ≤ max_top_grade }
     ensures { GivesSetting (λ level. level) result (level_setting top (view value.now)) }
 {
     let topic = name_at(value, "topic")?;

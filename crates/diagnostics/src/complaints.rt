@@ -53,25 +53,25 @@ fn first_complaint(alloc: Global, bytes: &[u8]) -> Result<String, Memory> {
         Ok(text) => text,
         Err(error) => {
             let line = line_of_place(bytes, error.valid_up_to());
-            return told(alloc, Some(line), Fault::NoText);
+            return complaint(alloc, Some(line), Fault::NoText);
         }
     };
     match toml::table_from_str(alloc, text) {
         Ok(table) => match first_fault(text, &table) {
-            Some(found) => told(alloc, found.line, found.fault),
-            None => told(alloc, None, Fault::Unnamed),
+            Some(found) => complaint(alloc, found.line, found.fault),
+            None => complaint(alloc, None, Fault::Unnamed),
         },
         Err(error) => {
             let line = match error.span() {
                 Some(span) => Some(line_of_place(bytes, span.start)),
                 None => return Err(Memory),
             };
-            told(alloc, line, Fault::NoToml(error.message()))
+            complaint(alloc, line, Fault::NoToml(error.message()))
         }
     }
 }
 
-fn told(alloc: Global, line: Option<usize>, fault: Fault) -> Result<String, Memory> {
+fn complaint(alloc: Global, line: Option<usize>, fault: Fault) -> Result<String, Memory> {
     match line {
         Some(line) => Ok(format!(in alloc; "line {line}: {fault}")?),
         None => Ok(format!(in alloc; "{fault}")?),

@@ -1,4 +1,6 @@
 //! What is wrong with settings, as a sentence.
+use campaign_settings::MOST_CALLERS;
+use rulebook::MAX_TOPICS;
 use std::fmt;
 
 /// A fault of settings. Numbers of callers count from 1.
@@ -53,13 +55,20 @@ impl<'a> fmt::Display for Fault<'a> {
                 write!(f, "{key} is missing, which is {low} to {high}")
             }
             Fault::Number { key, low, high } => write!(f, "{key} is {low} to {high}"),
-            Fault::Doubles => f.write_str(
-                "doubles is an array of at most 250 topic ids in quotes, in ascending byte order",
+            Fault::Doubles => write!(
+                f,
+                "doubles is an array of at most {MAX_TOPICS} topic ids in quotes, in ascending byte order",
             ),
-            Fault::Levels => f.write_str(
-                "levels is an array of at most 250 tables { topic, level }, the topics in ascending byte order, each level 1 to top_grade",
+            Fault::Levels => write!(
+                f,
+                "levels is an array of at most {MAX_TOPICS} tables {{ topic, level }}, the topics in ascending byte order, each level 1 to top_grade",
             ),
-            Fault::Callers => f.write_str("each of at most 500 callers is a table [[caller]]"),
+            Fault::Callers => {
+                write!(
+                    f,
+                    "each of at most {MOST_CALLERS} callers is a table [[caller]]"
+                )
+            }
             Fault::Name { caller } => write!(
                 f,
                 "caller {caller}: name is 1 to 32 letters, digits, points, underscores and dashes",

@@ -1,21 +1,39 @@
 -- The names, the scores and the grades of a generated campaign. Its topics, its runs and their documents count from 1.
 use Rattle.std.specs.Prelude.{◌≡◌, ℕ, ◌+◌, ◌*◌, ◌/◌, ◌%◌, Bool, ◌&&◌, List, [], ◌∷◌, ◌++◌, codes, map, nat_le}
 use Rattle.std.proofs.Common.{refl}
+use Rattle.decimal_rank.specs.Bytes.{zero_digit}
 use Rattle.measures.specs.ScoreLines.{four_digits}
 use Rattle.drill.specs.declared.numbers.DrillNumbers.{DrillNumbers}
 
--- a seed up to 2^31 - 1, 1 to 256 runs of 1 to 250 topics with 1 to 1000 documents each, and at most 8,000,000 lines in all
+-- 2^31 - 1
+abbrev pub most_seed : ℕ
+most_seed = 2147483647
+
+abbrev pub most_runs : ℕ
+most_runs = 256
+
+abbrev pub most_topics : ℕ
+most_topics = 250
+
+abbrev pub most_docs : ℕ
+most_docs = 1000
+
+-- of all runs together
+abbrev pub most_lines : ℕ
+most_lines = 8000000
+
+-- a seed up to the greatest, and runs of topics with documents: from 1 to the most of each, and at most so many lines in all
 abbrev pub are_numbers : DrillNumbers → Bool
 are_numbers numbers =
-    nat_le numbers.seed 2147483647
-    && (nat_le 1 numbers.runs && nat_le numbers.runs 256)
-    && (nat_le 1 numbers.topics && nat_le numbers.topics 250)
-    && (nat_le 1 numbers.docs && nat_le numbers.docs 1000)
-    && nat_le (numbers.runs * numbers.topics * numbers.docs) 8000000
+    nat_le numbers.seed most_seed
+    && (nat_le 1 numbers.runs && nat_le numbers.runs most_runs)
+    && (nat_le 1 numbers.topics && nat_le numbers.topics most_topics)
+    && (nat_le 1 numbers.docs && nat_le numbers.docs most_docs)
+    && nat_le (numbers.runs * numbers.topics * numbers.docs) most_lines
 
 -- the three lowest digits of n
 abbrev pub three_digits : ℕ → List ℕ
-three_digits n = (48 + n / 100 % 10) ∷ (48 + n / 10 % 10) ∷ (48 + n % 10) ∷ []
+three_digits n = (zero_digit + n / 100 % 10) ∷ (zero_digit + n / 10 % 10) ∷ (zero_digit + n % 10) ∷ []
 
 abbrev pub topic_name : ℕ → List ℕ
 topic_name t = codes "T" ++ three_digits t

@@ -2,6 +2,7 @@
 use Rattle.std.specs.Prelude.{◌≡◌, ◌<◌, ◌≤◌, ◌^◌, ℕ, Bool, true, ◌&&◌, List, [], ◌∷◌, ◌++◌, codes, decimal, length, nat_lt}
 use Rattle.std.specs.List.{list_all}
 use Rattle.routes.specs.declared.keys.KeyRow.{KeyRow}
+use Rattle.routes.specs.Limits.{most_body}
 use Rattle.rulebook.specs.declared.rules.Role.TheVariants.{Organiser, Group, Assessor}
 use Rattle.rulebook.specs.declared.rules.Rules.{Rules}
 use Rattle.drill.specs.declared.numbers.DrillNumbers.{DrillNumbers}
@@ -45,10 +46,14 @@ message_text message =
 abbrev pub is_visible : ℕ → Bool
 is_visible b = nat_lt 32 b && nat_lt b 127
 
+-- the most bytes of a key or a path
+abbrev pub most_word : ℕ
+most_word = 100
+
 -- visible bytes, few of them
 pub record IsWord (text : List ℕ) : Type 0 where
   pub some : 0 < length text
-  pub few : length text ≤ 100
+  pub few : length text ≤ most_word
   pub visible : list_all is_visible text ≡ true
 
 -- a message that a connection takes: its head is one, and its body isn't too long
@@ -56,7 +61,7 @@ pub record IsSendable (message : Message) : Type 0 where
   pub key : IsWord message.key
   pub path : IsWord message.path
   pub number : message.number < 2 ^ 32
-  pub body : length message.body ≤ 16777216
+  pub body : length message.body ≤ most_body
 
 -- the text of such a message
 abbrev pub IsMessage : List ℕ → Type 0

@@ -30,6 +30,10 @@ judging_after H sent = record { history = H; number = sent.number; leases = sent
 abbrev pub IsNumberedTo : ℕ → History → Type 0
 IsNumberedTo n H = (k : ℕ) → n < k → list_any (is_numbered (codes "asr") k) H ≡ false
 
+-- The assessor sends no more messages, and has no more leases: two for each accepted lease, each of which is an entry, and one for each topic.
+abbrev pub most_messages : ℕ
+most_messages = 9000000
+
 -- Before the last message for topic t: the next number is unused, the assessor sent two messages for each accepted lease and one for each topic
 -- before, and each accepted lease is an entry.
 pub record IsBeforeLastMessage (t : ℕ) (now : Judging) : Type 0 where

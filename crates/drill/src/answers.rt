@@ -1,5 +1,6 @@
 //! What the answers to a message tell, from their bytes.
 ghost use Rattle.std.specs.Prelude.{◌≡◌, ◌-◌, option_map};
+ghost use Rattle.decimal_rank.specs.Bytes.{zero_digit};
 ghost use Rattle.drill.specs.Answers.{are_met, behind_part, four_digit_number, leased_doc};
 
 use decimal_rank::are_all_digits;
@@ -37,7 +38,7 @@ fn four_digit_number(text: &[u8]) -> Option<u32>
 }
 
 fn digit(byte: u8) -> u32
-    ensures { result ≡ byte - 48 }
+    ensures { result ≡ byte - zero_digit }
 {
     u32::from(byte.saturating_sub(b'0'))
 }

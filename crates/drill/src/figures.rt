@@ -1,6 +1,6 @@
 //! The names, the scores and the grades of a generated campaign.
 ghost use Rattle.std.specs.Prelude.{◌≡◌, ◌≤◌, ◌∷◌, ◌++◌, OnOk};
-ghost use Rattle.drill.specs.Figures.{doc_name, drill_grade, run_name, score_of, three_digits, topic_name};
+ghost use Rattle.drill.specs.Figures.{doc_name, drill_grade, most_docs, most_runs, most_topics, run_name, score_of, three_digits, topic_name};
 
 use crate::numbers::DrillNumbers;
 use decimal_rank::Memory;
@@ -52,9 +52,9 @@ pub(crate) fn write_doc_name(d: u32, out: &mut Vec<u8>) -> Result<(), Memory>
 
 /// The score of a document in a run on a topic.
 pub(crate) fn score_of(numbers: &DrillNumbers, r: u32, t: u32, d: u32) -> u64
-    requires r { r ≤ 256 }
-    requires t { t ≤ 250 }
-    requires d { d ≤ 1000 }
+    requires r { r ≤ most_runs }
+    requires t { t ≤ most_topics }
+    requires d { d ≤ most_docs }
     ensures { result ≡ score_of numbers.now r t d }
 {
     let (seed, r, t, d) = (
@@ -68,7 +68,7 @@ pub(crate) fn score_of(numbers: &DrillNumbers, r: u32, t: u32, d: u32) -> u64
 
 /// The grade of a document of a topic.
 pub(crate) fn grade_of(numbers: &DrillNumbers, t: u32, d: u32) -> u64
-    requires t { t ≤ 250 }
+    requires t { t ≤ most_topics }
     ensures { result ≡ drill_grade numbers.now t d }
 {
     (u64::from(numbers.seed) + 5 * u64::from(t) + 3 * u64::from(d)) % 4

@@ -1,6 +1,6 @@
 //! The callers and the rules of a generated campaign, and the messages of its callers.
 ghost use Rattle.std.specs.Prelude.{◌≡◌, ◌≤◌, IfOk, IsTrue};
-ghost use Rattle.drill.specs.Figures.{are_numbers};
+ghost use Rattle.drill.specs.Figures.{are_numbers, most_runs};
 ghost use Rattle.drill.specs.Messages.{callers, grade_message, lease_message, message_text, open_message, publish_message, rules as drill_rules, run_message, topics_message};
 
 use crate::figures::{write_run_name, write_topic_name};
@@ -73,7 +73,7 @@ pub(crate) fn topics_message(alloc: Global, numbers: &DrillNumbers) -> Result<Ve
 /// The message that submits a run.
 pub(crate) fn run_message(alloc: Global, numbers: &DrillNumbers, r: u32) -> Result<Vec<u8>, Memory>
     requires numbers { IsTrue (are_numbers numbers.now) }
-    requires run { r ≤ 256 }
+    requires run { r ≤ most_runs }
     ensures { IfOk result (λ text. text.items ≡ message_text (run_message numbers.now r)) }
 {
     let mut path = Vec::new(alloc);

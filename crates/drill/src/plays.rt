@@ -2,9 +2,9 @@
 ghost use Rattle.std.specs.Prelude.{◌≡◌, ◌+◌, ◌≤◌, [], ◌∷◌, IfOk, IsTrue, MatchBool, OnOk};
 ghost use Rattle.rulebook.specs.Histories.Legal.{founding};
 ghost use Rattle.drill.specs.Exchanges.{IsAnswered, IsSent};
-ghost use Rattle.drill.specs.Figures.{are_numbers};
+ghost use Rattle.drill.specs.Figures.{are_numbers, most_topics};
 ghost use Rattle.drill.specs.Messages.{IsMessage, callers, rules, run_message as message_of_run};
-ghost use Rattle.drill.specs.Plays.{After, AreJudged, IsBeforeLastMessage, IsGraded, IsJudged, IsNumberedTo, IsPlayed, IsRefused, judging_after};
+ghost use Rattle.drill.specs.Plays.{After, AreJudged, IsBeforeLastMessage, IsGraded, IsJudged, IsNumberedTo, IsPlayed, IsRefused, judging_after, most_messages};
 
 use crate::exchanges::send;
 use crate::figures::grade_of;
@@ -115,7 +115,7 @@ impl<'a, R> Sender<'a, R> {
         sent: &mut Sent,
     ) -> Result<(), Memory>
         requires keys { self.now.keys.now ≡ callers }
-        requires topic { t ≤ 250 }
+        requires topic { t ≤ most_topics }
         requires counted { IsBeforeLastMessage t (judging_after book.old.history sent.old) }
         ensures judged { OnOk result (IsJudged self.now.numbers.now t
             (judging_after book.old.history sent.old) (judging_after book.new.history sent.new)) }
@@ -143,9 +143,9 @@ impl<'a, R> Sender<'a, R> {
         sent: &mut Sent,
     ) -> Result<bool, Memory>
         requires keys { self.now.keys.now ≡ callers }
-        requires topic { t ≤ 250 }
-        requires few { sent.old.number ≤ 9000000 }
-        requires few_leases { sent.old.leases ≤ 9000000 }
+        requires topic { t ≤ most_topics }
+        requires few { sent.old.number ≤ most_messages }
+        requires few_leases { sent.old.leases ≤ most_messages }
         ensures { IfOk result (λ is_graded. MatchBool is_graded (IsGraded self.now.numbers.now t
             (judging_after book.old.history sent.old) (judging_after book.new.history sent.new))
             (IsRefused t (judging_after book.old.history sent.old)

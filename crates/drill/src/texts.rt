@@ -1,6 +1,6 @@
 //! The topics and the runs of a generated campaign as texts.
 ghost use Rattle.std.specs.Prelude.{◌≡◌, ◌≤◌, ◌++◌, IsTrue, OnOk, decimal};
-ghost use Rattle.drill.specs.Figures.{are_numbers};
+ghost use Rattle.drill.specs.Figures.{are_numbers, most_docs, most_runs, most_topics};
 ghost use Rattle.drill.specs.Texts.{line, list_text, place_text, run_text, score_text, topic_text, topics_text};
 
 use crate::figures::{score_of, write_doc_name, write_run_name, write_topic_name};
@@ -33,7 +33,7 @@ fn write_topic(t: u32, out: &mut Vec<u8>) -> Result<(), Memory>
 /// Appends the lines of a run, by topic.
 pub(crate) fn write_run(numbers: &DrillNumbers, r: u32, out: &mut Vec<u8>) -> Result<(), Memory>
     requires numbers { IsTrue (are_numbers numbers.now) }
-    requires run { r ≤ 256 }
+    requires run { r ≤ most_runs }
     ensures { OnOk result (out.new.items ≡ out.old.items ++ run_text numbers.now r) }
 {
     for before in 0..numbers.topics {
@@ -45,8 +45,8 @@ pub(crate) fn write_run(numbers: &DrillNumbers, r: u32, out: &mut Vec<u8>) -> Re
 /// Appends the lines of a run on a topic, by document.
 fn write_list(numbers: &DrillNumbers, r: u32, t: u32, out: &mut Vec<u8>) -> Result<(), Memory>
     requires numbers { IsTrue (are_numbers numbers.now) }
-    requires run { r ≤ 256 }
-    requires topic { t ≤ 250 }
+    requires run { r ≤ most_runs }
+    requires topic { t ≤ most_topics }
     ensures { OnOk result (out.new.items ≡ out.old.items ++ list_text numbers.now r t) }
 {
     for before in 0..numbers.docs {
@@ -62,9 +62,9 @@ fn write_line(
     d: u32,
     out: &mut Vec<u8>,
 ) -> Result<(), Memory>
-    requires run { r ≤ 256 }
-    requires topic { t ≤ 250 }
-    requires doc { d ≤ 1000 }
+    requires run { r ≤ most_runs }
+    requires topic { t ≤ most_topics }
+    requires doc { d ≤ most_docs }
     ensures { OnOk result (out.new.items ≡ out.old.items ++ line numbers.now r t d) }
 {
     write_place(t, d, out)?;

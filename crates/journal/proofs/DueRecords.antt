@@ -1,10 +1,9 @@
 -- What a journal keeps, by what is due.
-use Rattle.std.proofs.Common.{◌≡◌, ◌⊎◌, inl, inr, ⊎_elim, ℕ, ◌+◌, ◌<◌, ◌≤◌, ◌^◌, List, [], ◌∷◌, ◌++◌, refl, sym, subst, arith}
-use Rattle.std.specs.Prelude.{Err, Ok, OnErr, OnOk, Result}
+use Rattle.std.proofs.Common.{◌≡◌, ◌⊎◌, inl, inr, ⊎_elim, ℕ, List, [], subst}
 use Rattle.journal.specs.declared.dues.Due.{Due}
 use Rattle.journal.specs.declared.dues.Due.TheVariants.{Nothing, Cut, Gate}
 use Rattle.journal.specs.Format.{place_behind}
-use Rattle.journal.specs.KeptRecords.{CutDue, GateDue, HoldsRecords, Keeps, KeepsAny, KeepsSome, Settled, StillKeeps}
+use Rattle.journal.specs.KeptRecords.{CutDue, GateDue, HoldsRecords, Keeps, KeepsAny, KeepsSome}
 use Rattle.journal.proofs.Steps.{gate_reads, shut_is_cut, shut_reads}
 
 -- where no gate has to be closed
@@ -27,35 +26,10 @@ pub is_due : (due : Due) → (due ≡ Cut) ⊎ (due ≡ Gate) → due ≡ Nothin
 is_due due (inl is) nothing = cc
 is_due due (inr is) nothing = cc
 
-pub on_err : {T E : Type 0} (result : Result T E) (A : Type 0) → A → OnErr result A
-on_err (Ok value) A a = tt
-on_err (Err error) A a = a
-
 pub kept_of_some : (images : List ℕ → Type 0) (place : ℕ) (due : Due) (all pending : List (List ℕ))
     → KeepsSome images place due all pending → KeepsAny images place due
 kept_of_some images place due all pending keeps =
     ⊎_elim (λ (none : Keeps images place due all []). (all, [], none)) (λ (some : Keeps images place due all pending). (all, pending, some)) keeps
-
--- what an append leaves, done or failed
-module _ (images after : List ℕ → Type 0) (place place' size : ℕ) (due due' : Due) (payload : List ℕ)
-    (room : place + 1 + size ≤ 2 ^ 40) (within : place < 2 ^ 40) where
-  pub kept_after : {T E : Type 0} (result : Result T E) → KeepsAny images place due
-      → OnOk result ((all pending : List (List ℕ)) → Keeps images place due all pending → Settled after place' (all ++ payload ∷ []))
-      → OnOk result (due' ≡ Nothing) → OnOk result (place' ≡ place + size) → OnErr result (place' ≡ place)
-      → OnErr result ((all pending : List (List ℕ)) → Keeps images place due all pending → StillKeeps after place' due' all pending payload)
-      → (place' < 2 ^ 40) × KeepsAny after place' due'
-  kept_after (Ok value) kept added nothing_due moved stays still =
-      let settled : Settled after place' (kept.0 ++ payload ∷ []) = added kept.0 kept.1 kept.2 in
-      let keeps : Keeps after place' due' (kept.0 ++ payload ∷ []) [] =
-      subst (λ (d : Due). Keeps after place' d (kept.0 ++ payload ∷ []) []) (sym nothing_due) (settled, refl) in
-      let below : place' < 2 ^ 40 = omega (arith, room, moved) in
-      (below, (kept.0 ++ payload ∷ [], [], keeps))
-  kept_after (Err error) kept added nothing_due moved stays still =
-      let below : place' < 2 ^ 40 = omega (arith, within, stays) in (
-        below,
-        ⊎_elim (λ (some : KeepsSome after place' due' kept.0 kept.1). kept_of_some after place' due' kept.0 kept.1 some)
-            (λ (new : Keeps after place' due' kept.0 (payload ∷ [])). (kept.0, payload ∷ [], new)) (still kept.0 kept.1 kept.2),
-      )
 
 -- what is kept is what each image gives, and its size tells the place
 pub keeps_stands : (images : List ℕ → Type 0) (place : ℕ) (due : Due) (all pending : List (List ℕ)) → Keeps images place due all pending

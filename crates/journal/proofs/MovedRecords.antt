@@ -1,47 +1,20 @@
 -- What the bytes give while records are moved.
-use Rattle.std.proofs.Common.{◌≡◌, ◌≢◌, inl, inr, ⊎_elim, ℕ, ◌+◌, ◌-◌, ◌<◌, ◌≤◌, ◌^◌, true, List, [], ◌∷◌, ◌++◌, length, get_or, take, drop, refl, sym, ap, ◌∙◌, subst, arith, append_assoc, length-append, length-drop, length-take-le, take-append-drop}
+use Rattle.std.proofs.Common.{◌≡◌, ◌≢◌, inl, inr, ⊎_elim, ℕ, ◌+◌, ◌-◌, ◌<◌, ◌≤◌, ◌^◌, true, List, [], ◌∷◌, ◌++◌, length, get_or, take, drop, refl, sym, ap, ◌∙◌, subst, arith, append_assoc, length-append, length-take-le, take-append-drop}
 use Rattle.std.specs.Prelude.{◌==◌, ◌/◌, ◌%◌, Some, nat_lt}
 use Rattle.std.specs.Int.{from_le_bytes, to_le_bytes, w64}
 use Rattle.std.proofs.lemmas.Nat.{from_le_bytes-to_le_bytes_8}
 use Rattle.std.proofs.lemmas.Bool.{cases_eq}
 use Rattle.std.proofs.lemmas.Bool.Decides.{nat_tests}
-use Rattle.std.proofs.lemmas.List.{append-nil, drop-append-le, drop-drop, drop-take, drop_all, drop_at, get_or-take, take-append-le, take-take, take_all, take_at}
+use Rattle.std.proofs.lemmas.List.{append-nil, drop-append-le, drop-drop, drop-take, drop_at, get_or-take, take-append-le, take-take, take_at}
 use Rattle.std.proofs.Math.ListN.{get_or-append}
 use Rattle.std.proofs.Math.Seq.{get_or-append_seam}
 use Rattle.disk_model.specs.Disks.{Torn, written}
+use Rattle.disk_model.proofs.Images.{length_written_within, torn_written}
 use Rattle.journal.specs.Format.{count_of_bytes, decode, mark, place_behind, records, records_of, state_byte, told_place}
 use Rattle.journal.specs.KeptRecords.{AreFrontRecords}
 use Rattle.journal.specs.MovedAreas.{AreUpToGate, GivesOneOf, GivesRecords, HasArea, HasBoth, IsArea, IsBack, IsMoved, IsPlaced, IsTurned, place_bytes}
 use Rattle.journal.proofs.RecordBytes.{front_holds, front_long, front_of, front_reads, long_gives, records_skip, rest_gives, shut_ends}
 use Rattle.journal.proofs.Steps.{gate_stays}
-
--- A write that is done is one that is cut short
-
-length_written : (place : ℕ) (piece content : List ℕ) → place ≤ length content
-    → length (written place piece content) ≡ place + length piece + (length content - (place + length piece))
-length_written place piece content within =
-    length-append (take place content ++ piece) (drop (place + length piece) content)
-    ∙ ap (λ (n : ℕ). n + length (drop (place + length piece) content))
-    (length-append (take place content) piece ∙ ap (λ (n : ℕ). n + length piece) (length-take-le place content within))
-    ∙ ap (λ (n : ℕ). place + length piece + n) (length-drop (place + length piece) content)
-
-pub torn_written : (place : ℕ) (piece content : List ℕ) → place ≤ length content → Torn place (length piece) content (written place piece content)
-torn_written place piece content within =
-    let front : List ℕ = take place content in
-    let front_length : length front ≡ place = length-take-le place content within in
-    let both_length : length (front ++ piece) ≡ place + length piece = length-append front piece ∙ ap (λ (n : ℕ). n + length piece) front_length in
-    let rest : List ℕ = drop (place + length piece) content in
-    let all_length = length_written place piece content within in
-    let place_in : place ≤ length (front ++ piece) = omega arith in
-    let place_front : place ≤ length front = omega arith in
-    let end_in : place + length piece ≤ length (front ++ piece) = omega arith in
-    record {
-      before = take-append-le place (front ++ piece) rest place_in ∙ take-append-le place front piece place_front ∙ take_all place front (omega arith);
-      after = drop-append-le (place + length piece) (front ++ piece) rest end_in
-          ∙ ap (λ (xs : List ℕ). xs ++ rest) (drop_all (place + length piece) (front ++ piece) (omega arith));
-      no_shorter = omega arith;
-      no_longer = omega arith;
-    }
 
 -- What image and image have in common
 
@@ -220,7 +193,7 @@ module _ (bytes area : List ℕ) (place : ℕ) (old all : List (List ℕ)) (shut
             marked = ap (λ (image : List ℕ). take 8 image) now.is ∙ take-append-le 8 now.front (now.gate ∷ now.behind) (omega (arith, long))
                 ∙ now.is_front.marked;
             told = told_from_front image bytes (same_front image bytes (place + 1) 16 (omega (arith, room, area_is)) torn.before) ∙ tells;
-            within = omega (arith, length_written (place + 1) area bytes (omega (arith, size)), area_is);
+            within = omega (arith, length_written_within (place + 1) area bytes, size, area_is);
             holds = area_found;
             room = omega (arith, room, area_is);
           },

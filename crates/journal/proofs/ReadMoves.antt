@@ -44,6 +44,14 @@ module _ (bytes : List ℕ) (long : 17 < length bytes) (marked : take 8 bytes �
   pub told_area : (area : List ℕ) (run : List ℕ) → run ≡ take size behind → area ≡ run ++ 0 ∷ [] → IsArea area all
   told_area area run run_is area_is = record { run = run; holds = subst (λ (b : List ℕ). AreRecords b all) (sym run_is) are; ended = area_is }
 
+-- the place that is told lies behind the bytes
+pub told_outside : (bytes : List ℕ) → 17 < length bytes → take 8 bytes ≡ mark → state_byte bytes ≡ 2
+    → (told : ℕ) → told ≡ told_place bytes → length bytes ≤ told → decode bytes ≡ None
+told_outside bytes long marked moving told told_is outside =
+    let is_two : (state_byte bytes == 2) ≡ true = grind (arith, nat_tests) in
+    let not_in : nat_lt (told_place bytes) (length bytes) ≡ false = let far = outside in let is = told_is in grind (arith, nat_tests) in
+    long_gives bytes long marked ∙ rw is_two (rw not_in refl)
+
 -- where no call was made
 pub stay_as : {D : Type 0} (seen : D → DiskState) (disk : D) (bytes : List ℕ) → ((disk : D) → OnlyNow (seen disk))
     → ((image : List ℕ) → (seen disk).images image → image ≡ bytes) → EachMoment seen disk disk (λ image. decode image ≡ decode bytes)

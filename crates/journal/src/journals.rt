@@ -1,21 +1,19 @@
 //! A journal: records on a disk, to which one is added at a time.
-ghost use Rattle.std.specs.Prelude.{◌≡◌, ◌≢◌, ℕ, ◌+◌, ◌*◌, ◌<◌, ◌≤◌, ◌^◌, [], ◌∷◌, ◌++◌, List, None, Some, length, true, IfErr, IfOk, IfSome, OnErr, OnOk};
-ghost use Rattle.decimal_rank.specs.Causes.{HasCause, Rose};
-ghost use Rattle.disk_model.specs.Disks.{EachMoment, NoFurther};
-ghost use Rattle.journal.specs.declared.dues.Due.TheVariants.{Gate, Nothing};
-ghost use Rattle.journal.specs.declared.opening.OpenFault.{OpenFault};
-ghost use Rattle.journal.specs.declared.opening.OpenFault.TheVariants.{Disk as DiskFault};
-ghost use Rattle.journal.specs.Format.{decode, empty_journal, place_behind};
+ghost use Rattle.std.specs.Prelude.{◌≡◌, ◌≢◌, ℕ, ◌+◌, ◌*◌, ◌<◌, ◌≤◌, ◌^◌, List, Some, length, true, IfErr, IfOk};
+ghost use Rattle.journal.specs.declared.dues.Due.TheVariants.{Nothing};
+ghost use Rattle.journal.specs.Appends.{Appends};
+ghost use Rattle.journal.specs.Format.{decode, place_behind};
 ghost use Rattle.journal.specs.Journals.{KeepsRecords};
-ghost use Rattle.journal.specs.KeptRecords.{EndsClosed, HoldsRecords, HoldsRecordsOfOne, KeepsSome, Settled, StillKeeps, payloads};
-ghost use Rattle.journal.specs.Moments.{DecodesAs, Turned, Turns};
+ghost use Rattle.journal.specs.KeptRecords.{HoldsRecords, Settled, payloads};
+ghost use Rattle.journal.specs.Mends.{Mends};
+ghost use Rattle.journal.specs.Openings.{NotRecovered, Recovered};
 ghost use Rattle.journal.specs.Replacements.{HasAlone, Replaces};
 
 use crate::appends::append_frame;
 use crate::appends::frames::Frame;
 use crate::dues::Due;
 use crate::mends::mend_due;
-use crate::opening::{OpenFault, take_up};
+use crate::opening::{OpenFault, recover};
 use crate::reading::Records;
 use crate::replacing::areas::Area;
 use crate::replacing::{ReplaceEnd, replace_records};
@@ -52,32 +50,13 @@ impl<D: Disk> Journal<D> {
     /// gate becomes an empty journal. One that is no journal is left as it is. A disk of 2^39 bytes
     /// and more finds no memory.
     pub fn open(alloc: Global, disk: D) -> Result<(Journal<D>, Vec<Vec<u8>>), (D, OpenFault)>
-        ensures read { IfOk result (λ opened.
-            IfSome (D.seen disk).content (λ bytes. decode bytes ≡ Some (payloads opened.1.items))) }
-        ensures settled { IfOk result (λ opened.
-            Settled (D.seen opened.0.disk).images opened.0.place (payloads opened.1.items)) }
-        ensures founded { IfOk result (λ opened. IfSome (D.seen disk).content
-            (λ bytes. length bytes ≤ 17 → (image : List ℕ)
-            → (D.seen opened.0.disk).images image → image ≡ empty_journal)) }
+        ensures recovered { IfOk result (λ opened. Recovered D.seen disk opened.0.disk
+            opened.0.place (payloads opened.1.items)) }
         ensures nothing_due { IfOk result (λ opened. opened.0.due ≡ Nothing) }
-        ensures within { IfOk result (λ opened. opened.0.place < 2 ^ 39) }
-        ensures any_moment { IfOk result
-            (λ opened. Turned D.seen disk opened.0.disk (DecodesAs (D.seen disk).content)) }
-        ensures any_moment_err { IfErr result
-            (λ fault. Turns D.seen disk fault.0 (DecodesAs (D.seen disk).content)) }
-        ensures header { IfErr result (λ fault. fault.1 ≡ OpenFault.Header
-            → IfSome (D.seen disk).content (λ bytes. decode bytes ≡ None)) }
-        ensures untouched { IfErr result (λ fault. fault.1 ≢ DiskFault
-            → ((D.seen fault.0).content ≡ (D.seen disk).content)
-            × NoFurther (D.seen disk).images (D.seen fault.0).images) }
-        ensures fault { IfErr result (λ fault. fault.1 ≡ DiskFault
-            → Rose (D.seen disk).faults (D.seen fault.0).faults) }
-        ensures later { IfOk result
-            (λ opened. (D.seen disk).faults ≤ (D.seen opened.0.disk).faults) }
-        ensures later_err { IfErr result (λ fault. (D.seen disk).faults ≤ (D.seen fault.0).faults) }
+        ensures refused { IfErr result (λ fault. NotRecovered D.seen disk fault.0 fault.1) }
     {
         let mut disk = disk;
-        match take_up(alloc, &mut disk) {
+        match recover(alloc, &mut disk) {
             Ok(found) => {
                 let Records { payloads, place } = found;
                 let journal = Journal {
@@ -95,23 +74,7 @@ impl<D: Disk> Journal<D> {
     /// mends first. It takes no memory.
     pub fn append(&mut self, frame: &Frame) -> Result<(), Failed>
         requires { self.old.place + 6 + length frame.now ≤ 2 ^ 40 }
-        ensures added { OnOk result ((all pending : List (List ℕ))
-            → KeepsRecords D.seen self.old all pending
-            → Settled (D.seen self.new.disk).images self.new.place (all ++ frame.now ∷ [])) }
-        ensures closed { OnOk result (EndsClosed (D.seen self.new.disk).images self.new.place) }
-        ensures nothing_due { OnOk result (self.new.due ≡ Nothing) }
-        ensures place { OnOk result (self.new.place ≡ self.old.place + 5 + length frame.now) }
-        ensures place_err { OnErr result (self.new.place ≡ self.old.place) }
-        ensures kept { OnErr result ((all pending : List (List ℕ))
-            → KeepsRecords D.seen self.old all pending
-            → StillKeeps (D.seen self.new.disk).images self.new.place self.new.due
-            all pending frame.now) }
-        ensures any_moment { (all pending : List (List ℕ))
-            → KeepsRecords D.seen self.old all pending
-            → EachMoment D.seen self.old.disk self.new.disk
-            (HoldsRecordsOfOne all pending frame.now) }
-        ensures cause { HasCause (D.seen self.old.disk).faults (D.seen self.new.disk).faults
-            result }
+        ensures { Appends D.seen self.old self.new frame.now result }
     {
         append_frame(
             &mut self.disk,
@@ -123,20 +86,7 @@ impl<D: Disk> Journal<D> {
 
     /// Leaves the acknowledged records alone on the disk. It takes no memory.
     pub fn mend(&mut self) -> Result<(), Failed>
-        ensures mended { OnOk result ((all pending : List (List ℕ))
-            → KeepsRecords D.seen self.old all pending
-            → Settled (D.seen self.new.disk).images self.new.place all) }
-        ensures closed { self.old.due ≡ Gate
-            → OnOk result (EndsClosed (D.seen self.new.disk).images self.new.place) }
-        ensures nothing_due { OnOk result (self.new.due ≡ Nothing) }
-        ensures place { self.new.place ≡ self.old.place }
-        ensures kept { (all pending : List (List ℕ)) → KeepsRecords D.seen self.old all pending
-            → KeepsSome (D.seen self.new.disk).images self.new.place self.new.due all pending }
-        ensures any_moment { (all pending : List (List ℕ))
-            → KeepsRecords D.seen self.old all pending
-            → EachMoment D.seen self.old.disk self.new.disk (HoldsRecords all pending) }
-        ensures cause { HasCause (D.seen self.old.disk).faults (D.seen self.new.disk).faults
-            result }
+        ensures { Mends D.seen self.old self.new result }
     {
         mend_due(&mut self.disk, self.place, &mut self.due)
     }

@@ -9,9 +9,9 @@
 //!   `reading`: what its bytes give (`specs/Format.antt`).
 //! - What a disk keeps for it: `specs/KeptRecords.antt`. What holds at each moment of a call:
 //!   `specs/Moments.antt`.
-//! - `appends`: an append, over `appends::frames`, `appends::stages` and `synced_calls`. `mends`: a
-//!   mend of what is due, `dues` (`specs/Mends.antt`).
-//! - `opening`: what a crash left is read and mended.
+//! - `appends`: an append (`specs/Appends.antt`), over `appends::frames`, `appends::stages` and
+//!   `synced_calls`. `mends`: a mend of what is due, `dues` (`specs/Mends.antt`).
+//! - `opening`: what a crash left is read and mended (`specs/Openings.antt`).
 //! - `replacing`: other records in the place of all (`specs/Replacements.antt`), which
 //!   `replacing::areas` writes and `replacing::moves` moves; what the bytes hold meanwhile:
 //!   `specs/MovedAreas.antt`.

@@ -1,14 +1,15 @@
 //! Opening a journal. The bytes are read whole, at once; what a crash left behind the last whole
 //! record is mended. Bytes that are no journal are left as they are.
-ghost use Rattle.std.specs.Prelude.{◌≡◌, ◌≢◌, ℕ, ◌+◌, ◌≤◌, ◌<◌, ◌^◌, [], List, None, Some, length, take, true, IfErr, IfOk, IfSome, OnOk, nat_eq};
+ghost use Rattle.std.specs.Prelude.{◌≡◌, ◌≢◌, ℕ, ◌+◌, ◌≤◌, ◌<◌, ◌^◌, [], List, length, take, true, IfErr, IfOk, IfSome, OnOk, nat_eq};
 ghost use Rattle.std.specs.List.{starts_with};
 ghost use Rattle.decimal_rank.specs.Causes.{HasCause, Rose};
 ghost use Rattle.disk_model.specs.Disks.{EachMoment, NoFurther};
 ghost use Rattle.journal.specs.declared.opening.OpenFault.{OpenFault};
 ghost use Rattle.journal.specs.declared.opening.OpenFault.TheVariants.{Disk as DiskFault, Memory as MemoryFault};
 ghost use Rattle.journal.specs.Format.{decode, empty_journal, mark, state_byte};
-ghost use Rattle.journal.specs.KeptRecords.{Settled, payloads};
+ghost use Rattle.journal.specs.KeptRecords.{payloads};
 ghost use Rattle.journal.specs.Moments.{DecodesAs, Turned, Turns};
+ghost use Rattle.journal.specs.Openings.{HasBytes, NotRecovered, NotRecoveredFrom, Recovered, RecoveredFrom};
 
 use crate::layout::{EMPTY_JOURNAL, HEADER_LENGTH, MOST_OPENED, MOVING, STATE_PLACE};
 use crate::mends::mend_due;
@@ -47,37 +48,20 @@ impl From<Memory> for OpenFault {
 
 /// Reads a journal's records and mends it; a disk with fewer bytes than a record takes becomes an
 /// empty journal.
-pub(crate) fn take_up<D: Disk>(alloc: Global, disk: &mut D) -> Result<Records, OpenFault>
-    ensures read { IfOk result (λ found. IfSome (D.seen disk.old).content
-        (λ bytes. decode bytes ≡ Some (payloads found.payloads.items))) }
-    ensures settled { IfOk result
-        (λ found. Settled (D.seen disk.new).images found.place (payloads found.payloads.items)) }
-    ensures founded { IfOk result (λ _. IfSome (D.seen disk.old).content
-        (λ bytes. length bytes ≤ 17 → (image : List ℕ)
-        → (D.seen disk.new).images image → image ≡ empty_journal)) }
-    ensures within { IfOk result (λ found. found.place < 2 ^ 39) }
-    ensures any_moment { IfOk result
-        (λ _. Turned D.seen disk.old disk.new (DecodesAs (D.seen disk.old).content)) }
-    ensures any_moment_err { IfErr result
-        (λ _. Turns D.seen disk.old disk.new (DecodesAs (D.seen disk.old).content)) }
-    ensures header { IfErr result (λ fault. fault ≡ OpenFault.Header
-        → IfSome (D.seen disk.old).content (λ bytes. decode bytes ≡ None)) }
-    ensures untouched { IfErr result (λ fault. fault ≢ DiskFault
-        → ((D.seen disk.new).content ≡ (D.seen disk.old).content)
-        × NoFurther (D.seen disk.old).images (D.seen disk.new).images) }
-    ensures disk { IfErr result (λ fault. fault ≡ DiskFault
-        → Rose (D.seen disk.old).faults (D.seen disk.new).faults) }
-    ensures later { (D.seen disk.old).faults ≤ (D.seen disk.new).faults }
+pub(crate) fn recover<D: Disk>(alloc: Global, disk: &mut D) -> Result<Records, OpenFault>
+    ensures recovered { IfOk result (λ found. Recovered D.seen disk.old disk.new
+        found.place (payloads found.payloads.items)) }
+    ensures refused { IfErr result (λ fault. NotRecovered D.seen disk.old disk.new fault) }
 {
     let bytes = read_all(alloc, disk)?;
     if bytes.len() <= EMPTY_JOURNAL.len() {
-        found(disk)?;
+        begin_empty(disk)?;
         return Ok(Records {
             payloads: Vec::new(alloc),
             place: HEADER_LENGTH,
         });
     }
-    reopen(alloc, disk, &bytes)
+    recover_records(alloc, disk, &bytes)
 }
 
 /// All bytes of the disk, which are then the only ones that a crash leaves.
@@ -117,9 +101,9 @@ fn zeros(alloc: Global, count: usize) -> Result<Vec<u8>, Memory>
 }
 
 /// Makes an empty journal of a disk that has no more bytes than one.
-fn found<D: Disk>(disk: &mut D) -> Result<(), Failed>
+fn begin_empty<D: Disk>(disk: &mut D) -> Result<(), Failed>
     requires { (image : List ℕ) → (D.seen disk.old).images image → length image ≤ 17 }
-    ensures founded { OnOk result ((image : List ℕ) → (D.seen disk.new).images image
+    ensures empty { OnOk result ((image : List ℕ) → (D.seen disk.new).images image
         → image ≡ empty_journal) }
     ensures any_moment { EachMoment D.seen disk.old disk.new (λ image. length image ≤ 17) }
     ensures cause { HasCause (D.seen disk.old).faults (D.seen disk.new).faults result }
@@ -132,20 +116,14 @@ fn found<D: Disk>(disk: &mut D) -> Result<(), Failed>
 
 /// Reads the records of these bytes, which are the only ones that a crash leaves, and mends their
 /// end; or moves them on where they were being moved.
-fn reopen<D: Disk>(alloc: Global, disk: &mut D, bytes: &[u8]) -> Result<Records, OpenFault>
-    requires alone { (image : List ℕ) → (D.seen disk.old).images image → image ≡ bytes.now }
-    requires long { 17 < length bytes.now }
-    requires few { length bytes.now < 2 ^ 39 }
-    ensures read { IfOk result (λ found. decode bytes.now ≡ Some (payloads found.payloads.items)) }
-    ensures settled { IfOk result
-        (λ found. Settled (D.seen disk.new).images found.place (payloads found.payloads.items)) }
-    ensures within { IfOk result (λ found. found.place < 2 ^ 39) }
+fn recover_records<D: Disk>(alloc: Global, disk: &mut D, bytes: &[u8]) -> Result<Records, OpenFault>
+    requires disk { HasBytes (D.seen disk.old).images bytes.now }
+    ensures recovered { IfOk result (λ found. RecoveredFrom (D.seen disk.new).images bytes.now
+        found.place (payloads found.payloads.items)) }
+    ensures refused { IfErr result
+        (λ fault. NotRecoveredFrom D.seen disk.old disk.new bytes.now fault) }
     ensures any_moment { EachMoment D.seen disk.old disk.new
         (λ image. decode image ≡ decode bytes.now) }
-    ensures header { IfErr result (λ fault. fault ≡ OpenFault.Header → decode bytes.now ≡ None) }
-    ensures untouched { IfErr result (λ fault. fault ≢ DiskFault → disk.new ≡ disk.old) }
-    ensures disk { IfErr result (λ fault. fault ≡ DiskFault
-        → Rose (D.seen disk.old).faults (D.seen disk.new).faults) }
     ensures later { (D.seen disk.old).faults ≤ (D.seen disk.new).faults }
 {
     if !has_mark(bytes) {
@@ -160,21 +138,15 @@ fn reopen<D: Disk>(alloc: Global, disk: &mut D, bytes: &[u8]) -> Result<Records,
 
 /// The records stand behind the header.
 fn mend_end<D: Disk>(alloc: Global, disk: &mut D, bytes: &[u8]) -> Result<Records, OpenFault>
-    requires alone { (image : List ℕ) → (D.seen disk.old).images image → image ≡ bytes.now }
+    requires disk { HasBytes (D.seen disk.old).images bytes.now }
     requires marked { take 8 bytes.now ≡ mark }
     requires at_rest { state_byte bytes.now ≢ 2 }
-    requires long { 17 < length bytes.now }
-    requires few { length bytes.now < 2 ^ 39 }
-    ensures read { IfOk result (λ found. decode bytes.now ≡ Some (payloads found.payloads.items)) }
-    ensures settled { IfOk result
-        (λ found. Settled (D.seen disk.new).images found.place (payloads found.payloads.items)) }
-    ensures within { IfOk result (λ found. found.place < 2 ^ 39) }
+    ensures recovered { IfOk result (λ found. RecoveredFrom (D.seen disk.new).images bytes.now
+        found.place (payloads found.payloads.items)) }
+    ensures refused { IfErr result
+        (λ fault. NotRecoveredFrom D.seen disk.old disk.new bytes.now fault) }
     ensures any_moment { EachMoment D.seen disk.old disk.new
         (λ image. decode image ≡ decode bytes.now) }
-    ensures header { IfErr result (λ fault. fault ≢ OpenFault.Header) }
-    ensures untouched { IfErr result (λ fault. fault ≢ DiskFault → disk.new ≡ disk.old) }
-    ensures disk { IfErr result (λ fault. fault ≡ DiskFault
-        → Rose (D.seen disk.old).faults (D.seen disk.new).faults) }
     ensures later { (D.seen disk.old).faults ≤ (D.seen disk.new).faults }
 {
     let found = read_records(alloc, behind(bytes, HEADER_LENGTH))?;
@@ -187,21 +159,15 @@ fn mend_end<D: Disk>(alloc: Global, disk: &mut D, bytes: &[u8]) -> Result<Record
 
 /// The records stand at the place that is told, and are moved behind the header.
 fn move_on<D: Disk>(alloc: Global, disk: &mut D, bytes: &[u8]) -> Result<Records, OpenFault>
-    requires alone { (image : List ℕ) → (D.seen disk.old).images image → image ≡ bytes.now }
+    requires disk { HasBytes (D.seen disk.old).images bytes.now }
     requires marked { take 8 bytes.now ≡ mark }
     requires moving { state_byte bytes.now ≡ 2 }
-    requires long { 17 < length bytes.now }
-    requires few { length bytes.now < 2 ^ 39 }
-    ensures read { IfOk result (λ found. decode bytes.now ≡ Some (payloads found.payloads.items)) }
-    ensures settled { IfOk result
-        (λ found. Settled (D.seen disk.new).images found.place (payloads found.payloads.items)) }
-    ensures within { IfOk result (λ found. found.place < 2 ^ 39) }
+    ensures recovered { IfOk result (λ found. RecoveredFrom (D.seen disk.new).images bytes.now
+        found.place (payloads found.payloads.items)) }
+    ensures refused { IfErr result
+        (λ fault. NotRecoveredFrom D.seen disk.old disk.new bytes.now fault) }
     ensures any_moment { EachMoment D.seen disk.old disk.new
         (λ image. decode image ≡ decode bytes.now) }
-    ensures header { IfErr result (λ fault. fault ≡ OpenFault.Header → decode bytes.now ≡ None) }
-    ensures untouched { IfErr result (λ fault. fault ≢ DiskFault → disk.new ≡ disk.old) }
-    ensures disk { IfErr result (λ fault. fault ≡ DiskFault
-        → Rose (D.seen disk.old).faults (D.seen disk.new).faults) }
     ensures later { (D.seen disk.old).faults ≤ (D.seen disk.new).faults }
 {
     let told = told_place_of(bytes);

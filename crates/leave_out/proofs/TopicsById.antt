@@ -1,25 +1,13 @@
 -- The topics of a campaign by id, each with its number.
-use Rattle.std.proofs.Common.{◌≡◌, ◌∙◌, ℕ, true, List, [], ◌∷◌, Option, Some, ap, map, refl, sym, Ordering, Less, Equal, Greater}
+use Rattle.std.proofs.Common.{◌≡◌, ◌∙◌, ℕ, List, [], ◌∷◌, Option, Some, ap, map, refl, Ordering, Less, Equal, Greater}
 use Rattle.std.specs.BTreeMap.{insert_entry}
 use Rattle.std.specs.BTreeSet.{insert_key}
-use Rattle.std.specs.Cmp.Lexicographic.{slice_cmp}
-use Rattle.std.specs.Ordering.{is_eq, match_ordering, nat_cmp, ordering_reverse}
-use Rattle.std.proofs.lemmas.Cmp.{nat_list_cmp_total}
-use Rattle.std.proofs.lemmas.Map.Text.{is_eq-slice_cmp}
-use Rattle.std.proofs.lemmas.Slice.Eq.{bytes_eq-Decides}
+use Rattle.std.specs.Ordering.{match_ordering}
 use Rattle.rulebook.specs.Words.{Text}
 use Rattle.rulebook.specs.Campaign.{History}
 use Rattle.campaign_core.specs.Views.LentTopics.{topic_at}
+use Rattle.campaign_core.proofs.Lists.ByteOrder.{same_text, text_cmp}
 use Rattle.leave_out.specs.TopicOrder.{AreTopicNumbers}
-
-abbrev pub text_cmp : Text → Text → Ordering
-text_cmp = slice_cmp nat_cmp
-
-pub same_text : (a b : Text) → text_cmp a b ≡ Equal → a ≡ b
-same_text a b is = sym ((bytes_eq-Decides b a).0 (sym (is_eq-slice_cmp b a) ∙ flip (text_cmp a b) is (nat_list_cmp_total.antisymm b a)))
-  where
-    flip : (o : Ordering) → o ≡ Equal → text_cmp b a ≡ ordering_reverse o → is_eq (text_cmp b a) ≡ true
-    flip o e r = ap is_eq (r ∙ ap ordering_reverse e)
 
 abbrev first : Text × ℕ → Text
 first one = one.0

@@ -6,6 +6,7 @@ ghost use Rattle.measures.specs.Means.{value_of};
 ghost use Rattle.measures.specs.declared.means.Measure.TheVariants.{Map};
 ghost use Rattle.rulebook.specs.Campaign.{Run, docs_on};
 ghost use Rattle.rulebook.specs.Judgements.Grades.{labelled_documents};
+ghost use Rattle.rulebook.specs.Requests.Limits.{max_docs};
 ghost use Rattle.rulebook.specs.Words.{Text as Words};
 ghost use Rattle.campaign_core.specs.Views.LentTopics.{topic_at};
 ghost use Rattle.campaign_core.specs.Numbering.Numbers.{are_named, docs_in, names_of};
@@ -75,7 +76,7 @@ fn reduced_grades(
     ensures grades { let H = state.now.history in
         (id : Words) (one : ℕ × Run) → topic_at H topic ≡ Some id → IsLive H run one → IfOk result
         (λ grades. grades.items ≡ map (reduced_grade H group.now id) (docs_on one.1.lists id)) }
-    ensures few { IfOk result (λ grades. length grades.items ≤ 1000) }
+    ensures few { IfOk result (λ grades. length grades.items ≤ max_docs) }
 {
     match state.ranking(run, topic) {
         Some(ranking) => listed_grades(alloc, state, topic, group, ranking),
@@ -96,7 +97,7 @@ fn listed_grades(
         (id : Words) (docs : List Words) → topic_at H topic ≡ Some id
         → IsTrue (are_named (names_of H) docs) → ranking.now ≡ docs_in (names_of H) docs
         → IfOk result (λ grades. grades.items ≡ map (reduced_grade H group.now id) docs) }
-    ensures few { IfOk result (λ grades. length grades.items ≤ 1000) }
+    ensures few { IfOk result (λ grades. length grades.items ≤ max_docs) }
 {
     let len = ranking.len();
     let mut grades = Vec::new(alloc);
@@ -131,7 +132,7 @@ fn counted_doc_at<L: Ledger>(ranking: &Ranking, place: u32, blank: Blank) -> Doc
 /// with these reduced judgements.
 #[tactic(auto, unfolding(measures::specs::Cells::cell_of))]
 fn average_precision(grades: &[Option<u8>], judgements: ReducedJudgements, level: u8) -> u64
-    requires short { length grades.now ≤ 1000 }
+    requires short { length grades.now ≤ max_docs }
     requires relevant { count_by (is_relevant level) grades.now ≤ judgements.relevant }
     requires lower { count_by (is_non_relevant level) grades.now ≤ judgements.lower }
     requires few { AreFew judgements }

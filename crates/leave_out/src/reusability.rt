@@ -2,6 +2,7 @@
 ghost use Rattle.std.specs.Prelude.{◌≡◌, ◌+◌, ◌<◌, ◌≤◌, ◌^◌, ◌*◌, ◌/◌, ℕ, ◌==◌, IfOk, IsTrue, if◌then◌else◌, length};
 ghost use Rattle.std.specs.List.{list_all};
 ghost use Rattle.rulebook.specs.Campaign.{Run};
+ghost use Rattle.rulebook.specs.Requests.Limits.{max_entries, max_topics};
 ghost use Rattle.rulebook.specs.Reports.Systems.{is_mean, system_of};
 ghost use Rattle.campaign_core.specs.Views.Groups.{group_of};
 ghost use Rattle.campaign_core.specs.Assessments.Topics.{topic_ids};
@@ -67,7 +68,7 @@ fn row_of(
     system: &System,
     judgements: &GroupJudgements,
 ) -> Result<Reused, Memory>
-    requires topics { length (topic_ids state.now.history) ≤ 250 }
+    requires topics { length (topic_ids state.now.history) ≤ max_topics }
     requires live { let H = state.now.history in
         (one : ℕ × Run) × IsLive H run one × (system.now ≡ system_of H (group_of H one.0) one.1) }
     requires mean { IsTrue (is_mean system.now.summary.map) }
@@ -110,7 +111,8 @@ fn sums_of(
     requires live { (one : ℕ × Run) × IsLive state.now.history run one }
     requires reduced { AreOfGroup state.now.history judgements.now }
     ensures means { IfOk result (λ sums. sums.precisions ≤ sums.topics * 10 ^ 15) }
-    ensures own { IfOk result (λ sums. sums.own ≤ length (topic_ids state.now.history) * 4000000) }
+    ensures own { IfOk result
+        (λ sums. sums.own ≤ length (topic_ids state.now.history) * max_entries) }
     ensures sums { let H = state.now.history in (one : ℕ × Run) → IsLive H run one
         → IfOk result (λ sums. sums ≡ sums_in H judgements.now.group one.1 (topic_ids H)) }
 {

@@ -106,12 +106,12 @@ parts_read bytes =
     (table_read caller_read bytes)
 
 -- the entries that may have a bundle, and whose bundle the bytes are
-abbrev pub confirmed : Text → List EntryCore → Option (List EntryCore)
-confirmed bytes cores = if have_bundle cores && bytes_eq (bundle_bytes cores) bytes then Some cores else None
+abbrev pub cores_with_bundle : Text → List EntryCore → Option (List EntryCore)
+cores_with_bundle bytes cores = if have_bundle cores && bytes_eq (bundle_bytes cores) bytes then Some cores else None
 
 -- the entries whose bundle the bytes are
 unfoldable pub bundle_of : Text → Option (List EntryCore)
-bundle_of bytes = option_and_then (confirmed bytes) (whole_value (option_and_then (λ b. parts_read b.1) (byte_read bytes)))
+bundle_of bytes = option_and_then (cores_with_bundle bytes) (whole_value (option_and_then (λ b. parts_read b.1) (byte_read bytes)))
 
 abbrev pub alone : EntryCore → List EntryCore
 alone core = core ∷ []

@@ -1,6 +1,7 @@
 -- Bundles: several entries as one payload, with a table of their callers and one of their texts.
 use Rattle.std.specs.Prelude.{◌≡◌, ℕ, ◌+◌, ◌-◌, ◌&&◌, Bool, true, List, [], ◌∷◌, ◌++◌, length, Option, Some, None, is_some, unwrap_or, nat_le, bytes_eq, IsTrue}
 use Rattle.std.specs.List.{list_all, flat_map}
+use Rattle.std.specs.Option.{option_map, option_map_or}
 use Rattle.trec_formats.specs.Names.{is_between}
 use Rattle.rulebook.specs.declared.rules.Caller.{Caller}
 use Rattle.rulebook.specs.declared.ask.Command.{Command}
@@ -47,19 +48,30 @@ parts_bytes p = 0 ∷ (counted_items caller_bytes p.callers ++ (counted_items sh
 
 -- The parts of entries
 
--- the texts that a command uses, a topic before a document
+-- what a bundle has of a command: the texts that it uses, a topic before a document, and the command with their indices
+pub record BundledCommand : Type 0 where
+  pub texts : List Text
+  -- given what the index of a text is
+  pub indexed : (Text → ℕ) → Brief
+
+-- of a command that a bundle may have
+abbrev pub bundled_command : Command → Option BundledCommand
+bundled_command (Found rules) = None
+bundled_command (Topics topics) = None
+bundled_command (Submit run lists) = None
+bundled_command Open = Some (record { texts = []; indexed = λ index. brief.Open })
+bundled_command (Lease topic) = Some (record { texts = topic ∷ []; indexed = λ index. brief.Lease (index topic) })
+bundled_command (Grade lease grade) = Some (record { texts = []; indexed = λ index. brief.Grade lease grade })
+bundled_command (Release lease) = Some (record { texts = []; indexed = λ index. brief.Release lease })
+bundled_command (Amend topic doc grade) =
+    Some (record { texts = topic ∷ doc ∷ []; indexed = λ index. brief.Amend (index topic) (index doc) grade })
+bundled_command (Rule topic doc grade) =
+    Some (record { texts = topic ∷ doc ∷ []; indexed = λ index. brief.Rule (index topic) (index doc) grade })
+bundled_command (Withdraw run) = Some (record { texts = run ∷ []; indexed = λ index. brief.Withdraw (index run) })
+bundled_command Publish = Some (record { texts = []; indexed = λ index. brief.Publish })
+
 abbrev pub texts_in : Command → List Text
-texts_in (Found rules) = []
-texts_in (Topics topics) = []
-texts_in (Submit run lists) = []
-texts_in Open = []
-texts_in (Lease topic) = topic ∷ []
-texts_in (Grade lease grade) = []
-texts_in (Release lease) = []
-texts_in (Amend topic doc grade) = topic ∷ doc ∷ []
-texts_in (Rule topic doc grade) = topic ∷ doc ∷ []
-texts_in (Withdraw run) = run ∷ []
-texts_in Publish = []
+texts_in c = option_map_or (λ told. told.texts) (bundled_command c) []
 
 abbrev pub texts_of : List EntryCore → List Text
 texts_of cores = table_of bytes_eq (flat_map (λ c. texts_in c.command) cores)
@@ -70,17 +82,7 @@ module _ (texts : List Text) where
 
   -- a command that a bundle may have, with indices in place of its texts
   abbrev pub brief_in : Command → Option Brief
-  brief_in (Found rules) = None
-  brief_in (Topics topics) = None
-  brief_in (Submit run lists) = None
-  brief_in Open = Some brief.Open
-  brief_in (Lease topic) = Some (brief.Lease (index_in topic))
-  brief_in (Grade lease grade) = Some (brief.Grade lease grade)
-  brief_in (Release lease) = Some (brief.Release lease)
-  brief_in (Amend topic doc grade) = Some (brief.Amend (index_in topic) (index_in doc) grade)
-  brief_in (Rule topic doc grade) = Some (brief.Rule (index_in topic) (index_in doc) grade)
-  brief_in (Withdraw run) = Some (brief.Withdraw (index_in run))
-  brief_in Publish = Some brief.Publish
+  brief_in c = option_map (λ told. told.indexed index_in) (bundled_command c)
 
   -- what no bundle may have is of no account
   abbrev pub brief_of : Command → Brief
@@ -116,7 +118,7 @@ bundle_bytes cores = parts_bytes (parts_of cores)
 
 -- a command of the kinds 4 to 11
 abbrev pub is_brief : Command → Bool
-is_brief c = is_some (brief_in [] c)
+is_brief c = is_some (bundled_command c)
 
 abbrev pub is_packable : EntryCore → Bool
 is_packable core = has_spelling core && is_brief core.command

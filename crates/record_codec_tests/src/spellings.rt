@@ -1,6 +1,7 @@
-//! Bytes that are spellings of entries, and bytes that are none.
+//! Bytes that are spellings of entries, bytes that are none, and how spellings begin whose lists and
+//! texts are as long as they may be.
 
-/// Each the command, and a spelling.
+/// Each the name of a command, and a spelling of one.
 pub(crate) const SPELLINGS: &str = "\
 Found: 0863616d706169676e01000000000000000000010300580200000000000002010300000000
 Found: 0863616d706169676e01000000000000000000010100000000000001000032ffff0200000001310132
@@ -90,3 +91,34 @@ a withdrawn run of none: 0170030000000000000000000a00
 a byte behind Withdraw: 0170030000000000000000000a015800
 a byte behind Publish: 0170030000000000000000000b00
 ";
+
+/// Each a command, how a spelling of it begins up to its list of short texts, and how many of these
+/// there may be.
+pub(crate) const FULL_LISTS: [(&str, &str, u32); 2] = [
+    (
+        "Found",
+        "036f7267010000000000000000000103005802000000000000020103",
+        250,
+    ),
+    (
+        "Submit",
+        "036772700200000000000000000003015801000000013101000000",
+        1000,
+    ),
+];
+
+/// Each how a spelling of topics begins up to a long text, how long that may be, and what stands
+/// behind it.
+pub(crate) const LONG_TEXTS: [(&str, u16, &[u8]); 3] = [
+    ("036f72670100000000000000000002010000000131", 1000, &[0; 4]),
+    (
+        "036f726701000000000000000000020100000001310000",
+        8192,
+        &[0; 2],
+    ),
+    (
+        "036f7267010000000000000000000201000000013100000000",
+        8192,
+        &[],
+    ),
+];

@@ -1,6 +1,6 @@
 //! Tries spellings of entries: each command's is read and written again as it was, other and cut
 //! bytes are none, and lists and texts are as many and as long as they may be.
-use crate::spellings::{NO_SPELLINGS, SPELLINGS};
+use crate::spellings::{FULL_LISTS, LONG_TEXTS, NO_SPELLINGS, SPELLINGS};
 use decimal_rank::Text;
 use record_codec::{CodecFault, read_entry, write_entry};
 use rulebook::{Caller, Command, EntryCore, Role};
@@ -10,21 +10,12 @@ use std::test::Fail;
 /// p's grade 2 of lease 1 under number 7, at moment 1000.
 const GRADE: [u8; 26] = *b"\x01p\x03\x01\x07\0\0\0\0\0\0\0\xe8\x03\0\0\0\0\0\0\x06\x01\0\0\0\x02";
 
-fn is_command(command: &Command, name: &str) -> bool {
-    let own = match command {
-        Command::Found { .. } => "Found",
-        Command::Topics { .. } => "Topics",
-        Command::Submit { .. } => "Submit",
-        Command::Open => "Open",
-        Command::Lease { .. } => "Lease",
-        Command::Grade { .. } => "Grade",
-        Command::Release { .. } => "Release",
-        Command::Amend { .. } => "Amend",
-        Command::Rule { .. } => "Rule",
-        Command::Withdraw { .. } => "Withdraw",
-        Command::Publish => "Publish",
-    };
-    own == name
+/// Whether a command has this name, which is the first word that is shown of it.
+fn is_command(alloc: Global, command: &Command, name: &str) -> bool {
+    match format!(in alloc; "{command:?}") {
+        Ok(shown) => shown.split_whitespace().next() == Some(name),
+        Err(_) => false,
+    }
 }
 
 /// Whether bytes are read as this command and written as they were.
@@ -35,7 +26,7 @@ fn is_read(alloc: Global, bytes: &[u8], name: &str) -> bool {
     let mut out = Vec::new(alloc);
     write_entry(&core, &mut out).is_ok()
         && out.as_slice() == bytes
-        && is_command(&core.command, name)
+        && is_command(alloc, &core.command, name)
 }
 
 fn is_no_spelling(alloc: Global, bytes: &[u8]) -> bool {
@@ -135,19 +126,7 @@ fn with_spaces(alloc: Global, front: &str, count: u16, back: &[u8]) -> Result<Ve
 #[test]
 fn as_many_texts_as_there_may_be(rt: HostRuntime) -> Result<(), Fail> {
     let alloc = rt.alloc();
-    let cases = [
-        (
-            "Found",
-            "036f7267010000000000000000000103005802000000000000020103",
-            250,
-        ),
-        (
-            "Submit",
-            "036772700200000000000000000003015801000000013101000000",
-            1000,
-        ),
-    ];
-    for (name, front, most) in &cases {
+    for (name, front, most) in &FULL_LISTS {
         assert!(rt;
             is_read(alloc, &with_texts(alloc, front, *most)?, name),
             "{name}"
@@ -163,20 +142,7 @@ fn as_many_texts_as_there_may_be(rt: HostRuntime) -> Result<(), Fail> {
 #[test]
 fn texts_as_long_as_they_may_be(rt: HostRuntime) -> Result<(), Fail> {
     let alloc = rt.alloc();
-    let cases: [(&str, u16, &[u8]); 3] = [
-        ("036f72670100000000000000000002010000000131", 1000, &[0; 4]),
-        (
-            "036f726701000000000000000000020100000001310000",
-            8192,
-            &[0; 2],
-        ),
-        (
-            "036f7267010000000000000000000201000000013100000000",
-            8192,
-            &[],
-        ),
-    ];
-    for (front, most, back) in &cases {
+    for (front, most, back) in &LONG_TEXTS {
         assert!(rt;
             is_read(alloc, &with_spaces(alloc, front, *most, back)?, "Topics"),
             "{front}"

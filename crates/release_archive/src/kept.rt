@@ -7,12 +7,9 @@ ghost use Rattle.release_archive.specs.Releases.{is_sound as sound, release_name
 
 use decimal_rank::{Memory, ONE, Rows, Text};
 use measures::Summary;
-use rulebook::System;
+use rulebook::{MAX_RUNS, System};
 use std::alloc::Global;
 use trec_formats::is_name;
-
-/// How many systems a release has at most.
-const MOST_SYSTEMS: usize = 256;
 
 /// A release of a campaign under its name in the archive: the text of its qrels, and its systems by
 /// submission.
@@ -42,7 +39,7 @@ impl Kept {
         Ok(Kept {
             name: self.name.copy()?,
             qrels: self.qrels.copy()?,
-            systems: copied_systems(alloc, self.systems.items())?,
+            systems: copy_systems(alloc, self.systems.items())?,
         })
     }
 
@@ -54,7 +51,7 @@ impl Kept {
     }
 }
 
-fn copied_systems(alloc: Global, systems: &[System]) -> Result<Rows<System>, Memory>
+fn copy_systems(alloc: Global, systems: &[System]) -> Result<Rows<System>, Memory>
     ensures { IfOk result (λ copy. copy ≡ systems.now) }
 {
     let mut copies = Vec::with_capacity(alloc, systems.len())?;
@@ -64,14 +61,14 @@ fn copied_systems(alloc: Global, systems: &[System]) -> Result<Rows<System>, Mem
     Ok(Rows::new(copies))
 }
 
-/// Whether a release is sound: its name and those of its runs and groups are names, it has at most
-/// 256 systems, no two of one run name, and no mean is above 1.
+/// Whether a release is sound: its name and those of its runs and groups are names, it has no
+/// more systems than runs may be, no two of one run name, and no mean is above 1.
 pub fn is_sound(kept: &Kept) -> bool
     ensures { result ≡ sound kept.now }
 {
     let systems = kept.systems.items();
     is_name(kept.name.bytes())
-        && systems.len() <= MOST_SYSTEMS
+        && systems.len() <= MAX_RUNS as usize
         && are_sound_systems(systems)
         && runs_differ(systems)
 }

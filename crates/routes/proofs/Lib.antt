@@ -1,4 +1,5 @@
 pub mod AnswerTexts
+pub mod Callers
 pub mod JsonBodies
 pub mod PathTable
 pub mod Requests

@@ -1,6 +1,5 @@
--- The rows of the paths and of the callers, and the roles of each row.
-pub mod CallerRows
+-- The rows of the paths, and what may be asked at each.
 pub mod CodeRows
+pub mod RowAsks
 pub mod SameElements
-pub mod RowRoles
 pub mod TableRows

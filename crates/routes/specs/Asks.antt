@@ -24,7 +24,7 @@ use Rattle.routes.specs.declared.route_table.Question.{Question}
 use Rattle.routes.specs.declared.route_table.Question.TheVariants as question
 use Rattle.routes.specs.Json.Bodies.{json_of, Judgement, grade_in, judgement_in}
 use Rattle.routes.specs.Faults.{or_fault}
-use Rattle.routes.specs.Keys.{caller}
+use Rattle.routes.specs.Keys.{without_key}
 use Rattle.routes.specs.Openings.{Opening, opening_of}
 use Rattle.routes.specs.RouteTable.{parameter}
 
@@ -81,7 +81,7 @@ abbrev pub Asked : Type 0
 Asked = Caller × Option ℕ × Ask
 
 abbrev pub asked_at : Opening → Ask → Asked
-asked_at opening ask = (caller opening.row, opening.number, ask)
+asked_at opening ask = (without_key opening.caller, opening.number, ask)
 
 -- what is read where this opening comes before the body
 abbrev pub ReadsBehind : Result Opening RouteFault → HttpRequest → Result Asked RouteFault → Type 0

@@ -5,21 +5,22 @@ use Rattle.trec_formats.specs.Names.{is_name}
 use Rattle.rulebook.specs.declared.rules.Caller.{Caller}
 use Rattle.rulebook.specs.Spelling.{differ}
 use Rattle.routes.specs.declared.keys.KeyRow.{KeyRow}
-use Rattle.routes.specs.declared.keys.RowText.{RowText}
-use Rattle.routes.specs.declared.keys.RowText.TheVariants.{Name, Key}
+use Rattle.routes.specs.declared.keys.CallerText.{CallerText}
+use Rattle.routes.specs.declared.keys.CallerText.TheVariants.{Name, Key}
 
-abbrev pub row_text : RowText → KeyRow → List ℕ
-row_text Name row = row.name
-row_text Key row = row.key
+abbrev pub caller_text : CallerText → KeyRow → List ℕ
+caller_text Name caller = caller.name
+caller_text Key caller = caller.key
 
--- each name is a name, and no two rows have one name or one key
+-- each name is a name, and no two callers have one name or one key
 abbrev pub are_rows : List KeyRow → Bool
-are_rows rows = list_all (λ row. is_name row.name) rows && differ (map (λ row. row.name) rows) && differ (map (λ row. row.key) rows)
+are_rows callers =
+    list_all (λ caller. is_name caller.name) callers && differ (map (λ caller. caller.name) callers) && differ (map (λ caller. caller.key) callers)
 
--- the row of a key
-abbrev pub row_of : List KeyRow → List ℕ → Option KeyRow
-row_of rows key = find (λ row. bytes_eq row.key key) rows
+-- the caller with a key
+abbrev pub caller_with : List KeyRow → List ℕ → Option KeyRow
+caller_with callers key = find (λ caller. bytes_eq caller.key key) callers
 
--- the caller of a row
-abbrev pub caller : KeyRow → Caller
-caller row = record { name = row.name; role = row.role }
+-- a caller without its key
+abbrev pub without_key : KeyRow → Caller
+without_key caller = record { name = caller.name; role = caller.role }

@@ -5,6 +5,7 @@ pub mod Json
 pub mod Bytes
 pub mod Faults
 pub mod Keys
+pub mod Limits
 pub mod Openings
 pub mod RouteTable
 pub mod RoleRules

@@ -12,13 +12,14 @@ use Rattle.routes.specs.declared.route_table.Method.{Method}
 use Rattle.routes.specs.declared.route_table.Method.TheVariants as methods
 use Rattle.routes.specs.declared.route_table.Route.{Route}
 use Rattle.routes.specs.Faults.{◌>>=◌, or_fault, demand}
-use Rattle.routes.specs.Keys.{row_of}
+use Rattle.routes.specs.Keys.{caller_with}
+use Rattle.routes.specs.Limits.{most_number_digits}
 use Rattle.routes.specs.RouteTable.{matched_route, parameter, fits, method_name, may_ask}
 
--- who asks at which row, and with which number
+-- which caller asks at which row, and with which number
 pub record Opening : Type 0 where
   pub place : Route
-  pub row : KeyRow
+  pub caller : KeyRow
   pub number : Option ℕ
 
 -- The faults before the body, in their order: the route, its method, the key, the role of the key's caller, and the number.
@@ -33,18 +34,18 @@ route_of path = or_fault faults.Route (matched_route path) >>= with_parameter (p
 abbrev pub with_method : List ℕ → Route → Result Route RouteFault
 with_method method place = demand faults.Method (bytes_eq method (method_name place.method)) place
 
--- the row of the one key that is given
-abbrev pub row_at : List KeyRow → List (List ℕ) → Result KeyRow RouteFault
-row_at keys [] = Err faults.Key
-row_at keys (key ∷ []) = or_fault faults.Key (row_of keys key)
-row_at keys (_ ∷ _ ∷ _) = Err faults.Key
+-- the caller of the one key that is given
+abbrev pub one_caller : List KeyRow → List (List ℕ) → Result KeyRow RouteFault
+one_caller keys [] = Err faults.Key
+one_caller keys (key ∷ []) = or_fault faults.Key (caller_with keys key)
+one_caller keys (_ ∷ _ ∷ _) = Err faults.Key
 
 abbrev pub with_role : Route → KeyRow → Result KeyRow RouteFault
-with_role place row = demand faults.Role (may_ask row.role place.askers) row
+with_role place caller = demand faults.Role (may_ask caller.role place.askers) caller
 
--- the number of a command: 1 to 19 digits, below 2^63
+-- the number of a command
 abbrev pub is_request_number : List ℕ → Bool
-is_request_number text = are_digits text && nat_le (length text) 19 && nat_lt (digits_value 10 text) number_bound
+is_request_number text = are_digits text && nat_le (length text) most_number_digits && nat_lt (digits_value 10 text) number_bound
 
 abbrev pub with_number : List ℕ → Result (Option ℕ) RouteFault
 with_number text = demand faults.Number (is_request_number text) (Some (digits_value 10 text))
@@ -67,6 +68,6 @@ number_by_method methods.Get fields = Ok None
 unfoldable pub opening_of : List ℕ → List ℕ → List HttpField → List KeyRow → Result Opening RouteFault
 opening_of method path fields keys = do
   place ← route_of path >>= with_method method
-  row ← row_at keys (values_named (codes "x-campaign-key") fields) >>= with_role place
+  caller ← one_caller keys (values_named (codes "x-campaign-key") fields) >>= with_role place
   number ← number_by_method place.method fields
-  Ok (record { place = place; row = row; number = number })
+  Ok (record { place = place; caller = caller; number = number })

@@ -3,7 +3,8 @@ use Rattle.std.specs.Prelude.{◌≡◌, ℕ, Bool, List, Ok}
 use Rattle.rulebook.specs.declared.ask.Ask.{Ask}
 use Rattle.rulebook.specs.declared.ask.Ask.TheVariants.{Act, See}
 use Rattle.rulebook.specs.declared.rules.Role.{Role}
-use Rattle.rulebook.specs.Requests.Roles.{may_give, may_see}
+use Rattle.rulebook.specs.Campaign.{may_give}
+use Rattle.rulebook.specs.Requests.Roles.{may_see}
 use Rattle.routes.specs.declared.route_table.Route.{Route}
 use Rattle.routes.specs.Asks.{Asks}
 use Rattle.routes.specs.RouteTable.{IsRow, may_ask}

@@ -15,6 +15,7 @@ use Rattle.trec_formats.specs.Names.{is_name}
 use Rattle.rulebook.specs.declared.rules.Role.{Role}
 use Rattle.rulebook.specs.Requests.Roles.{is_organiser, is_group, is_assessor}
 use Rattle.routes.specs.Bytes.{slash}
+use Rattle.routes.specs.Limits.{most_path_digits, most_path_number}
 use Rattle.routes.specs.declared.route_table.Route.{Route}
 use Rattle.routes.specs.declared.route_table.Method.{Method}
 use Rattle.routes.specs.declared.route_table.Method.TheVariants.{Get, Post}
@@ -95,9 +96,9 @@ is_slash b = b == slash
 abbrev pub parameter : List ℕ → List ℕ
 parameter path = before_first is_slash (after_first is_slash (drop 1 path))
 
--- the number of a lease or a release: 1 to 10 digits, below 2^32
+-- the number of a lease or a release
 abbrev pub is_path_number : List ℕ → Bool
-is_path_number text = are_digits text && nat_le (length text) 10 && nat_le (digits_value 10 text) 4294967295
+is_path_number text = are_digits text && nat_le (length text) most_path_digits && nat_le (digits_value 10 text) most_path_number
 
 -- whether a text may be the parameter of a row
 abbrev pub fits : Parameter → List ℕ → Bool

@@ -7,6 +7,7 @@ ghost use Rattle.routes.specs.declared.route_table.Question.TheVariants as quest
 ghost use Rattle.routes.specs.AskReading.AskStates.{BeginsBody, BodyHasRoom, HasAskFailed, IsAddressable, IsAskAt, IsAskHeld, IsAskOpened, IsAsking, IsFew, KeepsBody, MayGo, SuitsBody};
 ghost use Rattle.routes.specs.Asks.{Asks, HasSoundTopics, Reads, ReadsBehind};
 ghost use Rattle.routes.specs.Faults.{IsRead};
+ghost use Rattle.routes.specs.Limits.{most_body};
 ghost use Rattle.routes.specs.AskReading.FoundOpenings.{opening_shown};
 ghost use Rattle.routes.specs.Openings.{Opening as SeenOpening, opening_of};
 ghost use Rattle.routes.specs.RouteTable.{IsRow, fits, may_ask, parameter};
@@ -119,8 +120,8 @@ fn begin_run(alloc: Global) -> Result<Box<RunReader>, Memory>
 }
 
 fn begin_opened(alloc: Global, opening: &Opening, path: &[u8]) -> Result<Opened, Memory>
-    requires named { IsTrue (is_name opening.now.row.now.name) }
-    requires role { IsTrue (may_ask opening.now.row.now.role opening.now.place.askers) }
+    requires named { IsTrue (is_name opening.now.caller.now.name) }
+    requires role { IsTrue (may_ask opening.now.caller.now.role opening.now.place.askers) }
     requires fitting { IsTrue (fits opening.now.place.parameter (parameter path.now)) }
     requires known { IsRow opening.now.place }
     requires number { IsTrue (is_number opening.now.number) }
@@ -129,7 +130,7 @@ fn begin_opened(alloc: Global, opening: &Opening, path: &[u8]) -> Result<Opened,
     ensures few { IfOk result (λ opened. IsFew 0 opened.body) }
 {
     Ok(Opened {
-        who: opening.row.caller()?,
+        who: opening.caller.without_key()?,
         number: opening.number,
         place: opening.place,
         text: Text::from_slice(alloc, parameter(path))?,
@@ -206,7 +207,7 @@ fn ask_of(alloc: Global, place: Route, text: &[u8], body: Body) -> Result<Ask, R
     requires known { IsRow place }
     requires fitting { IsTrue (fits place.parameter text.now) }
     requires suits { SuitsBody place body }
-    requires few { IsFew 16777216 body }
+    requires few { IsFew most_body body }
     ensures ask { (told : List ℕ) → KeepsBody told body
         → IsRead (Asks place.question text.now told) result }
     ensures sound { place.question ≡ question.Topics → IfOk result HasSoundTopics }
@@ -221,7 +222,7 @@ fn ask_of(alloc: Global, place: Route, text: &[u8], body: Body) -> Result<Ask, R
 /// What a request is read as whose body is whole.
 fn end_opened(alloc: Global, opened: Opened) -> Result<(Caller, Option<u64>, Ask), RouteFault>
     requires addressable { IsAddressable opened }
-    requires few { IsFew 16777216 opened.body }
+    requires few { IsFew most_body opened.body }
     ensures reading { (opening : SeenOpening) (head : HttpHead) (body : List ℕ)
         → IsAskOpened opening head.path body opened
         → IsRead (ReadsBehind (Ok opening) (request_with head body)) result }
@@ -278,7 +279,7 @@ impl AskReader {
 
     /// The next bytes of the body. After `Memory` each later call answers `Memory`.
     pub fn feed(&mut self, piece: &[u8]) -> Result<(), Memory>
-        requires { self.old.fed + length piece.now ≤ 16777216 }
+        requires { self.old.fed + length piece.now ≤ most_body }
         ensures ok { OnOk result ((head : HttpHead) (keys : List KeyRow) (body : List ℕ)
             → IsAsking head keys body self.old → IsAsking head keys (body ++ piece.now) self.new) }
         ensures err { OnErr result (HasAskFailed self.new) }

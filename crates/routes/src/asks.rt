@@ -7,6 +7,7 @@ ghost use Rattle.rulebook.specs.declared.ask.Ask.TheVariants.{Act};
 ghost use Rattle.rulebook.specs.Requests.Limits.{max_moment};
 ghost use Rattle.rulebook.specs.Histories.Legal.{is_well_addressed};
 ghost use Rattle.routes.specs.Faults.{IsRead};
+ghost use Rattle.routes.specs.Limits.{most_body};
 ghost use Rattle.routes.specs.RouteTable.{IsRow, fits, is_path_number};
 ghost use Rattle.trec_formats.specs.RunFormat.RunStates.{IsAfter};
 
@@ -33,7 +34,7 @@ fn fault_of(end: FormatEnd) -> RouteFault
 }
 
 fn ask_topics(alloc: Global, body: &[u8]) -> Result<Ask, RouteFault>
-    requires { length body.now ≤ 16777216 }
+    requires { length body.now ≤ most_body }
     ensures ask { (text : List ℕ) → IsRead (Asks question.Topics text body.now) result }
     ensures sound { IfOk result HasSoundTopics }
 {
@@ -46,7 +47,7 @@ fn ask_topics(alloc: Global, body: &[u8]) -> Result<Ask, RouteFault>
 }
 
 fn ask_submit(alloc: Global, run: &[u8], body: &[u8]) -> Result<Ask, RouteFault>
-    requires { length body.now ≤ 16777216 }
+    requires { length body.now ≤ most_body }
     ensures { IsRead (Asks question.Submit run.now body.now) result }
 {
     let mut reader = RunReader::new(alloc);
@@ -161,7 +162,7 @@ pub(crate) fn ask_at(
 ) -> Result<Ask, RouteFault>
     requires known { IsRow place }
     requires fitting { IsTrue (fits place.parameter text.now) }
-    requires few { length body.now ≤ 16777216 }
+    requires few { length body.now ≤ most_body }
     ensures ask { IsRead (Asks place.question text.now body.now) result }
     ensures sound { place.question ≡ question.Topics → IfOk result HasSoundTopics }
 {
@@ -198,7 +199,7 @@ pub fn read_ask(
     request: &HttpRequest,
     keys: &Keys,
 ) -> Result<(Caller, Option<u64>, Ask), RouteFault>
-    requires { length request.now.body ≤ 16777216 }
+    requires { length request.now.body ≤ most_body }
     ensures reading { IsRead (Reads request.now keys.now) result }
     ensures addressed { IfOk result (λ asked. (moment : ℕ) → moment ≤ max_moment
         → IsTrue (is_well_addressed asked.0 asked.1 asked.2 moment)) }
@@ -213,5 +214,5 @@ pub fn read_ask(
         keys,
     )?;
     let ask = ask_at(alloc, opening.place, parameter(path), request.body.bytes())?;
-    Ok((opening.row.caller()?, opening.number, ask))
+    Ok((opening.caller.without_key()?, opening.number, ask))
 }

@@ -13,6 +13,9 @@ use serde_json::Value;
 use std::alloc::Global;
 use trec_formats::{FormatEnd, RunReader, TopicList, is_docno};
 
+/// The greatest grade that rules may have.
+const MAX_TOP_GRADE: u64 = 255;
+
 /// A document and its grade.
 #[derive(Drop)]
 pub(crate) struct Judgement {
@@ -46,7 +49,7 @@ fn grade_at(value: &Value) -> Option<u8>
     ensures { result ≡ grade_at (view value.now) }
 {
     let grade = value.get("grade").and_then(Value::as_u64)?;
-    if grade <= 255 {
+    if grade <= MAX_TOP_GRADE {
         Some(grade as u8)
     } else {
         None

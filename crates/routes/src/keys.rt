@@ -4,7 +4,7 @@ ghost use Rattle.std.specs.Prelude.{◌≡◌, IsTrue, IfOk, bytes_eq, map, opti
 ghost use Rattle.std.specs.List.{list_all, list_any};
 ghost use Rattle.rulebook.specs.Spelling.{differ};
 ghost use Rattle.trec_formats.specs.Names.{is_name};
-ghost use Rattle.routes.specs.Keys.{are_rows, caller, row_of, row_text};
+ghost use Rattle.routes.specs.Keys.{are_rows, caller_text, caller_with, without_key};
 
 use decimal_rank::{Memory, Text};
 use rulebook::{Caller, Role};
@@ -20,8 +20,8 @@ pub struct KeyRow {
 }
 
 impl KeyRow {
-    pub(crate) fn caller(&self) -> Result<Caller, Memory>
-        ensures { IfOk result (λ found. found ≡ caller self.now) }
+    pub(crate) fn without_key(&self) -> Result<Caller, Memory>
+        ensures { IfOk result (λ caller. caller ≡ without_key self.now) }
     {
         Ok(Caller {
             name: self.name.copy()?,
@@ -30,32 +30,33 @@ impl KeyRow {
     }
 }
 
-/// A text that no two rows share.
+/// A text that no two callers share.
 #[derive(Clone, Copy)]
-pub(crate) enum RowText {
+pub(crate) enum CallerText {
     Name,
     Key,
 }
 
-fn text_of(row: &KeyRow, which: RowText) -> &[u8]
-    ensures { result.now ≡ row_text which row.now }
+fn text_of(caller: &KeyRow, which: CallerText) -> &[u8]
+    ensures { result.now ≡ caller_text which caller.now }
 {
     match which {
-        RowText::Name => row.name.bytes(),
-        RowText::Key => row.key.bytes(),
+        CallerText::Name => caller.name.bytes(),
+        CallerText::Key => caller.key.bytes(),
     }
 }
 
-fn has_text(rows: &[KeyRow], which: RowText, text: &[u8]) -> bool
-    ensures { result ≡ list_any (λ row. bytes_eq text.now (row_text which row)) rows.now }
+fn has_text(callers: &[KeyRow], which: CallerText, text: &[u8]) -> bool
+    ensures { result ≡ list_any (λ caller. bytes_eq text.now (caller_text which caller))
+        callers.now }
 {
-    rows.iter().any(|row| text == text_of(row, which))
+    callers.iter().any(|caller| text == text_of(caller, which))
 }
 
-fn texts_differ(rows: &[KeyRow], which: RowText) -> bool
-    ensures { result ≡ differ (map (row_text which) rows.now) }
+fn texts_differ(callers: &[KeyRow], which: CallerText) -> bool
+    ensures { result ≡ differ (map (caller_text which) callers.now) }
 {
-    let mut left = rows;
+    let mut left = callers;
     while let [first, rest @ ..] = left {
         if has_text(rest, which, text_of(first, which)) {
             return false;
@@ -65,24 +66,26 @@ fn texts_differ(rows: &[KeyRow], which: RowText) -> bool
     true
 }
 
-fn are_named(rows: &[KeyRow]) -> bool
-    ensures { result ≡ list_all (λ row. is_name row.name) rows.now }
+fn are_named(callers: &[KeyRow]) -> bool
+    ensures { result ≡ list_all (λ caller. is_name caller.name) callers.now }
 {
-    rows.iter().all(|row| is_name(row.name.bytes()))
+    callers.iter().all(|caller| is_name(caller.name.bytes()))
 }
 
-/// Whether rows may be the callers of a campaign: each name is a name, and no two rows have one
-/// name or one key.
-pub fn are_rows(rows: &[KeyRow]) -> bool
-    ensures { result ≡ are_rows rows.now }
+/// Whether these may be the callers of a campaign: each name is a name, and no two have one name or
+/// one key.
+pub fn are_rows(callers: &[KeyRow]) -> bool
+    ensures { result ≡ are_rows callers.now }
 {
-    are_named(rows) && texts_differ(rows, RowText::Name) && texts_differ(rows, RowText::Key)
+    are_named(callers)
+        && texts_differ(callers, CallerText::Name)
+        && texts_differ(callers, CallerText::Key)
 }
 
-/// The callers of a campaign. Contracts see the list of the rows.
+/// The callers of a campaign. Contracts see the list of them.
 #[derive(Debug, Drop)]
 pub struct Keys {
-    rows: Vec<KeyRow>,
+    callers: Vec<KeyRow>,
 }
 
 impl Model for Keys {
@@ -92,25 +95,25 @@ impl Model for Keys {
 
     ghost Value = { List KeyRow };
 
-    ghost view = { λ keys. keys.rows.items };
+    ghost view = { λ keys. keys.callers.items };
 
-    ghost invariant = { λ keys. IsTrue (are_rows keys.rows.items) };
+    ghost invariant = { λ keys. IsTrue (are_rows keys.callers.items) };
 }
 
 impl Keys {
-    /// Each row's name is a name, and no two rows have one name or one key.
+    /// Each caller's name is a name, and no two callers have one name or one key.
     pub fn new(rows: Vec<KeyRow>) -> Keys
         requires { IsTrue (are_rows rows.items) }
         ensures { result ≡ rows.items }
     {
-        Keys { rows }
+        Keys { callers: rows }
     }
 
-    /// The row of a key.
-    pub(crate) fn row_of(&self, key: &[u8]) -> Option<&KeyRow>
-        ensures row { option_copied result ≡ row_of self.now key.now }
-        ensures rows { IsTrue (are_rows self.now) }
+    /// The caller with a key.
+    pub(crate) fn caller_with(&self, key: &[u8]) -> Option<&KeyRow>
+        ensures caller { option_copied result ≡ caller_with self.now key.now }
+        ensures callers { IsTrue (are_rows self.now) }
     {
-        self.rows.iter().find(|row| row.key.bytes() == key)
+        self.callers.iter().find(|caller| caller.key.bytes() == key)
     }
 }

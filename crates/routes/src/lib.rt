@@ -1,8 +1,9 @@
 //! What a request to a campaign asks and who asks it, by the table of the paths and the callers'
 //! keys, and the texts of the answers.
 //!
-//! - `places`: the table of the paths, `ROWS`, which has to be `rows` in `specs/RouteTable.antt`,
-//!   where what it comes to stands too. `paths`: the parameter of a path.
+//! - `route_table`: the table of the paths, `ROWS`, which has to be `rows` in
+//!   `specs/RouteTable.antt`, where what it comes to stands too. That each row agrees with the
+//!   rules is proved in `proofs/PathTable/RowAsks.antt`. `paths`: the parameter of a path.
 //! - `keys`: the callers. `openings`: who asks, and the faults before a body
 //!   (`specs/Openings.antt`; `faults`).
 //! - `bodies`: what a body says (`specs/Json/Bodies.antt`). `asks`: what is asked

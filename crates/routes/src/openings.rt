@@ -3,7 +3,7 @@
 ghost use Rattle.std.specs.Prelude.{◌≡◌, ◌∷◌, [], IsTrue, IfOk, codes};
 ghost use Rattle.http_wire.specs.Heads.{values_named};
 ghost use Rattle.routes.specs.Faults.{GivesOrFaults};
-ghost use Rattle.routes.specs.Openings.{is_request_number, number_by_method, number_in_fields, opening_of, route_of, row_at, with_method, with_number, with_parameter, with_role};
+ghost use Rattle.routes.specs.Openings.{is_request_number, number_by_method, number_in_fields, one_caller, opening_of, route_of, with_method, with_number, with_parameter, with_role};
 ghost use Rattle.routes.specs.AskReading.FoundOpenings.{opening_shown};
 ghost use Rattle.routes.specs.RouteTable.{IsRow, fits, may_ask, parameter};
 ghost use Rattle.rulebook.specs.Spelling.{is_number};
@@ -17,11 +17,11 @@ use decimal_rank::{capped_number, is_number as are_digits};
 use http_wire::{HttpField, find_named};
 use rulebook::NUMBER_BOUND;
 
-/// Who asks at which row, and with which number.
+/// Which caller asks at which row, and with which number.
 #[derive(Clone, Copy)]
 pub(crate) struct Opening<'a> {
     pub(crate) place: Route,
-    pub(crate) row: &'a KeyRow,
+    pub(crate) caller: &'a KeyRow,
     pub(crate) number: Option<u64>,
 }
 
@@ -64,47 +64,53 @@ fn with_method(place: Route, method: &[u8]) -> Result<Route, RouteFault>
     }
 }
 
-fn row_of_key<'a>(keys: &'a Keys, key: &[u8]) -> Result<&'a KeyRow, RouteFault>
-    ensures row { GivesOrFaults (λ row. row.now) result (row_at keys.now (key.now ∷ [])) }
-    ensures named { IfOk result (λ row. IsTrue (is_name row.now.name)) }
+fn caller_with_key<'a>(keys: &'a Keys, key: &[u8]) -> Result<&'a KeyRow, RouteFault>
+    ensures caller { GivesOrFaults (λ caller. caller.now) result
+        (one_caller keys.now (key.now ∷ [])) }
+    ensures named { IfOk result (λ caller. IsTrue (is_name caller.now.name)) }
 {
-    match keys.row_of(key) {
-        Some(row) => Ok(row),
+    match keys.caller_with(key) {
+        Some(caller) => Ok(caller),
         None => Err(RouteFault::Key),
     }
 }
 
-/// The row of the one key of the fields.
-fn find_row<'a>(keys: &'a Keys, fields: &[HttpField]) -> Result<&'a KeyRow, RouteFault>
-    ensures row { GivesOrFaults (λ row. row.now) result
-        (row_at keys.now (values_named (codes "x-campaign-key") fields.now)) }
-    ensures named { IfOk result (λ row. IsTrue (is_name row.now.name)) }
+/// The caller of the one key of the fields.
+fn find_caller<'a>(keys: &'a Keys, fields: &[HttpField]) -> Result<&'a KeyRow, RouteFault>
+    ensures caller { GivesOrFaults (λ caller. caller.now) result
+        (one_caller keys.now (values_named (codes "x-campaign-key") fields.now)) }
+    ensures named { IfOk result (λ caller. IsTrue (is_name caller.now.name)) }
 {
     let Some((key, rest)) = find_named(fields, "x-campaign-key") else {
         return Err(RouteFault::Key);
     };
     match find_named(rest, "x-campaign-key") {
-        None => row_of_key(keys, key),
+        None => caller_with_key(keys, key),
         Some(_) => Err(RouteFault::Key),
     }
 }
 
-fn with_role(place: Route, row: &KeyRow) -> Result<&KeyRow, RouteFault>
-    ensures row { GivesOrFaults (λ row. row.now) result (with_role place row.now) }
-    ensures role { IfOk result (λ found. (found.now ≡ row.now)
+fn with_role(place: Route, caller: &KeyRow) -> Result<&KeyRow, RouteFault>
+    ensures caller { GivesOrFaults (λ found. found.now) result (with_role place caller.now) }
+    ensures role { IfOk result (λ found. (found.now ≡ caller.now)
         × IsTrue (may_ask found.now.role place.askers)) }
 {
-    if may_ask(row.role, place.askers) {
-        Ok(row)
+    if may_ask(caller.role, place.askers) {
+        Ok(caller)
     } else {
         Err(RouteFault::Role)
     }
 }
 
+/// The most digits that the number of a command is written with.
+const MOST_NUMBER_DIGITS: usize = 19;
+
 fn is_request_number(text: &[u8]) -> bool
     ensures { result ≡ is_request_number text.now }
 {
-    are_digits(text) && text.len() <= 19 && capped_number(text, NUMBER_BOUND) < NUMBER_BOUND
+    are_digits(text)
+        && text.len() <= MOST_NUMBER_DIGITS
+        && capped_number(text, NUMBER_BOUND) < NUMBER_BOUND
 }
 
 fn with_number(text: &[u8]) -> Result<Option<u64>, RouteFault>
@@ -153,9 +159,9 @@ pub(crate) fn read_opening<'a>(
 ) -> Result<Opening<'a>, RouteFault>
     ensures opening { GivesOrFaults opening_shown result
         (opening_of method.now path.now fields.now keys.now) }
-    ensures named { IfOk result (λ opening. IsTrue (is_name opening.row.now.name)) }
+    ensures named { IfOk result (λ opening. IsTrue (is_name opening.caller.now.name)) }
     ensures role { IfOk result
-        (λ opening. IsTrue (may_ask opening.row.now.role opening.place.askers)) }
+        (λ opening. IsTrue (may_ask opening.caller.now.role opening.place.askers)) }
     ensures fitting { IfOk result
         (λ opening. IsTrue (fits opening.place.parameter (parameter path.now))) }
     ensures known { IfOk result (λ opening. IsRow opening.place) }
@@ -163,8 +169,12 @@ pub(crate) fn read_opening<'a>(
 {
     let found = find_place(paths, path)?;
     let place = with_method(found, method)?;
-    let known = find_row(keys, fields)?;
-    let row = with_role(place, known)?;
+    let known = find_caller(keys, fields)?;
+    let caller = with_role(place, known)?;
     let number = number_at(place, fields)?;
-    Ok(Opening { place, row, number })
+    Ok(Opening {
+        place,
+        caller,
+        number,
+    })
 }

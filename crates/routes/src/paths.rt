@@ -14,6 +14,9 @@ use trec_formats::is_name;
 /// The greatest number of a lease or a release.
 const MOST_PATH_NUMBER: u64 = 4_294_967_295;
 
+/// The most digits that it is written with.
+const MOST_PATH_DIGITS: usize = 10;
+
 fn find_slash(path: &[u8]) -> Option<usize>
     ensures { result ≡ position is_slash path.now }
 {
@@ -52,7 +55,7 @@ fn is_path_number(text: &[u8]) -> bool
     ensures { result ≡ is_path_number text.now }
 {
     is_number(text)
-        && text.len() <= 10
+        && text.len() <= MOST_PATH_DIGITS
         && capped_number(text, MOST_PATH_NUMBER + 1) <= MOST_PATH_NUMBER
 }
 

@@ -8,9 +8,9 @@ use rulebook::Role;
 use std::alloc::Global;
 use std::test::Fail;
 
-fn row(alloc: Global, name: &[u8], role: Role, key: &[u8]) -> Result<KeyRow, Memory>
-    ensures { let row : KeyRow = record { name = name.now; role = role; key = key.now } in
-        IfOk result (λ made. made ≡ row) }
+fn caller(alloc: Global, name: &[u8], role: Role, key: &[u8]) -> Result<KeyRow, Memory>
+    ensures { let caller : KeyRow = record { name = name.now; role = role; key = key.now } in
+        IfOk result (λ made. made ≡ caller) }
 {
     Ok(KeyRow {
         name: Text::from_slice(alloc, name)?,
@@ -22,20 +22,20 @@ fn row(alloc: Global, name: &[u8], role: Role, key: &[u8]) -> Result<KeyRow, Mem
 /// The three callers.
 #[tactic(auto, unfolding(trec_formats::specs::Names::is_name))]
 pub(crate) fn keys(alloc: Global) -> Result<Keys, Memory> {
-    let mut rows = Vec::new(alloc);
-    rows.push(row(alloc, b"org", Role::Organiser, b"o")?)?;
-    rows.push(row(alloc, b"grp", Role::Group, b"g")?)?;
-    rows.push(row(alloc, b"ann", Role::Assessor, b"a")?)?;
-    Ok(Keys::new(rows))
+    let mut callers = Vec::new(alloc);
+    callers.push(caller(alloc, b"org", Role::Organiser, b"o")?)?;
+    callers.push(caller(alloc, b"grp", Role::Group, b"g")?)?;
+    callers.push(caller(alloc, b"ann", Role::Assessor, b"a")?)?;
+    Ok(Keys::new(callers))
 }
 
 #[test]
 fn callers_have_keys_of_their_own(rt: HostRuntime) -> Result<(), Fail> {
-    let mut rows = Vec::new(rt.alloc());
-    rows.push(row(rt.alloc(), b"org", Role::Organiser, b"o")?)?;
-    rows.push(row(rt.alloc(), b"grp", Role::Group, b"g")?)?;
-    assert!(rt; are_rows(&rows));
-    rows.push(row(rt.alloc(), b"ann", Role::Assessor, b"o")?)?;
-    assert!(rt; !are_rows(&rows));
+    let mut callers = Vec::new(rt.alloc());
+    callers.push(caller(rt.alloc(), b"org", Role::Organiser, b"o")?)?;
+    callers.push(caller(rt.alloc(), b"grp", Role::Group, b"g")?)?;
+    assert!(rt; are_rows(&callers));
+    callers.push(caller(rt.alloc(), b"ann", Role::Assessor, b"o")?)?;
+    assert!(rt; !are_rows(&callers));
     Ok(())
 }

@@ -1,23 +1,25 @@
--- What commands tell; rules, phase, topics, runs and pools of a campaign whose list of accepted entries is H.
-use Rattle.std.specs.Prelude.{ℕ, Bool, true, false, not, filter, map, if◌then◌else◌, ◌+◌, List, [], ◌++◌, Option, None, Some, ◌∷◌, take, length, unwrap_or, is_some, slice_get, sum_by}
+-- Who gives which command, and what it tells; rules, phase, topics, runs and pools of a campaign whose list of accepted entries is H.
+use Rattle.std.specs.Prelude.{ℕ, Bool, true, false, not, filter, map, if◌then◌else◌, ◌+◌, ◌||◌, List, [], ◌++◌, Option, None, Some, ◌∷◌, take, length, unwrap_or, is_some, slice_get, sum_by}
 use Rattle.std.specs.List.{list_any, filter_map, find, flat_map, enumerate_from}
 use Rattle.std.specs.Option.{option_map_or}
 use Rattle.std.specs.Str.{bytes_eq}
 use Rattle.trec_formats.specs.declared.Topic.{Topic}
 use Rattle.trec_formats.specs.declared.TopicList.{TopicList}
+use Rattle.rulebook.specs.declared.rules.Role.{Role}
 use Rattle.rulebook.specs.declared.rules.Rules.{Rules}
 use Rattle.rulebook.specs.declared.rules.Phase.{Phase}
 use Rattle.rulebook.specs.declared.rules.Phase.TheVariants.{Collecting, Judging, Published}
 use Rattle.rulebook.specs.declared.ask.Command.{Command}
 use Rattle.rulebook.specs.declared.ask.Command.TheVariants as command
 use Rattle.rulebook.specs.declared.entry.Entry.{Entry}
+use Rattle.rulebook.specs.Requests.Roles.{is_organiser, is_group, is_assessor}
 use Rattle.rulebook.specs.Words.{Text, contains_text, each_once, in_order}
 
 -- the accepted entries, from the first on
 abbrev pub History : Type 0
 History = List Entry
 
--- What a command tells
+-- What a command is
 
 -- a run as it was submitted
 pub record Run : Type 0 where
@@ -35,13 +37,16 @@ pub record DocGrade : Type 0 where
   pub doc : Text
   pub grade : ℕ
 
--- what an accepted command tells of the campaign: each fact, where it tells one
+-- what the rules say of a command, and what it tells of the campaign once it is accepted: each fact, where it tells one
 pub record CommandFacts : Type 0 where
+  -- the roles that may give it
+  pub roles : Role → Bool
   pub rules : Option Rules
   pub topics : Option (List Topic)
   pub run : Option Run
   pub opens : Bool
-  pub asks_lease : Bool
+  -- the topic of which a document is asked for
+  pub lease_wish : Option Text
   pub lease_end : Option EndedLease
   pub amendment : Option DocGrade
   pub ruling : Option DocGrade
@@ -50,11 +55,12 @@ pub record CommandFacts : Type 0 where
 
 abbrev pub no_facts : CommandFacts
 no_facts = record {
+  roles = λ role. false;
   rules = None;
   topics = None;
   run = None;
   opens = false;
-  asks_lease = false;
+  lease_wish = None;
   lease_end = None;
   amendment = None;
   ruling = None;
@@ -62,18 +68,22 @@ no_facts = record {
   publishes = false;
 }
 
+-- Nobody gives Found: the founding entry is there from the start.
 abbrev pub tells : Command → CommandFacts
 tells (command.Found rules) = record no_facts { rules = Some rules }
-tells (command.Topics topics) = record no_facts { topics = Some topics }
-tells (command.Submit name lists) = record no_facts { run = Some (record { name = name; lists = lists }) }
-tells command.Open = record no_facts { opens = true }
-tells (command.Lease topic) = record no_facts { asks_lease = true }
-tells (command.Grade lease grade) = record no_facts { lease_end = Some (record { number = lease; grade = Some grade }) }
-tells (command.Release lease) = record no_facts { lease_end = Some (record { number = lease; grade = None }) }
-tells (command.Amend topic doc grade) = record no_facts { amendment = Some (record { topic = topic; doc = doc; grade = grade }) }
-tells (command.Rule topic doc grade) = record no_facts { ruling = Some (record { topic = topic; doc = doc; grade = grade }) }
-tells (command.Withdraw run) = record no_facts { withdrawal = Some run }
-tells command.Publish = record no_facts { publishes = true }
+tells (command.Topics topics) = record no_facts { roles = is_organiser; topics = Some topics }
+tells (command.Submit name lists) = record no_facts { roles = is_group; run = Some (record { name = name; lists = lists }) }
+tells command.Open = record no_facts { roles = is_organiser; opens = true }
+tells (command.Lease topic) = record no_facts { roles = is_assessor; lease_wish = Some topic }
+tells (command.Grade lease grade) = record no_facts { roles = is_assessor; lease_end = Some (record { number = lease; grade = Some grade }) }
+tells (command.Release lease) = record no_facts { roles = is_assessor; lease_end = Some (record { number = lease; grade = None }) }
+tells (command.Amend topic doc grade) = record no_facts { roles = is_assessor; amendment = Some (record { topic = topic; doc = doc; grade = grade }) }
+tells (command.Rule topic doc grade) = record no_facts { roles = is_organiser; ruling = Some (record { topic = topic; doc = doc; grade = grade }) }
+tells (command.Withdraw run) = record no_facts { roles = λ role. is_group role || is_organiser role; withdrawal = Some run }
+tells command.Publish = record no_facts { roles = is_organiser; publishes = true }
+
+abbrev pub may_give : Role → Command → Bool
+may_give role c = (tells c).roles role
 
 -- Rules
 

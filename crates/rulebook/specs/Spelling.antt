@@ -55,23 +55,6 @@ topic_bytes t = short t.id ++ long t.title ++ long t.desc ++ long t.narr
 abbrev pub list_bytes : TopicList → Text
 list_bytes l = short l.topic ++ to_le_bytes w32 l.line ++ spelled_list short l.docs
 
-abbrev pub command_bytes : Command → Text
-command_bytes (Found rules) = found_bytes rules rules.levels
-command_bytes (Topics topics) = 2 ∷ spelled_list topic_bytes topics
-command_bytes (Submit run lists) = 3 ∷ short run ++ spelled_list list_bytes lists
-command_bytes Open = 4 ∷ []
-command_bytes (Lease topic) = 5 ∷ short topic
-command_bytes (Grade lease grade) = 6 ∷ to_le_bytes w32 lease ++ grade ∷ []
-command_bytes (Release lease) = 7 ∷ to_le_bytes w32 lease
-command_bytes (Amend topic doc grade) = 8 ∷ short topic ++ short doc ++ grade ∷ []
-command_bytes (Rule topic doc grade) = 9 ∷ short topic ++ short doc ++ grade ∷ []
-command_bytes (Withdraw run) = 10 ∷ short run
-command_bytes Publish = 11 ∷ []
-
-abbrev pub entry_bytes : EntryCore → Text
-entry_bytes e =
-    short e.caller.name ++ role_byte e.caller.role ∷ number_bytes e.number ++ to_le_bytes w64 e.moment ++ command_bytes e.command
-
 -- The values that may be spelled
 
 -- each is before the next in byte order
@@ -111,19 +94,51 @@ is_plain_topic t = is_name t.id && is_printable max_title t.title && is_printabl
 abbrev pub is_plain_list : TopicList → Bool
 is_plain_list l = is_name l.topic && nat_lt l.line (2 ^ 32) && is_between 1 max_docs (length l.docs) && list_all is_docno l.docs && differ l.docs
 
+-- Commands
+
+-- the kind and the fields of a command as bytes, and whether the fields may be spelled
+pub record CommandSpelling : Type 0 where
+  pub bytes : Text
+  pub plain : Bool
+
+-- of a kind with a topic, a document and its grade
+abbrev pub doc_grade_spelling : ℕ → Text → Text → ℕ → CommandSpelling
+doc_grade_spelling kind topic doc grade =
+    record { bytes = kind ∷ short topic ++ short doc ++ grade ∷ []; plain = is_name topic && is_docno doc && nat_lt grade 256 }
+
+abbrev pub spelling : Command → CommandSpelling
+spelling (Found rules) = record { bytes = found_bytes rules rules.levels; plain = are_rules rules }
+spelling (Topics topics) =
+    record {
+      bytes = 2 ∷ spelled_list topic_bytes topics;
+      plain = nat_lt (length topics) (2 ^ 32) && list_all is_plain_topic topics && differ (map (λ t. t.id) topics);
+    }
+spelling (Submit run lists) =
+    record {
+      bytes = 3 ∷ short run ++ spelled_list list_bytes lists;
+      plain = is_name run && is_between 1 (2 ^ 32 - 1) (length lists) && list_all is_plain_list lists && is_ascending (map (λ l. l.topic) lists);
+    }
+spelling Open = record { bytes = 4 ∷ []; plain = true }
+spelling (Lease topic) = record { bytes = 5 ∷ short topic; plain = is_name topic }
+spelling (Grade lease grade) =
+    record { bytes = 6 ∷ to_le_bytes w32 lease ++ grade ∷ []; plain = nat_lt lease (2 ^ 32) && nat_lt grade 256 }
+spelling (Release lease) = record { bytes = 7 ∷ to_le_bytes w32 lease; plain = nat_lt lease (2 ^ 32) }
+spelling (Amend topic doc grade) = doc_grade_spelling 8 topic doc grade
+spelling (Rule topic doc grade) = doc_grade_spelling 9 topic doc grade
+spelling (Withdraw run) = record { bytes = 10 ∷ short run; plain = is_name run }
+spelling Publish = record { bytes = 11 ∷ []; plain = true }
+
+abbrev pub command_bytes : Command → Text
+command_bytes c = (spelling c).bytes
+
 abbrev pub is_plain : Command → Bool
-is_plain (Found rules) = are_rules rules
-is_plain (Topics topics) = nat_lt (length topics) (2 ^ 32) && list_all is_plain_topic topics && differ (map (λ t. t.id) topics)
-is_plain (Submit run lists) =
-    is_name run && is_between 1 (2 ^ 32 - 1) (length lists) && list_all is_plain_list lists && is_ascending (map (λ l. l.topic) lists)
-is_plain Open = true
-is_plain (Lease topic) = is_name topic
-is_plain (Grade lease grade) = nat_lt lease (2 ^ 32) && nat_lt grade 256
-is_plain (Release lease) = nat_lt lease (2 ^ 32)
-is_plain (Amend topic doc grade) = is_name topic && is_docno doc && nat_lt grade 256
-is_plain (Rule topic doc grade) = is_name topic && is_docno doc && nat_lt grade 256
-is_plain (Withdraw run) = is_name run
-is_plain Publish = true
+is_plain c = (spelling c).plain
+
+-- Entries
+
+abbrev pub entry_bytes : EntryCore → Text
+entry_bytes e =
+    short e.caller.name ++ role_byte e.caller.role ∷ number_bytes e.number ++ to_le_bytes w64 e.moment ++ command_bytes e.command
 
 abbrev pub is_number : Option ℕ → Bool
 is_number None = true

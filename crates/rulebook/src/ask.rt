@@ -3,7 +3,7 @@
 ghost use Rattle.std.specs.Prelude.{◌≡◌, MatchOption};
 ghost use Rattle.rulebook.specs.declared.ask.Command.TheVariants.{Found};
 ghost use Rattle.rulebook.specs.declared.rules.Rules.{Rules as CampaignRules};
-ghost use Rattle.rulebook.specs.Requests.Roles.{may_give};
+ghost use Rattle.rulebook.specs.Campaign.{may_give};
 ghost use Rattle.rulebook.specs.Requests.SameCommands.{same_command};
 
 use crate::rules::{Caller, Role, Rules};

@@ -3,8 +3,9 @@
 //!
 //! - Types: `ask` (commands and queries), `entry`, `reply`, `answer`, `rules` (roles, phases,
 //!   settings), `systems` (a run in a release), `limits` (`specs/Requests/Limits.antt`).
-//! - A request: what it is answered `specs/Answers.antt`, who may ask it
-//!   `specs/Requests/Roles.antt`, its number `specs/Requests/Numbers.antt`.
+//! - A request: what it is answered `specs/Answers.antt`, its number `specs/Requests/Numbers.antt`;
+//!   who may give a command, and what it tells, `specs/Campaign.antt`; who may ask a query
+//!   `specs/Requests/Roles.antt`.
 //! - What there is: topics, runs, phases and pools `specs/Campaign.antt`; leases
 //!   `specs/Judgements/Leases.antt`; labels, rulings, effective grades and the trail
 //!   `specs/Judgements/Grades.antt`.

@@ -5,9 +5,8 @@ use Rattle.decimal_rank.proofs.TruthValues.{first_of_both, second_of_both}
 use Rattle.record_codec.specs.Payloads.{IsPayload}
 use Rattle.rulebook.specs.declared.entry.Entry.{Entry}
 use Rattle.rulebook.specs.declared.limits.TheConstants.{MAX_ENTRY_BYTES}
-use Rattle.rulebook.specs.Campaign.{History}
+use Rattle.rulebook.specs.Campaign.{History, may_give}
 use Rattle.rulebook.specs.Histories.Legal.{IsAccepted}
-use Rattle.rulebook.specs.Requests.Roles.{may_give}
 use Rattle.rulebook.specs.Spelling.{entry_bytes, has_spelling}
 
 pub accepted_spells : (H : History) (e : Entry) → IsAccepted H e → has_spelling e.core ≡ true

@@ -27,7 +27,7 @@ KeepsStory images place H = (payloads : List Text) × IsStory payloads H × Sett
 
 module _ {D : Type 0} (seen : D → DiskState) (rules : Rules) (payloads : List Text) (opening : ℕ) (disk : D) where
   -- its entries are those of the records, or the founding one
-  pub record TakenUp (book : BookView D) : Type 0 where
+  pub record IsBookOf (book : BookView D) : Type 0 where
     pub opens : OpensWith rules payloads book.history
     pub alone : book.pending ≡ None
     pub opening_is : book.opening ≡ opening
@@ -47,6 +47,6 @@ module _ {D : Type 0} (seen : D → DiskState) (rules : Rules) (payloads : List 
     pub later : (seen disk).faults ≤ (seen after).faults
     pub moments : EachMoment seen disk after (Establishes rules payloads)
 
-  abbrev pub TakesUp : Result (BookView D) (D × BookFault) → Type 0
-  TakesUp (Ok book) = TakenUp book
-  TakesUp (Err refused) = GivenUp refused.0 refused.1
+  abbrev pub OpensRecords : Result (BookView D) (D × BookFault) → Type 0
+  OpensRecords (Ok book) = IsBookOf book
+  OpensRecords (Err refused) = GivenUp refused.0 refused.1

@@ -17,6 +17,7 @@ use Rattle.rulebook.specs.declared.reply.Reply.TheVariants as reply
 use Rattle.rulebook.specs.declared.rules.Caller.{Caller}
 use Rattle.rulebook.specs.Answers.{Answer, answer, command_answer, command_outcome, moment_after, repeat_answer}
 use Rattle.rulebook.specs.Campaign.{History}
+use Rattle.rulebook.specs.Histories.Legal.{core_of}
 use Rattle.rulebook.specs.Requests.Numbers.{entry_of_number}
 use Rattle.rulebook.specs.Words.{Text}
 use Rattle.campaign_core.specs.Numbering.NumberedRequests.{repeated_reply}
@@ -40,9 +41,6 @@ told-again H who number c moment r is =
 pub full-told : (H : History) (who : Caller) (number : Option ℕ) (c : Command) (moment : ℕ) → entry_of_number H who.name number ≡ None → length H ≡ MAX_ENTRIES
     → ((answer H who number (Act c) moment).added ≡ []) × (reply.Refused (refusal.Limit quantity.Entries) ≡ (answer H who number (Act c) moment).reply)
 full-told H who number c moment unused full = rw (unused, full) (refl, refl)
-
-abbrev core_of : Caller → Option ℕ → ℕ → Command → EntryCore
-core_of who number moment c = record { caller = who; number = number; moment = moment; command = c }
 
 -- the first command under its number, by the rulings on a copy of it
 module _ (H K : History) (who caller : Caller) (number : Option ℕ) (c : Command) (moment now : ℕ) (unused : entry_of_number H who.name number ≡ None)

@@ -42,11 +42,13 @@ use Rattle.assessment.specs.TopicFacts.{TopicFacts, topic_with_label, with_rulin
 use Rattle.assessment.specs.declared.change.Change.{Change}
 use Rattle.assessment.specs.declared.change.Change.TheVariants as change
 use Rattle.lease_desk.specs.Leases.{with_end, with_grant}
+use Rattle.rulebook.proofs.LegalHistories.LegalWalk.{legal_more}
+use Rattle.rulebook.proofs.LegalHistories.PlainReplies.{addressed_plain}
 use Rattle.campaign_core.proofs.Rulings.AcceptedCommands.{amend-told, grade-told, lease-told, listed-id, numbered-all, numbered-within, open-reply, publish-told, release-told, rule-told, some-same, submit-reply, topics-few, topics-plain, topics-reply, withdraw-told}
 use Rattle.campaign_core.proofs.Entries.HistoryGrowth.{submitted_lines-push}
 use Rattle.campaign_core.proofs.Entries.Judgements.GrowingNames.{labelled-grows, leased-grows}
 use Rattle.campaign_core.proofs.Entries.Judgements.LeaseSteps.{leased-ended, leased-granted, unended-of}
-use Rattle.campaign_core.proofs.Entries.Legality.{IsLegal-push, moment_after-push}
+use Rattle.campaign_core.proofs.Entries.Legality.{moment_after-push}
 use Rattle.campaign_core.proofs.Entries.Runs.ListSteps.{lists-without, none-listed, run-lists}
 use Rattle.campaign_core.proofs.Entries.Runs.RunNames.{known-fewer, known-more, known-stays, not-withdrawn}
 use Rattle.campaign_core.proofs.Entries.Runs.LiveRuns.{none-withdrawn, number-place, numbered-fewer, numbered-more, withdrawn-push}
@@ -55,7 +57,7 @@ use Rattle.campaign_core.proofs.Entries.Runs.PoolSteps.{runs-added, runs-gone, t
 use Rattle.campaign_core.proofs.Rulings.RunRulings.{taken-named}
 use Rattle.campaign_core.proofs.Entries.Judgements.QuietEntries.{leased-none, leased-stays, no-lease, none-ended}
 use Rattle.campaign_core.proofs.Entries.PhaseSteps.{first-topics, had-none, no-run, one-run, phase-opens, phase-publishes, phase-stays, rules-stay, same-topics}
-use Rattle.campaign_core.proofs.Rulings.AcceptedEntries.{open-told, plain-of, ruled_ok, some_lists, submit-told, topics-told, topics_known}
+use Rattle.campaign_core.proofs.Rulings.AcceptedEntries.{open-told, ruled_ok, some_lists, submit-told, topics-told, topics_known}
 use Rattle.campaign_core.proofs.Entries.EntryLaws.{Laws}
 use Rattle.campaign_core.proofs.Entries.Judgements.LabelledTopics.{all-few, fresh-after, fresh-labels, label-after, labels-none, new-few, new-grades, new-marks, ruling-after, same-labels, topics_of}
 use Rattle.campaign_core.proofs.Entries.PlainEntries.{IsCarriedOut, IsPlain, ids-stay, keeps-all, marked-assessed, names-stay, one-longer, plain-by, plain-carried, quiet-assessed, same-levels, still-assessed}
@@ -91,7 +93,7 @@ carried-out laws s names e (change.Topics made) kept_s ready names_is (given, is
     let rules_are = rules-stay H e kept_s.legal in
     let given_is : topics J ≡ given = first-topics H e given told.1 (ap topics_in is) in
     let ids_are : topic_ids J ≡ map (λ (t : Topic). t.id) given = ap (map (λ (t : Topic). t.id)) given_is in
-    let plain = rw is at (plain-of e.core.caller e.core.number e.core.command e.core.moment ready.accepted.addressed) in
+    let plain = rw is at (addressed_plain e.core.caller e.core.number e.core.command e.core.moment ready.accepted.addressed) in
     let quiet : IsQuiet e = record { no_label = ap (λ c. label_in e.core.caller.name c e.reply) is; no_ruling = λ topic doc. ap (ruling_in topic doc) is } in
     let keeps = keeps-all laws s e kept_s quiet in
     let reply_is : e.reply ≡ reply.Topics (length given) = topics-reply H given e.reply ruled in
@@ -133,7 +135,7 @@ carried-out laws s names e (change.Run run entered) kept_s ready names_is (name,
     let ts = topics_of s in
     let ruled = rw is at (ruled_ok H e ready.accepted) in
     let told = submit-told H name lists e.reply ruled in
-    let plain = rw is at (plain-of e.core.caller e.core.number e.core.command e.core.moment ready.accepted.addressed) in
+    let plain = rw is at (addressed_plain e.core.caller e.core.number e.core.command e.core.moment ready.accepted.addressed) in
     let new : Run = record { name = name; lists = lists } in
     let run_is : runs J ≡ runs H ++ new ∷ [] = one-run H e new (ap run_in is) in
     let withdrawn_are = none-withdrawn H e (λ other. ap (withdraws other) is) in
@@ -379,7 +381,7 @@ pub known-after : (s later : Campaign) (e : Entry) (c : Change) → IsKnown s �
 known-after s later e c kept_s ready done grown phase_is lines_is facts_are submissions_are live_are =
     let J : History = s.history.items ++ e ∷ [] in
     record {
-      legal = rw grown (IsLegal-push s.history.items e kept_s.legal ready.accepted);
+      legal = rw grown (legal_more s.history.items e kept_s.legal ready.accepted);
       phase_is = phase_is ∙ done.phase_is ∙ ap phase (sym grown);
       moment_fits = rw (grown, moment_after-push s.history.items e 0) (omega (arith, ready.moment_fits));
       entries_fit = rw grown (omega (arith, length-append s.history.items (e ∷ []), ready.entries_fit));

@@ -1,6 +1,5 @@
 -- What keeps a history legal.
-use Rattle.std.proofs.Common.{◌≡◌, ℕ, ◌-◌, ◌<◌, true, false, [], ◌∷◌, ◌++◌, None, Some, Ok, length, refl, ap, sym, subst, arith, append_assoc, max, length-append}
-use Rattle.std.proofs.lemmas.List.{append-nil}
+use Rattle.std.proofs.Common.{◌≡◌, ℕ, ◌-◌, ◌<◌, true, false, [], ◌∷◌, ◌++◌, None, Some, Ok, length, refl, ap, arith, max, length-append}
 use Rattle.std.proofs.lemmas.Bool.Decides.{nat_tests}
 use Rattle.std.specs.Prelude.{slice_get, ◌==◌}
 use Rattle.std.specs.Option.{option_map_or}
@@ -11,17 +10,7 @@ use Rattle.rulebook.specs.declared.entry.EntryCore.{EntryCore}
 use Rattle.rulebook.specs.Campaign.{History}
 use Rattle.rulebook.specs.Answers.{command_outcome, moment_after}
 use Rattle.rulebook.specs.Requests.Numbers.{entry_of_number}
-use Rattle.rulebook.specs.Histories.Legal.{is_well_addressed, IsAccepted, AreAccepted, IsLegal}
-
-AreAccepted-push : (before later : History) (e : Entry) → AreAccepted before later → IsAccepted (before ++ later) e → AreAccepted before (later ++ e ∷ [])
-AreAccepted-push before [] e earlier accepted = (subst (λ H. IsAccepted H e) (append-nil before) accepted, tt)
-AreAccepted-push before (x ∷ later) e earlier accepted =
-    (earlier.0, AreAccepted-push (before ++ x ∷ []) later e earlier.1 (subst (λ H. IsAccepted H e) (sym (append_assoc before (x ∷ []) later)) accepted))
-
--- an accepted entry after a legal history
-pub IsLegal-push : (H : History) (e : Entry) → IsLegal H → IsAccepted H e → IsLegal (H ++ e ∷ [])
-IsLegal-push [] e legal accepted = absurd legal
-IsLegal-push (first ∷ later) e legal accepted = (legal.0, AreAccepted-push (first ∷ []) later e legal.1 accepted)
+use Rattle.rulebook.specs.Histories.Legal.{is_well_addressed, IsAccepted}
 
 -- the entry of a core that the rules accept at its own moment
 pub accepted-by : (H : History) (e : Entry) (core : EntryCore) → e.core ≡ core

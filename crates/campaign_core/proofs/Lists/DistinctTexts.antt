@@ -32,7 +32,7 @@ differ-all names (doc ∷ docs) differs = differ-all (with_name names doc) docs 
 
 -- the same by the kit's word
 
-apart-from : (x : Text) (texts : List Text) → contains_text texts x ≡ false → AllByRecursion (λ y. bytes_eq x y ≡ false) texts
+pub apart-from : (x : Text) (texts : List Text) → contains_text texts x ≡ false → AllByRecursion (λ y. bytes_eq x y ≡ false) texts
 apart-from x [] absent = tt
 apart-from x (y ∷ texts) absent =
     let parts = step (bytes_eq x y) refl absent in

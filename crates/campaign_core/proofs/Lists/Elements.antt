@@ -1,7 +1,7 @@
 -- What holds of the elements of a list, by a test or by their places, where the list is joined, changed in its place or filtered.
-use Rattle.std.proofs.Common.{◌≡◌, ◌||◌, ◌+◌, ℕ, cond, not, ltb, suc, zero, ◌≢◌, Bool, true, false, List, [], ◌∷◌, ◌++◌, None, Some, filter, length, map, set, get_or, refl, sym, subst, ap, ◌∙◌, arith}
+use Rattle.std.proofs.Common.{◌≡◌, ◌||◌, ◌+◌, ◌≤◌, ℕ, cond, not, ltb, suc, zero, ◌≢◌, Bool, true, false, List, [], ◌∷◌, ◌++◌, None, Option, Some, filter, length, map, set, get_or, refl, sym, subst, ap, ◌∙◌, arith}
 use Rattle.std.specs.Prelude.{find, slice_get}
-use Rattle.std.specs.List.{list_all, list_any, flat_map, position, position_or_len}
+use Rattle.std.specs.List.{cons_option, filter_map, flat_map, list_all, list_any, position, position_or_len}
 use Rattle.std.specs.Option.{option_map}
 use Rattle.std.proofs.lemmas.List.{length-map}
 use Rattle.assessment.specs.TopicsFacts.{at_place}
@@ -25,6 +25,14 @@ any_flat p f (x ∷ xs) = list_any-append p (f x) (flat_map f xs) ∙ ap (λ t. 
 pub any_map : {X Y : Type 0} (p : Y → Bool) (f : X → Y) (xs : List X) → list_any p (map f xs) ≡ list_any (λ x. p (f x)) xs
 any_map p f [] = refl
 any_map p f (x ∷ xs) = ap (λ t. p (f x) || t) (any_map p f xs)
+
+pub length-filter_map : {X Y : Type 0} (f : X → Option Y) (xs : List X) → length (filter_map f xs) ≤ length xs
+length-filter_map f [] = omega arith
+length-filter_map {X} {Y} f (x ∷ xs) = step (f x) (length-filter_map f xs)
+  where
+    step : (o : Option Y) → length (filter_map f xs) ≤ length xs → length (cons_option o (filter_map f xs)) ≤ suc (length xs)
+    step None rest = omega (arith, rest)
+    step (Some y) rest = omega (arith, rest)
 
 -- Elements by their places.
 

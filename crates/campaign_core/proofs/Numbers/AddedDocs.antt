@@ -13,9 +13,10 @@ use Rattle.decimal_rank.specs.declared.naming.DocId.{DocId}
 use Rattle.trec_formats.specs.declared.TopicList.{TopicList}
 use Rattle.rulebook.specs.Campaign.{docnos, docs_on, line_count}
 use Rattle.rulebook.specs.Words.{Text, contains_text}
+use Rattle.rulebook.proofs.Elements.TextLists.{new-among}
 use Rattle.campaign_core.specs.Growth.{BeginsWith}
 use Rattle.campaign_core.specs.Numbering.Numbers.{AreAdded, are_named, doc_in, docs_in}
-use Rattle.campaign_core.proofs.Numbers.DocNumbers.{all_named, docs-kept, new_name, number-some}
+use Rattle.campaign_core.proofs.Numbers.DocNumbers.{all_named, docs-kept, number-some}
 
 -- those of one list and then those of another
 pub added-all : (docs more names now later : List Text) (before middle after : List DocId) → AreAdded docs names now before middle
@@ -41,7 +42,7 @@ added-one names later doc number before later_is number_is = record {
   where
     same : number.0 ≡ (doc_in later doc).0
     same = ap (λ (found : Option ℕ). unwrap_or found 0)
-        (sym number_is ∙ number-some later doc (subst (λ ns. contains_text ns doc ≡ true) (sym later_is) (new_name names doc)))
+        (sym number_is ∙ number-some later doc (subst (λ ns. contains_text ns doc ≡ true) (sym later_is) (new-among names doc)))
 
 pub length-docnos : (lists : List TopicList) → length (docnos lists) ≡ line_count lists
 length-docnos [] = refl

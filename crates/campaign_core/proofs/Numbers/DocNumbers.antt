@@ -1,36 +1,24 @@
 -- Docnos and their numbers.
-use Rattle.std.proofs.Common.{◌≡◌, ◌≢◌, ◌||◌, ◌<◌, ◌+◌, ℕ, suc, Bool, true, false, not, cond, List, [], ◌∷◌, ◌++◌, length, map, drop, refl, sym, ap, ◌∙◌, arith, lt-ltb, Some}
+use Rattle.std.proofs.Common.{◌≡◌, ◌≢◌, ◌||◌, ◌<◌, ◌+◌, ℕ, Bool, true, false, not, cond, List, [], ◌∷◌, ◌++◌, length, map, drop, refl, sym, ap, ◌∙◌, arith, lt-ltb, Some}
 use Rattle.std.specs.Prelude.{All, if◌then◌else◌}
 use Rattle.std.specs.List.{list_any, position_or_len, fold}
 use Rattle.std.specs.Str.{bytes_eq}
-use Rattle.std.proofs.lemmas.Cmp.{nat_list_eq_equiv}
 use Rattle.std.proofs.lemmas.List.{take-append-drop}
-use Rattle.std.proofs.lemmas.List.Folds.{list_any-append}
 use Rattle.std.proofs.lemmas.List.Sums.{passes_at_first}
 use Rattle.std.proofs.lemmas.Slice.Eq.{bytes_eq-Decides}
 use Rattle.std.proofs.lemmas.Bool.{or_parts, not-true, and_parts}
 use Rattle.std.proofs.lemmas.List.Elements.{All-cons}
 use Rattle.std.proofs.lemmas.List.Kept.{AllPairs-cons}
-use Rattle.std.proofs.Math.Bool.{or-true}
 use Rattle.decimal_rank.specs.Names.{docno_of, number_of, with_name}
 use Rattle.decimal_rank.specs.declared.naming.DocId.{DocId}
 use Rattle.decimal_rank.specs.Rankings.Places.{AreDistinct}
-use Rattle.decimal_rank.proofs.Lists.{all_head, all_tail}
+use Rattle.decimal_rank.proofs.Lists.{all_head, all_tail, place_within}
 use Rattle.rulebook.specs.Spelling.{differ}
 use Rattle.rulebook.specs.Words.{Text, contains_text, each_once}
+use Rattle.rulebook.proofs.Elements.TextLists.{all-stay-among, new-among}
 use Rattle.campaign_core.specs.Growth.{BeginsWith}
 use Rattle.campaign_core.specs.Numbering.Numbers.{are_named, doc_in, docs_in}
 use Rattle.campaign_core.proofs.Lists.Elements.{all_cons}
-
-module _ {X : Type 0} (p : X → Bool) where
-  first_within : (xs : List X) → list_any p xs ≡ true → position_or_len p xs < length xs
-  first_within [] any = cc any
-  first_within (x ∷ xs) any = step (p x) any (first_within xs)
-    where
-      step : (t : Bool) → (t || list_any p xs) ≡ true → (list_any p xs ≡ true → position_or_len p xs < length xs)
-          → cond (not t) (1 + position_or_len p xs) 0 < suc (length xs)
-      step true any rest = omega arith
-      step false any rest = omega (arith, rest any)
 
 first_stays : {X : Type 0} (p : X → Bool) (xs ys : List X) → list_any p xs ≡ true → position_or_len p (xs ++ ys) ≡ position_or_len p xs
 first_stays p [] ys any = cc any
@@ -42,7 +30,7 @@ first_stays p (x ∷ xs) ys any = step (p x) any (first_stays p xs ys)
     step false any rest = ap (λ n. 1 + n) (rest any)
 
 pub number-within : (names : List Text) (doc : Text) → contains_text names doc ≡ true → (doc_in names doc).0 < length names
-number-within names doc named = first_within (bytes_eq doc) names named
+number-within names doc named = place_within (bytes_eq doc) names named
 
 pub number-some : (names : List Text) (doc : Text) → contains_text names doc ≡ true → number_of names doc ≡ Some (doc_in names doc).0
 number-some names doc named = rw (lt-ltb _ _ (number-within names doc named)) refl
@@ -81,33 +69,11 @@ docnos-back names (doc ∷ docs) named =
 
 -- What each_once keeps.
 
-kept_name_step : (names : List Text) (name doc : Text) (t : Bool) → contains_text names doc ≡ true
-    → contains_text (if t then names else names ++ name ∷ []) doc ≡ true
-kept_name_step names name doc true named = named
-kept_name_step names name doc false named = list_any-append (bytes_eq doc) names (name ∷ []) ∙ ap (λ t. t || list_any (bytes_eq doc) (name ∷ [])) named
-
-kept_name : (names : List Text) (name doc : Text) → contains_text names doc ≡ true → contains_text (with_name names name) doc ≡ true
-kept_name names name doc named = kept_name_step names name doc (list_any (bytes_eq name) names) named
-
-new_name_step : (names : List Text) (name : Text) (t : Bool) → list_any (bytes_eq name) names ≡ t
-    → contains_text (if t then names else names ++ name ∷ []) name ≡ true
-new_name_step names name true is = is
-new_name_step names name false is =
-    list_any-append (bytes_eq name) names (name ∷ []) ∙ ap (λ t. list_any (bytes_eq name) names || (t || false)) (nat_list_eq_equiv.refl name)
-    ∙ or-true (list_any (bytes_eq name) names)
-
-pub new_name : (names : List Text) (name : Text) → contains_text (with_name names name) name ≡ true
-new_name names name = new_name_step names name (list_any (bytes_eq name) names) refl
-
-kept_names : (names docs : List Text) (doc : Text) → contains_text names doc ≡ true → contains_text (fold with_name names docs) doc ≡ true
-kept_names names [] doc named = named
-kept_names names (first ∷ docs) doc named = kept_names (with_name names first) docs doc (kept_name names first doc named)
-
 pub all_named : (names docs : List Text) → are_named (fold with_name names docs) docs ≡ true
 all_named names [] = refl
 all_named names (doc ∷ docs) =
     all_cons (contains_text (fold with_name (with_name names doc) docs)) doc docs
-    (kept_names (with_name names doc) docs doc (new_name names doc)) (all_named (with_name names doc) docs)
+    (all-stay-among (with_name names doc) docs doc (new-among names doc)) (all_named (with_name names doc) docs)
 
 -- each docno is among all of them
 pub each_named : (docs : List Text) → are_named (each_once docs) docs ≡ true

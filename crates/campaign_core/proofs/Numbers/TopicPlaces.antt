@@ -2,7 +2,7 @@
 use Rattle.std.proofs.Common.{◌≡◌, ◌<◌, ◌≤◌, ◌+◌, ℕ, Option, Some, length, get_or, map, take, take_all, List, [], refl, sym, ap, ◌∙◌, arith}
 use Rattle.std.specs.List.{position, sum_by}
 use Rattle.std.specs.Str.{bytes_eq}
-use Rattle.std.proofs.lemmas.List.{take_more}
+use Rattle.std.proofs.lemmas.List.{length-map, take_more}
 use Rattle.std.proofs.lemmas.List.Sums.{sum_by_push}
 use Rattle.lease_desk.specs.declared.leases.Lease.{Lease}
 use Rattle.rulebook.specs.Campaign.{History}
@@ -11,6 +11,7 @@ use Rattle.assessment.specs.TopicFacts.{TopicFacts, TopicView, facts_of}
 use Rattle.campaign_core.specs.CampaignStates.{KnowsAll}
 use Rattle.campaign_core.specs.Numbering.Numbers.{names_of}
 use Rattle.campaign_core.specs.Assessments.Topics.{topic_ids}
+use Rattle.campaign_core.proofs.Lists.Elements.{get-map}
 use Rattle.campaign_core.proofs.Rulings.KeptTopics.{states-long}
 use Rattle.campaign_core.proofs.Numbers.NumberedDocs.{docno-there, first-place}
 use Rattle.campaign_core.proofs.PageTexts.PageTopics.{PageTopic, page-topic}
@@ -30,6 +31,14 @@ module _ (H : History) (topics : List TopicFacts) (desk : List Lease) (knows : K
 
   pub topic-at : (k : ℕ) (s : TopicFacts) → k < length topics → s ≡ get_or topics k s → PageTopic H (names_of H) s desk (get_or (topic_ids H) k []) k
   topic-at k s within is = page-topic H topics desk (names_of H) (get_or (topic_ids H) k []) k s knows refl (found-at k within) is
+
+-- the same of a topic as the code sees it
+pub view-at : (H : History) (topics : List TopicView) (desk : List Lease) (number : ℕ) (topic : TopicView) → KnowsAll H (map facts_of topics) desk
+    → number < length topics → topic ≡ get_or topics number topic
+    → PageTopic H (names_of H) topic.facts desk (get_or (topic_ids H) number []) number
+view-at H topics desk number topic knows within is =
+    topic-at H (map facts_of topics) desk knows number topic.facts (omega (arith, within, length-map topics facts_of))
+    (ap facts_of is ∙ sym (get-map facts_of topics number topic))
 
 -- a sum over texts, with one more, and over all
 

@@ -3,7 +3,6 @@ use Rattle.std.proofs.Common.{◌≡◌, ◌||◌, ◌<◌, ◌≤◌, ◌+◌, 
 use Rattle.std.specs.Prelude.{◌&&◌, ◌^◌, if◌then◌else◌, nat_le, nat_lt, slice_get}
 use Rattle.std.specs.List.{list_all, list_any}
 use Rattle.std.proofs.lemmas.Bool.{ltb-false, ltb-true, not-false, and_parts}
-use Rattle.std.specs.Option.{option_map}
 use Rattle.std.specs.Str.{bytes_eq}
 use Rattle.decimal_rank.proofs.TruthValues.{bytes_eq-swap}
 use Rattle.rulebook.specs.declared.rules.Caller.{Caller}
@@ -15,30 +14,26 @@ use Rattle.rulebook.specs.declared.reply.Reply.{Reply}
 use Rattle.rulebook.specs.declared.reply.Reply.TheVariants as reply
 use Rattle.trec_formats.specs.declared.Topic.{Topic}
 use Rattle.rulebook.specs.Words.{Text, contains_text}
-use Rattle.rulebook.specs.Requests.Refusals.{Outcome, ◌when◌, unless_missing, is_phase, unless, wrong_phase_unless, wrong_phase_where}
-use Rattle.rulebook.specs.Answers.{amend_outcome, grade_outcome, grade_range, lease_outcome, lease_refusals, open_outcome, publish_outcome, release_outcome, rule_outcome, run_refusals, submit_outcome, topics_outcome, unknown_line, withdraw_outcome}
+use Rattle.rulebook.specs.Requests.Refusals.{Outcome, ◌when◌, unless_missing, is_phase, unless, wrong_phase_unless}
+use Rattle.rulebook.specs.Answers.{amend_outcome, grade_outcome, grade_range, lease_outcome, lease_refusals, open_outcome, publish_outcome, release_outcome, rule_outcome, run_refusals, submit_outcome, submit_tests, topics_outcome, withdraw_outcome}
 use Rattle.rulebook.specs.Spelling.{differ, is_plain, is_plain_topic}
 use Rattle.rulebook.specs.declared.ask.Command.TheVariants as command
-use Rattle.rulebook.specs.declared.limits.TheConstants.{MAX_DOCNOS, MAX_LINES, MAX_RUNS, MAX_TOPICS}
+use Rattle.rulebook.specs.declared.limits.TheConstants.{MAX_TOPICS}
 use Rattle.rulebook.specs.declared.reply.Quantity.TheVariants as quantity
 use Rattle.trec_formats.specs.declared.TopicList.{TopicList}
-use Rattle.rulebook.specs.Campaign.{History, Run, docnos_with, has_topics, is_taken, is_topic, is_withdrawn, line_count, lines_with, phase, rules_of, runs, title}
+use Rattle.rulebook.specs.Campaign.{History, Run, has_topics, is_topic, is_withdrawn, line_count, phase, rules_of, title}
 use Rattle.rulebook.specs.Judgements.Grades.{is_labelled, is_labelled_by}
 use Rattle.rulebook.specs.Judgements.JudgingOrder.{named_document}
 use Rattle.rulebook.specs.Judgements.Leases.{Lease, is_ended, lease_numbered, leases, live_leases_of}
 use Rattle.rulebook.specs.Requests.Roles.{is_group}
 use Rattle.rulebook.specs.Reports.Scores.{is_submitter, run_named}
-use Rattle.campaign_core.proofs.Entries.Judgements.QuietEntries.{given-ok, unless-ok}
+use Rattle.rulebook.proofs.LegalHistories.GrantedLeases.{passed, unless_ok}
+use Rattle.campaign_core.proofs.Entries.Judgements.QuietEntries.{given-ok}
 
 judging-from : (p : Phase) → not (is_phase Judging p) ≡ false → p ≡ Judging
 judging-from Judging is = refl
 judging-from Collecting is = cc is
 judging-from Published is = cc is
-
-first-test : (r : Refusal) (t : Bool) (tests : List (Option Refusal)) (ruling : Outcome) (answer : Reply)
-    → unless ((r when t) ∷ tests) ruling ≡ Ok answer → (t ≡ false) × (unless tests ruling ≡ Ok answer)
-first-test r true tests ruling answer is = cc is
-first-test r false tests ruling answer is = (refl, is)
 
 same-reply : (answer r : Reply) → (let told : Outcome = Ok r in let wanted : Outcome = Ok answer in told ≡ wanted) → answer ≡ r
 same-reply answer r e = let back : r ≡ answer = cc e in sym back
@@ -59,10 +54,10 @@ lease-told H who now topic answer is =
     let follows : Text → Outcome = λ doc. Ok (reply.Leased (length (leases H) + 1) topic doc (now + (rules_of H).term) (title H topic)) in
     let ruling : Outcome = unless_missing (named_document H now who.name topic) refusal.NothingLeft follows in
     let later : List (Option Refusal) = (refusal.TooMany live when many) ∷ [] in
-    let a = first-test (refusal.WrongPhase (phase H)) (not (is_phase Judging (phase H)))
+    let a = passed (refusal.WrongPhase (phase H)) (not (is_phase Judging (phase H)))
     ((refusal.UnknownTopic when not (is_topic H topic)) ∷ later) ruling answer is in
-    let b = first-test refusal.UnknownTopic (not (is_topic H topic)) later ruling answer a.1 in
-    let found = given-ok (named_document H now who.name topic) refusal.NothingLeft follows answer (unless-ok later ruling answer b.1) in
+    let b = passed refusal.UnknownTopic (not (is_topic H topic)) later ruling answer a.1 in
+    let found = given-ok (named_document H now who.name topic) refusal.NothingLeft follows answer (unless_ok later ruling answer b.1) in
     record {
       judging = judging-from (phase H) a.0;
       listed = not-false (is_topic H topic) b.0;
@@ -85,15 +80,15 @@ on-lease : (H : History) (who : Caller) (now number : ℕ) (more : Lease → Lis
     → (w : OnLease H who number) × (ruling w.lease ≡ Ok answer)
 on-lease H who now number more ruling answer is =
     let follows : Lease → Outcome = λ lease. unless (lease_refusals H who now lease ++ more lease) (ruling lease) in
-    let a = first-test (refusal.WrongPhase (phase H)) (not (is_phase Judging (phase H))) []
+    let a = passed (refusal.WrongPhase (phase H)) (not (is_phase Judging (phase H))) []
     (unless_missing (lease_numbered H number) refusal.UnknownLease follows) answer is in
     let found = given-ok (lease_numbered H number) refusal.UnknownLease follows answer a.1 in
     let l : Lease = found.0 in
-    let b = first-test refusal.NotYours (not (bytes_eq l.assessor who.name))
+    let b = passed refusal.NotYours (not (bytes_eq l.assessor who.name))
     ((refusal.Ended when is_ended H l.number) ∷ (refusal.Expired l.until when nat_le l.until now) ∷ more l) (ruling l) answer found.2 in
-    let c = first-test refusal.Ended (is_ended H l.number) ((refusal.Expired l.until when nat_le l.until now) ∷ more l) (ruling l) answer b.1 in (
+    let c = passed refusal.Ended (is_ended H l.number) ((refusal.Expired l.until when nat_le l.until now) ∷ more l) (ruling l) answer b.1 in (
       record { judging = judging-from (phase H) a.0; lease = l; found = found.1; mine = not-false (bytes_eq l.assessor who.name) b.0; unended = c.0 },
-      unless-ok ((refusal.Expired l.until when nat_le l.until now) ∷ more l) (ruling l) answer c.1,
+      unless_ok ((refusal.Expired l.until when nat_le l.until now) ∷ more l) (ruling l) answer c.1,
     )
 
 pub grade-told : (H : History) (who : Caller) (now number grade : ℕ) (answer : Reply) → grade_outcome H who now number grade ≡ Ok answer
@@ -157,36 +152,29 @@ some-same x y is = cc is
 pub topics-reply : (H : History) (ts : List Topic) (answer : Reply) → topics_outcome H ts ≡ Ok answer → answer ≡ reply.Topics (length ts)
 topics-reply H ts answer is =
     same-reply answer (reply.Topics (length ts))
-    (unless-ok (wrong_phase_unless Collecting H ∷ (refusal.TopicsFixed when has_topics H)
+    (unless_ok (wrong_phase_unless Collecting H ∷ (refusal.TopicsFixed when has_topics H)
     ∷ (refusal.Limit quantity.Topics when nat_lt MAX_TOPICS (length ts)) ∷ []) (Ok (reply.Topics (length ts))) answer is)
 
 pub topics-few : (H : History) (ts : List Topic) (answer : Reply) → topics_outcome H ts ≡ Ok answer → length ts ≤ MAX_TOPICS
 topics-few H ts answer is =
     let ruling : Outcome = Ok (reply.Topics (length ts)) in
     let last : List (Option Refusal) = (refusal.Limit quantity.Topics when nat_lt MAX_TOPICS (length ts)) ∷ [] in
-    let a = first-test (refusal.WrongPhase (phase H)) (not (is_phase Collecting (phase H))) ((refusal.TopicsFixed when has_topics H) ∷ last) ruling answer is in
-    let b = first-test refusal.TopicsFixed (has_topics H) last ruling answer a.1 in
-    let c = first-test (refusal.Limit quantity.Topics) (nat_lt MAX_TOPICS (length ts)) [] ruling answer b.1 in
+    let a = passed (refusal.WrongPhase (phase H)) (not (is_phase Collecting (phase H))) ((refusal.TopicsFixed when has_topics H) ∷ last) ruling answer is in
+    let b = passed refusal.TopicsFixed (has_topics H) last ruling answer a.1 in
+    let c = passed (refusal.Limit quantity.Topics) (nat_lt MAX_TOPICS (length ts)) [] ruling answer b.1 in
     ltb-false MAX_TOPICS (length ts) c.0
 
 pub topics-plain : (ts : List Topic) → is_plain (command.Topics ts) ≡ true → differ (map (λ (t : Topic). t.id) ts) ≡ true
 topics-plain ts is = (and_parts (nat_lt (length ts) (2 ^ 32) && list_all is_plain_topic ts) (differ (map (λ (t : Topic). t.id) ts)) is).1
 
-abbrev submit_tests : History → Text → List TopicList → List (Option Refusal)
-submit_tests H name lists =
-    (refusal.TagTaken when is_taken H name) ∷ option_map refusal.LineTopic (unknown_line H lists)
-    ∷ (refusal.Limit quantity.Runs when nat_le MAX_RUNS (length (runs H)))
-    ∷ (refusal.Limit quantity.Lines when nat_lt MAX_LINES (lines_with H lists))
-    ∷ (refusal.Limit quantity.Docnos when nat_lt MAX_DOCNOS (length (docnos_with H lists))) ∷ []
-
 pub submit-reply : (H : History) (name : Text) (lists : List TopicList) (answer : Reply) → submit_outcome H name lists ≡ Ok answer
     → answer ≡ reply.Submitted name (length lists) (line_count lists)
 submit-reply H name lists answer is =
     same-reply answer (reply.Submitted name (length lists) (line_count lists))
-    (unless-ok (wrong_phase_where Published H ∷ submit_tests H name lists) (Ok (reply.Submitted name (length lists) (line_count lists))) answer is)
+    (unless_ok (submit_tests H name lists) (Ok (reply.Submitted name (length lists) (line_count lists))) answer is)
 
 pub open-reply : (H : History) (answer : Reply) → open_outcome H ≡ Ok answer → answer ≡ reply.Done
-open-reply H answer is = same-reply answer reply.Done (unless-ok (wrong_phase_unless Collecting H ∷ []) (Ok reply.Done) answer is)
+open-reply H answer is = same-reply answer reply.Done (unless_ok (wrong_phase_unless Collecting H ∷ []) (Ok reply.Done) answer is)
 
 -- Amendments and rulings
 
@@ -206,15 +194,15 @@ on-doc : (H : History) (topic : Text) (labelled : Bool) (grade : ℕ) (answer : 
     → OnDoc H topic labelled answer
 on-doc H topic labelled grade answer is =
     let ruling : Outcome = Ok reply.Done in
-    let a = first-test (refusal.WrongPhase (phase H)) (not (is_phase Judging (phase H)))
+    let a = passed (refusal.WrongPhase (phase H)) (not (is_phase Judging (phase H)))
     ((refusal.UnknownTopic when not (is_topic H topic)) ∷ (refusal.NotLabelled when not labelled) ∷ grade_tests H grade) ruling answer is in
-    let b = first-test refusal.UnknownTopic (not (is_topic H topic)) ((refusal.NotLabelled when not labelled) ∷ grade_tests H grade) ruling answer a.1 in
-    let c = first-test refusal.NotLabelled (not labelled) (grade_tests H grade) ruling answer b.1 in
+    let b = passed refusal.UnknownTopic (not (is_topic H topic)) ((refusal.NotLabelled when not labelled) ∷ grade_tests H grade) ruling answer a.1 in
+    let c = passed refusal.NotLabelled (not labelled) (grade_tests H grade) ruling answer b.1 in
     record {
       judging = judging-from (phase H) a.0;
       listed = not-false (is_topic H topic) b.0;
       has_label = not-false labelled c.0;
-      reply_is = same-reply answer reply.Done (unless-ok (grade_tests H grade) ruling answer c.1);
+      reply_is = same-reply answer reply.Done (unless_ok (grade_tests H grade) ruling answer c.1);
     }
 
 pub amend-told : (H : History) (who : Caller) (topic doc : Text) (grade : ℕ) (answer : Reply) → amend_outcome H who topic doc grade ≡ Ok answer
@@ -238,13 +226,13 @@ pub withdraw-told : (H : History) (who : Caller) (name : Text) (answer : Reply) 
 withdraw-told H who name answer is =
     let done : Outcome = Ok reply.Done in
     let follows : Run → Outcome = λ run. unless (run_refusals H who name) done in
-    let a = first-test (refusal.WrongPhase (phase H)) (is_phase Published (phase H)) []
+    let a = passed (refusal.WrongPhase (phase H)) (is_phase Published (phase H)) []
     (unless_missing (run_named H name) refusal.UnknownRun follows) answer is in
     let b = given-ok (run_named H name) refusal.UnknownRun follows answer a.1 in
-    let c = first-test refusal.NotYours (is_group who.role && not (is_submitter H who.name name))
+    let c = passed refusal.NotYours (is_group who.role && not (is_submitter H who.name name))
     ((refusal.Withdrawn when is_withdrawn H name) ∷ []) done answer b.2 in
-    let d = first-test refusal.Withdrawn (is_withdrawn H name) [] done answer c.1 in
+    let d = passed refusal.Withdrawn (is_withdrawn H name) [] done answer c.1 in
     record { run = b.0; found = b.1; live = d.0; reply_is = same-reply answer reply.Done d.1 }
 
 pub publish-told : (H : History) (answer : Reply) → publish_outcome H ≡ Ok answer → answer ≡ reply.Done
-publish-told H answer is = same-reply answer reply.Done (unless-ok (wrong_phase_unless Judging H ∷ []) (Ok reply.Done) answer is)
+publish-told H answer is = same-reply answer reply.Done (unless_ok (wrong_phase_unless Judging H ∷ []) (Ok reply.Done) answer is)

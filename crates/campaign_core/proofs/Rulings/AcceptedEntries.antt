@@ -23,15 +23,14 @@ use Rattle.trec_formats.specs.declared.TopicList.{TopicList}
 use Rattle.rulebook.specs.Words.{Text}
 use Rattle.rulebook.specs.Requests.Refusals.{Outcome, ◌when◌, unless, is_phase}
 use Rattle.rulebook.specs.Answers.{adding_nothing, answer_of_outcome, command_answer, command_outcome, moment_after, open_outcome, repeat_answer, submit_outcome, topics_outcome, unknown_line}
-use Rattle.rulebook.specs.Campaign.{History, Run, docnos_with, docs_on, has_topics, is_taken, line_count, lines_with, phase, rules_of, run_in, runs, topics, topics_in}
+use Rattle.rulebook.specs.Campaign.{History, Run, docnos_with, docs_on, has_topics, is_taken, line_count, lines_with, may_give, phase, rules_of, run_in, runs, topics, topics_in}
 use Rattle.rulebook.specs.declared.rules.Rules.{Rules}
 use Rattle.rulebook.specs.Histories.Legal.{IsAccepted, IsLegal, core_of, is_well_addressed}
 use Rattle.rulebook.specs.Requests.Numbers.{entry_of_number}
-use Rattle.rulebook.specs.Requests.Roles.{may_give}
 use Rattle.trec_formats.specs.Names.{is_between, is_docno, is_name}
 use Rattle.std.specs.Int.{to_le_bytes, w64}
 use Rattle.decimal_rank.proofs.Lists.{none_mapped, all_head, all_tail}
-use Rattle.rulebook.specs.Requests.Limits.{max_depth, max_hold, max_term, max_topics}
+use Rattle.rulebook.specs.Requests.Limits.{max_depth, max_docs, max_hold, max_term, max_top_grade, max_topics}
 use Rattle.rulebook.specs.Spelling.{are_levels, are_settings, command_bytes, differ, entry_bytes, has_spelling, is_ascending, is_number, is_plain, is_plain_list, number_bytes, role_byte, short}
 use Rattle.campaign_core.specs.Growth.{lists_in}
 use Rattle.campaign_core.proofs.Rulings.CollectingRulings.{collecting-from}
@@ -140,14 +139,6 @@ topics_known H (l ∷ lists) without some is =
 
 -- What the address of a command says of it.
 
-pub plain-of : (who : Caller) (number : Option ℕ) (c : Command) (moment : ℕ) → is_well_addressed who number (Act c) moment ≡ true → is_plain c ≡ true
-plain-of who number c moment is =
-    let core = core_of who number moment c in
-    let a = and_parts (may_give who.role c && has_spelling core) (nat_le (length (entry_bytes core)) MAX_ENTRY_BYTES) is in
-    let b = and_parts (may_give who.role c) (has_spelling core) a.0 in
-    let d = and_parts (is_name who.name && is_number number && nat_le moment MAX_MOMENT) (is_plain c) b.1 in
-    d.1
-
 pub moment-of : (who : Caller) (number : Option ℕ) (c : Command) (moment : ℕ) → is_well_addressed who number (Act c) moment ≡ true → moment ≤ MAX_MOMENT
 moment-of who number c moment is =
     let core = core_of who number moment c in
@@ -181,20 +172,20 @@ some_lists name lists is =
     omega (arith, leb-true 1 (length lists) d.0)
 
 plain_docs : (lists : List TopicList) (topic : Text) → list_all is_plain_list lists ≡ true
-    → (length (docs_on lists topic) ≤ 1000) × (differ (docs_on lists topic) ≡ true)
+    → (length (docs_on lists topic) ≤ max_docs) × (differ (docs_on lists topic) ≡ true)
 plain_docs [] topic all = (omega arith, refl)
 plain_docs (l ∷ lists) topic all = step (bytes_eq l.topic topic) (plain_docs lists topic (all_tail is_plain_list l lists all))
   where
     Plain : List Text → Type 0
-    Plain docs = (length docs ≤ 1000) × (differ docs ≡ true)
+    Plain docs = (length docs ≤ max_docs) × (differ docs ≡ true)
 
     here : Plain l.docs
     here =
         let front = is_name l.topic && nat_lt l.line (2 ^ 32) in
-        let a = and_parts (front && is_between 1 1000 (length l.docs) && list_all is_docno l.docs) (differ l.docs) (all_head is_plain_list l lists all) in
-        let b = and_parts (front && is_between 1 1000 (length l.docs)) (list_all is_docno l.docs) a.0 in
-        let c = and_parts front (is_between 1 1000 (length l.docs)) b.0 in
-        let d = and_parts (nat_le 1 (length l.docs)) (nat_le (length l.docs) 1000) c.1 in
+        let a = and_parts (front && is_between 1 max_docs (length l.docs) && list_all is_docno l.docs) (differ l.docs) (all_head is_plain_list l lists all) in
+        let b = and_parts (front && is_between 1 max_docs (length l.docs)) (list_all is_docno l.docs) a.0 in
+        let c = and_parts front (is_between 1 max_docs (length l.docs)) b.0 in
+        let d = and_parts (nat_le 1 (length l.docs)) (nat_le (length l.docs) max_docs) c.1 in
         (leb-true _ _ d.1, a.1)
 
     step : (t : Bool) → Plain (docs_on lists topic) → Plain (option_map_or (λ l. l.docs) (cond t (Some l) (find (λ l. bytes_eq l.topic topic) lists)) [])
@@ -209,11 +200,12 @@ submit-by (command.Submit name lists) run is =
 submit-by _ run is = cc is
 
 -- the documents of each list of a command are few, and differ
-pub docs-plain : (c : Command) (topic : Text) → is_plain c ≡ true → (length (docs_on (lists_in c) topic) ≤ 1000) × (differ (docs_on (lists_in c) topic) ≡ true)
+pub docs-plain : (c : Command) (topic : Text) → is_plain c ≡ true
+    → (length (docs_on (lists_in c) topic) ≤ max_docs) × (differ (docs_on (lists_in c) topic) ≡ true)
 docs-plain c topic is = step (run_in c) refl
   where
     of-lists : (lists : List TopicList) → Type 0
-    of-lists lists = (length (docs_on lists topic) ≤ 1000) × (differ (docs_on lists topic) ≡ true)
+    of-lists lists = (length (docs_on lists topic) ≤ max_docs) × (differ (docs_on lists topic) ≡ true)
 
     step : (o : Option Run) → run_in c ≡ o → of-lists (lists_in c)
     step None none = subst of-lists (sym (ap (λ (o : Option Run). option_map_or (λ run. run.lists) o []) none)) (omega arith, refl)
@@ -230,7 +222,7 @@ term-fits (first ∷ later) legal =
     let d = is_between 1 max_depth r.depth in
     let t = is_between 1 max_term r.term in
     let h = is_between 1 max_hold r.hold in
-    let g = is_between 1 255 r.top_grade in
+    let g = is_between 1 max_top_grade r.top_grade in
     let l = is_between 1 r.top_grade r.level in
     let n = nat_le (length r.doubles) max_topics in
     let m = list_all is_name r.doubles in

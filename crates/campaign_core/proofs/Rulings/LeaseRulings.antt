@@ -1,5 +1,5 @@
 -- What the commands on leases come to, by the desk.
-use Rattle.std.proofs.Common.{◌≡◌, ◌<◌, ◌≤◌, ◌+◌, ◌-◌, ℕ, suc, zero, Bool, true, false, not, List, [], ◌∷◌, ◌++◌, Option, Some, None, Ok, Err, length, map, slice_get, refl, sym, ap, ◌∙◌, arith, subst, nat_lt, lt-ltb, ltb-true, le-leb, leb-true, filter_map}
+use Rattle.std.proofs.Common.{◌≡◌, ◌<◌, ◌≤◌, ◌+◌, ◌-◌, ℕ, suc, zero, Bool, true, false, not, List, [], ◌∷◌, ◌++◌, Option, Some, None, Ok, Err, length, map, slice_get, refl, sym, ap, ◌∙◌, arith, subst, nat_lt, lt-ltb, ltb-true, le-leb, leb-true}
 use Rattle.std.specs.Prelude.{if◌then◌else◌, nat_le}
 use Rattle.std.specs.List.{list_all}
 use Rattle.std.specs.Option.{IsSomeAnd, is_some}
@@ -24,6 +24,7 @@ use Rattle.rulebook.specs.Words.{Text, contains_text}
 use Rattle.campaign_core.specs.Assessments.DeskLeases.{IsLeased, KnownLease, first_refusal, is_known, lease_known, lease_seen, refusals_of}
 use Rattle.campaign_core.specs.Assessments.Topics.{topic_ids}
 use Rattle.assessment.specs.Changes.{IsUnended}
+use Rattle.campaign_core.proofs.Lists.Elements.{length-filter_map}
 use Rattle.campaign_core.proofs.Rulings.AcceptedCommands.{listed-id}
 use Rattle.campaign_core.proofs.Rulings.TestOrder.{in-phase, passed, refused}
 
@@ -230,14 +231,6 @@ module _ (H : History) (who : Caller) (now : ℕ) (topic : Text) (p : Phase) (ph
 
 -- Numbers that fit.
 
-few-given : {X Y : Type 0} (f : X → Option Y) (xs : List X) → length (filter_map f xs) ≤ length xs
-few-given f [] = omega arith
-few-given f (x ∷ xs) = step (f x) refl (few-given f xs)
-  where
-    step : (o : Option _) → f x ≡ o → length (filter_map f xs) ≤ length xs → length (filter_map f (x ∷ xs)) ≤ suc (length xs)
-    step None is rest = rw is (omega (arith, rest))
-    step (Some y) is rest = rw is (omega (arith, rest))
-
 -- no more leases than entries
 pub few-leases : (H : History) → length (leases H) ≤ length H
-few-leases H = few-given (λ (e : Entry). lease_in e.core.caller.name e.reply) H
+few-leases H = length-filter_map (λ (e : Entry). lease_in e.core.caller.name e.reply) H

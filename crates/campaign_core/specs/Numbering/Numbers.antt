@@ -8,6 +8,7 @@ use Rattle.trec_formats.specs.declared.TopicList.{TopicList}
 use Rattle.rulebook.specs.Spelling.{differ}
 use Rattle.rulebook.specs.Words.{Text, contains_text, each_once}
 use Rattle.rulebook.specs.Campaign.{History, docnos, docs_on, submitted_docnos}
+use Rattle.rulebook.specs.Requests.Limits.{max_docs}
 
 -- the docnos of a history, by their first mention
 abbrev pub names_of : History → List Text
@@ -36,7 +37,7 @@ pub record AreAdded (docs names later : List Text) (before after : List DocId) :
 
 -- a run's documents on a topic can be ranked by number: they are few, differ, and are among the names
 pub record IsRankable (names : List Text) (docs : List Text) : Type 0 where
-  pub few : length docs ≤ 1000
+  pub few : length docs ≤ max_docs
   pub distinct : IsTrue (differ docs)
   pub named : IsTrue (are_named names docs)
 

@@ -45,8 +45,8 @@ pub record AreSubmissions (H : History) (all : List Submission) : Type 0 where
   pub places_are : ArePlaces H (map entry_place all)
   pub withdrawn_are : map (λ one. one.is_withdrawn) all ≡ withdrawals H
 
-abbrev pub withdrawn : Submission → Submission
-withdrawn one = record one { is_withdrawn = true }
+abbrev pub with_withdrawal : Submission → Submission
+with_withdrawal one = record one { is_withdrawn = true }
 
 -- a run by its number of submission
 abbrev pub run_id_of : ℕ × Run → RunId

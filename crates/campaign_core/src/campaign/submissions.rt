@@ -8,7 +8,7 @@ ghost use Rattle.rulebook.specs.Campaign.{line_count as lines_of, run_in, runs};
 ghost use Rattle.rulebook.specs.Requests.Roles.{is_group};
 ghost use Rattle.rulebook.specs.Reports.Scores.{is_submitter, submits};
 ghost use Rattle.campaign_core.specs.Growth.{lists_in};
-ghost use Rattle.campaign_core.specs.Numbering.Submissions.{AreSubmissions, IsRunAsked, MayNote, is_submitted_by, live_numbers, withdrawn};
+ghost use Rattle.campaign_core.specs.Numbering.Submissions.{AreSubmissions, IsRunAsked, MayNote, is_submitted_by, live_numbers, with_withdrawal};
 
 use decimal_rank::Text;
 use depth_pool::RunId;
@@ -142,7 +142,7 @@ pub(crate) fn note_run(
     ensures live { live.new.items ≡ live_numbers (history.now ++ entry.now ∷ []) }
 {
     if let Some(run) = leaving {
-        mark_withdrawn(submissions, run);
+        note_withdrawal(submissions, run);
         take_out(live, run);
     } else if submits_run(&entry.core.command) {
         live.push_reserved(RunId(submissions.len() as u16));
@@ -160,10 +160,10 @@ fn take_out(live: &mut Vec<RunId>, run: RunId)
     live.retain(|other| other.0 != run.0);
 }
 
-/// Marks a run as withdrawn.
-fn mark_withdrawn(submissions: &mut [Submission], run: RunId)
+/// Notes that a run is withdrawn.
+fn note_withdrawal(submissions: &mut [Submission], run: RunId)
     requires { run.0 < length submissions.old }
-    ensures { submissions.new ≡ at_place run.0 withdrawn submissions.old }
+    ensures { submissions.new ≡ at_place run.0 with_withdrawal submissions.old }
 {
     submissions[usize::from(run.0)].is_withdrawn = true;
 }

@@ -62,7 +62,7 @@ fn id_at(topics: &[AssessedTopic], number: usize) -> &[u8]
 }
 
 /// How many labels a document of a topic needs.
-fn needed(rules: &Rules, id: &[u8]) -> u32
+fn needed_labels(rules: &Rules, id: &[u8]) -> u32
     ensures { result ≡ needed_labels rules.now id.now }
 {
     if is_among(rules.doubles.items(), id) {
@@ -110,7 +110,7 @@ pub(crate) fn topic_rules(
     for topic in topics {
         made.push(TopicRules {
             id: topic.id.copy()?,
-            need: needed(rules, topic.id.bytes()),
+            need: needed_labels(rules, topic.id.bytes()),
             level: level_of(rules, topic.id.bytes()),
             depth: rules.depth,
         })?;

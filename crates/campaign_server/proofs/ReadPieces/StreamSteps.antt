@@ -9,6 +9,7 @@ use Rattle.http_wire.specs.Heads.{behind_line_ends}
 use Rattle.http_wire.specs.Messages.{IsFront, Faulty, Waits, request_with}
 use Rattle.http_wire.specs.Pieces.{WireState, Steps, StepsAt, PiecesGoOn, wire_fed}
 use Rattle.routes.specs.declared.keys.KeyRow.{KeyRow}
+use Rattle.routes.specs.Limits.{most_body}
 use Rattle.campaign_server.specs.declared.connections.asks.AskStep.{AskStep}
 use Rattle.campaign_server.specs.declared.connections.asks.AskStep.TheVariants as ask
 use Rattle.campaign_server.specs.declared.connections.asks.Present.{Present}
@@ -52,7 +53,7 @@ module _ (laws : Laws) (keys : List KeyRow) (old new : WireState) where
       absurd (inside (Some (begun.head.length - length begun.given)) old (steps.Head head) new on.0 step)
 
   pub head_fits : (head : HttpHead) (after : Present) (left : Option ℕ) (bytes : List ℕ)
-      → StepsAt left bytes (steps.Head head) new → head.length ≤ 16777216 → Begins keys head after → RestFits after new
+      → StepsAt left bytes (steps.Head head) new → head.length ≤ most_body → Begins keys head after → RestFits after new
   head_fits head after (Some left) bytes step few begins = absurd step
   head_fits head Nothing None bytes step few begins = absurd begins
   head_fits head (Reads reader close) None bytes step few begins = (head.length, step.1, omega (arith, few, begins.2))

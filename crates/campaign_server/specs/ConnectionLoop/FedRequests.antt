@@ -11,6 +11,7 @@ use Rattle.routes.specs.declared.keys.KeyRow.{KeyRow}
 use Rattle.routes.specs.Asks.{Asked, Reads}
 use Rattle.routes.specs.AskReading.AskStates.{IsAsking}
 use Rattle.routes.specs.Faults.{IsRead}
+use Rattle.routes.specs.Limits.{most_body}
 use Rattle.rulebook.specs.declared.limits.TheConstants.{MAX_MOMENT}
 use Rattle.rulebook.specs.Histories.Legal.{is_well_addressed}
 use Rattle.campaign_server.specs.declared.connections.asks.AskStep.{AskStep}
@@ -61,7 +62,7 @@ WasFed keys rest stream = StreamStands keys rest stream.present stream.wire
 -- a reader has room for what is still to come of its body
 abbrev pub RestFits : Present → WireState → Type 0
 RestFits Nothing wire = wire.left ≡ None
-RestFits (ReadsOn reader close) wire = (left : ℕ) × (wire.left ≡ Some left) × (reader.fed + left ≤ 16777216)
+RestFits (ReadsOn reader close) wire = (left : ℕ) × (wire.left ≡ Some left) × (reader.fed + left ≤ most_body)
 RestFits (Starved close) wire = (left : ℕ) × (wire.left ≡ Some left)
 
 -- a request was begun
@@ -79,7 +80,7 @@ Begins keys head (Starved close) = close ≡ head.close
 -- a reader has room for a piece
 abbrev pub PieceFits : Present → ℕ → Type 0
 PieceFits Nothing more = Unit {0}
-PieceFits (ReadsOn reader close) more = reader.fed + more ≤ 16777216
+PieceFits (ReadsOn reader close) more = reader.fed + more ≤ most_body
 PieceFits (Starved close) more = Unit {0}
 
 -- the request goes on with a piece of its body

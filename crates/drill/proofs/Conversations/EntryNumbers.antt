@@ -9,7 +9,7 @@ use Rattle.http_wire.specs.declared.messages.HttpRequest.{HttpRequest}
 use Rattle.http_wire.specs.Messages.{Clean, Stays}
 use Rattle.routes.specs.Answers.{status_of}
 use Rattle.routes.specs.Asks.{Reads}
-use Rattle.routes.specs.Keys.{row_of}
+use Rattle.routes.specs.Keys.{caller_with}
 use Rattle.routes.specs.declared.answers.Answered.{Answered}
 use Rattle.routes.specs.declared.answers.Answered.TheVariants as answered
 use Rattle.routes.specs.declared.keys.KeyRow.{KeyRow}
@@ -47,7 +47,7 @@ IsFirst request (other ∷ others) = other ≡ request
 abbrev has_number : List ℕ → ℕ → History → Bool
 has_number name number H = list_any (is_numbered name number) H
 
-module _ (message : Message) (is : IsSendable message) (row : KeyRow) (row_is : row_of callers message.key ≡ Some row) where
+module _ (message : Message) (is : IsSendable message) (row : KeyRow) (row_is : caller_with callers message.key ≡ Some row) where
   -- no entry, or one of the message's caller and number
   abbrev IsOwn : History → Type 0
   IsOwn more = (more ≡ []) ⊎ ((e : Entry) × (more ≡ e ∷ []) × (e.core.caller.name ≡ row.name) × (e.core.number ≡ Some message.number))

@@ -3,15 +3,15 @@ use Rattle.std.proofs.Common.{◌≡◌, ◌+◌, ◌<◌, ◌≤◌, ◌==◌, 
 use Rattle.std.specs.Str.{bytes_eq}
 use Rattle.std.proofs.lemmas.Bool.{and_left, and_right}
 use Rattle.http_wire.specs.Messages.{Stays}
-use Rattle.routes.specs.Keys.{row_of}
+use Rattle.routes.specs.Keys.{caller_with}
 use Rattle.routes.specs.declared.keys.KeyRow.{KeyRow}
 use Rattle.rulebook.specs.Campaign.{History}
 use Rattle.rulebook.specs.Histories.Legal.{founding}
 use Rattle.rulebook.specs.declared.rules.Role.TheVariants.{Assessor, Group, Organiser}
 use Rattle.drill.specs.Exchanges.{IsExchange, IsSent, OneReading}
-use Rattle.drill.specs.Figures.{are_numbers, drill_grade}
+use Rattle.drill.specs.Figures.{are_numbers, drill_grade, most_runs}
 use Rattle.drill.specs.Messages.{IsSendable, Message, assessor_key, callers, grade_message, group_key, lease_message, message_text, open_message, organiser_key, rules, run_message, topics_message}
-use Rattle.drill.specs.Plays.{After, IsBeforeLastMessage, IsGraded, IsNumberedTo, IsRefused, Judging, before_judging}
+use Rattle.drill.specs.Plays.{After, IsBeforeLastMessage, IsGraded, IsNumberedTo, IsRefused, Judging, before_judging, most_messages}
 use Rattle.drill.specs.declared.numbers.DrillNumbers.{DrillNumbers}
 use Rattle.drill.proofs.Conversations.EntryNumbers.{exchange-grows, exchange-unnumbered, told-longer}
 use Rattle.drill.proofs.Conversations.OwnEntries.{unused}
@@ -29,7 +29,8 @@ assessor = record { name = codes "asr"; role = Assessor; key = assessor_key }
 
 module _ (stays : (bytes more : List ℕ) → Stays bytes more) (one : OneReading) where
   -- a message of another caller
-  sent-unnumbered : (message : Message) → IsSendable message → (row : KeyRow) → row_of callers message.key ≡ Some row → bytes_eq row.name (codes "asr") ≡ false
+  sent-unnumbered : (message : Message) → IsSendable message → (row : KeyRow) → caller_with callers message.key ≡ Some row
+      → bytes_eq row.name (codes "asr") ≡ false
       → (H S : History) → IsSent H message S → IsNumberedTo 0 H → IsNumberedTo 0 S
   sent-unnumbered message is row row_is not_its H S (answers, exchange) numbered k above =
       exchange-unnumbered message is row row_is stays one H S answers exchange k (and_left (bytes_eq row.name (codes "asr"))
@@ -39,11 +40,11 @@ module _ (stays : (bytes more : List ℕ) → Stays bytes more) (one : OneReadin
   next-numbered : (message : Message) → IsSendable message → message.key ≡ assessor_key → (n : ℕ) → message.number ≡ n + 1 → (H S : History) (answers : List ℕ)
       → IsExchange H (message_text message) S answers → IsNumberedTo n H → IsNumberedTo (n + 1) S
   next-numbered message is key_is n number_is H S answers exchange numbered k above =
-      exchange-unnumbered message is assessor (ap (row_of callers) key_is) stays one H S answers exchange k
+      exchange-unnumbered message is assessor (ap (caller_with callers) key_is) stays one H S answers exchange k
       (and_right (bytes_eq (codes "asr") (codes "asr")) (message.number == k) (ne_eqb message.number k (λ same. omega (arith, same, number_is, above))))
       (numbered k (omega (arith, above)))
 
-  runs-unnumbered : (numbers : DrillNumbers) → IsTrue (are_numbers numbers) → (count : ℕ) → count ≤ 256 → (H S : History)
+  runs-unnumbered : (numbers : DrillNumbers) → IsTrue (are_numbers numbers) → (count : ℕ) → count ≤ most_runs → (H S : History)
       → After (λ r old new. IsSent old (run_message numbers r) new) count H S → IsNumberedTo 0 H → IsNumberedTo 0 S
   runs-unnumbered numbers are zero few H S same numbered = subst (IsNumberedTo 0) (sym same) numbered
   runs-unnumbered numbers are (suc count) few H S (mid, before, sent) numbered =
@@ -60,8 +61,8 @@ module _ (stays : (bytes more : List ℕ) → Stays bytes more) (one : OneReadin
       (runs-unnumbered numbers are numbers.runs (few-runs numbers are) with_topics with_runs runs
       (sent-unnumbered (topics_message numbers) (topics-sendable numbers are) organiser refl refl (founding rules ∷ []) with_topics topics (λ k above. refl)))
 
-  pub graded-counted : (numbers : DrillNumbers) (t : ℕ) (old new : Judging) → old.number ≤ 9000000 → old.leases ≤ 9000000 → IsBeforeLastMessage t old
-      → IsGraded numbers t old new
+  pub graded-counted : (numbers : DrillNumbers) (t : ℕ) (old new : Judging) → old.number ≤ most_messages → old.leases ≤ most_messages
+      → IsBeforeLastMessage t old → IsGraded numbers t old new
       → IsBeforeLastMessage t new × (length old.history < length new.history)
   graded-counted numbers t old new few few_leases counted graded =
       let number : ℕ = old.number in
@@ -84,7 +85,8 @@ module _ (stays : (bytes more : List ℕ) → Stays bytes more) (one : OneReadin
         omega (arith, grows, longer),
       )
 
-  pub refused-counted : (t : ℕ) (old new : Judging) → old.number ≤ 9000000 → IsBeforeLastMessage t old → IsRefused t old new → IsBeforeLastMessage (t + 1) new
+  pub refused-counted : (t : ℕ) (old new : Judging) → old.number ≤ most_messages → IsBeforeLastMessage t old → IsRefused t old new
+      → IsBeforeLastMessage (t + 1) new
   refused-counted t old new few counted refused =
       let number : ℕ = old.number in
       let lease = lease_message t (number + 1) in

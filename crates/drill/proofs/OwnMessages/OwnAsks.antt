@@ -7,8 +7,8 @@ use Rattle.http_wire.specs.declared.messages.HttpField.{HttpField}
 use Rattle.http_wire.specs.Heads.{values_named}
 use Rattle.routes.specs.Asks.{Asked, Reads, ReadsBehind}
 use Rattle.routes.specs.Faults.{◌>>=◌, demand, or_fault}
-use Rattle.routes.specs.Keys.{row_of}
-use Rattle.routes.specs.Openings.{Opening, is_request_number, number_by_method, opening_of, route_of, row_at, with_method, with_number, with_role}
+use Rattle.routes.specs.Keys.{caller_with}
+use Rattle.routes.specs.Openings.{Opening, is_request_number, number_by_method, one_caller, opening_of, route_of, with_method, with_number, with_role}
 use Rattle.routes.specs.RouteTable.{may_ask, method_name}
 use Rattle.routes.specs.declared.faults.RouteFault.{RouteFault}
 use Rattle.routes.specs.declared.faults.RouteFault.TheVariants as faults
@@ -28,32 +28,32 @@ demanded cause false x y is = cc
 pub record IsMadeOf (place : Result Route RouteFault) (row : Route → Result KeyRow RouteFault) (number : Route → Result (Option ℕ) RouteFault)
     (opening : Opening) : Type 0 where
   pub place_is : place ≡ Ok opening.place
-  pub row_is : row opening.place ≡ Ok opening.row
+  pub row_is : row opening.place ≡ Ok opening.caller
   pub number_is : number opening.place ≡ Ok opening.number
 
 made_of : (place : Result Route RouteFault) (row : Route → Result KeyRow RouteFault) (number : Route → Result (Option ℕ) RouteFault) (opening : Opening)
-    → (place >>= λ p. row p >>= λ r. number p >>= λ n. Ok (record { place = p; row = r; number = n })) ≡ Ok opening → IsMadeOf place row number opening
+    → (place >>= λ p. row p >>= λ r. number p >>= λ n. Ok (record { place = p; caller = r; number = n })) ≡ Ok opening → IsMadeOf place row number opening
 made_of (Err cause) row number opening is = cc
 made_of (Ok place) row number opening is = by_row (row place) refl is
   where
     by_number : (r : KeyRow) (given : Result (Option ℕ) RouteFault) → row place ≡ Ok r → number place ≡ given
-        → (given >>= λ n. Ok (record { place = place; row = r; number = n })) ≡ Ok opening → IsMadeOf (Ok place) row number opening
+        → (given >>= λ n. Ok (record { place = place; caller = r; number = n })) ≡ Ok opening → IsMadeOf (Ok place) row number opening
     by_number r (Err cause) row_is number_is is = cc
     by_number r (Ok n) row_is number_is is =
-        let same : (let made : Opening = record { place = place; row = r; number = n } in made) ≡ opening = cc in
+        let same : (let made : Opening = record { place = place; caller = r; number = n } in made) ≡ opening = cc in
         subst (λ (o : Opening). IsMadeOf (Ok place) row number o) same (record { place_is = refl; row_is = row_is; number_is = number_is })
 
     by_row : (given : Result KeyRow RouteFault) → row place ≡ given
-        → (given >>= λ r. number place >>= λ n. Ok (record { place = place; row = r; number = n })) ≡ Ok opening → IsMadeOf (Ok place) row number opening
+        → (given >>= λ r. number place >>= λ n. Ok (record { place = place; caller = r; number = n })) ≡ Ok opening → IsMadeOf (Ok place) row number opening
     by_row (Err cause) row_is is = cc
     by_row (Ok r) row_is is = by_number r (number place) row_is refl is
 
 opened : (method path : List ℕ) (fields : List HttpField) (keys : List KeyRow) (opening : Opening) → opening_of method path fields keys ≡ Ok opening
-    → IsMadeOf (route_of path >>= with_method method) (λ place. row_at keys (values_named (codes "x-campaign-key") fields) >>= with_role place)
+    → IsMadeOf (route_of path >>= with_method method) (λ place. one_caller keys (values_named (codes "x-campaign-key") fields) >>= with_role place)
     (λ place. number_by_method place.method fields) opening
 unfolding opening_of
 opened method path fields keys opening is =
-    made_of (route_of path >>= with_method method) (λ place. row_at keys (values_named (codes "x-campaign-key") fields) >>= with_role place)
+    made_of (route_of path >>= with_method method) (λ place. one_caller keys (values_named (codes "x-campaign-key") fields) >>= with_role place)
     (λ place. number_by_method place.method fields) opening is
 
 posted : (found : Result Route RouteFault) (place : Route) → (found >>= with_method (codes "POST")) ≡ Ok place → place.method ≡ Post
@@ -64,18 +64,18 @@ posted (Ok found) place is = by found.method refl is
     by Post method_is is = ap (λ (p : Route). p.method) (demanded faults.Method true found place is) ∙ method_is
     by Get method_is is = cc
 
-module _ (message : Message) (is : IsSendable message) (row : KeyRow) (row_is : row_of callers message.key ≡ Some row) where
+module _ (message : Message) (is : IsSendable message) (row : KeyRow) (row_is : caller_with callers message.key ≡ Some row) where
   abbrev fields : List HttpField
   fields = (sent_request message).fields
 
   small : message.number < 2 ^ 64
   small = omega (arith, is.number)
 
-  its-row : (place : Route) (found : KeyRow) → (row_at callers (values_named (codes "x-campaign-key") fields) >>= with_role place) ≡ Ok found → found ≡ row
+  its-row : (place : Route) (found : KeyRow) → (one_caller callers (values_named (codes "x-campaign-key") fields) >>= with_role place) ≡ Ok found → found ≡ row
   its-row place found given =
       let read : (Ok row >>= with_role place) ≡ Ok found =
       ap (λ o. or_fault faults.Key o >>= with_role place) (sym row_is)
-      ∙ ap (λ key. or_fault faults.Key (row_of callers key) >>= with_role place) (sym (trimmed message.key is.key.visible))
+      ∙ ap (λ key. or_fault faults.Key (caller_with callers key) >>= with_role place) (sym (trimmed message.key is.key.visible))
       ∙ given in
       demanded faults.Role (may_ask row.role place.askers) row found read
 
@@ -97,6 +97,6 @@ module _ (message : Message) (is : IsSendable message) (row : KeyRow) (row_is : 
       behind (Err cause) found_is wrong = cc wrong
       behind (Ok opening) found_is (ask, asks, made) =
           let parts = opened (codes "POST") message.path fields callers opening found_is in
-          let its = its-row opening.place opening.row parts.row_is in
+          let its = its-row opening.place opening.caller parts.row_is in
           let numbered = its-number opening.place.method opening.number (posted (route_of message.path) opening.place parts.place_is) parts.number_is in
           (ap (λ (a : Asked). a.0.name) made ∙ ap (λ (r : KeyRow). r.name) its, ap (λ (a : Asked). a.1) made ∙ numbered)

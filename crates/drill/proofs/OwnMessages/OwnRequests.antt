@@ -15,6 +15,7 @@ use Rattle.http_wire.specs.declared.messages.HttpRequest.{HttpRequest}
 use Rattle.http_wire.specs.declared.messages.WireFault.TheVariants as fault
 use Rattle.http_wire.specs.Heads.{IsHead, body_length, head_fields, head_length, length_of_value}
 use Rattle.http_wire.specs.Messages.{AtHead, AtLength, Clean, Heads, Needs, IsFront, Messages, Stays, Whole, behind_head, front_of, head_of, request_with}
+use Rattle.routes.specs.Limits.{most_body}
 use Rattle.drill.specs.Messages.{IsSendable, Message, is_visible, message_text}
 use Rattle.drill.proofs.OwnMessages.HeadLines.{EndsHead, lines, lines-end}
 use Rattle.drill.proofs.VisibleTexts.{ascii, decimal_digits, decimal_visible, each-passes, in_line, in_target, in_value, is_inside, trimmed, weaker}
@@ -92,12 +93,12 @@ is_field name value some all shown = record {
   raw = each-passes is_value_byte (32 ∷ value) (weaker is_visible is_value_byte in_value value shown);
 }
 
-stated : (t : Bool) (value n : ℕ) → t ≡ true → value ≡ n → n ≤ 16777216
-    → (if t then (if nat_le value 16777216 then Ok value else Err fault.Body) else Err fault.Head) ≡ Ok n
-stated true value n digits is few = let fits : nat_le value 16777216 ≡ true = le-leb value 16777216 (omega (arith, is, few)) in rw fits (ap Ok is)
+stated : (t : Bool) (value n : ℕ) → t ≡ true → value ≡ n → n ≤ most_body
+    → (if t then (if nat_le value most_body then Ok value else Err fault.Body) else Err fault.Head) ≡ Ok n
+stated true value n digits is few = let fits : nat_le value most_body ≡ true = le-leb value most_body (omega (arith, is, few)) in rw fits (ap Ok is)
 stated false value n digits is few = cc
 
-value-states : (n : ℕ) → n ≤ 16777216 → length_of_value (decimal n) ≡ Ok n
+value-states : (n : ℕ) → n ≤ most_body → length_of_value (decimal n) ≡ Ok n
 value-states n few =
     let small : n < 2 ^ 64 = omega (arith, few) in
     stated (are_digits (decimal n)) (digits_value 10 (decimal n)) n (decimal_digits n small) (decimal_is_IsNumeral n small).1 few

@@ -4,7 +4,8 @@ use Rattle.std.specs.List.{list_all}
 use Rattle.std.proofs.lemmas.Bool.{and_from}
 use Rattle.std.proofs.lemmas.Fmt.{length-decimal-le}
 use Rattle.std.proofs.lemmas.List.Folds.{list_all-append}
-use Rattle.drill.specs.Figures.{are_numbers, drill_grade, run_name, score_of, three_digits}
+use Rattle.routes.specs.Limits.{most_body}
+use Rattle.drill.specs.Figures.{are_numbers, drill_grade, most_runs, run_name, score_of, three_digits}
 use Rattle.drill.specs.Messages.{IsSendable, IsWord, assessor_key, grade_message, group_key, is_visible, lease_message, open_message, organiser_key, publish_message, run_message, topics_message}
 use Rattle.drill.specs.Texts.{line, list_text, run_text, score_text, texts_to, topic_text, topics_text}
 use Rattle.drill.specs.declared.numbers.DrillNumbers.{DrillNumbers}
@@ -77,10 +78,10 @@ module _ (numbers : DrillNumbers) (are : IsTrue (are_numbers numbers)) where
   list-short : (r t : ℕ) → length (list_text numbers r t) ≤ 25000
   list-short r t = omega (arith, texts-short numbers.docs 25 (line numbers r t) (line-short numbers r t), few-docs numbers are)
 
-  run-short : (r : ℕ) → length (run_text numbers r) ≤ 16777216
+  run-short : (r : ℕ) → length (run_text numbers r) ≤ most_body
   run-short r = omega (arith, texts-short numbers.topics 25000 (list_text numbers r) (list-short r), few-topics numbers are)
 
-  topics-short : length (topics_text numbers) ≤ 16777216
+  topics-short : length (topics_text numbers) ≤ most_body
   topics-short = omega (arith, texts-short numbers.topics 37 topic_text (λ t. omega arith), few-topics numbers are)
 
   pub topics-sendable : IsSendable (topics_message numbers)
@@ -91,7 +92,7 @@ module _ (numbers : DrillNumbers) (are : IsTrue (are_numbers numbers)) where
     body = topics-short;
   }
 
-  pub run-sendable : (r : ℕ) → r ≤ 256 → IsSendable (run_message numbers r)
+  pub run-sendable : (r : ℕ) → r ≤ most_runs → IsSendable (run_message numbers r)
   run-sendable r few = record { key = group; path = run-path r; number = omega (arith, few); body = run-short r }
 
 pub open-sendable : IsSendable open_message

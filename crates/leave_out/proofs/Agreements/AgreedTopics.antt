@@ -1,17 +1,18 @@
 -- The topics whose documents need two labels, and how many labels they have.
-use Rattle.std.proofs.Common.{◌≡◌, ◌+◌, ◌≤◌, Bool, true, false, cond, List, [], ◌∷◌, ◌++◌, None, Some, ap, arith, filter, length, map, refl}
+use Rattle.std.proofs.Common.{◌≡◌, ◌+◌, ◌≤◌, Bool, true, false, cond, List, [], ◌∷◌, None, Some, ap, arith, filter, length, map, refl}
 use Rattle.std.specs.Prelude.{◌==◌, if◌then◌else◌}
-use Rattle.std.specs.List.{cons_option, filter_map, fold, list_any}
+use Rattle.std.specs.List.{cons_option, filter_map, fold}
 use Rattle.std.specs.Str.{bytes_eq}
-use Rattle.std.proofs.lemmas.List.{length-append, length-map}
+use Rattle.std.proofs.lemmas.List.{length-map}
 use Rattle.decimal_rank.specs.Names.{with_name}
 use Rattle.decimal_rank.proofs.Lists.{length-filter_le}
 use Rattle.rulebook.specs.Words.{Text}
 use Rattle.rulebook.specs.Campaign.{History, level, need}
 use Rattle.rulebook.specs.Judgements.Grades.{Label, given_labels, label_of, labelled_documents}
+use Rattle.campaign_core.proofs.Lists.Elements.{length-filter_map}
+use Rattle.campaign_core.proofs.Numbers.AddedDocs.{length-added}
 use Rattle.leave_out.specs.Agreement.{agreed_on, agreement_of, pairs_on}
 use Rattle.leave_out.specs.declared.assessors.Agreed.{Agreed}
-use Rattle.leave_out.proofs.Elements.{length-filter_map}
 
 abbrev row : History → Text → Agreed
 row H topic = agreement_of (level H topic) topic (pairs_on H topic)
@@ -32,16 +33,9 @@ agreed-topics H (topic ∷ topics) = step (is_double H topic) (agreed-topics H t
 
 -- No more documents with a label than entries.
 
-length-with : (names : List Text) (name : Text) → length (with_name names name) ≤ length names + 1
-length-with names name = step (list_any (bytes_eq name) names)
-  where
-    step : (t : Bool) → length (if t then names else names ++ name ∷ []) ≤ length names + 1
-    step true = omega arith
-    step false = let long = length-append names (name ∷ []) in omega (arith, long)
-
 length-once : (names texts : List Text) → length (fold with_name names texts) ≤ length names + length texts
 length-once names [] = omega arith
-length-once names (text ∷ texts) = omega (arith, length-with names text, length-once (with_name names text) texts)
+length-once names (text ∷ texts) = omega (arith, length-added names text, length-once (with_name names text) texts)
 
 pub labelled-few : (H : History) (topic : Text) → length (labelled_documents H topic) ≤ length H
 labelled-few H topic =

@@ -1,11 +1,7 @@
 -- The documents with a label are among the names, by what a board tells.
-use Rattle.std.proofs.Common.{◌≡◌, ◌&&◌, ◌∙◌, ℕ, zero, suc, Bool, true, false, List, [], ◌∷◌, Some, ap, length, map, refl, sym}
+use Rattle.std.proofs.Common.{◌≡◌, ◌∙◌, ℕ, zero, suc, Bool, true, false, List, [], ◌∷◌, Some, ap, length, map, refl, sym}
 use Rattle.std.specs.Prelude.{All, nat_lt, slice_get}
-use Rattle.std.specs.List.{list_all}
-use Rattle.std.specs.Str.{bytes_eq}
-use Rattle.std.proofs.lemmas.Cmp.{nat_list_eq_equiv}
 use Rattle.std.proofs.lemmas.List.Elements.{All-head, All-tail}
-use Rattle.std.proofs.lemmas.Bool.{or_left, or_right}
 use Rattle.labels.specs.declared.given.Given.{Given}
 use Rattle.assessment.specs.TopicFacts.{TopicFacts}
 use Rattle.rulebook.specs.Campaign.{History}
@@ -17,6 +13,7 @@ use Rattle.campaign_core.specs.Assessments.TopicLabelling.{IsLabelled}
 use Rattle.campaign_core.specs.Views.Lendings.{IsBoardOf}
 use Rattle.campaign_core.specs.Numbering.Numbers.{are_named, names_of}
 use Rattle.campaign_core.specs.Assessments.Topics.{KeptTopic, LabelledTopic, kept_topic, kept_topic_of, labelled_of, topic_ids}
+use Rattle.leave_out.proofs.Elements.{all-there}
 
 -- what is known of the topic of a number
 known-at : (H : History) (topics : List TopicFacts) (ids : List Text) (n : ℕ) (id : Text) → map kept_topic topics ≡ map (kept_topic_of H) ids
@@ -32,13 +29,6 @@ known-at H (t ∷ topics) (i ∷ ids) zero id same all at =
 known-at H (t ∷ topics) (i ∷ ids) (suc n) id same all at =
     let tail : map kept_topic topics ≡ map (kept_topic_of H) ids = cc same in
     known-at H topics ids n id tail (All-tail (IsLabelled H (names_of H)) (labelled_of t) (map labelled_of topics) all) at
-
-all-there : (texts docs : List Text) → ((doc : Text) → contains_text docs doc ≡ true → contains_text texts doc ≡ true)
-    → list_all (contains_text texts) docs ≡ true
-all-there texts [] there = refl
-all-there texts (doc ∷ docs) there =
-    ap (λ t. t && list_all (contains_text texts) docs) (there doc (or_left (bytes_eq doc doc) (contains_text docs doc) (nat_list_eq_equiv.refl doc)))
-    ∙ all-there texts docs (λ other later. there other (or_right (bytes_eq other doc) (contains_text docs other) later))
 
 pub labelled-named : (H : History) (board : Scores) → LabelledAreListed → IsBoardOf H board → (n : ℕ) (id : Text)
     → slice_get (topic_ids H) n ≡ Some id → are_named (names_of H) (labelled_documents H id) ≡ true

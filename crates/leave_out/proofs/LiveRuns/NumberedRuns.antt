@@ -3,6 +3,7 @@ use Rattle.std.proofs.Common.{◌≡◌, ◌+◌, ◌<◌, ◌∙◌, ℕ, zero,
 use Rattle.std.specs.Prelude.{All, slice_get}
 use Rattle.std.specs.List.{enumerate_from}
 use Rattle.std.proofs.lemmas.Bool.{not-true}
+use Rattle.std.proofs.lemmas.List.Elements.{All-cons}
 use Rattle.decimal_rank.specs.declared.naming.DocId.{DocId}
 use Rattle.depth_pool.specs.Holdings.{Held, has_doc, holders_of}
 use Rattle.depth_pool.specs.declared.runs.RunId.{RunId}
@@ -10,11 +11,7 @@ use Rattle.rulebook.specs.Campaign.{History, Run, is_withdrawn, numbered_runs, r
 use Rattle.rulebook.specs.Words.{Text}
 use Rattle.campaign_core.specs.Views.Tallies.{submitted_at}
 use Rattle.campaign_core.specs.Assessments.Topics.{held_of, pool_of}
-
--- Each element of a list.
-abbrev pub Each : {X : Type 0} → (X → Type 0) → List X → Type 0
-Each P [] = Unit {0}
-Each P (x ∷ xs) = P x × Each P xs
+use Rattle.campaign_core.proofs.Lists.Elements.{Each}
 
 -- what holds of each that passes, where it holds of each
 pub each-filter : {X : Type 0} (P : X → Type 0) (p : X → Bool) (xs : List X) → Each (λ x. p x ≡ true → P x) xs → Each P (filter p xs)
@@ -52,11 +49,6 @@ holders-submitted H topic doc = among (numbered_runs H) (each-numbered H Submitt
     passes : Held → Bool
     passes one = has_doc doc one.docs
 
-    all_cons : (run : RunId) (later : List RunId) → IsSome (submitted_at H run) → All (λ run. IsSome (submitted_at H run)) later
-        → All (λ run. IsSome (submitted_at H run)) (run ∷ later)
-    all_cons run later here rest zero d within = here
-    all_cons run later here rest (suc k) d within = rest k d (omega (arith, within))
-
     among : (ps : List (ℕ × Run)) → Each Submitted ps → All (λ run. IsSome (submitted_at H run)) (holders_of doc (map (held_of H topic) ps))
     among [] all = λ k d within. absurd (omega (arith, within))
     among (p ∷ ps) all = step (passes (held_of H topic p)) (among ps all.1)
@@ -69,7 +61,7 @@ holders-submitted H topic doc = among (numbered_runs H) (each-numbered H Submitt
 
         step : (t : Bool) → All (λ run. IsSome (submitted_at H run)) (map run_of later)
             → All (λ run. IsSome (submitted_at H run)) (map run_of (cond t (held_of H topic p ∷ later) later))
-        step true rest = all_cons (record { 0 = p.0 }) (map run_of later) all.0 rest
+        step true rest = All-cons (λ run. IsSome (submitted_at H run)) (record { 0 = p.0 }) (map run_of later) all.0 rest
         step false rest = rest
 
 pub each-at : {X : Type 0} (P : X → Type 0) (xs : List X) (i : ℕ) (d : X) → i < length xs → Each P xs → P (get_or xs i d)

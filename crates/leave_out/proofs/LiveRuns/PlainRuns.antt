@@ -8,6 +8,7 @@ use Rattle.std.proofs.lemmas.List.Elements.{All-head, All-tail}
 use Rattle.std.proofs.lemmas.Bool.{and_parts}
 use Rattle.trec_formats.specs.declared.TopicList.{TopicList}
 use Rattle.trec_formats.specs.Names.{is_between, is_docno, is_name}
+use Rattle.rulebook.specs.Requests.Limits.{max_docs}
 use Rattle.rulebook.specs.declared.ask.Command.{Command}
 use Rattle.rulebook.specs.declared.ask.Command.TheVariants as command
 use Rattle.rulebook.specs.Campaign.{History, Run, docs_on, run_in, runs}
@@ -19,7 +20,7 @@ list-once : (lists : List TopicList) (topic : Text) → list_all is_plain_list l
 list-once [] topic plain = refl
 list-once (l ∷ lists) topic plain =
     let parts = and_parts (is_plain_list l) (list_all is_plain_list lists) plain in
-    let once = (and_parts (is_name l.topic && nat_lt l.line (2 ^ 32) && is_between 1 1000 (length l.docs) && list_all is_docno l.docs)
+    let once = (and_parts (is_name l.topic && nat_lt l.line (2 ^ 32) && is_between 1 max_docs (length l.docs) && list_all is_docno l.docs)
     (differ l.docs) parts.0).1 in
     step (bytes_eq l.topic topic) once (list-once lists topic parts.1)
   where

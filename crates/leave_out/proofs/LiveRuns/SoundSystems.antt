@@ -6,6 +6,7 @@ use Rattle.std.proofs.lemmas.Bool.{and_parts}
 use Rattle.decimal_rank.proofs.Lists.{all_at}
 use Rattle.measures.specs.declared.means.Summary.{Summary}
 use Rattle.trec_formats.specs.Names.{is_name}
+use Rattle.rulebook.specs.Requests.Limits.{max_runs}
 use Rattle.rulebook.specs.declared.systems.System.{System}
 use Rattle.rulebook.specs.Spelling.{differ}
 use Rattle.rulebook.specs.Reports.Systems.{are_means, are_sound_systems, is_mean, is_sound_system, runs_of}
@@ -20,8 +21,8 @@ first-mean s means =
 pub sound-mean : (systems : List System) (i : ℕ) (d : System) → are_sound_systems systems ≡ true → i < length systems
     → is_mean (get_or systems i d).summary.map ≡ true
 sound-mean systems i d sound within =
-    let few = and_parts (nat_le (length systems) 256 && list_all is_sound_system systems) (differ (runs_of systems)) sound in
-    let all = (and_parts (nat_le (length systems) 256) (list_all is_sound_system systems) few.0).1 in
+    let few = and_parts (nat_le (length systems) max_runs && list_all is_sound_system systems) (differ (runs_of systems)) sound in
+    let all = (and_parts (nat_le (length systems) max_runs) (list_all is_sound_system systems) few.0).1 in
     let one : System = get_or systems i d in
     let here = all_at is_sound_system systems i d within all in
     first-mean one.summary (and_parts (is_name one.run && is_name one.group) (are_means one.summary) here).1

@@ -1,14 +1,10 @@
 -- The effective grades of documents by their numbers.
-use Rattle.std.proofs.Common.{◌≡◌, ◌||◌, ◌+◌, ◌∙◌, ℕ, Bool, true, false, List, [], ◌∷◌, None, Option, Some, ap, eq-eqb, is_some, map, refl, sym}
-use Rattle.std.specs.Prelude.{◌==◌, if◌then◌else◌}
+use Rattle.std.proofs.Common.{◌≡◌, ◌||◌, ◌∙◌, ℕ, Bool, true, false, List, [], ◌∷◌, None, Option, Some, ap, is_some, map, refl, sym}
+use Rattle.std.specs.Prelude.{if◌then◌else◌}
 use Rattle.std.specs.List.{list_all}
 use Rattle.std.specs.Str.{bytes_eq}
-use Rattle.std.specs.Cmp.{both_ways}
-use Rattle.std.proofs.lemmas.Bool.{eqb-true, and_parts}
-use Rattle.std.proofs.lemmas.List.Sums.{passes_at_first}
+use Rattle.std.proofs.lemmas.Bool.{and_parts}
 use Rattle.std.proofs.lemmas.Slice.Eq.{bytes_eq-Decides}
-use Rattle.decimal_rank.specs.Names.{docno_of}
-use Rattle.decimal_rank.proofs.Lists.{place_within}
 use Rattle.qrels_view.specs.Grades.{effective_in}
 use Rattle.qrels_view.specs.declared.grades.Graded.{Graded}
 use Rattle.rulebook.specs.Campaign.{History}
@@ -19,19 +15,7 @@ use Rattle.rulebook.specs.Words.{Text, contains_text}
 use Rattle.campaign_core.specs.Views.LentTopics.{graded_on}
 use Rattle.campaign_core.specs.Assessments.TopicLabelling.{graded_in}
 use Rattle.campaign_core.specs.Numbering.Numbers.{are_named, doc_in, names_of}
-
--- the name of a number is the one that has it
-name-back : (names : List Text) (doc : Text) → contains_text names doc ≡ true → docno_of names (doc_in names doc).0 ≡ doc
-name-back names doc named = sym ((bytes_eq-Decides doc _).0 (passes_at_first (bytes_eq doc) names [] (place_within (bytes_eq doc) names named)))
-
--- names with one number are one
-same-number : (names : List Text) (a b : Text) → contains_text names a ≡ true → contains_text names b ≡ true
-    → ((doc_in names a).0 == (doc_in names b).0) ≡ bytes_eq a b
-same-number names a b first second =
-    both_ways ((doc_in names a).0 == (doc_in names b).0) (bytes_eq a b)
-    (λ e. (bytes_eq-Decides a b).1
-    (sym (name-back names a first) ∙ ap (docno_of names) (eqb-true (doc_in names a).0 (doc_in names b).0 e) ∙ name-back names b second))
-    (λ e. eq-eqb (doc_in names a).0 (doc_in names b).0 (ap (λ (t : Text). (doc_in names t).0) ((bytes_eq-Decides a b).0 e)))
+use Rattle.campaign_core.proofs.NamedDocuments.LiveLeases.{same-number}
 
 module _ (H : History) (topic : Text) where
   abbrev one : Text → Graded

@@ -1,52 +1,23 @@
 -- The documents that runs of one group alone hold, by their holders.
-use Rattle.std.proofs.Common.{◌≡◌, ◌&&◌, ◌||◌, ◌<◌, ◌∙◌, ℕ, Bool, true, false, cond, List, [], ◌∷◌, ap, arith, filter, length, map, refl, sym, Ordering, Less, Equal, Greater}
-use Rattle.std.specs.BTreeSet.{insert_key}
-use Rattle.std.specs.List.{flat_map, fold, list_all, list_any}
-use Rattle.std.specs.Ordering.{match_ordering}
+use Rattle.std.proofs.Common.{◌≡◌, ◌&&◌, ◌||◌, ◌<◌, ◌∙◌, ℕ, Bool, true, false, cond, List, [], ◌∷◌, ap, arith, filter, length, map, refl, sym}
+use Rattle.std.specs.List.{flat_map, list_all, list_any}
 use Rattle.std.specs.Str.{bytes_eq}
 use Rattle.std.proofs.lemmas.List.Folds.{list_any-append}
 use Rattle.std.proofs.lemmas.Slice.Eq.{bytes_eq-Decides}
 use Rattle.std.proofs.Math.Bool.{and-false}
-use Rattle.decimal_rank.proofs.TruthValues.{or_twice, or_in_turn}
 use Rattle.depth_pool.specs.declared.runs.RunId.{RunId}
 use Rattle.rulebook.specs.Campaign.{History, Run, held_documents, live, numbered_runs, pool, run_holds}
 use Rattle.rulebook.specs.Judgements.Holders.{holders}
 use Rattle.rulebook.specs.Words.{Text, contains_text}
 use Rattle.campaign_core.specs.Views.Groups.{group_of}
 use Rattle.campaign_core.specs.Views.LendingLaws.{run_id_of}
+use Rattle.campaign_core.proofs.Lists.ByteOrder.{in_order-any}
 use Rattle.leave_out.specs.Reuse.{own}
-use Rattle.leave_out.proofs.TopicsById.{same_text, text_cmp}
 
 -- whether there is one
 abbrev pub some : {X : Type 0} → List X → Bool
 some [] = false
 some (x ∷ xs) = true
-
--- Members of texts in byte order.
-
-any-put : (p : Text → Bool) (xs : List Text) (x : Text) → list_any p (insert_key text_cmp xs x) ≡ (p x || list_any p xs)
-any-put p [] x = refl
-any-put p (y ∷ ys) x = step (text_cmp x y) refl (any-put p ys x)
-  where
-    step : (o : Ordering) → text_cmp x y ≡ o → list_any p (insert_key text_cmp ys x) ≡ (p x || list_any p ys)
-        → list_any p (match_ordering o (x ∷ y ∷ ys) (y ∷ ys) (y ∷ insert_key text_cmp ys x)) ≡ (p x || (p y || list_any p ys))
-    step Less is rest = refl
-    step Equal is rest = or_twice (p y) (list_any p ys) ∙ ap (λ t. p t || (p y || list_any p ys)) (sym (same_text x y is))
-    step Greater is rest = ap (λ t. p y || t) rest ∙ or_in_turn (p y) (p x) (list_any p ys)
-
-any-from : (p : Text → Bool) (xs texts : List Text) → list_any p (fold (insert_key text_cmp) xs texts) ≡ (list_any p xs || list_any p texts)
-any-from p xs [] = or_false (list_any p xs)
-  where
-    or_false : (t : Bool) → t ≡ (t || false)
-    or_false true = refl
-    or_false false = refl
-any-from p xs (text ∷ texts) =
-    any-from p (insert_key text_cmp xs text) texts ∙ ap (λ t. t || list_any p texts) (any-put p xs text) ∙ swap (p text) (list_any p xs) (list_any p texts)
-  where
-    swap : (r s t : Bool) → ((r || s) || t) ≡ (s || (r || t))
-    swap true true t = refl
-    swap true false t = refl
-    swap false s t = refl
 
 -- the pool has the documents that have holders
 module _ (H : History) (topic doc : Text) where
@@ -67,7 +38,7 @@ module _ (H : History) (topic doc : Text) where
       step false rest = rest
 
   in-pool : contains_text (pool H topic) doc ≡ some (holders H topic doc)
-  in-pool = any-from (bytes_eq doc) [] (flat_map (held_documents H topic) (live H)) ∙ any-held (numbered_runs H)
+  in-pool = in_order-any (bytes_eq doc) (flat_map (held_documents H topic) (live H)) ∙ any-held (numbered_runs H)
 
 pub any-filter : (q : Text → Bool) (doc : Text) (xs : List Text) → contains_text (filter q xs) doc ≡ (contains_text xs doc && q doc)
 any-filter q doc [] = refl

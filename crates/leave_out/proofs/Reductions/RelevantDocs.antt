@@ -1,5 +1,5 @@
 -- The documents of a ranked list that pass by reduced judgements are no more than those of its topic that pass.
-use Rattle.std.proofs.Common.{◌≡◌, ◌&&◌, ◌≤◌, ◌+◌, ◌∙◌, ℕ, Bool, true, false, cond, not, List, [], ◌∷◌, None, Option, Some, ap, arith, filter, is_some, length, map, refl, sym, ◌<◌, get_or}
+use Rattle.std.proofs.Common.{◌≡◌, ◌&&◌, ◌≤◌, ◌∙◌, ℕ, Bool, true, false, cond, not, List, [], ◌∷◌, None, Option, Some, ap, arith, filter, is_some, length, map, refl, sym, ◌<◌, get_or}
 use Rattle.std.specs.Prelude.{count_by, if◌then◌else◌}
 use Rattle.std.specs.Option.{option_map}
 use Rattle.std.specs.List.{AllByRecursion, IsDistinct}
@@ -8,7 +8,7 @@ use Rattle.std.proofs.lemmas.Cmp.{nat_list_eq_equiv}
 use Rattle.std.proofs.lemmas.List.Sums.{length-filter}
 use Rattle.std.proofs.lemmas.Map.Keys.{IsDistinct-cons}
 use Rattle.std.proofs.lemmas.Map.Made.{length-le_from_is_member}
-use Rattle.std.proofs.lemmas.Bool.{or_parts, not-true, and_parts}
+use Rattle.std.proofs.lemmas.Bool.{not-true, and_parts}
 use Rattle.std.proofs.lemmas.Option.{slice_get-get_or}
 use Rattle.decimal_rank.specs.Relevance.{is_non_relevant, is_relevant}
 use Rattle.decimal_rank.proofs.Lists.{count_by-map}
@@ -21,6 +21,7 @@ use Rattle.rulebook.specs.Spelling.{differ}
 use Rattle.rulebook.specs.Words.{Text, contains_text}
 use Rattle.campaign_core.specs.Views.LentTopics.{topic_at}
 use Rattle.campaign_core.specs.Assessments.Topics.{topic_ids}
+use Rattle.campaign_core.proofs.Lists.DistinctTexts.{apart-from}
 use Rattle.leave_out.specs.ReducedJudgements.{IsLive, reduced_in}
 use Rattle.leave_out.specs.Reuse.{own, reduced_grade}
 use Rattle.leave_out.specs.declared.reduced_judgements.ReducedJudgements.{ReducedJudgements}
@@ -29,10 +30,6 @@ use Rattle.leave_out.proofs.Reductions.OwnDocs.{any-filter}
 
 -- Texts of which none stands twice.
 
-apart : (text : Text) (texts : List Text) → contains_text texts text ≡ false → AllByRecursion (λ other. bytes_eq text other ≡ false) texts
-apart text [] none = tt
-apart text (other ∷ texts) none = let parts = or_parts (bytes_eq text other) (contains_text texts text) none in (parts.0, apart text texts parts.1)
-
 module _ (q : Text → Bool) where
   distinct-passing : (texts : List Text) → differ texts ≡ true → IsDistinct bytes_eq (filter q texts)
   unfolding IsDistinct
@@ -40,7 +37,7 @@ module _ (q : Text → Bool) where
   distinct-passing (text ∷ texts) once =
       let parts = and_parts (not (contains_text texts text)) (differ texts) once in
       let none = any-filter q text texts ∙ ap (λ t. t && q text) (not-true (contains_text texts text) parts.0) in
-      step (q text) (apart text (filter q texts) none) (distinct-passing texts parts.1)
+      step (q text) (apart-from text (filter q texts) none) (distinct-passing texts parts.1)
     where
       step : (t : Bool) → AllByRecursion (λ other. bytes_eq text other ≡ false) (filter q texts) → IsDistinct bytes_eq (filter q texts)
           → IsDistinct bytes_eq (cond t (text ∷ filter q texts) (filter q texts))

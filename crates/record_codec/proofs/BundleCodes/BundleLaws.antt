@@ -15,7 +15,7 @@ use Rattle.rulebook.specs.Spelling.{IsSpelling, entry_bytes, has_spelling, is_nu
 use Rattle.rulebook.specs.Words.{Text}
 use Rattle.record_codec.specs.declared.faults.CodecFault.{CodecFault}
 use Rattle.record_codec.specs.declared.faults.CodecFault.TheVariants as fault
-use Rattle.record_codec.specs.BundleGrammar.{PayloadsAreRead, alone, bundle_of, confirmed, entries_read, parts_read, payload_of}
+use Rattle.record_codec.specs.BundleGrammar.{PayloadsAreRead, alone, bundle_of, cores_with_bundle, entries_read, parts_read, payload_of}
 use Rattle.record_codec.specs.Bundles.{IsBundle, bundle_bytes, caller_bytes, counted_items, have_bundle, is_packable, item_bytes, items_of, texts_of}
 use Rattle.record_codec.specs.Laws.{OneBundle, OnePayload}
 use Rattle.record_codec.specs.Outcomes.{FindsWholeBy, OnNoEntry}
@@ -77,13 +77,13 @@ bundle_again bytes cores bundle =
     let same : bytes_eq (bundle_bytes cores) (bundle_bytes cores) ≡ true = text_itself (bundle_bytes cores) in
     let passes : (have_bundle cores && bytes_eq (bundle_bytes cores) (bundle_bytes cores)) ≡ true =
     and_from (have_bundle cores) (bytes_eq (bundle_bytes cores) (bundle_bytes cores)) bundle.0 same in
-    let read : bundle_of (bundle_bytes cores) ≡ confirmed (bundle_bytes cores) cores = rw (parts_again cores bundle.0) refl in
+    let read : bundle_of (bundle_bytes cores) ≡ cores_with_bundle (bundle_bytes cores) cores = rw (parts_again cores bundle.0) refl in
     ap bundle_of bundle.1 ∙ read ∙ rw passes refl
 
 bundle_told : (bytes : Text) (cores : List EntryCore) → bundle_of bytes ≡ Some cores → IsBundle bytes cores
 unfolding bundle_of
 bundle_told bytes cores is =
-    let u = bind_some (whole_value (option_and_then (λ b. parts_read b.1) (byte_read bytes))) (confirmed bytes) cores is in
+    let u = bind_some (whole_value (option_and_then (λ b. parts_read b.1) (byte_read bytes))) (cores_with_bundle bytes) cores is in
     let t = cond_some (have_bundle u.0 && bytes_eq (bundle_bytes u.0) bytes) u.0 cores u.2 in
     let parts = and_parts (have_bundle u.0) (bytes_eq (bundle_bytes u.0) bytes) t.0 in
     subst (IsBundle bytes) t.1 (parts.0, sym (bytes_eq-same (bundle_bytes u.0) bytes parts.1))

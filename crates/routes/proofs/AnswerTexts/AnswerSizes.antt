@@ -24,7 +24,7 @@ use Rattle.routes.specs.declared.answers.Answered.{Answered}
 use Rattle.routes.specs.Answers.{body_of, format_members, is_json, kind_members, phase_name, quantity_name, refusal_members, reply_body, status_of, text_of}
 use Rattle.routes.specs.Bytes.{backslash, quote}
 use Rattle.routes.specs.Json.Objects.{escaped, object}
-use Rattle.routes.proofs.Requests.AddressedRequests.{name_short, docno_short}
+use Rattle.routes.proofs.Requests.NameSizes.{docno_short, name_short}
 
 pub decimal_short : (n : ℕ) → n < 2 ^ 64 → length (decimal n) ≤ 20
 decimal_short n small = length-decimal-le 20 n (lit< tt) (omega (arith, small)) small
@@ -34,7 +34,7 @@ escaped_short [] = omega arith
 escaped_short (b ∷ text) =
     cond_both (b == quote || b == backslash) (backslash ∷ b ∷ []) (b ∷ [])
     (λ (front : List ℕ). length (front ++ escaped text) ≤ length (b ∷ text) + length (b ∷ text))
-    (λ marked. omega (arith, escaped_short text)) (λ plain. omega (arith, escaped_short text))
+    (λ special. omega (arith, escaped_short text)) (λ plain. omega (arith, escaped_short text))
 
 -- Bodies
 

@@ -5,7 +5,7 @@ use Rattle.std.specs.List.{flat_map, join_with_byte, list_all}
 use Rattle.std.proofs.lemmas.List.{drop-append-le, drop_at, take-append-le, take_all, take_at}
 use Rattle.routes.specs.Bytes.{backslash, colon, comma, quote}
 use Rattle.routes.specs.Json.Objects.{Member, escaped, escaped_byte, member_text, object}
-use Rattle.routes.specs.Json.MemberValues.{is_unmarked_byte}
+use Rattle.routes.specs.Json.MemberValues.{is_unescaped_byte}
 use Rattle.std.proofs.lemmas.Bool.{and_parts}
 use Rattle.std.proofs.lemmas.Simd.{map-map}
 
@@ -47,7 +47,7 @@ members_split shown items first is =
 pub member_behind : (front name value : List ℕ) → (front ++ (quote ∷ (name ++ quote ∷ colon ∷ []))) ++ value ≡ front ++ member_text (name, value)
 member_behind front name value = simp append_assoc
 
-plain_byte : (b : ℕ) → is_unmarked_byte b ≡ true → escaped_byte b ≡ b ∷ []
+plain_byte : (b : ℕ) → is_unescaped_byte b ≡ true → escaped_byte b ≡ b ∷ []
 plain_byte b is = by_tests (b == quote) (b == backslash) is
   where
     by_tests : (first second : Bool) → (not first && not second) ≡ true → (if first || second then backslash ∷ b ∷ [] else b ∷ []) ≡ b ∷ []
@@ -56,10 +56,10 @@ plain_byte b is = by_tests (b == quote) (b == backslash) is
     by_tests false false is = refl
 
 -- a text without marks is its own escaped text
-pub escaped_same : (text : List ℕ) → list_all is_unmarked_byte text ≡ true → escaped text ≡ text
+pub escaped_same : (text : List ℕ) → list_all is_unescaped_byte text ≡ true → escaped text ≡ text
 escaped_same [] is = refl
 escaped_same (b ∷ text) is =
-    let parts = and_parts (is_unmarked_byte b) (list_all is_unmarked_byte text) is in
+    let parts = and_parts (is_unescaped_byte b) (list_all is_unescaped_byte text) is in
     ap (λ front. front ++ escaped text) (plain_byte b parts.0) ∙ ap (λ rest. b ∷ rest) (escaped_same text parts.1)
 
 -- the byte that stands first

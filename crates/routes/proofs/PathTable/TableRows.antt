@@ -1,6 +1,6 @@
--- The rows of the table: what each of them has by what is asked there, and that a path leads to one of them.
-use Rattle.std.proofs.Common.{◌≡◌, inl, inr, ℕ, Bool, true, false, List, [], ◌∷◌, Option, Some, None, Ok, Err, Result, ap, cond, refl, sym, subst, fold, map, zero, suc, ◌-◌, ◌==◌, length}
-use Rattle.std.specs.Prelude.{IfSome, ltb}
+-- The rows of the table: what holds of each of them holds of a row, and a path leads to one of them.
+use Rattle.std.proofs.Common.{◌≡◌, inl, inr, ℕ, Bool, true, false, List, [], ◌∷◌, Option, Some, None, Ok, Err, Result, cond, refl, sym, subst, fold, zero, suc, ◌-◌, ◌==◌, length}
+use Rattle.std.specs.Prelude.{IfSome, IsTrue, ltb}
 use Rattle.std.specs.Option.{option_map}
 use Rattle.matchit.specs.Order.{placed}
 use Rattle.matchit.specs.Rows.{catch_all_token, comes_before, param_token}
@@ -8,75 +8,35 @@ use Rattle.matchit.specs.Route.{Scan, parse_route}
 use Rattle.matchit.specs.Router.{RouteOf, route_from}
 use Rattle.matchit.specs.Seek.{first, has_slash, longest_suffix, or_else, own, param_step, same_text, seek, segment, step, with_suffix}
 use Rattle.matchit.specs.declared.error.InsertError.{InsertError}
-use Rattle.rulebook.specs.declared.rules.Role.{Role}
 use Rattle.routes.specs.declared.route_table.Route.{Route}
-use Rattle.routes.specs.declared.route_table.Method.TheVariants.{Get, Post}
-use Rattle.routes.specs.declared.route_table.Parameter.TheVariants.{Name, Nothing, Number}
-use Rattle.routes.specs.declared.route_table.Askers.TheVariants.{Assessors, Everyone, Groups, NotAssessors, NotGroups, Organisers}
+use Rattle.routes.specs.declared.route_table.Parameter.TheVariants.{Number}
 use Rattle.routes.specs.declared.route_table.Question.{Question}
-use Rattle.routes.specs.declared.route_table.Question.TheVariants as question
-use Rattle.routes.specs.RouteTable.{Among, IsRow, Routes, fits, may_ask, route_at, rows, table, with_read, with_row_route}
+use Rattle.routes.specs.RouteTable.{Among, IsRow, Routes, fits, is_path_number, rows, table, with_read, with_row_route}
 
--- the row at which this is asked
-abbrev pub row_asking : Question → Route
-row_asking question.Topics = route_at Post Nothing Organisers question.Topics
-row_asking question.Submit = route_at Post Name Groups question.Submit
-row_asking question.Open = route_at Post Nothing Organisers question.Open
-row_asking question.Lease = route_at Post Name Assessors question.Lease
-row_asking question.Grade = route_at Post Number Assessors question.Grade
-row_asking question.Release = route_at Post Number Assessors question.Release
-row_asking question.Amend = route_at Post Name Assessors question.Amend
-row_asking question.Rule = route_at Post Name Organisers question.Rule
-row_asking question.Withdraw = route_at Post Name NotAssessors question.Withdraw
-row_asking question.Publish = route_at Post Nothing Organisers question.Publish
-row_asking question.Pool = route_at Get Name NotGroups question.Pool
-row_asking question.Qrels = route_at Get Nothing Organisers question.Qrels
-row_asking question.Scores = route_at Get Name NotAssessors question.Scores
-row_asking question.Table = route_at Get Nothing Organisers question.Table
-row_asking question.Disagreements = route_at Get Nothing Organisers question.Disagreements
-row_asking question.Progress = route_at Get Nothing Organisers question.Progress
-row_asking question.ReleaseQrels = route_at Get Number Everyone question.ReleaseQrels
-row_asking question.ReleaseScores = route_at Get Number Everyone question.ReleaseScores
+-- What holds of each row
 
--- which text its path has as its parameter
-abbrev pub suits : Question → List ℕ → Bool
-suits asked text = fits (row_asking asked).parameter text
-
--- which roles may ask it
-abbrev pub lets : Role → Question → Bool
-lets role asked = may_ask role (row_asking asked).askers
-
-table_rows : map (λ row. row.1) rows ≡ map (λ row. row_asking row.1.question) rows
-table_rows = refl
-
-each_row : (all : List (List ℕ × Route)) (place : Route) → map (λ row. row.1) all ≡ map (λ row. row_asking row.1.question) all
-    → Among place all → place ≡ row_asking place.question
-each_row [] place same among = absurd among
-each_row (row ∷ others) place same (inl is) =
-    let here : row.1 ≡ row_asking row.1.question = cc in
-    subst (λ (p : Route). p ≡ row_asking p.question) is here
-each_row (row ∷ others) place same (inr among) =
-    let later : map (λ row. row.1) others ≡ map (λ row. row_asking row.1.question) others = cc in
-    each_row others place later among
-
-row_is : (place : Route) → IsRow place → place ≡ row_asking place.question
-unfolding IsRow
-row_is place known = each_row rows place table_rows known
-
-pub parameter_is : (place : Route) → IsRow place → (text : List ℕ) → fits place.parameter text ≡ suits place.question text
-parameter_is place known text = ap (λ (p : Route). fits p.parameter text) (row_is place known)
-
-pub role_is : (place : Route) → IsRow place → (role : Role) → may_ask role place.askers ≡ lets role place.question
-role_is place known role = ap (λ (p : Route). may_ask role p.askers) (row_is place known)
-
-pub method_is : (place : Route) → IsRow place → place.method ≡ (row_asking place.question).method
-method_is place known = ap (λ (p : Route). p.method) (row_is place known)
-
--- what holds of each row
-
-abbrev Each : (Route → Type 0) → List (List ℕ × Route) → Type 0
+abbrev pub Each : (Route → Type 0) → List (List ℕ × Route) → Type 0
 Each P [] = Unit {0}
 Each P (row ∷ others) = P row.1 × Each P others
+
+-- of one among them
+each_among : (P : Route → Type 0) (all : List (List ℕ × Route)) → Each P all → (place : Route) → Among place all → P place
+each_among P [] each place among = absurd among
+each_among P (row ∷ others) (here, later) place (inl is) = subst P is here
+each_among P (row ∷ others) (here, later) place (inr among) = each_among P others later place among
+
+-- of a row of the table
+pub of_row : (P : Route → Type 0) → Each P rows → (place : Route) → IsRow place → P place
+unfolding IsRow
+of_row P each place known = each_among P rows each place known
+
+-- a row's parameter is a number where it is one at each row at which the same is asked
+pub numbered : (q : Question) → Each (λ row. row.question ≡ q → row.parameter ≡ Number) rows
+    → (place : Route) → IsRow place → place.question ≡ q → (text : List ℕ) → IsTrue (fits place.parameter text) → IsTrue (is_path_number text)
+numbered q each place known is text fitting =
+    let number = of_row (λ row. row.question ≡ q → row.parameter ≡ Number) each place known is in rw number at fitting
+
+-- A path leads to a row of the table
 
 -- what holds of the values of all routes holds of the one that a path leads to
 

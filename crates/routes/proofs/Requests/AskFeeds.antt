@@ -20,16 +20,16 @@ use Rattle.routes.specs.declared.faults.RouteFault.{RouteFault}
 use Rattle.routes.specs.declared.faults.RouteFault.TheVariants as faults
 use Rattle.routes.specs.declared.keys.KeyRow.{KeyRow}
 use Rattle.routes.specs.declared.route_table.Method.TheVariants.{Get}
-use Rattle.routes.specs.declared.route_table.Question.{Question}
 use Rattle.routes.specs.declared.route_table.Question.TheVariants as question
 use Rattle.routes.specs.declared.route_table.Route.{Route}
 use Rattle.routes.specs.AskReading.AskStates.{BodyHasRoom, IsAddressable, IsAskHeld, IsAskOpened, IsFew, KeepsBody, MayGo}
 use Rattle.routes.specs.Asks.{Asked, Asks, HasSoundTopics, Reads, ReadsBehind, fault_of}
 use Rattle.routes.specs.Faults.{IsRead, OfRouteFault}
+use Rattle.routes.specs.Limits.{most_body}
 use Rattle.routes.specs.Openings.{Opening, opening_of}
 use Rattle.routes.specs.RouteTable.{IsRow, parameter}
+use Rattle.routes.proofs.PathTable.RowAsks.{agrees}
 use Rattle.routes.proofs.Requests.AddressedRequests.{addressed_at}
-use Rattle.routes.proofs.PathTable.TableRows.{method_is, parameter_is, role_is, row_asking}
 
 few_more : (a b : ℕ) (body : Body) → a ≤ b → IsFew a body → IsFew b body
 few_more a b Passed most few = tt
@@ -37,21 +37,21 @@ few_more a b (Run reader) most (fed, (text, short, after)) =
     (omega (arith, most, fed), (text, omega (arith, most, short), after))
 few_more a b (Gathered bytes) most few = omega (arith, most, few)
 
-has_room : (fed more : ℕ) (body : Body) → fed + more ≤ 16777216 → IsFew fed body → BodyHasRoom body more
+has_room : (fed more : ℕ) (body : Body) → fed + more ≤ most_body → IsFew fed body → BodyHasRoom body more
 has_room fed more Passed room few = tt
 has_room fed more (Run reader) room few = omega (arith, room, few.0)
 has_room fed more (Gathered bytes) room few = tt
 
 -- what was held has room for more
-pub may_go : (fed more : ℕ) (progress : AskProgress) → fed + more ≤ 16777216 → IsAskHeld fed progress → MayGo progress more
+pub may_go : (fed more : ℕ) (progress : AskProgress) → fed + more ≤ most_body → IsAskHeld fed progress → MayGo progress more
 may_go fed more (Going opened) room held = has_room fed more opened.body room held.1
 may_go fed more (Faulty cause) room held = tt
 may_go fed more Failed room held = tt
 
-pub few_held : (fed : ℕ) (opened : Opened) → fed ≤ 16777216 → IsAskHeld fed (Going opened) → IsFew 16777216 opened.body
-few_held fed opened most held = few_more fed 16777216 opened.body most held.1
+pub few_held : (fed : ℕ) (opened : Opened) → fed ≤ most_body → IsAskHeld fed (Going opened) → IsFew most_body opened.body
+few_held fed opened most held = few_more fed most_body opened.body most held.1
 
-some_body : (body : Body) → IsFew 16777216 body → (text : List ℕ) × (length text ≤ 16777216) × KeepsBody text body
+some_body : (body : Body) → IsFew most_body body → (text : List ℕ) × (length text ≤ most_body) × KeepsBody text body
 some_body Passed few = ([], omega arith, tt)
 some_body (Run reader) (fed, (text, short, after)) = (text, short, after)
 some_body (Gathered bytes) few = (bytes.items, few, refl)
@@ -62,19 +62,6 @@ pub run_fault : (reader : RunFed) (end : FormatEnd) (run body : List ℕ)
     → OfRouteFault (fault_of end) (λ told. Asks question.Submit run body (Err told))
 run_fault reader (ends.Fault at) run body faulty after = (at, refl, faulty body after)
 run_fault reader ends.Memory run body faulty after = tt
-
--- the body of a query isn't looked at
-same_query : (asked : Question) (text body other : List ℕ) (result : Result Ask RouteFault) → (row_asking asked).method ≡ Get
-    → Asks asked text body result → Asks asked text other result
-same_query question.Pool text body other result is asks = asks
-same_query question.Qrels text body other result is asks = asks
-same_query question.Scores text body other result is asks = asks
-same_query question.Table text body other result is asks = asks
-same_query question.Disagreements text body other result is asks = asks
-same_query question.Progress text body other result is asks = asks
-same_query question.ReleaseQrels text body other result is asks = asks
-same_query question.ReleaseScores text body other result is asks = asks
-same_query _ text body other result is asks = cc
 
 fault_passes : (cause : RouteFault) (P Q : RouteFault → Type 0) → ((told : RouteFault) → P told → Q told)
     → OfRouteFault cause P → OfRouteFault cause Q
@@ -87,18 +74,13 @@ fault_passes faults.Number P Q goes w = goes faults.Number w
 fault_passes faults.Body P Q goes w = goes faults.Body w
 fault_passes (faults.Format at) P Q goes w = goes (faults.Format at) w
 
-get_asked : (asked : Question) (text body other : List ℕ) (result : Result Ask RouteFault)
-    → (row_asking asked).method ≡ Get → IsRead (Asks asked text body) result → IsRead (Asks asked text other) result
-get_asked asked text body other (Ok ask) is read = same_query asked text body other (Ok ask) is read
-get_asked asked text body other (Err cause) is read =
-    fault_passes cause (λ told. Asks asked text body (Err told)) (λ told. Asks asked text other (Err told))
-    (λ told asks. same_query asked text body other (Err told) is asks) read
-
--- nor that of a GET
+-- the body of a GET isn't looked at
 pub query_asked : (place : Route) (text body other : List ℕ) (result : Result Ask RouteFault)
     → IsRow place → place.method ≡ Get → IsRead (Asks place.question text body) result → IsRead (Asks place.question text other) result
-query_asked place text body other result known is read =
-    get_asked place.question text body other result (sym (method_is place known) ∙ is) read
+query_asked place text body other (Ok ask) known is read = (agrees place known).unread is text body other (Ok ask) read
+query_asked place text body other (Err cause) known is read =
+    fault_passes cause (λ told. Asks place.question text body (Err told)) (λ told. Asks place.question text other (Err told))
+    (λ told asks. (agrees place known).unread is text body other (Err told) asks) read
 
 -- what is asked at an opening
 pub asked_there : (opening : Opening) (path body text : List ℕ) (opened : Opened) (result : Result Ask RouteFault)
@@ -110,16 +92,14 @@ asked_there opening path body text opened result text_is is asks =
     (subst (λ t. IsRead (Asks opened.place.question t body) result) (text_is ∙ is.text) (asks body is.body_is))
 
 pub addressed_there : (opened : Opened) (text : List ℕ) (ask : Ask) → text ≡ opened.text → IsAddressable opened
-    → IsFew 16777216 opened.body
+    → IsFew most_body opened.body
     → ((told : List ℕ) → KeepsBody told opened.body → Asks opened.place.question text told (Ok ask))
     → (opened.place.question ≡ question.Topics → HasSoundTopics ask)
     → (moment : ℕ) → moment ≤ max_moment → IsTrue (is_well_addressed opened.who opened.number ask moment)
 addressed_there opened text ask text_is is few asks sound moment latest =
-    let row : KeyRow = record { name = opened.who.name; role = opened.who.role; key = [] } in
     let (body, short, kept) = some_body opened.body few in
     let there = subst (λ t. Asks opened.place.question t body (Ok ask)) text_is (asks body kept) in
-    addressed_at opened.place.question row opened.number opened.text body ask moment is.named is.number
-    (sym (role_is opened.place is.known opened.who.role) ∙ is.role) (sym (parameter_is opened.place is.known opened.text) ∙ is.fitting) there sound short latest
+    addressed_at opened.place opened.who opened.number opened.text body ask moment is.known is.named is.number is.role is.fitting there sound short latest
 
 of_itself : (cause : RouteFault) (P : RouteFault → Type 0) → P cause → OfRouteFault cause P
 of_itself faults.Memory P w = tt

@@ -26,6 +26,7 @@ use Rattle.trec_formats.specs.declared.runs.RunLine.{RunLine}
 use Rattle.trec_formats.proofs.RepeatedDocuments.DifferentDocuments.{differ_from_distinct}
 use Rattle.rulebook.specs.Spelling.{is_plain_list, is_ascending, differ, short, spelled_list, list_bytes}
 use Rattle.rulebook.specs.Words.{contains_text}
+use Rattle.routes.specs.Limits.{most_body}
 use Rattle.routes.proofs.PathTable.SameElements.{permuted}
 use Rattle.routes.proofs.Requests.RunLines.{good_lines, is_good, is_up_to, line_size, all_kept, all_pass}
 
@@ -237,7 +238,7 @@ pub few_items : {X : Type 0} (spell : X → List ℕ) (xs : List X) → ((x : X)
 few_items spell [] some = omega arith
 few_items spell (x ∷ xs) some = omega (arith, some x, few_items spell xs some, length-append (spell x) (flat_map spell xs))
 
-pub lists_are_plain : (text : List ℕ) (lists : List TopicList) → length text ≤ 16777216 → IsRankedRun text lists → ArePlain text lists
+pub lists_are_plain : (text : List ℕ) (lists : List TopicList) → length text ≤ most_body → IsRankedRun text lists → ArePlain text lists
 lists_are_plain text lists fits (lines, (run, distinct), are) =
     let good = good_lines text lines run in
     let plain = plain_lists (length text + 1) lines lists (omega (arith, fits)) good.each good.numbered run.1.short

@@ -17,7 +17,7 @@ use Rattle.trec_formats.specs.TopicsFormat.Topics.{NumberedTopic, block_number, 
 use Rattle.rulebook.specs.Spelling.{spelled_list, topic_bytes}
 use Rattle.routes.proofs.Requests.RunLines.{size_of, sizes, lines_sizes, sum_by-filter-le}
 
--- Lines and their marks
+-- Lines and their kinds
 
 front_short : (text : List ℕ) → length (front_stripped text) ≤ length text
 front_short [] = omega arith
@@ -39,51 +39,51 @@ unlabelled_short label text =
     cond_both (begins_with label text) (behind_tag label text) text (λ (kept : List ℕ). length kept ≤ length text)
     (λ there. behind_short label text) (λ other. omega arith)
 
--- how many bytes a line with this mark has at least
-abbrev mark_size : LineKind → ℕ
-mark_size Opens = 0
-mark_size Closes = 6
-mark_size (Numbers text) = length text
-mark_size (Begins part text) = length text
-mark_size Skips = 0
-mark_size (Says text) = length text
+-- how many bytes a line of this kind has at least
+abbrev kind_size : LineKind → ℕ
+kind_size Opens = 0
+kind_size Closes = 6
+kind_size (Numbers text) = length text
+kind_size (Begins part text) = length text
+kind_size Skips = 0
+kind_size (Says text) = length text
 
-other_size : (line : List ℕ) → mark_size (other_kind line) ≤ length line
+other_size : (line : List ℕ) → kind_size (other_kind line) ≤ length line
 unfolding other_kind
-other_size line = cond_both (is_tag line) Skips (Says line) (λ (mark : LineKind). mark_size mark ≤ length line) (λ tag. omega arith) (λ other. omega arith)
+other_size line = cond_both (is_tag line) Skips (Says line) (λ (kind : LineKind). kind_size kind ≤ length line) (λ tag. omega arith) (λ other. omega arith)
 
-field_size : (line : List ℕ) → mark_size (field_mark line) ≤ length line
+field_size : (line : List ℕ) → kind_size (field_mark line) ≤ length line
 unfolding field_mark
 field_size line =
-    cond_both (begins_with (codes "<num>") line) _ _ (λ (mark : LineKind). mark_size mark ≤ length line)
+    cond_both (begins_with (codes "<num>") line) _ _ (λ (kind : LineKind). kind_size kind ≤ length line)
     (λ num. omega (arith, unlabelled_short (codes "Number:") (behind_tag (codes "<num>") line), behind_short (codes "<num>") line))
     (λ no_num.
-    cond_both (begins_with (codes "<title>") line) _ _ (λ (mark : LineKind). mark_size mark ≤ length line)
+    cond_both (begins_with (codes "<title>") line) _ _ (λ (kind : LineKind). kind_size kind ≤ length line)
     (λ title. behind_short (codes "<title>") line)
     (λ no_title.
-    cond_both (begins_with (codes "<desc>") line) _ _ (λ (mark : LineKind). mark_size mark ≤ length line)
+    cond_both (begins_with (codes "<desc>") line) _ _ (λ (kind : LineKind). kind_size kind ≤ length line)
     (λ desc. omega (arith, unlabelled_short (codes "Description:") (behind_tag (codes "<desc>") line), behind_short (codes "<desc>") line))
     (λ no_desc.
-    cond_both (begins_with (codes "<narr>") line) _ _ (λ (mark : LineKind). mark_size mark ≤ length line)
+    cond_both (begins_with (codes "<narr>") line) _ _ (λ (kind : LineKind). kind_size kind ≤ length line)
     (λ narr. omega (arith, unlabelled_short (codes "Narrative:") (behind_tag (codes "<narr>") line), behind_short (codes "<narr>") line))
     (λ no_narr. other_size line))))
 
-line_size : (line : List ℕ) → mark_size (mark_of line) ≤ length line
+line_size : (line : List ℕ) → kind_size (mark_of line) ≤ length line
 unfolding mark_of
 line_size line =
-    cond_both (bytes_eq line (codes "<top>")) Opens _ (λ (mark : LineKind). mark_size mark ≤ length line)
+    cond_both (bytes_eq line (codes "<top>")) Opens _ (λ (kind : LineKind). kind_size kind ≤ length line)
     (λ top. omega arith)
     (λ no_top.
-    cond_both (bytes_eq line (codes "</top>")) Closes (field_mark line) (λ (mark : LineKind). mark_size mark ≤ length line)
+    cond_both (bytes_eq line (codes "</top>")) Closes (field_mark line) (λ (kind : LineKind). kind_size kind ≤ length line)
     (λ end. let same : length line ≡ 6 = ap length ((bytes_eq-Decides line (codes "</top>")).0 end) in omega (arith, same))
     (λ no_end. field_size line))
 
 -- a line with the byte that ends it
 abbrev weight : TopicLine → ℕ
-weight mark = mark_size mark.1 + 1
+weight line = kind_size line.1 + 1
 
 row_weights : (number : ℕ) (lines : List (List ℕ))
-    → sum_by (λ (row : ℕ × List ℕ). mark_size (mark_of row.1) + 1) (enumerate_from number (map without_space lines)) ≤ sizes lines
+    → sum_by (λ (row : ℕ × List ℕ). kind_size (mark_of row.1) + 1) (enumerate_from number (map without_space lines)) ≤ sizes lines
 row_weights number [] = omega arith
 row_weights number (line ∷ lines) =
     omega (
@@ -92,29 +92,29 @@ row_weights number (line ∷ lines) =
       line_size (without_space line),
       stripped_short line,
       sum_by-cons size_of line lines,
-      sum_by-cons (λ (row : ℕ × List ℕ). mark_size (mark_of row.1) + 1) (number, without_space line) (enumerate_from (number + 1) (map without_space lines)),
+      sum_by-cons (λ (row : ℕ × List ℕ). kind_size (mark_of row.1) + 1) (number, without_space line) (enumerate_from (number + 1) (map without_space lines)),
     )
 
 mapped_weights : (rows : List (ℕ × List ℕ))
-    → sum_by weight (map (λ (row : ℕ × List ℕ). (row.0, mark_of row.1)) rows) ≡ sum_by (λ (row : ℕ × List ℕ). mark_size (mark_of row.1) + 1) rows
+    → sum_by weight (map (λ (row : ℕ × List ℕ). (row.0, mark_of row.1)) rows) ≡ sum_by (λ (row : ℕ × List ℕ). kind_size (mark_of row.1) + 1) rows
 mapped_weights [] = refl
 mapped_weights (row ∷ rows) =
     omega (
       arith,
       mapped_weights rows,
       sum_by-cons weight (row.0, mark_of row.1) (map (λ (row : ℕ × List ℕ). (row.0, mark_of row.1)) rows),
-      sum_by-cons (λ (row : ℕ × List ℕ). mark_size (mark_of row.1) + 1) row rows,
+      sum_by-cons (λ (row : ℕ × List ℕ). kind_size (mark_of row.1) + 1) row rows,
     )
 
-marks_weights : (text : List ℕ) → sum_by weight (topic_lines text) ≤ length text + 1
+lines_weights : (text : List ℕ) → sum_by weight (topic_lines text) ≤ length text + 1
 unfolding lines_from_number
-marks_weights text =
+lines_weights text =
     let rows = enumerate_from 1 (map without_space (lines_of text)) in
     let kept = filter (λ (row : ℕ × List ℕ). is_filled row.1) rows in
     omega (
       arith,
       mapped_weights kept,
-      sum_by-filter-le (λ (row : ℕ × List ℕ). mark_size (mark_of row.1) + 1) (λ (row : ℕ × List ℕ). is_filled row.1) rows,
+      sum_by-filter-le (λ (row : ℕ × List ℕ). kind_size (mark_of row.1) + 1) (λ (row : ℕ × List ℕ). is_filled row.1) rows,
       row_weights 1 (lines_of text),
       lines_sizes text,
     )
@@ -225,8 +225,8 @@ begins (Numbers text) = false
 begins Skips = false
 begins (Says text) = false
 
--- the part that a mark begins
-abbrev part_of : (mark : LineKind) → begins mark ≡ true → (part : _) × (same_part part part ≡ true)
+-- the part that a line of this kind begins
+abbrev part_of : (kind : LineKind) → begins kind ≡ true → (part : _) × (same_part part part ≡ true)
 part_of (Begins part text) is = (part, same_part-refl part)
 part_of Opens is = absurd (false≢true is)
 part_of Closes is = absurd (false≢true is)
@@ -245,21 +245,21 @@ topic_short block =
 abbrev block_size : List TopicLine → ℕ
 block_size block = sum_by weight block + 7
 
-onto_blocks : (mark : TopicLine) (n : ℕ) (blocks : List (List TopicLine)) → sum_by block_size blocks ≤ n + 7
-    → 0 + 7 ≤ sum_by block_size blocks → sum_by block_size (onto_first mark blocks) ≤ n + weight mark + 7
-onto_blocks mark n [] is some = absurd (omega (arith, some))
-onto_blocks mark n (block ∷ blocks) is some =
-    omega (arith, is, sum_by-cons block_size block blocks, sum_by-cons block_size (mark ∷ block) blocks, sum_by-cons weight mark block)
+onto_blocks : (line : TopicLine) (n : ℕ) (blocks : List (List TopicLine)) → sum_by block_size blocks ≤ n + 7
+    → 0 + 7 ≤ sum_by block_size blocks → sum_by block_size (onto_first line blocks) ≤ n + weight line + 7
+onto_blocks line n [] is some = absurd (omega (arith, some))
+onto_blocks line n (block ∷ blocks) is some =
+    omega (arith, is, sum_by-cons block_size block blocks, sum_by-cons block_size (line ∷ block) blocks, sum_by-cons weight line block)
 
-record AreBlocks (marks : List TopicLine) (blocks : List (List TopicLine)) : Type 0 where
-  most : sum_by block_size blocks ≤ sum_by weight marks + 7
+record AreBlocks (lines : List TopicLine) (blocks : List (List TopicLine)) : Type 0 where
+  most : sum_by block_size blocks ≤ sum_by weight lines + 7
   some : 7 ≤ sum_by block_size blocks
 
-onto_some : (mark : TopicLine) (blocks : List (List TopicLine)) → 7 ≤ sum_by block_size blocks → 7 ≤ sum_by block_size (onto_first mark blocks)
-onto_some mark [] some = absurd (omega (arith, some))
-onto_some mark (block ∷ blocks) some = omega (arith, sum_by-cons block_size (mark ∷ block) blocks)
+onto_some : (line : TopicLine) (blocks : List (List TopicLine)) → 7 ≤ sum_by block_size blocks → 7 ≤ sum_by block_size (onto_first line blocks)
+onto_some line [] some = absurd (omega (arith, some))
+onto_some line (block ∷ blocks) some = omega (arith, sum_by-cons block_size (line ∷ block) blocks)
 
-closing_weight : (mark : TopicLine) → is_close mark ≡ true → weight mark ≡ 7
+closing_weight : (line : TopicLine) → is_close line ≡ true → weight line ≡ 7
 closing_weight (l, Closes) is = refl
 closing_weight (l, Opens) is = cc
 closing_weight (l, Numbers text) is = cc
@@ -267,19 +267,19 @@ closing_weight (l, Begins part text) is = cc
 closing_weight (l, Skips) is = cc
 closing_weight (l, Says text) is = cc
 
-split_blocks : (marks : List TopicLine) → AreBlocks marks (slice_split is_close marks)
+split_blocks : (lines : List TopicLine) → AreBlocks lines (slice_split is_close lines)
 split_blocks [] = record { most = omega arith; some = omega arith }
-split_blocks (mark ∷ marks) =
-    let rest = split_blocks marks in
-    cond_both (is_close mark) ([] ∷ slice_split is_close marks) (onto_first mark (slice_split is_close marks))
-    (λ (blocks : List (List TopicLine)). AreBlocks (mark ∷ marks) blocks)
+split_blocks (line ∷ lines) =
+    let rest = split_blocks lines in
+    cond_both (is_close line) ([] ∷ slice_split is_close lines) (onto_first line (slice_split is_close lines))
+    (λ (blocks : List (List TopicLine)). AreBlocks (line ∷ lines) blocks)
     (λ close. record {
-      most = omega (arith, rest.most, closing_weight mark close, sum_by-cons weight mark marks, sum_by-cons block_size [] (slice_split is_close marks));
-      some = omega (arith, sum_by-cons block_size [] (slice_split is_close marks));
+      most = omega (arith, rest.most, closing_weight line close, sum_by-cons weight line lines, sum_by-cons block_size [] (slice_split is_close lines));
+      some = omega (arith, sum_by-cons block_size [] (slice_split is_close lines));
     })
     (λ other. record {
-      most = omega (arith, onto_blocks mark (sum_by weight marks) (slice_split is_close marks) rest.most rest.some, sum_by-cons weight mark marks);
-      some = onto_some mark (slice_split is_close marks) rest.some;
+      most = omega (arith, onto_blocks line (sum_by weight lines) (slice_split is_close lines) rest.most rest.some, sum_by-cons weight line lines);
+      some = onto_some line (slice_split is_close lines) rest.some;
     })
 
 spelled_size : (topic : Topic) → length (topic_bytes topic) ≡ topic_size topic + 7
@@ -301,18 +301,18 @@ spelled_blocks (block ∷ blocks) =
 -- the topics of a text are spelled with no more bytes than the text, but for a few
 pub topics_short : (text : List ℕ) (topics : List Topic) → IsTopics text topics → length (spelled_list topic_bytes topics) ≤ length text + 20
 topics_short text topics (found, reading, is) =
-    let marks = topic_lines text in
-    let blocks = slice_split is_close marks in
-    let all : topics ≡ map (λ (t : NumberedTopic). t.1) (block_topics marks) = is ∙ ap (map (λ (t : NumberedTopic). t.1)) reading.0.2 in
+    let lines = topic_lines text in
+    let blocks = slice_split is_close lines in
+    let all : topics ≡ map (λ (t : NumberedTopic). t.1) (block_topics lines) = is ∙ ap (map (λ (t : NumberedTopic). t.1)) reading.0.2 in
     rw all
     (omega (
       arith,
-      length-append (to_le_bytes w32 (length (map (λ (t : NumberedTopic). t.1) (block_topics marks))))
-          (flat_map topic_bytes (map (λ (t : NumberedTopic). t.1) (block_topics marks))),
-      four_bytes (length (map (λ (t : NumberedTopic). t.1) (block_topics marks))),
-      length-flat_map topic_bytes (map (λ (t : NumberedTopic). t.1) (block_topics marks)),
+      length-append (to_le_bytes w32 (length (map (λ (t : NumberedTopic). t.1) (block_topics lines))))
+          (flat_map topic_bytes (map (λ (t : NumberedTopic). t.1) (block_topics lines))),
+      four_bytes (length (map (λ (t : NumberedTopic). t.1) (block_topics lines))),
+      length-flat_map topic_bytes (map (λ (t : NumberedTopic). t.1) (block_topics lines)),
       spelled_blocks (filter is_filled blocks),
       sum_by-filter-le block_size is_filled blocks,
-      (split_blocks marks).most,
-      marks_weights text,
+      (split_blocks lines).most,
+      lines_weights text,
     ))

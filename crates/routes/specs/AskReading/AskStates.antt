@@ -14,7 +14,8 @@ use Rattle.routes.specs.declared.keys.KeyRow.{KeyRow}
 use Rattle.routes.specs.declared.route_table.Method.TheVariants.{Get}
 use Rattle.routes.specs.declared.route_table.Question.TheVariants as question
 use Rattle.routes.specs.declared.route_table.Route.{Route}
-use Rattle.routes.specs.Keys.{caller}
+use Rattle.routes.specs.Keys.{without_key}
+use Rattle.routes.specs.Limits.{most_body}
 use Rattle.routes.specs.Openings.{Opening, opening_of}
 use Rattle.routes.specs.RouteTable.{IsRow, fits, may_ask, parameter}
 
@@ -49,7 +50,7 @@ pub record BeginsBody (place : Route) (body : Body) : Type 0 where
 
 -- what is asked at this opening, with a body that may be this text so far
 pub record IsAskOpened (opening : Opening) (path body : List ℕ) (opened : Opened) : Type 0 where
-  pub who : opened.who ≡ caller opening.row
+  pub who : opened.who ≡ without_key opening.caller
   pub number : opened.number ≡ opening.number
   pub place : opened.place ≡ opening.place
   pub text : opened.text ≡ parameter path
@@ -83,7 +84,7 @@ IsAskHeld fed (Faulty cause) = Unit {0}
 IsAskHeld fed Failed = Unit {0}
 
 pub record IsSound (fed : ℕ) (progress : AskProgress) : Type 0 where
-  pub few : fed ≤ 16777216
+  pub few : fed ≤ most_body
   pub held : IsAskHeld fed progress
 
 -- how many bytes of the body were fed to a reader, and what it keeps

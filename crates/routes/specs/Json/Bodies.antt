@@ -6,6 +6,7 @@ use Rattle.serde_json.specs.Data.{Data, Members, no_members, member}
 use Rattle.serde_json.specs.Find.{get, as_number, as_u64, as_str, as_object}
 use Rattle.serde_json.specs.Read.{read}
 use Rattle.trec_formats.specs.Names.{is_docno}
+use Rattle.rulebook.specs.Requests.Limits.{max_top_grade}
 
 -- the value of a JSON text, as `serde_json` reads it
 abbrev pub json_of : List ℕ → Option Data
@@ -22,9 +23,9 @@ has_members count value = option_map_or (λ members. member_count members == cou
 abbrev pub number_up_to : ℕ → ℕ → Option ℕ
 number_up_to most n = if nat_le n most then Some n else None
 
--- a whole number from 0 to 255, written in digits alone, at the key "grade"
+-- a whole number from 0 to the greatest grade that rules may have, written in digits alone, at the key "grade"
 abbrev pub grade_at : Data → Option ℕ
-grade_at value = option_and_then (number_up_to 255) (option_and_then (λ v. option_and_then as_u64 (as_number v)) (get (codes "grade") value))
+grade_at value = option_and_then (number_up_to max_top_grade) (option_and_then (λ v. option_and_then as_u64 (as_number v)) (get (codes "grade") value))
 
 abbrev pub a_docno : List ℕ → Option (List ℕ)
 a_docno text = if is_docno text then Some text else None

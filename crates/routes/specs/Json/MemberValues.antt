@@ -8,8 +8,8 @@ use Rattle.routes.specs.Bytes.{backslash, comma, quote}
 use Rattle.routes.specs.Json.Objects.{Member, in_quotes, listed, member_text, quoted}
 
 -- a byte that is written as it is
-abbrev pub is_unmarked_byte : ℕ → Bool
-is_unmarked_byte b = not (b == quote) && not (b == backslash)
+abbrev pub is_unescaped_byte : ℕ → Bool
+is_unescaped_byte b = not (b == quote) && not (b == backslash)
 
 abbrev pub value_text : Value → List ℕ
 value_text (Word text) = in_quotes text.now

@@ -4,7 +4,7 @@ ghost use Rattle.std.specs.Prelude.{◌≡◌, ◌∷◌, ◌++◌, [], codes, d
 ghost use Rattle.std.specs.List.{list_all};
 ghost use Rattle.decimal_rank.specs.Texts.Additions.{Adds};
 ghost use Rattle.routes.specs.Bytes.{quote};
-ghost use Rattle.routes.specs.Json.MemberValues.{further_texts, is_unmarked_byte, value_text};
+ghost use Rattle.routes.specs.Json.MemberValues.{further_texts, is_unescaped_byte, value_text};
 ghost use Rattle.routes.specs.Json.Objects.{escaped, escaped_byte, in_quotes, listed, quoted};
 
 use decimal_rank::{Memory, Text, append, append_all};
@@ -54,8 +54,8 @@ fn append_escaped(out: &mut Vec<u8>, text: &[u8]) -> Result<(), Memory>
 }
 
 /// Whether a text has no `"` and no `\`.
-fn is_unmarked(text: &[u8]) -> bool
-    ensures { result ≡ list_all is_unmarked_byte text.now }
+fn is_unescaped(text: &[u8]) -> bool
+    ensures { result ≡ list_all is_unescaped_byte text.now }
 {
     text.iter().all(|byte| *byte != b'"' && *byte != b'\\')
 }
@@ -65,7 +65,7 @@ fn is_unmarked(text: &[u8]) -> bool
 fn append_text(out: &mut Vec<u8>, text: &[u8]) -> Result<(), Memory>
     ensures { Adds out.old out.new (escaped text.now) result }
 {
-    if is_unmarked(text) {
+    if is_unescaped(text) {
         append(out, text)
     } else {
         append_escaped(out, text)

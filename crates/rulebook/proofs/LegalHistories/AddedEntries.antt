@@ -18,10 +18,9 @@ use Rattle.rulebook.specs.declared.reply.Refusal.TheVariants as refusal
 use Rattle.rulebook.specs.declared.reply.Reply.TheVariants as reply
 use Rattle.rulebook.specs.Histories.Additions.{IsAdded}
 use Rattle.rulebook.specs.Answers.{Answer, adding_nothing, answer, answer_of_outcome, command_answer, command_outcome, moment_after}
-use Rattle.rulebook.specs.Campaign.{History}
+use Rattle.rulebook.specs.Campaign.{History, may_give}
 use Rattle.rulebook.specs.Histories.Legal.{IsAccepted, IsFounding, IsLegal, core_of, is_well_addressed}
 use Rattle.rulebook.specs.Requests.Refusals.{Outcome}
-use Rattle.rulebook.specs.Requests.Roles.{may_give}
 use Rattle.rulebook.specs.Spelling.{command_bytes, entry_bytes, has_spelling, is_number, is_plain, number_bytes}
 use Rattle.rulebook.proofs.LegalHistories.LegalWalk.{IsUnused, legal_induction, legal_more, unused_of}
 

@@ -27,7 +27,7 @@ use Rattle.rulebook.specs.declared.reply.Refusal.TheVariants as refusal
 use Rattle.rulebook.specs.declared.reply.Reply.{Reply}
 use Rattle.rulebook.specs.declared.reply.Reply.TheVariants as reply
 use Rattle.rulebook.specs.Answers.{adding_nothing, answer, answer_of_outcome, command_answer, command_outcome, lease_outcome_of, moment_after, page_outcome, pool_tests, query_outcome, release_outcome_of, release_tests, repeat_answer, reply_of, run_refusals}
-use Rattle.rulebook.specs.Campaign.{History, Run, docs_on, held_documents, is_withdrawn, line_count, live, numbered_runs, pool, run_in, runs, title, topics, topics_in}
+use Rattle.rulebook.specs.Campaign.{History, Run, docs_on, held_documents, is_withdrawn, line_count, live, may_give, numbered_runs, pool, run_in, runs, title, topics, topics_in}
 use Rattle.rulebook.specs.Judgements.JudgingOrder.{first_of, holds_open, is_open_to, named_document}
 use Rattle.rulebook.specs.Judgements.Leases.{Lease, lease_in, lease_numbered, leases}
 use Rattle.rulebook.specs.Histories.Legal.{IsAccepted, IsFounding, IsLegal, core_of, founding, is_named, is_well_addressed}
@@ -35,7 +35,7 @@ use Rattle.rulebook.specs.Requests.Numbers.{entry_of_number, is_numbered}
 use Rattle.rulebook.specs.Reports.Pages.{qrels_page}
 use Rattle.rulebook.specs.Requests.PlainReplies.{is_plain_and_short, is_plain_entry, is_plain_reply, is_short_reply}
 use Rattle.rulebook.specs.Requests.Refusals.{Outcome, unless, unless_missing}
-use Rattle.rulebook.specs.Requests.Roles.{may_give, may_see}
+use Rattle.rulebook.specs.Requests.Roles.{may_see}
 use Rattle.rulebook.specs.Requests.SameCommands.{same_command}
 use Rattle.rulebook.specs.Reports.Scores.{run_named, scores_page, table_page}
 use Rattle.rulebook.specs.Spelling.{are_rules, differ, entry_bytes, has_spelling, is_ascending, is_number, is_plain, is_plain_list, is_plain_topic, is_printable}

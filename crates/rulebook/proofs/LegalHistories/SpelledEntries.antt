@@ -9,9 +9,8 @@ use Rattle.rulebook.specs.Requests.Limits.{max_entry_bytes}
 use Rattle.rulebook.specs.declared.rules.Rules.{Rules}
 use Rattle.rulebook.specs.declared.entry.Entry.{Entry}
 use Rattle.rulebook.specs.Histories.Additions.{IsSpelled}
-use Rattle.rulebook.specs.Campaign.{History}
+use Rattle.rulebook.specs.Campaign.{History, may_give}
 use Rattle.rulebook.specs.Histories.Legal.{IsAccepted, IsLegal, founding}
-use Rattle.rulebook.specs.Requests.Roles.{may_give}
 use Rattle.rulebook.specs.Spelling.{are_rules, entry_bytes, has_spelling}
 use Rattle.rulebook.proofs.LegalHistories.AddedEntries.{given_of}
 use Rattle.rulebook.proofs.LegalHistories.JournalSizes.{founding_fits}

@@ -14,10 +14,10 @@ use Rattle.rulebook.specs.declared.ask.Ask.TheVariants.{Act, See}
 use Rattle.rulebook.specs.declared.reply.Reply.TheVariants.{Done}
 use Rattle.rulebook.specs.declared.entry.Entry.{Entry}
 use Rattle.rulebook.specs.declared.entry.EntryCore.{EntryCore}
-use Rattle.rulebook.specs.Requests.Roles.{may_give, may_see, shows}
+use Rattle.rulebook.specs.Requests.Roles.{may_see, shows}
 use Rattle.rulebook.specs.Spelling.{entry_bytes, has_spelling, are_rules}
 use Rattle.rulebook.specs.Answers.{answer}
-use Rattle.rulebook.specs.Campaign.{History}
+use Rattle.rulebook.specs.Campaign.{History, may_give}
 
 -- whether the name that a query gives is one
 abbrev pub is_named : Query → Bool

@@ -11,7 +11,7 @@ use Rattle.rulebook.specs.Judgements.Leases.{Lease, is_ended, lease_in, leases}
 use Rattle.rulebook.specs.Histories.Legal.{IsLegal}
 
 abbrev pub asks_lease : Command → Bool
-asks_lease c = (tells c).asks_lease
+asks_lease c = is_some (tells c).lease_wish
 
 -- the Lease entries
 abbrev pub lease_entries : History → List Entry

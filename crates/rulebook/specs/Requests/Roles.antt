@@ -1,9 +1,7 @@
--- The roles that may give which command, and ask which query.
+-- The roles, and which of them may ask which query.
 use Rattle.std.specs.Prelude.{Bool, true, false, ◌||◌, Option, None, Some}
 use Rattle.rulebook.specs.declared.rules.Role.{Role}
 use Rattle.rulebook.specs.declared.rules.Role.TheVariants.{Organiser, Group, Assessor}
-use Rattle.rulebook.specs.declared.ask.Command.{Command}
-use Rattle.rulebook.specs.declared.ask.Command.TheVariants.{Found, Topics, Submit, Open, Lease, Grade, Release, Amend, Rule, Withdraw, Publish}
 use Rattle.rulebook.specs.declared.ask.Query.{Query}
 use Rattle.rulebook.specs.declared.ask.Query.TheVariants.{Pool, Qrels, Scores, Table, Disagreements, Progress, ReleaseQrels, ReleaseScores}
 use Rattle.rulebook.specs.Words.{Text}
@@ -22,20 +20,6 @@ abbrev pub is_assessor : Role → Bool
 is_assessor Organiser = false
 is_assessor Group = false
 is_assessor Assessor = true
-
--- Nobody gives Found: the founding entry is there from the start.
-abbrev pub may_give : Role → Command → Bool
-may_give role (Found rules) = false
-may_give role (Topics topics) = is_organiser role
-may_give role (Submit run lists) = is_group role
-may_give role Open = is_organiser role
-may_give role (Lease topic) = is_assessor role
-may_give role (Grade lease grade) = is_assessor role
-may_give role (Release lease) = is_assessor role
-may_give role (Amend topic doc grade) = is_assessor role
-may_give role (Rule topic doc grade) = is_organiser role
-may_give role (Withdraw run) = is_group role || is_organiser role
-may_give role Publish = is_organiser role
 
 -- what the rules say of a query beside its answer
 pub record QueryFacts : Type 0 where

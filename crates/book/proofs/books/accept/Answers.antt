@@ -28,6 +28,6 @@ returns g c =
     let H = c.args.state.now.history in
     let accepted = c.requires.room.accepted in
     accepts_fault g.D.Disk.seen c.args.journal.now c.keep.new.journal H c.cancel-in-Err.new.self.history c.args.pending.now c.keep.new.pending c.args.prepared
-    c.cancel-in-Err.ensures.history c.in-Err.ensures.pending
+    c.cancel-in-Err.ensures.history c.in-Err.ensures.pending_is
     (c.in-Err.ensures.kept H accepted c.requires.keeps) c.in-Err.ensures.place_err c.in-Err.ensures.cause.failed
     (c.keep.ensures.any_moment H accepted c.requires.keeps) c.keep.ensures.cause.later

@@ -15,12 +15,10 @@ returns-in-Ok g c =
     (payloads_of records) c.in-Ok.journal.disk c.compact_open.result.0 c.compact_open.result.1)
     c.deref.ensures.value c.compact_open.ensures in
     compacts D.seen c.args.rules c.args.disk c.in-Ok.journal.disk
-    (payloads_of c.in-Ok.records.items) c.in-Ok.ensures.read c.in-Ok.ensures.any_moment c.in-Ok.ensures.later
+    (payloads_of c.in-Ok.records.items) c.in-Ok.ensures.recovered.read c.in-Ok.ensures.recovered.any_moment c.in-Ok.ensures.recovered.later
     c.compact_open.result.0 c.compact_open.result.1 open_
 
 pub returns-in-Err : goal.returns-in-Err
 returns-in-Err g c =
     let D = g.D.Disk in
-    let why = c.in-Err.ensures in
-    inl (not_opened D.seen c.args.rules c.args.disk c.in-Err.disk c.in-Err.fault why.header why.untouched why.fault
-    why.later_err why.any_moment_err c.fault_of.result c.fault_of.ensures)
+    inl (not_opened D.seen c.args.rules c.args.disk c.in-Err.disk c.in-Err.fault c.in-Err.ensures.refused c.fault_of.result c.fault_of.ensures)

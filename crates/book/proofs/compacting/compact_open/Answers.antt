@@ -12,15 +12,15 @@ use Rattle.book.proofs.compacting.compact_open.Given.{Over}
 use Rattle.book.proofs.compacting.compact_open.Goals.{In-Ok}
 use Rattle.book.proofs.compacting.compact_open.Goals as goal
 
-pub found-requires-clause-settled : goal.found-requires-clause-settled
-found-requires-clause-settled g c =
+pub compact_empty-requires-clause-settled : goal.compact_empty-requires-clause-settled
+compact_empty-requires-clause-settled g c =
     subst (λ (all : List Text). Settled (g.D.Disk.seen c.args.journal.disk).images c.args.journal.place all)
     (sym (no_records c.args.records.now c.in-empty.len_below)) c.requires.settled
 
 pub returns-in-empty : goal.returns-in-empty
 returns-in-empty g c =
-    subst (λ (all : List Text). CompactsOpen g.D.Disk.seen c.args.rules all c.args.journal.disk c.found.result.0 c.found.result.1)
-    (no_records c.args.records.now c.in-empty.len_below) c.found.ensures
+    subst (λ (all : List Text). CompactsOpen g.D.Disk.seen c.args.rules all c.args.journal.disk c.compact_empty.result.0 c.compact_empty.result.1)
+    (no_records c.args.records.now c.in-empty.len_below) c.compact_empty.ensures
 
 -- the entries are the story of all records, whose first one stands apart
 opens : (g : Over) (c : In-Ok g) → OpensWith c.args.rules (payloads_of c.args.records.now) c.in-Ok.replay

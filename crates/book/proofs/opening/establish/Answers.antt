@@ -23,20 +23,20 @@ moments g c rules founded =
     weaker g.D.Disk.seen c.args.journal.disk c.append.new.self.disk (HoldsRecordsOfOne [] [] c.args.frame.now) (Establishes rules [])
     (establishes rules c.args.frame.now c.args.state.history c.requires.founded founded) (c.append.ensures.any_moment [] [] (keeps g c))
 
-pub reopen-requires-clause-settled : goal.reopen-requires-clause-settled
-reopen-requires-clause-settled g c =
-    (c.args.frame.now ∷ [], c.requires.founded, c.in-Ok.ensures.added [] [] (keeps g (goal.at.reopen-requires-clause-settled g c).After-append))
+pub book_of-requires-clause-settled : goal.book_of-requires-clause-settled
+book_of-requires-clause-settled g c =
+    (c.args.frame.now ∷ [], c.requires.founded, c.in-Ok.ensures.added [] [] (keeps g (goal.at.book_of-requires-clause-settled g c).After-append))
 
-pub reopen-requires-clause-within : goal.reopen-requires-clause-within
-reopen-requires-clause-within g c =
-    let first : c.args.journal.place ≡ 16 = c.stands.ensures.total [] [] (keeps g (goal.at.reopen-requires-clause-within g c).After-append) in
+pub book_of-requires-clause-within : goal.book_of-requires-clause-within
+book_of-requires-clause-within g c =
+    let first : c.args.journal.place ≡ 16 = c.stands.ensures.total [] [] (keeps g (goal.at.book_of-requires-clause-within g c).After-append) in
     omega (arith, first, c.in-Ok.ensures.place, c.requires.short)
 
 pub returns-in-Ok : goal.returns-in-Ok
 returns-in-Ok g c rules founded =
     let D = g.D.Disk in
     established D.seen rules c.args.opening c.args.journal.disk c.append.new.self.disk (moments g (goal.at.returns-in-Ok g c).After-append rules founded)
-    c.append.ensures.cause.later c.reopen.result c.args.state.history c.reopen.ensures.view c.reopen.ensures.sound founded
+    c.append.ensures.cause.later c.book_of.result c.args.state.history c.book_of.ensures.view c.book_of.ensures.sound founded
 
 pub returns-in-Err : goal.returns-in-Err
 returns-in-Err g c rules founded =

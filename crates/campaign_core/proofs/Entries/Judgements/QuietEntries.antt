@@ -20,7 +20,7 @@ use Rattle.rulebook.specs.Histories.Entries.{AreKept}
 use Rattle.rulebook.specs.Judgements.Grades.{Label, given_labels, labelled_documents, last_ruling, trail}
 use Rattle.rulebook.specs.Judgements.LeaseEntries.{EndsAreThere, end_in, end_of}
 use Rattle.rulebook.specs.Judgements.Leases.{Lease, lease_in, leases}
-use Rattle.rulebook.specs.Requests.Refusals.{Outcome, unless, unless_missing}
+use Rattle.rulebook.specs.Requests.Refusals.{Outcome, unless_missing}
 use Rattle.campaign_core.specs.CampaignStates.{IsUnjudged}
 use Rattle.campaign_core.specs.Assessments.TopicLabelling.{IsLabelled, graded_in}
 use Rattle.campaign_core.specs.Assessments.DeskLeases.{IsLeased, KnownLease, is_known, lease_known, topic_in}
@@ -28,11 +28,6 @@ use Rattle.campaign_core.specs.Numbering.Numbers.{are_named, doc_in, docs_in, na
 use Rattle.campaign_core.specs.Assessments.Topics.{LabelledTopic, topic_ids}
 
 -- an accepted ruling is what follows the tests
-pub unless-ok : (tests : List (Option Refusal)) (outcome : Outcome) (answer : Reply) → unless tests outcome ≡ Ok answer → outcome ≡ Ok answer
-unless-ok [] outcome answer is = is
-unless-ok (None ∷ tests) outcome answer is = unless-ok tests outcome answer is
-unless-ok (Some r ∷ tests) outcome answer is = cc is
-
 pub given-ok : {X : Type 0} (o : Option X) (r : Refusal) (follows : X → Outcome) (answer : Reply)
     → unless_missing o r follows ≡ Ok answer → (x : X) × (o ≡ Some x) × (follows x ≡ Ok answer)
 given-ok None r follows answer is = cc is

@@ -1,5 +1,5 @@
 -- What a change rests on that carries out an accepted entry.
-use Rattle.std.proofs.Common.{◌≡◌, ◌<◌, ◌≤◌, ◌+◌, ◌^◌, ℕ, suc, zero, true, false, List, ◌∷◌, [], Option, None, Some, Ok, length, map, get_or, subst, arith, refl, sym, ap, ◌∙◌, lit≤}
+use Rattle.std.proofs.Common.{◌≡◌, ◌<◌, ◌≤◌, ◌+◌, ◌^◌, ℕ, suc, zero, true, false, List, ◌∷◌, [], Option, None, Some, Ok, length, map, get_or, subst, arith, sym, ap, ◌∙◌, lit≤}
 use Rattle.std.specs.Prelude.{All, slice_get}
 use Rattle.std.specs.Option.{IsSomeAnd, option_and_then}
 use Rattle.std.proofs.lemmas.List.{length-map}
@@ -21,7 +21,7 @@ use Rattle.rulebook.specs.Answers.{command_outcome}
 use Rattle.rulebook.specs.Words.{Text, contains_text}
 use Rattle.rulebook.specs.Campaign.{History, Run, docnos_with, is_withdrawn, runs}
 use Rattle.rulebook.specs.Judgements.Grades.{is_labelled}
-use Rattle.rulebook.specs.Judgements.Leases.{Lease, lease_in, leases}
+use Rattle.rulebook.specs.Judgements.Leases.{Lease, leases}
 use Rattle.campaign_core.specs.Commands.Changes.{CarriesOut}
 use Rattle.campaign_core.specs.Growth.{lists_in}
 use Rattle.campaign_core.specs.CampaignStates.{HasFewLabels, IsAssessmentOf}
@@ -38,6 +38,7 @@ use Rattle.campaign_core.proofs.Numbers.DocNumbers.{docno-back, number-within}
 use Rattle.campaign_core.proofs.Numbers.TopicIds.{same-names}
 use Rattle.campaign_core.proofs.Entries.Runs.ListSteps.{none-listed}
 use Rattle.campaign_core.proofs.Entries.Runs.PoolSteps.{not-in, numbers-below, pool-has}
+use Rattle.campaign_core.proofs.Rulings.LeaseRulings.{few-leases}
 use Rattle.campaign_core.proofs.Rulings.RunRulings.{run-found}
 use Rattle.campaign_core.proofs.Numbers.RunPlaces.{no_run}
 
@@ -80,14 +81,6 @@ runs-entered H (t ∷ ts) (id ∷ ids) run r same there live =
     let runs_are : t.pool ≡ pool_of H id = ap (λ (k : KeptTopic). k.runs) head in
     All-cons (λ (t : TopicFacts). has_run run t.pool ≡ true) t ts (ap (has_run run) runs_are ∙ pool-has H id run r there live)
     (runs-entered H ts ids run r tail there live)
-
-leases-few : (H : History) → length (leases H) ≤ length H
-leases-few [] = omega arith
-leases-few (e ∷ H) = step (lease_in e.core.caller.name e.reply) refl (leases-few H)
-  where
-    step : (o : Option Lease) → lease_in e.core.caller.name e.reply ≡ o → length (leases H) ≤ length H → length (leases (e ∷ H)) ≤ suc (length H)
-    step None is rest = rw is (omega (arith, rest))
-    step (Some l) is rest = rw is (omega (arith, rest))
 
 few-entries : MAX_ENTRIES + 2 ≤ 2 ^ 32
 few-entries = lit≤ tt
@@ -153,7 +146,7 @@ module _ (H : History) (known : Facts) (is : IsAssessmentOf H known) where
         let told = withdraw-told H e.core.caller name e.reply (rw command_is at accepted) in
         let found = run-found H name run.0 number in
         runs-entered H ts (topic_ids H) run (get_or (runs H) run.0 no_run) is.knows.topics_are found.there (ap (is_withdrawn H) found.name_is ∙ told.live)
-    fits names e (change.Lease grant) accepted names_are w = omega (arith, few-entries, entries_fit, leases-few H, desk-long H known.leases is.knows.leased)
+    fits names e (change.Lease grant) accepted names_are w = omega (arith, few-entries, entries_fit, few-leases H, desk-long H known.leases is.knows.leased)
     fits names e (change.Grade number label) accepted names_are w =
         let all = numbered-all (is_known H (names_of H)) H number w.lease is.knows.leased.are_known w.found in
         let both = and_parts (contains_text (names_of H) w.lease.doc) (contains_text (topic_ids H) w.lease.topic) all in

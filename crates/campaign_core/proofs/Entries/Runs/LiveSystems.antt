@@ -15,12 +15,12 @@ use Rattle.trec_formats.specs.Names.{is_between, is_name}
 use Rattle.rulebook.specs.declared.ask.Command.TheVariants as command
 use Rattle.rulebook.specs.declared.entry.Entry.{Entry}
 use Rattle.rulebook.specs.declared.systems.System.{System}
-use Rattle.rulebook.specs.Campaign.{History, Run, is_withdrawn, run_in, runs}
+use Rattle.rulebook.specs.Campaign.{History, Run, is_withdrawn, may_give, run_in, runs}
 use Rattle.rulebook.specs.Histories.Legal.{AreAccepted, IsAccepted, IsFounding, IsLegal}
 use Rattle.rulebook.specs.Requests.Limits.{max_entry_bytes, max_moment}
-use Rattle.rulebook.specs.Requests.Roles.{may_give}
 use Rattle.rulebook.specs.Reports.Scores.{summary_on}
 use Rattle.rulebook.specs.Spelling.{differ, entry_bytes, has_spelling, is_ascending, is_number, is_plain, is_plain_list}
+use Rattle.rulebook.specs.Requests.Limits.{max_runs}
 use Rattle.rulebook.specs.Reports.Systems.{are_means, are_sound_systems, is_mean, is_sound_system, runs_of, system_in, system_of, systems}
 use Rattle.rulebook.specs.Words.{Text}
 use Rattle.campaign_core.specs.Numbering.Submissions.{is_submission, submissions}
@@ -181,15 +181,15 @@ proper-means cells proper =
 
 -- All systems are sound.
 
-pub are-sound : (H : History) → length (runs H) ≤ 256 → differ (map (λ (run : Run). run.name) (runs H)) ≡ true → list_all is_sound_system (systems H) ≡ true
-    → are_sound_systems (systems H) ≡ true
+pub are-sound : (H : History) → length (runs H) ≤ max_runs → differ (map (λ (run : Run). run.name) (runs H)) ≡ true
+    → list_all is_sound_system (systems H) ≡ true → are_sound_systems (systems H) ≡ true
 are-sound H few names_differ each =
     let names = map (λ (run : Run). run.name) (runs H) in
     let passes : Text → Bool = λ name. not (is_withdrawn H name) in
     let same = ap length (names-are H) in
     let long = length-map (systems H) (λ (system : System). system.run) in
     let counted = length-map (runs H) (λ (run : Run). run.name) in
-    let fits : length (systems H) ≤ 256 = omega (arith, same, long, counted, length-filter_le passes names, few) in
-    and_from (nat_le (length (systems H)) 256 && list_all is_sound_system (systems H)) (differ (runs_of (systems H)))
-    (and_from (nat_le (length (systems H)) 256) (list_all is_sound_system (systems H)) (le-leb (length (systems H)) 256 fits) each)
+    let fits : length (systems H) ≤ max_runs = omega (arith, same, long, counted, length-filter_le passes names, few) in
+    and_from (nat_le (length (systems H)) max_runs && list_all is_sound_system (systems H)) (differ (runs_of (systems H)))
+    (and_from (nat_le (length (systems H)) max_runs) (list_all is_sound_system (systems H)) (le-leb (length (systems H)) max_runs fits) each)
     (ap differ (names-are H) ∙ differ-filter passes names names_differ)

@@ -12,7 +12,7 @@ use Rattle.rulebook.specs.declared.entry.Entry.{Entry}
 use Rattle.rulebook.specs.Campaign.{History, Run, is_withdrawn, run_in, runs, withdraws}
 use Rattle.rulebook.specs.Histories.Legal.{IsAccepted}
 use Rattle.rulebook.specs.Words.{Text}
-use Rattle.campaign_core.specs.Numbering.Submissions.{ArePlaces, AreSubmissions, RunsAreKnown, entry_place, withdrawn, IsWithdrawnBy}
+use Rattle.campaign_core.specs.Numbering.Submissions.{ArePlaces, AreSubmissions, RunsAreKnown, entry_place, with_withdrawal, IsWithdrawnBy}
 use Rattle.campaign_core.specs.declared.campaign.submissions.Submission.{Submission}
 use Rattle.campaign_core.proofs.Lists.Elements.{get-map, map-at_place, map-at_same}
 use Rattle.campaign_core.proofs.Entries.Runs.LiveRuns.{none-withdrawn, number-place, withdrawals-set, withdrawn-push}
@@ -75,12 +75,12 @@ module _ (H : History) (e : Entry) (known : RunsAreKnown H) (accepted : IsAccept
 
   -- an entry that withdraws a run
   pub noted-withdrawn : (name : Text) → e.core.command ≡ command.Withdraw name → (number : ℕ)
-      → Some number ≡ position (λ (run : Run). bytes_eq run.name name) (runs H) → AreSubmissions J (at_place number withdrawn all)
+      → Some number ≡ position (λ (run : Run). bytes_eq run.name name) (runs H) → AreSubmissions J (at_place number with_withdrawal all)
   noted-withdrawn name command_is number first = record {
-    places_are = subst (λ places. ArePlaces J places) (sym (map-at_same entry_place withdrawn all number (λ one. refl)))
+    places_are = subst (λ places. ArePlaces J places) (sym (map-at_same entry_place with_withdrawal all number (λ one. refl)))
         (places-stay H e (map entry_place all) (ap run_in command_is) are.places_are);
     withdrawn_are =
-        map-at_place flag withdrawn all number (record { place = 0; is_withdrawn = false })
+        map-at_place flag with_withdrawal all number (record { place = 0; is_withdrawn = false })
         ∙ ap (λ bs. set bs number true) are.withdrawn_are
         ∙ sym (withdrawals-set H J name number (no-run H e (ap run_in command_is))
         (λ other. withdrawn-push H e other ∙ ap (λ c. is_withdrawn H other || withdraws other c) command_is)

@@ -1,5 +1,5 @@
 -- What is cut off behind a closed gate, and behind one that is closed first.
-use Rattle.std.proofs.Common.{ℕ, List, inl, rules}
+use Rattle.std.proofs.Common.{ℕ, List, inl, refl, rules}
 use Rattle.std.proofs.lemmas.Result.{on_ok_weaker}
 use Rattle.journal.specs.KeptRecords.{HoldsRecords, Keeps}
 use Rattle.journal.specs.Moments.{joined}
@@ -29,6 +29,7 @@ returns-in-Nothing g c =
       mended = on_ok_weaker c.mend_cut.result (λ settles all pending keeps. settles all (shut all pending keeps)) cut.mended;
       closed = λ is_gate. absurd (not_gate c.args.due.now c.in-Nothing.is is_gate);
       nothing_due = cut.nothing_due;
+      place = refl;
       kept = λ all pending keeps. inl (cut.kept all (shut all pending keeps));
       any_moment = λ all pending keeps. cut.any_moment all pending (shut all pending keeps);
       cause = cut.cause;
@@ -47,6 +48,7 @@ returns-in_ok-close_gate-in-Gate g c =
       mended = on_ok_weaker c.mend_cut-in-Gate.result (λ settles all pending keeps. settles all (shut all pending keeps)) cut.mended;
       closed = λ is_gate. on_ok_weaker c.mend_cut-in-Gate.result (λ ends. ends closes) cut.closed;
       nothing_due = cut.nothing_due;
+      place = refl;
       kept = λ all pending keeps. inl (cut.kept all (shut all pending keeps));
       any_moment = λ all pending keeps. joined g.D.Disk.seen c.args.disk.now c.close_gate.new.disk c.mend_cut-in-Gate.new.disk (HoldsRecords all pending)
           (c.close_gate.ensures.any_moment all pending (gate all pending keeps)) (cut.any_moment all pending (shut all pending keeps));

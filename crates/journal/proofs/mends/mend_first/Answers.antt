@@ -1,5 +1,5 @@
 -- Nothing is due.
-use Rattle.std.proofs.Common.{inl, inr, arith, subst}
+use Rattle.std.proofs.Common.{inl, inr, arith, refl, subst}
 use Rattle.journal.specs.KeptRecords.{HoldsRecords, Keeps}
 use Rattle.journal.specs.Moments.{started}
 use Rattle.journal.specs.declared.dues.Due.{Due}
@@ -13,6 +13,7 @@ returns-in-Nothing-clause-mends g c =
       mended = λ all pending keeps. (subst (λ (due : Due). Keeps images c.args.place due all pending) c.in-Nothing.is keeps).0;
       closed = λ is_gate. absurd (not_gate c.args.due.now (inl c.in-Nothing.is) is_gate);
       nothing_due = c.in-Nothing.is;
+      place = refl;
       kept = λ all pending keeps. inr keeps;
       any_moment = λ all pending keeps. started g.D.Disk.seen c.args.disk.now (HoldsRecords all pending)
           (λ image left. keeps_stands images c.args.place c.args.due.now all pending keeps image (g.met.D.Disk.only_now c.args.disk.now image left));

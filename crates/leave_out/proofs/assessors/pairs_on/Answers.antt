@@ -7,14 +7,16 @@ use Rattle.decimal_rank.specs.declared.naming.DocId.{DocId}
 use Rattle.decimal_rank.proofs.Lists.{all_at}
 use Rattle.rulebook.specs.Campaign.{History}
 use Rattle.rulebook.specs.Judgements.Grades.{labelled_documents, labels_on}
+use Rattle.rulebook.specs.Requests.Limits.{max_entries}
 use Rattle.rulebook.specs.Words.{Text, contains_text}
 use Rattle.campaign_core.specs.Views.LentTopics.{topic_at}
 use Rattle.campaign_core.specs.Numbering.Numbers.{are_named, doc_in, docs_in, names_of}
 use Rattle.campaign_core.specs.Assessments.Topics.{topic_ids}
+use Rattle.campaign_core.proofs.Lists.Elements.{length-filter_map}
 use Rattle.leave_out.specs.Agreement.{pairs_on, two_grades}
 use Rattle.leave_out.proofs.Agreements.AgreedTopics.{labelled-few}
 use Rattle.leave_out.proofs.Agreements.LabelledNames.{labelled-named}
-use Rattle.leave_out.proofs.Elements.{filter_map-more, length-filter_map}
+use Rattle.leave_out.proofs.Elements.{filter_map-more}
 use Rattle.leave_out.proofs.assessors.pairs_on.Goals as goal
 
 abbrev no_doc : DocId
@@ -73,5 +75,5 @@ returns-clause-few c =
     let past : length listed ≤ i =
     omega (arith, c.loop-doc-test.false, ap (λ (ds : List DocId). length ds) docs_are, length-map listed (doc_in (names_of H))) in
     let all = ap (λ (ps : List (ℕ × ℕ)). length ps) (c.loop-doc.invariant ∙ ap (filter_map (pair H id)) (take_all i listed past)) in
-    let entries : length H ≤ 4000000 = c.entries_are_few.ensures H c.entries-entries.ensures.legal in
+    let entries : length H ≤ max_entries = c.entries_are_few.ensures H c.entries-entries.ensures.legal in
     omega (arith, all, length-filter_map (pair H id) listed, labelled-few H id, entries)

@@ -5,6 +5,7 @@ use Rattle.decimal_rank.specs.declared.naming.DocId.{DocId}
 use Rattle.decimal_rank.proofs.Lists.{slice-there, all_at}
 use Rattle.rulebook.specs.Campaign.{level}
 use Rattle.rulebook.specs.Judgements.Grades.{effective, labelled_documents}
+use Rattle.rulebook.specs.Requests.Limits.{max_entries}
 use Rattle.rulebook.specs.Words.{Text, contains_text}
 use Rattle.campaign_core.specs.Views.LentTopics.{topic_at}
 use Rattle.campaign_core.specs.Numbering.Numbers.{are_named, doc_in, docs_in, names_of}
@@ -78,11 +79,11 @@ returns-clause-few c =
     let docs_are : docs_in (names_of H) listed ≡ docs = sym (c.labelled-docs.ensures id at) in
     let past : length listed ≤ c.loop-doc.doc-index =
     omega (arith, c.loop-doc-test.false, ap (λ (ds : List DocId). length ds) docs_are, length-map listed (doc_in (names_of H))) in
-    let entries : length H ≤ 4000000 = c.entries_are_few.ensures H c.entries-entries.ensures.legal in
-    let few : length listed ≤ 4000000 = omega (arith, labelled-few H id, entries) in
+    let entries : length H ≤ max_entries = c.entries_are_few.ensures H c.entries-entries.ensures.legal in
+    let few : length listed ≤ max_entries = omega (arith, labelled-few H id, entries) in
     let all : c.loop-doc.judgements ≡ reduced_in H group id listed =
     c.loop-doc.invariant ∙ ap (reduced_in H group id) (take_all c.loop-doc.doc-index listed past) in
-    let counts = reduced-few H group id listed 4000000 few in
+    let counts = reduced-few H group id listed max_entries few in
     record {
       relevant = omega (arith, ap (λ (l : ReducedJudgements). l.relevant) all, counts.0);
       lower = omega (arith, ap (λ (l : ReducedJudgements). l.lower) all, counts.1);

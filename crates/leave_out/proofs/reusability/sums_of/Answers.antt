@@ -3,6 +3,7 @@ use Rattle.std.specs.Prelude.{count_by, unwrap_or}
 use Rattle.std.proofs.lemmas.Option.{slice_get-get_or}
 use Rattle.rulebook.specs.Campaign.{Run}
 use Rattle.rulebook.specs.Judgements.Grades.{graded_documents, labelled_documents}
+use Rattle.rulebook.specs.Requests.Limits.{max_entries}
 use Rattle.rulebook.specs.Words.{Text, contains_text}
 use Rattle.campaign_core.specs.Views.LentTopics.{topic_at}
 use Rattle.campaign_core.specs.Assessments.Topics.{topic_ids}
@@ -16,9 +17,9 @@ use Rattle.leave_out.proofs.Reductions.ReducedTopics.{sums-more}
 use Rattle.leave_out.proofs.reusability.sums_of.Goals as goal
 
 -- the sums stay small
-small : (owned most : ℕ) (value : Option ℕ) (sums : Sums) → owned ≤ 4000000 → unwrap_or value 0 ≤ 10 ^ 15
-    → sums.own ≤ most * 4000000 → sums.topics ≤ most → sums.precisions ≤ sums.topics * 10 ^ 15
-    → ((with_topic owned value sums).own ≤ (most + 1) * 4000000) × ((with_topic owned value sums).topics ≤ most + 1)
+small : (owned most : ℕ) (value : Option ℕ) (sums : Sums) → owned ≤ max_entries → unwrap_or value 0 ≤ 10 ^ 15
+    → sums.own ≤ most * max_entries → sums.topics ≤ most → sums.precisions ≤ sums.topics * 10 ^ 15
+    → ((with_topic owned value sums).own ≤ (most + 1) * max_entries) × ((with_topic owned value sums).topics ≤ most + 1)
     × ((with_topic owned value sums).precisions ≤ (with_topic owned value sums).topics * 10 ^ 15)
 small owned most None sums few fits own topics precisions = (omega (arith, few, own), omega (arith, topics), omega (arith, precisions))
 small owned most (Some v) sums few fits own topics precisions = (omega (arith, few, own), omega (arith, topics), omega (arith, fits, precisions))
@@ -60,7 +61,8 @@ loop-topic-preserved c =
     topic-reduced H group c.args.judgements.now.topics.items c.requires.reduced i within reduced c.index-reduced.ensures id at in
     let owned : ℕ = count_by (contains_text (own H group id)) (graded_documents H id) in
     let own_is : reduced.own ≡ owned = ap (λ (one : ReducedJudgements). one.own) reduced_is ∙ sym (own-are H group id) in
-    let few : reduced.own ≤ 4000000 = (topic-few H group c.args.judgements.now.topics.items c.requires.reduced i within reduced c.index-reduced.ensures).own in
+    let few : reduced.own ≤ max_entries =
+    (topic-few H group c.args.judgements.now.topics.items c.requires.reduced i within reduced c.index-reduced.ensures).own in
     let value_is : (one : ℕ × Run) → IsLive H c.args.run one → c.in_ok-value.value ≡ value_on H group one.1 id = λ one live.
     c.in_ok-value.ensures.value id one at live ∙ ap (λ (group : Text). value_on H group one.1 id) c.bytes.ensures in
     let was = c.loop-topic.sums in

@@ -6,8 +6,9 @@ use Rattle.decimal_rank.proofs.Lists.{slice-there}
 use Rattle.rulebook.specs.Words.{Text}
 use Rattle.campaign_core.specs.Views.LentTopics.{topic_at}
 use Rattle.campaign_core.specs.Assessments.Topics.{topic_ids}
+use Rattle.campaign_core.proofs.Lists.ByteOrder.{text_cmp}
 use Rattle.leave_out.specs.TopicOrder.{AreTopicNumbers}
-use Rattle.leave_out.proofs.TopicsById.{keys-put, numbered-put, text_cmp}
+use Rattle.leave_out.proofs.TopicsById.{keys-put, numbered-put}
 use Rattle.leave_out.proofs.topic_order.topic_ids.Goals as goal
 
 pub loop-topic-preserved : goal.loop-topic-preserved

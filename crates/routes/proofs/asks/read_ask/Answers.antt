@@ -1,8 +1,8 @@
-use Rattle.std.proofs.Common.{◌∙◌, rules, sym, Ok}
+use Rattle.std.proofs.Common.{rules, Ok}
 use Rattle.routes.specs.Asks.{Asks}
+use Rattle.routes.specs.Keys.{without_key}
 use Rattle.routes.specs.RouteTable.{parameter}
 use Rattle.routes.proofs.Requests.AddressedRequests.{addressed_at}
-use Rattle.routes.proofs.PathTable.TableRows.{parameter_is, role_is}
 use Rattle.routes.proofs.asks.read_ask.Goals as goal
 
 pub returns-clause-addressed : goal.returns-clause-addressed
@@ -12,7 +12,6 @@ returns-clause-addressed c = λ moment latest.
     let text = parameter c.bytes-path.result.now in
     let body = c.args.request.now.body in
     let asks : Asks opening.place.question text body (Ok c.in_ok-ask.ask) = search (rules, c.in_ok-ask.ensures.ask) in
-    rw c.in_ok-caller.ensures
-    (addressed_at opening.place.question opening.row.now opening.number text body c.in_ok-ask.ask moment opened.named opened.number
-    (sym (role_is opening.place opened.known opening.row.now.role) ∙ opened.role)
-    (sym (parameter_is opening.place opened.known text) ∙ opened.fitting) asks c.in_ok-ask.ensures.sound c.requires latest)
+    rw c.in_ok-without_key.ensures
+    (addressed_at opening.place (without_key opening.caller.now) opening.number text body c.in_ok-ask.ask moment opened.known opened.named opened.number
+    opened.role opened.fitting asks c.in_ok-ask.ensures.sound c.requires latest)

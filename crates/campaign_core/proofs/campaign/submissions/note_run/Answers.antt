@@ -4,7 +4,7 @@ use Rattle.std.proofs.lemmas.List.{with_items_is}
 use Rattle.assessment.specs.TopicsFacts.{at_place}
 use Rattle.depth_pool.specs.declared.runs.RunId.{RunId}
 use Rattle.rulebook.specs.Campaign.{runs, History, withdraws}
-use Rattle.campaign_core.specs.Numbering.Submissions.{AreSubmissions, IsWithdrawnBy, live_numbers, withdrawn}
+use Rattle.campaign_core.specs.Numbering.Submissions.{AreSubmissions, IsWithdrawnBy, live_numbers, with_withdrawal}
 use Rattle.campaign_core.proofs.Entries.Runs.LiveNumbers.{live-noted, live-withdrawn}
 use Rattle.campaign_core.proofs.Entries.Runs.WithdrawalSteps.{noted, noted-within, noted-withdrawn}
 use Rattle.campaign_core.proofs.Numbers.RunPlaces.{runs-many}
@@ -17,8 +17,8 @@ none-leaves : (H : History) (e : Entry) (leaving : Option RunId) → ((run : Run
 none-leaves H e None other is = is
 none-leaves H e (Some run) other is = absurd (other run refl)
 
-pub mark_withdrawn-requires : goal.mark_withdrawn-requires
-mark_withdrawn-requires c =
+pub note_withdrawal-requires : goal.note_withdrawal-requires
+note_withdrawal-requires c =
     let H = c.args.history.now in
     let all = c.args.submissions.now.items in
     let is = subst (IsWithdrawnBy H c.args.entry.now) c.in-Some.is c.requires.withdrawn_is in
@@ -30,10 +30,10 @@ returns-in-Some-clause-submissions c =
     let H = c.args.history.now in
     let e = c.args.entry.now in
     let is = subst (IsWithdrawnBy H e) c.in-Some.is c.requires.withdrawn_is in
-    let new = c.mark_withdrawn.new.submissions in
-    let long : length new ≡ c.args.submissions.now.len = c.mark_withdrawn.auto.submissions ∙ c.deref_mut.ensures.len in
+    let new = c.note_withdrawal.new.submissions in
+    let long : length new ≡ c.args.submissions.now.len = c.note_withdrawal.auto.submissions ∙ c.deref_mut.ensures.len in
     subst (AreSubmissions (H ++ e ∷ [])) (sym (with_items_is c.args.submissions.now new long
-    ∙ c.mark_withdrawn.ensures ∙ ap (at_place c.in-Some.run'.0 withdrawn) c.deref_mut.ensures.value))
+    ∙ c.note_withdrawal.ensures ∙ ap (at_place c.in-Some.run'.0 with_withdrawal) c.deref_mut.ensures.value))
     (noted-withdrawn H e c.requires.known c.requires.accepted c.args.submissions.now.items c.requires.submissions is.0 is.1 c.in-Some.run'.0 is.2)
 
 pub returns-in-Some-clause-live : goal.returns-in-Some-clause-live

@@ -21,6 +21,7 @@ use Rattle.campaign_core.specs.Commands.Decisions.{IsDecision}
 use Rattle.campaign_core.specs.Growth.{lists_in}
 use Rattle.campaign_core.specs.Numbering.Numbers.{AreRankable, are_named, docs_in}
 use Rattle.campaign_core.specs.Numbering.Submissions.{AreSubmissions}
+use Rattle.rulebook.proofs.LegalHistories.PlainReplies.{addressed_plain}
 use Rattle.campaign_core.proofs.Rulings.CollectingRulings.{Passes, each_once-submitted, submit-accepted, submit-fits, submit-taken, submit-too-many-docnos, submit-too-many-lines, submit-too-many-runs, submit-unlisted}
 use Rattle.campaign_core.proofs.Rulings.TestOrder.{barred-phase}
 use Rattle.campaign_core.proofs.Lists.Elements.{all_back}
@@ -28,7 +29,7 @@ use Rattle.campaign_core.proofs.Lists.FirstPlaces.{is-there}
 use Rattle.campaign_core.proofs.Numbers.DocNumbers.{each_named}
 use Rattle.campaign_core.proofs.PageTexts.PoolTexts.{lists-named}
 use Rattle.campaign_core.proofs.Numbers.RunPlaces.{runs-many}
-use Rattle.campaign_core.proofs.Rulings.AcceptedEntries.{command-short, docs-plain, plain-of}
+use Rattle.campaign_core.proofs.Rulings.AcceptedEntries.{command-short, docs-plain}
 use Rattle.campaign_core.proofs.decisions.submit.submit_decision.Goals.{After-add_docnos, After-deref-3, After-from, After-is_some, After-len}
 use Rattle.campaign_core.proofs.decisions.submit.submit_decision.Goals as goal
 
@@ -195,7 +196,7 @@ rankable c =
       numbers_are = c.deref-3.ensures.value ∙ c.in_ok-numbers.ensures.added.numbers_are;
       rankable = λ topic.
           let plain = docs-plain (command.Submit c.args.run.now lists) topic
-          (ap is_plain (sym c.requires.asked.command_is) ∙ plain-of core.caller core.number core.command core.moment c.requires.asked.asked.addressed) in
+          (ap is_plain (sym c.requires.asked.command_is) ∙ addressed_plain core.caller core.number core.command core.moment c.requires.asked.asked.addressed) in
           record { few = plain.0; distinct = plain.1; named = lists-named c.add_docnos.new.docnos lists all topic };
     }
 

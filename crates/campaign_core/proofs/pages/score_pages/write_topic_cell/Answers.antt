@@ -1,19 +1,15 @@
-use Rattle.std.proofs.Common.{◌≡◌, ◌<◌, ◌++◌, ◌∙◌, ℕ, true, false, List, [], ap, sym, refl, arith, get_or, length, map}
+use Rattle.std.proofs.Common.{◌≡◌, ◌<◌, ◌++◌, ◌∙◌, ℕ, true, false, List, [], ap, sym, arith, get_or, length, map}
 use Rattle.std.specs.Prelude.{if◌then◌else◌}
 use Rattle.std.proofs.lemmas.List.{append-nil, length-map}
 use Rattle.measures.specs.ScoreLines.{cell_text}
 use Rattle.measures.specs.declared.cells.Cell.{Cell}
 use Rattle.assessment.specs.TopicFacts.{TopicView, facts_of}
-use Rattle.lease_desk.specs.declared.leases.Lease.{Lease}
-use Rattle.rulebook.specs.Campaign.{History}
 use Rattle.rulebook.specs.Reports.Scores.{cell_on, is_counted}
 use Rattle.rulebook.specs.Words.{Text}
-use Rattle.campaign_core.specs.CampaignStates.{KnowsAll}
 use Rattle.campaign_core.specs.Numbering.Numbers.{names_of}
 use Rattle.campaign_core.specs.Assessments.Topics.{topic_ids}
 use Rattle.campaign_core.proofs.Lists.Elements.{get-map}
-use Rattle.campaign_core.proofs.Numbers.TopicPlaces.{as-long, found-at, topic-at}
-use Rattle.campaign_core.proofs.PageTexts.PageTopics.{PageTopic}
+use Rattle.campaign_core.proofs.Numbers.TopicPlaces.{as-long, found-at, view-at}
 use Rattle.campaign_core.proofs.PageTexts.RunCells.{as-many, cell-at}
 use Rattle.campaign_core.proofs.pages.score_pages.write_topic_cell.Goals as goal
 
@@ -23,12 +19,6 @@ long topics number within = omega (arith, within, length-map topics facts_of)
 at-place : (topics : List TopicView) (number : ℕ) (topic : TopicView) → topic ≡ get_or topics number topic
     → topic.facts ≡ get_or (map facts_of topics) number topic.facts
 at-place topics number topic is = ap facts_of is ∙ sym (get-map facts_of topics number topic)
-
-shown : (H : History) (topics : List TopicView) (desk : List Lease) (number : ℕ) (topic : TopicView) → KnowsAll H (map facts_of topics) desk
-    → number < length topics → topic ≡ get_or topics number topic
-    → PageTopic H (names_of H) topic.facts desk (get_or (topic_ids H) number []) number
-shown H topics desk number topic knows within is =
-    topic-at H (map facts_of topics) desk knows number topic.facts (long topics number within) (at-place topics number topic is)
 
 pub cell-requires : goal.cell-requires
 cell-requires c =
@@ -56,7 +46,7 @@ pub returns-then-not-is_counted : goal.returns-then-not-is_counted
 returns-then-not-is_counted c = λ H r knows name_is.
     let topic = c.index-topics-number.result in
     let id = get_or (topic_ids H) c.args.number [] in
-    let page = shown H c.args.topics.now knows.desk c.args.number topic knows.knows c.requires.within c.index-topics-number.is in
+    let page = view-at H c.args.topics.now knows.desk c.args.number topic knows.knows c.requires.within c.index-topics-number.is in
     let none : false ≡ is_counted H id = c.if-not-is_counted.ensures H (names_of H) page.is_topic ∙ ap (is_counted H) page.id_is in
     sym (append-nil c.args.out.now.items) ∙ ap (λ t. c.args.out.now.items ++ (if t then cell_text r.name id (cell_on H r id) else [])) none
 
@@ -66,7 +56,7 @@ returns c = λ H r knows name_is.
     let topic = c.index-topics-number.result in
     let before = c.args.out.now.items in
     let id = get_or (topic_ids H) c.args.number [] in
-    let page = shown H topics knows.desk c.args.number topic knows.knows c.requires.within c.index-topics-number.is in
+    let page = view-at H topics knows.desk c.args.number topic knows.knows c.requires.within c.index-topics-number.is in
     let some : true ≡ is_counted H id = c.if-not-is_counted.ensures H (names_of H) page.is_topic ∙ ap (is_counted H) page.id_is in
     let cell : c.cell.result.now ≡ cell_on H r id = c.cell.ensures.cell _ knows.scored.stands
     ∙ cell-at H (map facts_of topics) c.args.board.now c.args.run r knows c.graded_are_on_trail.ensures c.graded_are_there.ensures id

@@ -4,13 +4,13 @@ use Rattle.std.specs.declared.alloc.Global.{Global}
 use Rattle.journal.specs.KeptRecords.{Settled, payloads as payloads_of}
 use Rattle.rulebook.specs.Words.{Text}
 use Rattle.book.specs.Opening.Openings.{OpensWith}
-use Rattle.book.specs.Opening.OpenJournals.{TakesUp}
+use Rattle.book.specs.Opening.OpenJournals.{OpensRecords}
 use Rattle.book.specs.Opening.Replays.{Stops}
 use Rattle.book.specs.Stories.{IsStory}
-use Rattle.book.proofs.OpenJournals.{first_removed, given_up, no_records, taken_up}
-use Rattle.book.proofs.opening.take_up.Given.{Over}
-use Rattle.book.proofs.opening.take_up.Goals.{After-replay, Then-len-eq0}
-use Rattle.book.proofs.opening.take_up.Goals as goal
+use Rattle.book.proofs.OpenJournals.{first_removed, given_up, no_records, is_book_of}
+use Rattle.book.proofs.opening.open_records.Given.{Over}
+use Rattle.book.proofs.opening.open_records.Goals.{After-replay, Then-len-eq0}
+use Rattle.book.proofs.opening.open_records.Goals as goal
 
 none : (g : Over) (c : Then-len-eq0 g) → length c.args.records.items < 1
 none g c = omega (arith, c.if-len-eq0.true, c.len.ensures, c.args.records.ok.0)
@@ -24,7 +24,7 @@ start-requires-clause-settled g c =
 pub returns-then-len-eq0 : goal.returns-then-len-eq0
 returns-then-len-eq0 g c =
     let here = (goal.at.returns-then-len-eq0 g c).Then-len-eq0 in
-    subst (λ (all : List Text). TakesUp g.D.Disk.seen c.args.rules all c.args.opening c.args.journal.disk c.start.result)
+    subst (λ (all : List Text). OpensRecords g.D.Disk.seen c.args.rules all c.args.opening c.args.journal.disk c.start.result)
     (no_records c.args.records.items (none g here)) c.start.ensures
 
 -- the first record, and the others
@@ -37,15 +37,15 @@ all_is g c =
     ∙ ap (λ (rest : List (Vec ℕ Global)). first.items ∷ payloads_of rest) c.remove-first.ensures.items
     ∙ first_removed records first some c.remove-first.ensures.value
 
-pub reopen-requires-clause-settled : goal.reopen-requires-clause-settled
-reopen-requires-clause-settled g c =
+pub book_of-requires-clause-settled : goal.book_of-requires-clause-settled
+book_of-requires-clause-settled g c =
     let records = payloads_of c.args.records.items in
     let opens : OpensWith c.args.rules (c.deref.result.now ∷ payloads_of c.remove-first.new.self.items) c.in-Ok.state.history = c.in-Ok.ensures in
-    let here = (goal.at.reopen-requires-clause-settled g c).After-replay in
+    let here = (goal.at.book_of-requires-clause-settled g c).After-replay in
     (records, subst (λ (all : List Text). IsStory all c.in-Ok.state.history) (all_is g here) opens.0.0, c.requires.settled)
 
-pub reopen-requires-clause-within : goal.reopen-requires-clause-within
-reopen-requires-clause-within g c = omega (arith, c.requires.small)
+pub book_of-requires-clause-within : goal.book_of-requires-clause-within
+book_of-requires-clause-within g c = omega (arith, c.requires.small)
 
 pub returns-in-Ok : goal.returns-in-Ok
 returns-in-Ok g c =
@@ -53,8 +53,8 @@ returns-in-Ok g c =
     let records = payloads_of c.args.records.items in
     let opens : OpensWith c.args.rules (c.deref.result.now ∷ payloads_of c.remove-first.new.self.items) c.in-Ok.state.history = c.in-Ok.ensures in
     let here = (goal.at.returns-in-Ok g c).After-replay in
-    taken_up D.seen g.met.D.Disk.only_now c.args.rules records c.args.opening c.args.journal.disk
-    (c.stands.ensures.alone records c.requires.settled) c.reopen.result c.in-Ok.state.history c.reopen.ensures.view c.reopen.ensures.sound
+    is_book_of D.seen g.met.D.Disk.only_now c.args.rules records c.args.opening c.args.journal.disk
+    (c.stands.ensures.alone records c.requires.settled) c.book_of.result c.in-Ok.state.history c.book_of.ensures.view c.book_of.ensures.sound
     (subst (λ (all : List Text). OpensWith c.args.rules all c.in-Ok.state.history) (all_is g here) opens)
 
 pub returns : goal.returns

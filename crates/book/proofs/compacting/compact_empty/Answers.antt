@@ -10,9 +10,9 @@ use Rattle.book.proofs.Payloads.CompactedRecords.{found_done, found_failed, open
 use Rattle.book.proofs.Founders.{founding_story}
 use Rattle.book.proofs.JournalEntries.{keeps_settled}
 use Rattle.book.proofs.OpenJournals.{establishes}
-use Rattle.book.proofs.compacting.found.Given.{Over}
-use Rattle.book.proofs.compacting.found.Goals.{After-append, After-stands}
-use Rattle.book.proofs.compacting.found.Goals as goal
+use Rattle.book.proofs.compacting.compact_empty.Given.{Over}
+use Rattle.book.proofs.compacting.compact_empty.Goals.{After-append, After-stands}
+use Rattle.book.proofs.compacting.compact_empty.Goals as goal
 
 -- nothing was kept before
 keeps : (g : Over) (c : After-stands g) → Keeps (g.D.Disk.seen c.args.journal.disk).images c.args.journal.place c.args.journal.due [] []
