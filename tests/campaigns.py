@@ -12,10 +12,14 @@ ASSESSORS = ["ASSESSORASSESS01", "ASSESSORASSESS02"]
 TOPICS = "<top>\n<num> 1\n<title> pooling\n</top>\n"
 
 
+def fields(key, number=None):
+    """The fields that tell whose a request is, and its number where it has one."""
+    told = {"X-Campaign-Key": key, "X-Request-Number": number}
+    return [f"{name}: {value}" for name, value in told.items() if value is not None]
+
+
 def message(method, path, key, body="", number=None):
-    head = f"{method} {path} HTTP/1.1\r\nX-Campaign-Key: {key}\r\n"
-    if number is not None:
-        head += f"X-Request-Number: {number}\r\n"
+    head = "".join(f"{line}\r\n" for line in [f"{method} {path} HTTP/1.1", *fields(key, number)])
     if method != "GET" or body:
         head += f"Content-Length: {len(body)}\r\n"
     return (head + "\r\n" + body).encode()

@@ -5,42 +5,13 @@ import random
 import subprocess
 import sys
 
-from tests.plain.walk import DOCS, Topic, Walk
+from tests.plain.requests import NAMES, thrown, told
+from tests.plain.walk import Topic, Walk
 from tests.script import tell
 
-NAMES = "abcdef"
+CASES = "crates/campaign_cases/stdin"
 RANKINGS = ["abcdefgh", "hgfedcba", "cadbe", "bdfh", "eca", "g", "fbdhac", "dghe", "hab", "acegbdfh"]
 tried = collections.Counter()
-
-
-def thrown(dice, walk, moment):
-    """A request at a moment: mostly one that does something."""
-    throw, assessor, grade = dice.randrange(28), dice.choice("pqr"), dice.choice([0, 0, 0, 0, 1, 1, 2, 2, 3, 4])
-    if throw < 16:
-        number = max(len(walk.leases) - dice.randrange(4), 0)
-        holder = walk.leases[number - 1]["who"] if number else assessor
-        topic = dice.choice(list(walk.topics))
-        kinds = [f"lease {topic}"] * 6 + ["lease 9", f"cancel lease {topic}", "release", "another's"] + ["grade"] * 6
-        kind = dice.choice(kinds)
-        if kind == "release":
-            return f"{holder} {moment} release {number}"
-        if kind in ("grade", "another's"):
-            return f"{holder if kind == 'grade' else assessor} {moment} grade {number} {grade}"
-        return f"{assessor} {moment} {kind}"
-    if throw < 21:
-        kind = dice.randrange(10)
-        topic = dice.choice(list(walk.topics))
-        labelled = [doc for _, doc in walk.topics[topic].labels]
-        doc = dice.choice(labelled) if labelled and dice.randrange(4) else dice.choice(DOCS + "i")
-        if kind < 2:
-            return f"org {moment} withdraw {dice.choice(NAMES)}"
-        behind = "" if topic == "1" else "-2"
-        words = f"{behind} {doc} {grade}"
-        return f"org {moment} rule{words}" if kind < 4 else f"{assessor} {moment} amend{words}"
-    if throw == 21:
-        return "order"
-    pages = ["qrels", "disagreements", "progress", "release-qrels 0", "release-scores 1", "table"]
-    return f"org {moment} {dice.choice(pages + [f'scores {run}' for run in NAMES])}"
 
 
 def handed_in(walk, run, moment):
@@ -50,7 +21,7 @@ def handed_in(walk, run, moment):
     tried["late runs over grades"] += bool(walk.counted())
     for words in (f"cancel {run}", run, run):
         line = f"grp {moment} {words}"
-        yield f"{line} -> {walk.told(line)}"
+        yield f"{line} -> {told(walk, line)}"
     yield f"order -> {walk.order()}"
 
 
@@ -79,17 +50,17 @@ def course(dice):
     asked = [f"grp 1000 {run}" for run in runs if run not in late]
     given = "topics -> topics 1" if len(topics) == 1 else "topics-2 -> topics 2"
     lines = [f"\ncampaign {walk.depth} {walk.hold} {needed}{own}", f"org 1000 {given}"]
-    lines += [f"{line} -> {walk.told(line)}" for line in asked]
+    lines += [f"{line} -> {told(walk, line)}" for line in asked]
     lines.append("org 1000 open -> done 1000")
     entries = dict(zip(dice.sample(range(60), len(late)), late))
     for step in range(60):
         moment = 700 + step * 60 + dice.randrange(500)
-        line = thrown(dice, walk, moment)
-        lines.append(f"{line} -> {walk.told(line)}")
+        line = "order" if dice.randrange(28) == 0 else thrown(dice, walk, moment)
+        lines.append(f"{line} -> {told(walk, line)}")
         if step in entries:
             if walk.names and dice.randrange(2):
                 line = f"grp {moment} withdraw {dice.choice(walk.names)}"
-                lines.append(f"{line} -> {walk.told(line)}")
+                lines.append(f"{line} -> {told(walk, line)}")
             lines += handed_in(walk, entries[step], moment)
     last = max(walk.now, 9000)
     lines.append(f"org 9000 publish -> done {last}")
@@ -106,6 +77,12 @@ def most_runs():
     return [*lines, "grp 1000 submit X a -> refused Limit { which: Runs }", "entries -> 258"]
 
 
+def forms():
+    """The lines that tell what each verb asks."""
+    with open(CASES) as file:
+        return [line.rstrip("\n") for line in file if line.startswith("form ")]
+
+
 def is_enough(count):
     """Whether that many courses tried late runs and levels, as a hundred of them have to."""
     wanted = {
@@ -114,12 +91,12 @@ def is_enough(count):
         "late runs over grades": tried["late runs"],
         "courses of two levels": count,
     }
-    return count < 100 or all(4 * tried[part] >= whole for part, whole in wanted.items())
+    return count < 100 or all(6 * tried[part] >= whole for part, whole in wanted.items())
 
 
 def play_courses(cases, count):
     """The program of the cases is told what the plain walk tells; where it isn't, the script ends with its status."""
-    dice, lines = random.Random(7), most_runs()
+    dice, lines = random.Random(7), [*forms(), *most_runs()]
     for _ in range(count):
         lines += course(dice)
     asked = sum(" -> " in line for line in lines)

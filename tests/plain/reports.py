@@ -8,6 +8,7 @@ import subprocess
 
 from tests.plain.journals import AMEND, GRADE, LEASE, OPEN, PUBLISH, RELEASE, ROLES, RULE, WITHDRAW
 from tests.plain.journals import Entry, area, compacted, founding, journal, spelled, submitted, topics_given
+from tests.plain.requests import told
 from tests.plain.walk import DOCS, TERM, TOP_GRADE, Topic, Walk, four_decimals
 from tests.script import FOLDER, PROGRAM, fail, tell
 
@@ -150,10 +151,10 @@ class Played:
 
     def asks(self, line, number=None):
         """What a request is told, which is an entry where it is accepted."""
-        told = self.walk.told(line)
-        if not told.startswith("refused "):
+        text = told(self.walk, line)
+        if not text.startswith("refused "):
             self.entries.append(self.entry_of(line, number))
-        return told
+        return text
 
     def entry_of(self, line, number):
         who, _, verb, *words = line.split()
@@ -288,7 +289,8 @@ def hold_printed(played, what):
         file.write(played.settings())
     with open(path, "wb") as file:
         file.write(image)
-    table = "".join(line + "\n" for line in played.walk.page("org", "table", [], 0))
+    walk = played.walk
+    table = "".join(f"{line}\n" for run in walk.live_runs() for line in walk.lines(run, "all"))
     phase = "published" if played.entries[-1].kind == PUBLISH else "judging"
     state = f"entries {len(played.entries)}\nphase {phase}\n{table}"
     bundled = area(compacted(played.entries))

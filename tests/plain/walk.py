@@ -1,4 +1,4 @@
-"""A campaign as plain lists keep it: what each request is told, worked out anew from the rules."""
+"""A campaign as plain lists keep it: what the rules make of what happened, worked out anew."""
 
 DOCS = "abcdefgh"
 CUTOFFS = [5, 10, 15, 20, 30, 100, 200, 500, 1000]
@@ -119,77 +119,6 @@ class Walk:
                 return self.first_open(topic, run, who, now)
         raise Refused("NothingLeft")
 
-    def lease(self, who, topic, now, is_kept):
-        if topic not in self.topics:
-            raise Refused("UnknownTopic")
-        live = sum(lease["who"] == who and self.is_live(lease, now) for lease in self.leases)
-        if live >= self.hold:
-            raise Refused(f"TooMany {{ live: {live} }}")
-        doc = self.named(topic, who, now)
-        if not is_kept:
-            return f"cancelled {now}"
-        self.leases.append({"who": who, "topic": topic, "doc": doc, "until": now + TERM, "ended": False})
-        self.now = now
-        return f"leased {len(self.leases)} {placed(topic, doc)} {now + TERM}"
-
-    def end(self, who, number, now, grade=0):
-        """The lease that ends with a grade, or without one."""
-        if not 1 <= number <= len(self.leases):
-            raise Refused("UnknownLease")
-        lease = self.leases[number - 1]
-        if lease["who"] != who:
-            raise Refused("NotYours")
-        if lease["ended"]:
-            raise Refused("Ended")
-        if lease["until"] <= now:
-            raise Refused(f"Expired {{ until: {lease['until']} }}")
-        if grade > TOP_GRADE:
-            raise Refused("GradeRange")
-        lease["ended"] = True
-        self.now = now
-        return lease
-
-    def graded(self, who, number, grade, now):
-        lease = self.end(who, number, now, grade)
-        topic, doc = lease["topic"], lease["doc"]
-        self.topics[topic].labels[who, doc] = grade
-        self.topics[topic].follow(doc)
-        return f"graded {placed(topic, doc)} {grade}"
-
-    def released(self, who, number, now):
-        self.end(who, number, now)
-        return f"done {now}"
-
-    def regrade(self, topic, table, key, doc, is_labelled, grade, now):
-        """Sets the label or the ruling of a document that has a label as it must."""
-        if not is_labelled:
-            raise Refused("NotLabelled")
-        if grade > TOP_GRADE:
-            raise Refused("GradeRange")
-        table[key] = grade
-        topic.follow(doc)
-        self.now = now
-        return f"done {now}"
-
-    def amended(self, who, topic, doc, grade, now):
-        return self.regrade(topic, topic.labels, (who, doc), doc, (who, doc) in topic.labels, grade, now)
-
-    def ruled(self, topic, doc, grade, now):
-        is_labelled = any(labelled == doc for _, labelled in topic.labels)
-        return self.regrade(topic, topic.rulings, doc, doc, is_labelled, grade, now)
-
-    def submit(self, who, name, docs, now, is_kept):
-        if name in self.names:
-            raise Refused("TagTaken")
-        if not is_kept:
-            return f"cancelled {now}"
-        lists = {topic: ranked for topic, ranked in zip(self.topics, docs.split("/")) if ranked}
-        self.names.append(name)
-        self.groups.append(who)
-        self.rankings.append(lists)
-        self.now = now
-        return f"submitted {name} {len(lists)} {sum(map(len, lists.values()))}"
-
     def order(self):
         """The live runs on the topic 1, each behind those that come before it, with its mean of precisions."""
         runs = self.live_runs()
@@ -197,38 +126,8 @@ class Walk:
         means = lambda run: dict(self.summary(run)[1])["map"]
         return "".join(f"{run} {means(run)}|" for run in sorted(runs, key=how_many_before))
 
-    def run_of(self, who, name):
-        if name not in self.names:
-            raise Refused("UnknownRun")
-        run = self.names.index(name)
-        if who not in ("org", self.groups[run]):
-            raise Refused("NotYours")
-        if run in self.withdrawn:
-            raise Refused("Withdrawn")
-        return run
-
-    def withdraw(self, who, name, now):
-        self.withdrawn.add(self.run_of(who, name))
-        self.now = now
-        return f"done {now}"
-
     def counted(self):
         return [topic for topic, its in self.topics.items() if its.grades()]
-
-    def qrels(self):
-        return [f"{topic} 0 {doc} {grade}" for topic, its in self.topics.items() for doc, grade in its.grades()]
-
-    def disagreements(self):
-        return [f"{topic} {doc}" for topic, its in self.topics.items() for doc in its.disagreements()]
-
-    def progress(self, now):
-        lines = []
-        for topic, its in self.topics.items():
-            pooled = set().union(*(self.held(run, topic) for run in self.live_runs()))
-            relevant = its.all_relevant(its.grades())
-            live = sum(self.is_live(lease, now) for lease in self.leases if lease["topic"] == topic)
-            lines.append(f"{topic} {len(pooled)} {relevant} {len(its.grades()) - relevant} {live}")
-        return lines
 
     def cell(self, run, topic):
         its = self.topics[topic]
@@ -249,56 +148,3 @@ class Walk:
         printed = [(name, str(count)) for name, count in counts]
         printed += [(name, four_decimals(value)) for name, value in values]
         return [f"{self.names[run]}\t{topic}\t{name}\t{text}" for name, text in printed]
-
-    def told(self, line):
-        """What a line is told."""
-        if line == "order":
-            return self.order()
-        who, moment, *words = line.split()
-        now = max(int(moment), self.now)
-        is_kept = words[0] != "cancel"
-        verb, *words = words if is_kept else words[1:]
-        try:
-            if verb == "submit":
-                return self.submit(who, *words, now, is_kept)
-            if verb == "lease":
-                return self.lease(who, words[0], now, is_kept)
-            if verb == "grade":
-                return self.graded(who, int(words[0]), int(words[1]), now)
-            if verb == "release":
-                return self.released(who, int(words[0]), now)
-            if verb.startswith("amend"):
-                return self.amended(who, self.of(verb), words[0], int(words[1]), now)
-            if verb.startswith("rule"):
-                return self.ruled(self.of(verb), words[0], int(words[1]), now)
-            if verb == "withdraw":
-                return self.withdraw(who, words[0], now)
-            return page(self.page(who, verb, words, now))
-        except Refused as refusal:
-            return f"refused {refusal}"
-
-    def of(self, verb):
-        """The topic of a verb, which is 1 where it names none."""
-        return self.topics[verb.partition("-")[2] or "1"]
-
-    def page(self, who, verb, words, now):
-        if verb == "qrels":
-            return self.qrels()
-        if verb == "disagreements":
-            return self.disagreements()
-        if verb == "progress":
-            return self.progress(now)
-        if verb == "scores":
-            run = self.run_of(who, words[0])
-            return [line for topic in [*self.counted(), "all"] for line in self.lines(run, topic)]
-        if verb == "table":
-            return [line for run in self.live_runs() for line in self.lines(run, "all")]
-        raise Refused("UnknownRelease")
-
-
-def placed(topic, doc):
-    return doc if topic == "1" else f"{topic}/{doc}"
-
-
-def page(lines):
-    return "page" + (" " if lines else "") + "".join(f"{line}|" for line in lines)

@@ -3,16 +3,15 @@
 import socket
 import struct
 
-from tests.campaigns import check, fresh, message
+from tests.campaigns import ASSESSORS, ORGANISER, TOPICS, check, fresh, message
 from tests.script import fail, tell
-from tests.servers.paths import ROWS
 from tests.servers.server import MOST_WAIT, Server, answer_of
 
 
 def peers_that_go_away():
     served = fresh("peers")
     server = Server(served, 2, 5)
-    topics, pool = message(*ROWS[1]), message(*ROWS[10])
+    topics, pool = message("POST", "/topics", ORGANISER, TOPICS), message("GET", "/topics/1/pool", ASSESSORS[0])
     # one that says nothing holds a worker until it goes
     silent = server.connect()
     with server.connect() as link:

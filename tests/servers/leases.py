@@ -3,13 +3,17 @@
 import re
 import time
 
-from tests.campaigns import ASSESSORS, ORGANISER, fresh, message, session
+from tests.campaigns import ASSESSORS, GROUP, ORGANISER, TOPICS, fresh, message, session
 from tests.script import fail, tell
-from tests.servers.paths import ROWS
 from tests.servers.server import Server, answer_of
 
+RUN = "1 Q0 a 1 3 X\n1 Q0 b 2 2 X\n1 Q0 e 3 1 X\n"
 # the messages behind which an assessor may lease the first document, a
-JUDGING = [ROWS[1], ROWS[3], ("POST", "/open", ORGANISER, "")]
+JUDGING = [
+    ("POST", "/topics", ORGANISER, TOPICS),
+    ("POST", "/runs/X", GROUP, RUN),
+    ("POST", "/open", ORGANISER, ""),
+]
 
 
 def leased(link, key):

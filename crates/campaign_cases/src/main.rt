@@ -2,6 +2,8 @@
 //! It reads them from standard input and prints each line that is told something else, or that each
 //! case passes.
 //!
+//!     form lease POST /topics/$/lease
+//!
 //!     # a lease ends at its moment
 //!     campaign 3 2 1
 //!     org 1000 topics -> topics 1
@@ -13,12 +15,14 @@
 //!
 //!     cases 1, lines 6
 //!
+//! The lines before all others are the forms of the verbs (`requests`).
 //! `campaign` founds one of this depth, this hold, and so many labels that a document of the topic
 //! 1 needs; a fourth number is a level of that topic's own. Its other rules stand in `founded_by`.
 //! In a page `|` ends a line. A line that can't be played is told `?`. The last line of all says how
 //! many cases and lines stand before it.
 //!
-//! - The cases: `stdin`; `tests/courses` plays random ones, beside a plain walk over what happened.
+//! - The cases and the verbs: `stdin`; `tests/courses` plays random cases, beside a plain walk over
+//!   what happened.
 //! - `campaigns`: the campaign of a case, and what it tells a line. `requests`: the request of a
 //!   verb. `answers`: what a reply says.
 #![tactic(auto)]
@@ -97,10 +101,8 @@ fn play_case(rt: &HostRuntime, door: &Door, case: &str, counts: &mut Counts) -> 
     play_in(rt, door, state, lines, counts)
 }
 
-/// Plays the cases of standard input, and tells how they went.
-fn play_all(rt: &HostRuntime, door: &Door) -> io::Result<ExitCode> {
-    let text = io::read_to_string(rt.alloc(), rt.reader())?;
-    let text = text.as_str();
+/// Plays the cases of a text, and tells how they went.
+fn play_all(rt: &HostRuntime, door: &Door, text: &str) -> io::Result<ExitCode> {
     let (text, counted) = text.split_once("\ncases ").unwrap_or((text, ""));
     let mut counts = Counts {
         cases: 0,
@@ -133,8 +135,11 @@ fn tell_end(rt: &HostRuntime, counted: &str, counts: &Counts) -> io::Result<Exit
 }
 
 fn main(rt: HostRuntime) -> io::Result<ExitCode> {
-    match Door::new(rt.alloc()) {
-        Some(door) => play_all(&rt, &door),
+    let text = io::read_to_string(rt.alloc(), rt.reader())?;
+    let text = text.as_str();
+    let (forms, _) = text.split_once("\ncampaign ").unwrap_or((text, ""));
+    match Door::new(rt.alloc(), forms) {
+        Some(door) => play_all(&rt, &door, text),
         None => Ok(ExitCode::from(7)),
     }
 }

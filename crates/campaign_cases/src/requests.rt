@@ -4,8 +4,12 @@
 //!     p#7 1000 grade 1 0           under the number 7
 //!     p 1000 cancel lease 1        the entry is cancelled once it is prepared
 //!
-//! A request is made of its method, path and body, which `routes` reads. Its topic is 1, where it
-//! names no other: those with `-2` are of the topic 2.
+//! Each verb has a form, the method, the path and the body of its request, which `routes` reads:
+//!
+//!     form grade POST /leases/$/grade {"grade":%}
+//!
+//! `$` is the first word behind the verb, `%` the second, `@` the lines of a run of the second's
+//! letters by rank, and `|` ends a line.
 ghost use Rattle.std.specs.Prelude.{◌≤◌, ℕ, IfSome, IsTrue};
 ghost use Rattle.rulebook.specs.Histories.Legal.{is_well_addressed};
 ghost use Rattle.rulebook.specs.declared.limits.TheConstants.{MAX_MOMENT};
@@ -16,41 +20,17 @@ use routes::{AskReader, KeyRow, Keys, Paths, are_rows};
 use rulebook::{Ask, Caller, Role};
 use std::alloc::Global;
 
-/// Each verb, and the method, the path and the body of its request: `$` is the first word behind
-/// the verb, `%` the second, `@` the lines of a run of the second's letters by rank, and `|` ends a
-/// line. A stray run has a list of the topic 9.
-const FORMS: &str = r#"topics POST /topics <top>|<num> 1|<title> pooling|</top>|
-topics-2 POST /topics <top>|<num> 1|<title> pooling|</top>|<top>|<num> 2|<title> pooling|</top>|
-submit POST /runs/$ @
-stray POST /runs/$ 1 Q0 a 1 1 t|9 Q0 b 1 1 t|
-open POST /open
-lease POST /topics/$/lease
-grade POST /leases/$/grade {"grade":%}
-release POST /leases/$/release
-amend POST /topics/1/amend {"doc":"$","grade":%}
-amend-2 POST /topics/2/amend {"doc":"$","grade":%}
-rule POST /topics/1/rule {"doc":"$","grade":%}
-rule-2 POST /topics/2/rule {"doc":"$","grade":%}
-withdraw POST /runs/$/withdraw
-publish POST /publish
-pool GET /topics/$/pool
-qrels GET /qrels
-disagreements GET /disagreements
-progress GET /progress
-scores GET /runs/$/scores
-table GET /table
-release-qrels GET /releases/$/qrels
-release-scores GET /releases/$/scores"#;
-
 /// The most bytes of a request's body.
 const MOST_BODY: usize = 16_777_216;
 
 /// The method, the path and the body of a verb.
-fn form_of(verb: &str) -> Option<&'static str> {
-    for line in FORMS.lines() {
-        let (word, form) = cut(line);
-        if word == verb {
-            return Some(form);
+fn form_of<'x>(forms: &'x str, verb: &str) -> Option<&'x str> {
+    for line in forms.lines() {
+        if let Some(words) = line.strip_prefix("form ") {
+            let (word, form) = cut(words);
+            if word == verb {
+                return Some(form);
+            }
         }
     }
     None
@@ -100,16 +80,18 @@ fn caller_of(word: &str) -> (&str, Option<&str>) {
     }
 }
 
-/// The table of the paths, and the callers of the campaigns, whose keys are their names.
+/// The table of the paths, the callers of the campaigns, whose keys are their names, and the forms
+/// of the verbs.
 #[derive(Drop)]
-pub(crate) struct Door {
+pub(crate) struct Door<'x> {
     paths: Paths,
     keys: Keys,
+    forms: &'x str,
 }
 
-impl Door {
+impl<'x> Door<'x> {
     /// None where memory is short.
-    pub(crate) fn new(alloc: Global) -> Option<Door> {
+    pub(crate) fn new(alloc: Global, forms: &'x str) -> Option<Door<'x>> {
         let rows = rows(alloc).ok()?;
         if !are_rows(&rows) {
             return None;
@@ -117,6 +99,7 @@ impl Door {
         Some(Door {
             paths: Paths::new(alloc).ok()?,
             keys: Keys::new(rows),
+            forms,
         })
     }
 }
@@ -209,7 +192,7 @@ pub(crate) fn ask_of(
     ensures { IfSome result (λ read. (moment : ℕ) → moment ≤ MAX_MOMENT
         → IsTrue (is_well_addressed read.0 read.1 read.2 moment)) }
 {
-    let (method, rest) = cut(form_of(asked.verb)?);
+    let (method, rest) = cut(form_of(door.forms, asked.verb)?);
     let (path, body) = cut(rest);
     let body = filled(alloc, body, asked).ok()?;
     let head = head_of(alloc, method, path, body.bytes().len(), asked).ok()?;

@@ -1,5 +1,7 @@
 -- The first fault of a request, or what is read of it.
 use Rattle.std.specs.Prelude.{◌≡◌, Bool, Option, Some, None, Result, Ok, Err, if◌then◌else◌}
+use Rattle.trec_formats.specs.declared.faults.FormatEnd.{FormatEnd}
+use Rattle.trec_formats.specs.declared.faults.FormatEnd.TheVariants as ends
 use Rattle.routes.specs.declared.faults.RouteFault.{RouteFault}
 use Rattle.routes.specs.declared.faults.RouteFault.TheVariants as faults
 
@@ -38,3 +40,8 @@ IsRead P (Err cause) = OfRouteFault cause (λ told. P (Err told))
 abbrev pub GivesOrFaults : {X A : Type 0} → (X → A) → Result X RouteFault → Result A RouteFault → Type 0
 GivesOrFaults view (Ok x) read = read ≡ Ok (view x)
 GivesOrFaults view (Err cause) read = OfRouteFault cause (λ told. read ≡ Err told)
+
+-- the fault of a text that isn't of its format
+abbrev pub fault_of : FormatEnd → RouteFault
+fault_of (ends.Fault at) = faults.Format at
+fault_of ends.Memory = faults.Memory

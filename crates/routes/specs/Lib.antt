@@ -7,5 +7,4 @@ pub mod Faults
 pub mod Keys
 pub mod Limits
 pub mod Openings
-pub mod RouteTable
-pub mod RoleRules
+pub mod PathTable

@@ -14,7 +14,8 @@ use Rattle.routes.specs.declared.route_table.Route.{Route}
 use Rattle.routes.specs.Faults.{◌>>=◌, or_fault, demand}
 use Rattle.routes.specs.Keys.{caller_with}
 use Rattle.routes.specs.Limits.{most_number_digits}
-use Rattle.routes.specs.RouteTable.{matched_route, parameter, fits, method_name, may_ask}
+use Rattle.routes.specs.PathTable.RouteTable.{parameter, fits, method_name, may_ask}
+use Rattle.routes.specs.PathTable.Router.{matched_route}
 
 -- which caller asks at which row, and with which number
 pub record Opening : Type 0 where

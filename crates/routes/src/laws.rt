@@ -5,7 +5,7 @@ ghost use Rattle.http_wire.specs.declared.messages.HttpRequest.{HttpRequest};
 ghost use Rattle.routes.specs.declared.faults.RouteFault.{RouteFault};
 ghost use Rattle.routes.specs.declared.keys.KeyRow.{KeyRow};
 ghost use Rattle.routes.specs.Asks.{Asked, Reads};
-ghost use Rattle.routes.specs.RoleRules.{RolesAreTheRules};
+ghost use Rattle.routes.specs.PathTable.RoleRules.{RolesAreTheRules};
 
 use trec_formats::{one_rankable_reading, one_topics_reading};
 

@@ -5,14 +5,15 @@ ghost use Rattle.http_wire.specs.Heads.{values_named};
 ghost use Rattle.routes.specs.Faults.{GivesOrFaults};
 ghost use Rattle.routes.specs.Openings.{is_request_number, number_by_method, number_in_fields, one_caller, opening_of, route_of, with_method, with_number, with_parameter, with_role};
 ghost use Rattle.routes.specs.AskReading.FoundOpenings.{opening_shown};
-ghost use Rattle.routes.specs.RouteTable.{IsRow, fits, may_ask, parameter};
+ghost use Rattle.routes.specs.PathTable.RouteTable.{IsRow, fits, may_ask, parameter};
 ghost use Rattle.rulebook.specs.Spelling.{is_number};
 ghost use Rattle.trec_formats.specs.Names.{is_name};
 
 use crate::faults::RouteFault;
 use crate::keys::{KeyRow, Keys};
 use crate::paths::{fits, parameter};
-use crate::route_table::{Method, Paths, Route, may_ask, method_name};
+use crate::route_table::{Method, Route, may_ask, method_name};
+use crate::router::Paths;
 use decimal_rank::{capped_number, is_number as are_digits};
 use http_wire::{HttpField, find_named};
 use rulebook::NUMBER_BOUND;

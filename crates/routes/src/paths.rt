@@ -5,7 +5,7 @@ ghost use Rattle.std.specs.List.{list_all, before_first, after_first};
 ghost use Rattle.std.specs.Str.Parse.{digits_value};
 ghost use Rattle.decimal_rank.specs.Decimals.DecimalText.{is_digit, are_digits};
 ghost use Rattle.trec_formats.specs.Names.{is_name, is_name_byte};
-ghost use Rattle.routes.specs.RouteTable.{fits, is_path_number, is_slash, parameter};
+ghost use Rattle.routes.specs.PathTable.RouteTable.{fits, is_path_number, is_slash, parameter};
 
 use crate::route_table::Parameter;
 use decimal_rank::{capped_number, is_number};

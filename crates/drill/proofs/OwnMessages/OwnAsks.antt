@@ -9,7 +9,7 @@ use Rattle.routes.specs.Asks.{Asked, Reads, ReadsBehind}
 use Rattle.routes.specs.Faults.{◌>>=◌, demand, or_fault}
 use Rattle.routes.specs.Keys.{caller_with}
 use Rattle.routes.specs.Openings.{Opening, is_request_number, number_by_method, one_caller, opening_of, route_of, with_method, with_number, with_role}
-use Rattle.routes.specs.RouteTable.{may_ask, method_name}
+use Rattle.routes.specs.PathTable.RouteTable.{may_ask, method_name}
 use Rattle.routes.specs.declared.faults.RouteFault.{RouteFault}
 use Rattle.routes.specs.declared.faults.RouteFault.TheVariants as faults
 use Rattle.routes.specs.declared.keys.KeyRow.{KeyRow}

@@ -29,12 +29,12 @@ use Rattle.routes.specs.declared.faults.RouteFault.TheVariants as faults
 use Rattle.routes.specs.declared.route_table.Method.TheVariants.{Get, Post}
 use Rattle.routes.specs.declared.route_table.Question.TheVariants as question
 use Rattle.routes.specs.declared.route_table.Route.{Route}
-use Rattle.routes.specs.Asks.{Asks, AsksSubmit, AsksTopics, HasSoundTopics, with_nothing}
+use Rattle.routes.specs.Asks.{HasSoundTopics}
 use Rattle.routes.specs.Faults.{or_fault}
 use Rattle.routes.specs.Json.Bodies.{Judgement, grade_in, json_of, judgement_in}
 use Rattle.routes.specs.Limits.{most_body}
-use Rattle.routes.specs.RoleRules.{RolesAreTheRules, rules_let}
-use Rattle.routes.specs.RouteTable.{IsRow, fits, is_path_number, may_ask, rows}
+use Rattle.routes.specs.PathTable.RoleRules.{RolesAreTheRules, rules_let}
+use Rattle.routes.specs.PathTable.RouteTable.{Asks, AsksSubmit, AsksTopics, IsRow, fits, is_path_number, may_ask, rows, with_nothing}
 use Rattle.routes.proofs.PathTable.TableRows.{Each, of_row}
 use Rattle.routes.proofs.Requests.BodyAsks.{grade_alone, judgement_doc, judgement_grade, lease_given, nothing_given, some_given}
 use Rattle.routes.proofs.Requests.NameSizes.{docno_short, name_short}

@@ -11,7 +11,8 @@ use Rattle.matchit.specs.declared.error.InsertError.{InsertError}
 use Rattle.routes.specs.declared.route_table.Route.{Route}
 use Rattle.routes.specs.declared.route_table.Parameter.TheVariants.{Number}
 use Rattle.routes.specs.declared.route_table.Question.{Question}
-use Rattle.routes.specs.RouteTable.{Among, IsRow, Routes, fits, is_path_number, rows, table, with_read, with_row_route}
+use Rattle.routes.specs.PathTable.RouteTable.{Among, IsRow, fits, is_path_number, rows}
+use Rattle.routes.specs.PathTable.Router.{Routes, table, with_read, with_row_route}
 
 -- What holds of each row
 

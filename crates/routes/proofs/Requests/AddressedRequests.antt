@@ -15,10 +15,10 @@ use Rattle.rulebook.specs.Requests.Roles.{may_see}
 use Rattle.rulebook.specs.Spelling.{entry_bytes, command_bytes, number_bytes, is_number, is_plain, has_spelling}
 use Rattle.routes.specs.declared.route_table.Question.TheVariants as question
 use Rattle.routes.specs.declared.route_table.Route.{Route}
-use Rattle.routes.specs.Asks.{Asks, HasSoundTopics}
+use Rattle.routes.specs.Asks.{HasSoundTopics}
 use Rattle.routes.specs.Limits.{most_body}
-use Rattle.routes.specs.RoleRules.{rules_let}
-use Rattle.routes.specs.RouteTable.{IsRow, fits, may_ask}
+use Rattle.routes.specs.PathTable.RoleRules.{rules_let}
+use Rattle.routes.specs.PathTable.RouteTable.{Asks, IsRow, fits, may_ask}
 use Rattle.routes.proofs.PathTable.RowAsks.{IsPlainAsk, agrees}
 use Rattle.routes.proofs.Requests.NameSizes.{name_short}
 

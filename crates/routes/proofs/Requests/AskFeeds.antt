@@ -23,11 +23,11 @@ use Rattle.routes.specs.declared.route_table.Method.TheVariants.{Get}
 use Rattle.routes.specs.declared.route_table.Question.TheVariants as question
 use Rattle.routes.specs.declared.route_table.Route.{Route}
 use Rattle.routes.specs.AskReading.AskStates.{BodyHasRoom, IsAddressable, IsAskHeld, IsAskOpened, IsFew, KeepsBody, MayGo}
-use Rattle.routes.specs.Asks.{Asked, Asks, HasSoundTopics, Reads, ReadsBehind, fault_of}
-use Rattle.routes.specs.Faults.{IsRead, OfRouteFault}
+use Rattle.routes.specs.Asks.{Asked, HasSoundTopics, Reads, ReadsBehind}
+use Rattle.routes.specs.Faults.{IsRead, OfRouteFault, fault_of}
 use Rattle.routes.specs.Limits.{most_body}
 use Rattle.routes.specs.Openings.{Opening, opening_of}
-use Rattle.routes.specs.RouteTable.{IsRow, parameter}
+use Rattle.routes.specs.PathTable.RouteTable.{Asks, IsRow, parameter}
 use Rattle.routes.proofs.PathTable.RowAsks.{agrees}
 use Rattle.routes.proofs.Requests.AddressedRequests.{addressed_at}
 

@@ -12,11 +12,10 @@ use Rattle.serde_json.specs.Data.{Data}
 use Rattle.serde_json.specs.Find.{as_number, as_u64, get}
 use Rattle.routes.specs.declared.faults.RouteFault.{RouteFault}
 use Rattle.routes.specs.declared.faults.RouteFault.TheVariants as faults
-use Rattle.routes.specs.Asks.{with_nothing}
 use Rattle.routes.specs.Faults.{or_fault}
 use Rattle.routes.specs.Json.Bodies.{json_of, Judgement, a_docno, doc_at, grade_at, grade_in, has_members, judgement_of, judgement_in, number_up_to}
 use Rattle.routes.specs.Limits.{most_path_digits, most_path_number}
-use Rattle.routes.specs.RouteTable.{is_path_number}
+use Rattle.routes.specs.PathTable.RouteTable.{is_path_number, with_nothing}
 
 ok_not_err : {ask : Ask} {cause : RouteFault} → ◌≡◌ {A = Result Ask RouteFault} (Ok ask) (Err cause) → ⊥
 ok_not_err is = cc

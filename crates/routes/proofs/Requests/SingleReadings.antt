@@ -29,9 +29,9 @@ use Rattle.routes.specs.declared.faults.RouteFault.TheVariants as faults
 use Rattle.routes.specs.declared.keys.KeyRow.{KeyRow}
 use Rattle.routes.specs.declared.route_table.Question.{Question}
 use Rattle.routes.specs.declared.route_table.Question.TheVariants as question
-use Rattle.routes.specs.Asks.{Asked, Asks, AsksSubmit, AsksTopics, Reads, ReadsBehind, asked_at}
+use Rattle.routes.specs.Asks.{Asked, Reads, ReadsBehind, asked_at}
 use Rattle.routes.specs.Openings.{Opening, opening_of}
-use Rattle.routes.specs.RouteTable.{parameter}
+use Rattle.routes.specs.PathTable.RouteTable.{Asks, AsksSubmit, AsksTopics, parameter}
 use Rattle.routes.proofs.Requests.RunRequests.{all_map, docs_permuted}
 
 -- The documents of a ranked list

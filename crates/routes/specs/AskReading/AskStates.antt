@@ -17,7 +17,7 @@ use Rattle.routes.specs.declared.route_table.Route.{Route}
 use Rattle.routes.specs.Keys.{without_key}
 use Rattle.routes.specs.Limits.{most_body}
 use Rattle.routes.specs.Openings.{Opening, opening_of}
-use Rattle.routes.specs.RouteTable.{IsRow, fits, may_ask, parameter}
+use Rattle.routes.specs.PathTable.RouteTable.{IsRow, fits, may_ask, parameter}
 
 -- a body may be kept in this way at this row: that of a GET, which asks a query, isn't looked at
 abbrev pub SuitsBody : Route → Body → Type 0

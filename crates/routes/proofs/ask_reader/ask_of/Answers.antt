@@ -1,6 +1,6 @@
 use Rattle.std.proofs.Common.{[], subst, sym}
 use Rattle.trec_formats.specs.RunFormat.RunStates.{IsAfter}
-use Rattle.routes.specs.Asks.{Asks}
+use Rattle.routes.specs.PathTable.RouteTable.{Asks}
 use Rattle.routes.specs.Faults.{IsRead}
 use Rattle.routes.proofs.Requests.AskFeeds.{query_asked}
 use Rattle.routes.proofs.ask_reader.ask_of.Goals as goal

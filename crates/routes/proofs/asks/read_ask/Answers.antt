@@ -1,7 +1,6 @@
 use Rattle.std.proofs.Common.{rules, Ok}
-use Rattle.routes.specs.Asks.{Asks}
 use Rattle.routes.specs.Keys.{without_key}
-use Rattle.routes.specs.RouteTable.{parameter}
+use Rattle.routes.specs.PathTable.RouteTable.{Asks, parameter}
 use Rattle.routes.proofs.Requests.AddressedRequests.{addressed_at}
 use Rattle.routes.proofs.asks.read_ask.Goals as goal
 

@@ -1,6 +1,6 @@
 use Rattle.std.proofs.Common.{◌≡◌, sym, subst}
 use Rattle.std.proofs.lemmas.Result.{IfOk-weaker}
-use Rattle.routes.specs.RouteTable.{IsRow}
+use Rattle.routes.specs.PathTable.RouteTable.{IsRow}
 use Rattle.routes.proofs.PathTable.TableRows.{known_row}
 use Rattle.routes.proofs.openings.find_place.Goals as goal
 

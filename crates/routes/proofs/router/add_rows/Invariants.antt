@@ -1,8 +1,9 @@
 -- The rows left are free, and added to the router as it is they give what all rows add to the first one.
 use Rattle.std.proofs.Common.{◌≡◌, map, true, length}
 use Rattle.std.specs.List.{fold}
-use Rattle.routes.specs.RouteTable.{are_free, route_at, with_row_route}
-use Rattle.routes.proofs.route_table.add_rows.Given as goal
+use Rattle.routes.specs.PathTable.RouteTable.{route_at}
+use Rattle.routes.specs.PathTable.Router.{are_free, with_row_route}
+use Rattle.routes.proofs.router.add_rows.Given as goal
 
 abbrev pub invariant-loop-rest : goal.invariant-loop-rest
 invariant-loop-rest l = record {

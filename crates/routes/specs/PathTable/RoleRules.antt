@@ -6,8 +6,7 @@ use Rattle.rulebook.specs.declared.rules.Role.{Role}
 use Rattle.rulebook.specs.Campaign.{may_give}
 use Rattle.rulebook.specs.Requests.Roles.{may_see}
 use Rattle.routes.specs.declared.route_table.Route.{Route}
-use Rattle.routes.specs.Asks.{Asks}
-use Rattle.routes.specs.RouteTable.{IsRow, may_ask}
+use Rattle.routes.specs.PathTable.RouteTable.{Asks, IsRow, may_ask}
 
 -- whether the rules let a role ask this
 abbrev pub rules_let : Role → Ask → Bool

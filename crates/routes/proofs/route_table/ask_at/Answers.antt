@@ -1,7 +1,7 @@
 use Rattle.std.proofs.Common.{arith}
 use Rattle.routes.specs.declared.route_table.Question.TheVariants as question
 use Rattle.routes.proofs.PathTable.TableRows.{numbered}
-use Rattle.routes.proofs.asks.ask_at.Goals as goal
+use Rattle.routes.proofs.route_table.ask_at.Goals as goal
 
 pub returns-in-Topics-clause-ask : goal.returns-in-Topics-clause-ask
 returns-in-Topics-clause-ask c = rw c.in-Topics.is (c.ask_topics.ensures.ask c.args.text.now)

@@ -1,6 +1,6 @@
 use Rattle.std.proofs.Common.{refl}
 use Rattle.routes.proofs.Requests.AskFeeds.{run_fault}
-use Rattle.routes.proofs.asks.ask_run.Goals as goal
+use Rattle.routes.proofs.route_table.ask_run.Goals as goal
 
 pub returns-in_ok-from_slice-in-Ok : goal.returns-in_ok-from_slice-in-Ok
 returns-in_ok-from_slice-in-Ok c = λ body after.
