@@ -1,8 +1,8 @@
 //! What is written to an archive's file, each change whole or not at all.
 
 use crate::figures::{FIGURES, figures_of};
-use crate::schema::{Archive, TABLES, end_of};
-use release_archive::{KeepEnd, Kept};
+use crate::schema::TABLES;
+use release_archive::Kept;
 use rulebook::System;
 use sqlite::types::ValueRef;
 use sqlite::{Alter, Connection, Error, ErrorCode, Transaction};
@@ -25,15 +25,10 @@ pub(crate) enum Change<'a> {
 }
 
 /// Makes a change, or nothing of it.
-pub(crate) fn make(archive: &mut Archive, change: Change<'_>) -> Result<(), KeepEnd> {
-    match commit(archive, change) {
-        Ok(()) => Ok(()),
-        Err(error) => Err(end_of(error)),
-    }
-}
-
-/// (over any store, so that the file's is in the types of one call alone)
-fn commit<S: Alter>(archive: &mut Connection<S>, change: Change<'_>) -> Result<(), Error> {
+pub(crate) fn commit<S: Alter>(
+    archive: &mut Connection<S>,
+    change: Change<'_>,
+) -> Result<(), Error> {
     if !archive.is_autocommit() {
         return Err(Error::SqliteFailure(ErrorCode::TransactionState));
     }

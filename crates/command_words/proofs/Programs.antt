@@ -1,38 +1,35 @@
 -- The command line of a program's forms, once it is built.
-use Rattle.std.proofs.Common.{◌≡◌, ◌∙◌, ◌&&◌, Bool, true, false, not, List, [], ◌∷◌, ◌++◌, codes, map, refl, sym, ap, ap₂, fold, append-nil, append_assoc}
-use Rattle.std.specs.List.{list_all}
-use Rattle.clap.specs.Words.{App, Rule, Shape, built, is_simple}
+use Rattle.std.proofs.Common.{◌≡◌, ◌∙◌, ◌&&◌, Bool, true, false, not, List, [], ◌∷◌, ◌++◌, codes, map, refl, sym, ap, ap₂, fold, append-nil, append_assoc, is_some, subst}
+use Rattle.std.specs.List.{list_all, fold}
+use Rattle.clap.specs.Words.{App, Rule, Shape, built, is_simple, with_rule, app_of, new_app, rule_of, with_subcommand}
 use Rattle.clap.specs.Faults.{has_free_rules, is_free_app, is_simple_and_free}
 use Rattle.clap.specs.Simple.{built_leaf, has_simple_rules, inherited, is_ready, is_ready_leaf, is_simple_leaf, new_shape}
-use Rattle.command_words.specs.CommandLines.{form_line, option_rule, place_rule, program, with_form, with_option, with_place}
+use Rattle.command_words.specs.CommandLines.{form_line, form_rules, option_rule, place_rule, program, with_form, bare}
 use Rattle.command_words.specs.Words.{Form, Text}
 use Rattle.command_words.proofs.NameRules.{all_free, all_simple, filled_is, none_early, slots}
 use Rattle.command_words.proofs.SingleWords.{rules, shape}
+use Rattle.std.proofs.lemmas.Bool.{and_parts}
+use Rattle.clap.specs.Walk.{is_empty as has_none}
+use Rattle.clap.specs.Built.{AddsArg, AddsInTurn, AddsSubcommand}
+use Rattle.clap.specs.declared.builder.arg.Arg.{Arg}
+use Rattle.clap.specs.declared.builder.command.Command.{Command}
+use Rattle.clap.specs.declared.builder.command.Command.TheViews.{out-Command}
+use Rattle.decimal_rank.proofs.TruthValues.{second_of_both}
 
 -- a command line with these rules and subcommands
 abbrev line_of : Shape → List Rule → App
 line_of top rules = record { top = record top { rules = rules }; subs = [] }
 
-places_line : (top : Shape) (done : List Rule) (names : List Text) → fold with_place (line_of top done) names ≡ line_of top (done ++ map place_rule names)
-places_line top done [] = ap (line_of top) (sym (append-nil done))
-places_line top done (name ∷ names) =
-    places_line top (done ++ place_rule name ∷ []) names ∙ ap (line_of top) (append_assoc done (place_rule name ∷ []) (map place_rule names))
-
-options_line : (top : Shape) (done : List Rule) (names : List Text) → fold with_option (line_of top done) names ≡ line_of top (done ++ map option_rule names)
-options_line top done [] = ap (line_of top) (sym (append-nil done))
-options_line top done (name ∷ names) =
-    options_line top (done ++ option_rule name ∷ []) names ∙ ap (line_of top) (append_assoc done (option_rule name ∷ []) (map option_rule names))
-
-abbrev pub form_rules : Form → List Rule
-form_rules form = map place_rule form.positionals ++ map option_rule form.options
+rules_line : (top : Shape) (done more : List Rule) → fold with_rule (line_of top done) more ≡ line_of top (done ++ more)
+rules_line top done [] = ap (line_of top) (sym (append-nil done))
+rules_line top done (rule ∷ more) = rules_line top (done ++ rule ∷ []) more ∙ ap (line_of top) (append_assoc done (rule ∷ []) more)
 
 -- a form's command line before it is built
 abbrev pub form_shape : Form → Shape
 form_shape form = record (new_shape form.name) { rules = form_rules form }
 
-line_is : (form : Form) → (form_line form).top ≡ form_shape form
-line_is form = ap (λ (a : App). a.top) (ap (λ (a : App). fold with_option a form.options) (places_line (new_shape form.name) [] form.positionals)
-    ∙ options_line (new_shape form.name) (map place_rule form.positionals) form.options)
+pub line_is : (form : Form) → (form_line form).top ≡ form_shape form
+line_is form = ap (λ (a : App). a.top) (rules_line (new_shape form.name) [] (form_rules form))
 
 abbrev pub top_of : Bool → Shape
 top_of leaf = record (new_shape (codes "program")) { no_binary_name = true; disable_help_flag = true; disable_help_subcommand = true; is_leaf = leaf }
@@ -78,7 +75,7 @@ plain_options : (names : List Text) → list_all (λ (a : Rule). a.is_simple) (m
 plain_options [] = refl
 plain_options (name ∷ names) = plain_options names
 
-plain_rules : (places options : List Text) → list_all (λ (a : Rule). a.is_simple) (map place_rule places ++ map option_rule options) ≡ true
+pub plain_rules : (places options : List Text) → list_all (λ (a : Rule). a.is_simple) (map place_rule places ++ map option_rule options) ≡ true
 plain_rules [] options = plain_options options
 plain_rules (name ∷ places) options = plain_rules places options
 
@@ -104,3 +101,54 @@ simple forms = ap₂ (λ (a b : App). has_simple_rules a.top && list_all is_simp
 
 pub simple_and_free : (forms : List Form) → is_simple_and_free (program forms) ≡ true
 simple_and_free forms = ap₂ ◌&&◌ (simple forms) (ap is_free_app (built_is forms) ∙ leaves_free forms)
+
+-- a command line once arguments or subcommands were added to it in turn
+
+off : (p : Bool) → not p ≡ true → p ≡ false
+off true e = sym e
+off false e = refl
+
+-- the last of the tests of `is_simple_arg`
+last_of_ten : (a b c d e f g h i j : Bool) → (a && (b && (c && (d && (e && (f && (g && (h && (i && j))))))))) ≡ true → j ≡ true
+last_of_ten a b c d e f g h i j all =
+    second_of_both i j (second_of_both h _ (second_of_both g _ (second_of_both f _ (second_of_both e _
+    (second_of_both d _ (second_of_both c _ (second_of_both b _ (second_of_both a _ all))))))))
+
+is_here : (arg : Arg) → (rule_of arg).is_simple ≡ true → arg.global ≡ false
+is_here arg simple = off arg.global (last_of_ten (has_none arg.overrides.items) (has_none arg.default_vals_ifs.items) (has_none arg.groups.items)
+    (not (is_some arg.val_delim)) (not (is_some arg.terminator)) (not arg.allow_hyphen_values) (not arg.allow_negative_numbers)
+    (not arg.require_equals) (not arg.last) (not arg.global) simple)
+
+with_arguments : (old new : Command) (arguments : List Arg) (rules : List Rule) → AddsInTurn AddsArg old arguments new
+    → map rule_of arguments ≡ rules → list_all (λ (rule : Rule). rule.is_simple) rules ≡ true → app_of new ≡ fold with_rule (app_of old) rules
+with_arguments old new [] rules same are simple = ap app_of (sym same) ∙ ap (fold with_rule (app_of old)) are
+with_arguments old new (arg ∷ arguments) rules added are simple =
+    let each = and_parts _ _ (ap (list_all (λ (rule : Rule). rule.is_simple)) are ∙ simple) in
+    with_arguments added.0 new arguments (map rule_of arguments) added.2 refl each.1
+    ∙ ap (λ line. fold with_rule line (map rule_of arguments)) (added.1.shape (is_here arg each.0))
+    ∙ ap (fold with_rule (app_of old)) are
+
+has_no_globals : (line : Command) → (app_of line).top.is_plain ≡ true → (out-Command line).has_globals ≡ false
+has_no_globals line plain = off _ (and_parts _ _ (and_parts _ _ (and_parts _ _ plain).1).1).0
+
+with_commands : (old new : Command) (lines : List Command) (forms : List Form) → AddsInTurn AddsSubcommand old lines new
+    → map app_of lines ≡ map form_line forms → app_of new ≡ fold with_form (app_of old) forms
+with_commands old new [] [] same are = ap app_of (sym same)
+with_commands old new [] (form ∷ forms) same are = cc are
+with_commands old new (line ∷ lines) [] added are = cc are
+with_commands old new (line ∷ lines) (form ∷ forms) added are =
+    let first : app_of line ≡ form_line form = cc are in
+    let plain : (app_of line).top.is_plain ≡ true = ap (λ (a : App). a.top.is_plain) first ∙ ap (λ shape. shape.is_plain) (line_is form) in
+    with_commands added.0 new lines forms added.2 (cc are)
+    ∙ ap (λ start. fold with_form start forms)
+    (added.1.shape (has_no_globals line plain) ∙ ap (λ (a : App). with_subcommand (app_of old) a.top) first)
+
+pub form_line_is : (form : Form) (new line : Command) (arguments : List Arg) → app_of new ≡ new_app form.name → map rule_of arguments ≡ form_rules form
+    → AddsInTurn AddsArg new arguments line → app_of line ≡ form_line form
+form_line_is form new line arguments first are added =
+    with_arguments new line arguments (form_rules form) added are (plain_rules form.positionals form.options)
+    ∙ ap (λ start. fold with_rule start (form_rules form)) first
+
+pub program_line_is : (forms : List Form) (new line : Command) (lines : List Command) → app_of new ≡ bare (new_app (codes "program"))
+    → map app_of lines ≡ map form_line forms → AddsInTurn AddsSubcommand new lines line → app_of line ≡ program forms
+program_line_is forms new line lines first are added = with_commands new line lines forms added are ∙ ap (λ start. fold with_form start forms) first

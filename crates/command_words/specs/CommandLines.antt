@@ -1,9 +1,7 @@
 -- The command line of some forms as `clap` has it, and what its matches give.
-use Rattle.std.specs.Prelude.{◌≡◌, Bool, true, false, List, [], ◌∷◌, Option, Some, codes, fold, option_and_then}
+use Rattle.std.specs.Prelude.{◌≡◌, Bool, true, false, List, [], ◌∷◌, ◌++◌, Option, Some, codes, fold, map, option_and_then}
 use Rattle.clap.specs.Words.{App, Kinds, Row, Rule, first_of, new_app, new_rule, with_rule, with_subcommand}
 use Rattle.clap.specs.Simple.{on_top}
-use Rattle.clap.specs.declared.builder.command.Command.{Command}
-use Rattle.clap.specs.declared.builder.command.Command.TheViews.{out-Command}
 use Rattle.command_words.specs.Words.{Form, Text, each_by, form_named, form_names, values_with_name}
 
 -- a positional word, which has to be there
@@ -14,15 +12,13 @@ place_rule name = record (new_rule name) { required = true }
 abbrev pub option_rule : Text → Rule
 option_rule name = record (new_rule name) { long = Some name; required = true }
 
-abbrev pub with_place : App → Text → App
-with_place line name = with_rule line (place_rule name)
-
-abbrev pub with_option : App → Text → App
-with_option line name = with_rule line (option_rule name)
+-- the arguments of one command: its positional words, and its options behind them
+abbrev pub form_rules : Form → List Rule
+form_rules form = map place_rule form.positionals ++ map option_rule form.options
 
 -- the command line of one command
 abbrev pub form_line : Form → App
-form_line form = fold with_option (fold with_place (new_app form.name) form.positionals) form.options
+form_line form = fold with_rule (new_app form.name) (form_rules form)
 
 -- the words begin behind the program's name, and `clap` adds no help of its own
 abbrev pub bare : App → App
@@ -33,10 +29,6 @@ with_form line form = with_subcommand line (form_line form).top
 
 abbrev pub program : List Form → App
 program forms = fold with_form (bare (new_app (codes "program"))) forms
-
--- no argument of the command is one of its subcommands' too
-abbrev pub IsLocal : Command → Type 0
-IsLocal line = (out-Command line).has_globals ≡ false
 
 -- what the rows of a command's matches have of each name
 abbrev pub values_at : List Row → List Text → Option (List Text)

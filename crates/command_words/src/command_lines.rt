@@ -1,7 +1,7 @@
 //! The command line of some forms, as `clap` has it.
-ghost use Rattle.std.specs.Prelude.{◌≡◌, false, true, IfOk, MatchOption, fold, map, string_bytes};
-ghost use Rattle.clap.specs.Words.{app_of, fault_of, subcommand_of, subcommand_rows_of};
-ghost use Rattle.command_words.specs.CommandLines.{IsLocal, form_line, is_clear, program, with_form, with_option, with_place};
+ghost use Rattle.std.specs.Prelude.{◌≡◌, ◌++◌, false, true, IfOk, MatchOption, OnOk, map, string_bytes};
+ghost use Rattle.clap.specs.Words.{app_of, fault_of, rule_of, subcommand_of, subcommand_rows_of};
+ghost use Rattle.command_words.specs.CommandLines.{form_line, form_rules, is_clear, option_rule, place_rule, program};
 ghost use Rattle.command_words.specs.Words.{form_of};
 
 use crate::forms::CommandForm;
@@ -33,86 +33,74 @@ pub(crate) fn find_matches<'a>(
 fn command_line<'a>(alloc: Global, forms: &'a [CommandForm<'a>]) -> Result<Command<'a>, AllocError>
     ensures { IfOk result (λ line. app_of line ≡ program (map form_of forms.now)) }
 {
+    let commands = form_lines(alloc, forms)?;
     let bare = Command::new(alloc, "program")
         .no_binary_name(true)
         .disable_help_flag(true)
         .disable_help_subcommand(true);
-    with_forms(alloc, bare, forms)
+    bare.subcommands(commands)
 }
 
-/// The command line with a subcommand for each form.
-fn with_forms<'a>(
+/// The command line of each form.
+fn form_lines<'a>(
     alloc: Global,
-    mut line: Command<'a>,
     forms: &'a [CommandForm<'a>],
-) -> Result<Command<'a>, AllocError>
-    ensures { IfOk result
-        (λ whole. app_of whole ≡ fold with_form (app_of line.entry) (map form_of forms.now)) }
+) -> Result<Vec<Command<'a>>, AllocError>
+    ensures { IfOk result (λ lines. map app_of lines.items
+        ≡ map (λ form. form_line (form_of form)) forms.now) }
 {
-    let mut left = forms;
-    while let [form, rest @ ..] = left {
-        line = with_form(alloc, line, form)?;
-        left = rest;
+    let mut lines = Vec::new(alloc);
+    for form in forms {
+        let line = form_line(alloc, form)?;
+        lines.push(line)?;
     }
-    Ok(line)
-}
-
-fn with_form<'a>(
-    alloc: Global,
-    line: Command<'a>,
-    form: &CommandForm<'a>,
-) -> Result<Command<'a>, AllocError>
-    ensures { IfOk result
-        (λ whole. app_of whole ≡ with_form (app_of line.entry) (form_of form.now)) }
-{
-    let command = form_line(alloc, form)?;
-    let whole = line.subcommand(command)?;
-    Ok(whole)
+    Ok(lines)
 }
 
 fn form_line<'a>(alloc: Global, form: &CommandForm<'a>) -> Result<Command<'a>, AllocError>
-    ensures app { IfOk result (λ line. app_of line ≡ form_line (form_of form.now)) }
-    ensures local { IfOk result IsLocal }
+    ensures { IfOk result (λ line. app_of line ≡ form_line (form_of form.now)) }
 {
-    let (name, positionals, options) = *form;
-    let placed = with_places(alloc, Command::new(alloc, name), positionals)?;
-    with_options(alloc, placed, options)
+    let arguments = form_arguments(alloc, form)?;
+    Command::new(alloc, form.0).args(arguments)
 }
 
-fn with_places<'a>(
-    alloc: Global,
-    mut line: Command<'a>,
-    names: &'a [&'a str],
-) -> Result<Command<'a>, AllocError>
-    requires { IsLocal line }
-    ensures app { IfOk result (λ whole. app_of whole
-        ≡ fold with_place (app_of line.entry) (map (λ name. name.now) names.now)) }
-    ensures local { IfOk result IsLocal }
+fn form_arguments<'a>(alloc: Global, form: &CommandForm<'a>) -> Result<Vec<Arg<'a>>, AllocError>
+    ensures { IfOk result (λ arguments. map rule_of arguments.items
+        ≡ form_rules (form_of form.now)) }
 {
-    let mut left = names;
-    while let [name, rest @ ..] = left {
+    let (_name, positionals, options) = *form;
+    let mut arguments = Vec::new(alloc);
+    add_places(alloc, positionals, &mut arguments)?;
+    add_options(alloc, options, &mut arguments)?;
+    Ok(arguments)
+}
+
+fn add_places<'a>(
+    alloc: Global,
+    names: &'a [&'a str],
+    arguments: &mut Vec<Arg<'a>>,
+) -> Result<(), AllocError>
+    ensures { OnOk result (map rule_of arguments.new.items
+        ≡ map rule_of arguments.old.items ++ map (λ name. place_rule name.now) names.now) }
+{
+    for name in names {
         let place = Arg::new(alloc, name).required(true);
-        line = line.arg(place)?;
-        left = rest;
+        arguments.push(place)?;
     }
-    Ok(line)
+    Ok(())
 }
 
-fn with_options<'a>(
+fn add_options<'a>(
     alloc: Global,
-    mut line: Command<'a>,
     names: &'a [&'a str],
-) -> Result<Command<'a>, AllocError>
-    requires { IsLocal line }
-    ensures app { IfOk result (λ whole. app_of whole
-        ≡ fold with_option (app_of line.entry) (map (λ name. name.now) names.now)) }
-    ensures local { IfOk result IsLocal }
+    arguments: &mut Vec<Arg<'a>>,
+) -> Result<(), AllocError>
+    ensures { OnOk result (map rule_of arguments.new.items
+        ≡ map rule_of arguments.old.items ++ map (λ name. option_rule name.now) names.now) }
 {
-    let mut left = names;
-    while let [name, rest @ ..] = left {
+    for name in names {
         let option = Arg::new(alloc, name).long(name).required(true);
-        line = line.arg(option)?;
-        left = rest;
+        arguments.push(option)?;
     }
-    Ok(line)
+    Ok(())
 }

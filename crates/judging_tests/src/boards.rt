@@ -1,8 +1,6 @@
 //! Tried are boards: the cell, the summary and the rankings of a run after each list, withdrawal
 //! and grade.
 
-mod board_courses;
-mod plain_cells;
 mod scored_board;
 
 use crate::boards::scored_board::Scored;
@@ -26,7 +24,10 @@ enum Call {
 /// False where a call's condition doesn't hold.
 fn play(alloc: Global, scored: &mut Scored, call: &Call) -> Result<bool, Fail> {
     match call {
-        Call::Submit(run, topic, docs) => scored.submit(alloc, *run, *topic, docs),
+        Call::Submit(run, topic, docs) => {
+            scored.try_room(alloc, docs)?;
+            scored.submit(alloc, *run, *topic, docs)
+        }
         Call::Withdraw(run) => {
             scored.withdraw(*run);
             Ok(true)

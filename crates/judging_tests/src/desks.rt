@@ -1,9 +1,6 @@
-//! Tried are the live leases of a document, assessor and topic, and leases by number, also against
-//! a walk over all.
+//! Tried are the live leases of a document, assessor and topic, and leases by number.
 use decimal_rank::{DocId, Text};
 use lease_desk::{Desk, LeaseEnd};
-use rand_core::Rng;
-use rand_pcg::Pcg32;
 use std::alloc::Global;
 use std::process::Abort;
 use std::test::Fail;
@@ -100,11 +97,10 @@ fn expect_moments(rt: &impl Abort, alloc: Global, desk: &mut Desk) -> Result<(),
 }
 
 /// Ends the leases 3 and 2 of five.
-fn end_two(rt: &impl Abort, alloc: Global, desk: &mut Desk) -> Result<(), Fail> {
+fn end_two(alloc: Global, desk: &mut Desk) -> Result<[bool; 2], Fail> {
     grant_five(alloc, desk)?;
-    assert!(rt; end(desk, 3, LeaseEnd::Graded));
-    assert!(rt; end(desk, 2, LeaseEnd::Released));
-    Ok(())
+    let graded = end(desk, 3, LeaseEnd::Graded);
+    Ok([graded, end(desk, 2, LeaseEnd::Released)])
 }
 
 #[test]
@@ -114,9 +110,10 @@ fn a_lease_with_an_end_is_not_live(rt: HostRuntime) -> Result<(), Fail> {
 }
 
 fn expect_ends(rt: &impl Abort, alloc: Global, desk: &mut Desk) -> Result<(), Fail> {
-    end_two(rt, alloc, desk)?;
-    assert!(rt; !end(desk, 2, LeaseEnd::Graded));
-    assert!(rt; !end(desk, 6, LeaseEnd::Graded));
+    assert_eq!(rt; end_two(alloc, desk)?, [true, true]);
+    // it has an end, and there is no lease 6
+    let ends = [2, 6].map(|number| end(desk, number, LeaseEnd::Graded));
+    assert_eq!(rt; ends, [false, false]);
     let cases = [
         (P, 0, 6, (0, 2, 1, false)),
         (Q, 0, 5, (1, 1, 1, false)),
@@ -135,113 +132,35 @@ fn leases_are_found_by_number(rt: HostRuntime) -> Result<(), Fail> {
     expect_leases(&rt, rt.alloc(), &mut desk)
 }
 
-fn expect_leases(rt: &impl Abort, alloc: Global, desk: &mut Desk) -> Result<(), Fail> {
-    end_two(rt, alloc, desk)?;
-    let cases = [
-        (1, P, 0, 5, 1600, None),
-        (2, Q, 0, 5, 2000, Some(LeaseEnd::Released)),
-        (3, P, 0, 6, 1800, Some(LeaseEnd::Graded)),
-        (4, P, 1, 5, 1700, None),
-        (5, Q, 1, 7, 1500, None),
-    ];
-    for (number, assessor, topic, doc, until, how) in cases {
-        let lease = desk.find(number).ok_or("no lease")?;
-        assert_eq!(rt; lease.number, number);
-        assert_eq!(rt; lease.assessor.bytes(), [assessor].as_slice());
-        assert_eq!(rt; (lease.topic, lease.doc), (topic, DocId(doc)));
-        assert_eq!(rt; (lease.until, lease.end), (until, how));
-    }
-    assert_eq!(rt; desk.len(), 5);
-    assert!(rt; desk.find(0).is_none());
-    assert!(rt; desk.find(6).is_none());
-    Ok(())
-}
+/// A lease: its number, its assessor's letter, its topic and document, its moment and its end.
+type Row = (u32, u8, (u16, u32), u64, Option<LeaseEnd>);
 
-/// A lease as a plain list keeps it.
-#[derive(Clone, Copy)]
-struct Plain {
-    assessor: u8,
-    topic: u16,
-    doc: u32,
-    until: u64,
-    is_ended: bool,
-}
-
-fn is_live(lease: &Plain, now: u64) -> bool {
-    !lease.is_ended && now < lease.until
-}
-
-/// What a walk over the whole list tells.
-fn plainly_told(list: &[Plain], assessor: u8, topic: u16, doc: u32, now: u64) -> Told {
-    let mut told: Told = (0, 0, 0, false);
-    for lease in list {
-        if is_live(lease, now) {
-            let is_on = lease.topic == topic && lease.doc == doc;
-            told.0 = told.0.saturating_add(u32::from(is_on));
-            told.1 = told.1.saturating_add(u32::from(lease.assessor == assessor));
-            told.2 = told.2.saturating_add(u32::from(lease.topic == topic));
-            told.3 = told.3 || is_on && lease.assessor == assessor;
-        }
-    }
-    told
-}
-
-/// Grants a lease or ends one, on a desk and on a plain list.
-fn step(
-    alloc: Global,
-    desk: &mut Desk,
-    list: &mut Vec<Plain>,
-    dice: &mut Pcg32,
-    now: u32,
-) -> Result<(), Fail> {
-    let place = (dice.next_u32() % 300) as usize;
-    if dice.next_u32() % 3 == 0 {
-        if let Some(lease) = list.get_mut(place) {
-            lease.is_ended = true;
-        }
-        end(desk, place as u32 + 1, LeaseEnd::Released);
-        return Ok(());
-    }
-    let lease = Plain {
-        assessor: (dice.next_u32() % 3) as u8,
-        topic: (dice.next_u32() % 2) as u16,
-        doc: dice.next_u32() % 4,
-        until: u64::from(now) + 20 + u64::from(dice.next_u32() % 80),
-        is_ended: false,
-    };
-    grant(
-        alloc,
-        desk,
-        lease.assessor,
-        lease.topic,
-        lease.doc,
+fn row_of(desk: &Desk, number: u32) -> Option<Row> {
+    let lease = desk.find(number)?;
+    let letter = *lease.assessor.bytes().first()?;
+    Some((
+        lease.number,
+        letter,
+        (lease.topic, lease.doc.0),
         lease.until,
-    )?;
-    list.push(lease)?;
-    Ok(())
+        lease.end,
+    ))
 }
 
-#[test]
-fn a_desk_tells_what_a_walk_over_all_leases_tells(rt: HostRuntime) -> Result<(), Fail> {
-    let mut desk = Desk::new(rt.alloc());
-    expect_walks(&rt, rt.alloc(), &mut desk)
-}
-
-fn expect_walks(rt: &impl Abort, alloc: Global, desk: &mut Desk) -> Result<(), Fail> {
-    let mut list = Vec::new(alloc);
-    let mut dice = Pcg32::new(7, 0);
-    for round in 0..400 {
-        let now = round * 3;
-        step(alloc, desk, &mut list, &mut dice, now)?;
-        let assessor = (dice.next_u32() % 4) as u8;
-        let topic = (dice.next_u32() % 3) as u16;
-        let doc = dice.next_u32() % 5;
-        let moment = u64::from(now.saturating_sub(60)) + u64::from(dice.next_u32() % 120);
-        assert_eq!(rt;
-            told(desk, assessor, topic, doc, moment),
-            plainly_told(list.as_slice(), assessor, topic, doc, moment)
-        );
+fn expect_leases(rt: &impl Abort, alloc: Global, desk: &mut Desk) -> Result<(), Fail> {
+    assert_eq!(rt; end_two(alloc, desk)?, [true, true]);
+    assert_eq!(rt; desk.len(), 5);
+    let rows = [
+        None,
+        Some((1, P, (0, 5), 1600, None)),
+        Some((2, Q, (0, 5), 2000, Some(LeaseEnd::Released))),
+        Some((3, P, (0, 6), 1800, Some(LeaseEnd::Graded))),
+        Some((4, P, (1, 5), 1700, None)),
+        Some((5, Q, (1, 7), 1500, None)),
+        None,
+    ];
+    for (number, row) in rows.iter().enumerate() {
+        assert_eq!(rt; row_of(desk, number as u32), *row);
     }
-    assert_eq!(rt; desk.len() as usize, list.len());
     Ok(())
 }

@@ -7,7 +7,7 @@ use std::process::Abort;
 use std::test::Fail;
 
 /// What happens to a document.
-#[derive(Drop)]
+#[derive(Clone, Copy)]
 enum Call {
     // an assessor's grade
     Set(&'static [u8], u8),
@@ -38,6 +38,13 @@ fn set(alloc: Global, labels: &mut Labels, assessor: &[u8], grade: u8) -> Result
         labels.set(assessor, grade);
     }
     Ok(())
+}
+
+/// The effective grade after these calls where so many labels are needed, and whether they show a
+/// disagreement.
+fn effective_after(alloc: Global, need: u32, calls: &[Call]) -> Result<(Option<u8>, bool), Fail> {
+    let labels = played(alloc, calls)?;
+    Ok((labels.effective(need), labels.disagrees(need)))
 }
 
 const P: &[u8] = b"p";
@@ -82,9 +89,7 @@ fn the_effective_grade_where_two_labels_are_needed(rt: HostRuntime) -> Result<()
         ),
     ];
     for (calls, effective, disagrees) in rows {
-        let labels = played(alloc, calls)?;
-        assert_eq!(rt; labels.effective(2), effective);
-        assert_eq!(rt; labels.disagrees(2), disagrees);
+        assert_eq!(rt; effective_after(alloc, 2, calls)?, (effective, disagrees));
     }
     Ok(())
 }
@@ -100,9 +105,7 @@ fn the_effective_grade_where_one_label_is_needed(rt: HostRuntime) -> Result<(), 
         (&[Call::Set(P, 1), Call::Rule(2), Call::Rule(0)], Some(0)),
     ];
     for (calls, effective) in rows {
-        let labels = played(alloc, calls)?;
-        assert_eq!(rt; labels.effective(1), effective);
-        assert!(rt; !labels.disagrees(1));
+        assert_eq!(rt; effective_after(alloc, 1, calls)?, (effective, false));
     }
     Ok(())
 }
@@ -115,13 +118,14 @@ fn the_label_of_each_assessor(rt: HostRuntime) -> Result<(), Fail> {
         Call::Rule(3),
         Call::Set(P, 0),
     ];
-    let labels = played(rt.alloc(), &calls)?;
-    assert_eq!(rt; labels.count(), 2);
-    let rows = [(P, Some(0)), (Q, Some(2)), (R, None)];
-    for (assessor, grade) in rows {
-        assert_eq!(rt; labels.grade_of(assessor), grade);
-    }
+    expect_two_labels(&rt, &played(rt.alloc(), &calls)?);
     Ok(())
+}
+
+fn expect_two_labels(rt: &impl Abort, labels: &Labels) {
+    assert_eq!(rt; labels.count(), 2);
+    let grades = [P, Q, R].map(|assessor| labels.grade_of(assessor));
+    assert_eq!(rt; grades, [Some(0), Some(2), None]);
 }
 
 #[test]
@@ -141,14 +145,17 @@ fn the_grades_of_the_first_two_assessors(rt: HostRuntime) -> Result<(), Fail> {
         ),
     ];
     for (calls, grades) in rows {
-        let labels = played(alloc, calls)?;
-        assert_eq!(rt; labels.grades(), grades);
+        assert_eq!(rt; grades_after(alloc, calls)?, grades);
     }
     Ok(())
 }
 
+fn grades_after(alloc: Global, calls: &[Call]) -> Result<[Option<u8>; 2], Fail> {
+    Ok(played(alloc, calls)?.grades())
+}
+
 /// What happens to a document of a topic.
-#[derive(Drop)]
+#[derive(Clone, Copy)]
 enum LabelStep {
     // an assessor's grade
     Set(u32, &'static [u8], u8),
@@ -217,18 +224,33 @@ fn rows() -> [Row; 9] {
 
 #[test]
 fn the_marks_of_three_documents(rt: HostRuntime) -> Result<(), Fail> {
-    let alloc = rt.alloc();
-    let mut marks = TopicLabels::new(alloc);
+    let mut marks = TopicLabels::new(rt.alloc());
+    expect_marks(&rt, rt.alloc(), &mut marks)
+}
+
+fn expect_marks(rt: &impl Abort, alloc: Global, marks: &mut TopicLabels) -> Result<(), Fail> {
     for (call, doc, count, effective, disagreements) in rows() {
-        assert!(rt; play_at(alloc, &mut marks, &call)?);
-        assert_eq!(rt; marks.count(DocId(doc)), count);
-        assert_eq!(rt; marks.effective(2, DocId(doc)), effective);
-        let listed = marks.disagreements(alloc, 2)?;
-        assert_eq!(rt; listed.as_slice(), disagreements);
+        assert!(rt; play_at(alloc, marks, &call)?);
+        let doc = DocId(doc);
+        assert_eq!(rt;
+            (marks.count(doc), marks.effective(2, doc)),
+            (count, effective)
+        );
+        assert!(rt; are_disagreements(alloc, marks, 2, disagreements)?);
     }
-    let listed = marks.disagreements(alloc, 1)?;
-    assert!(rt; listed.is_empty());
+    assert!(rt; are_disagreements(alloc, marks, 1, &[])?);
     Ok(())
+}
+
+/// Whether just these documents show a disagreement where so many labels are needed.
+fn are_disagreements(
+    alloc: Global,
+    marks: &TopicLabels,
+    need: u32,
+    wanted: &[DocId],
+) -> Result<bool, Fail> {
+    let listed = marks.disagreements(alloc, need)?;
+    Ok(listed.as_slice() == wanted)
 }
 
 #[test]
@@ -279,9 +301,12 @@ fn expect_labelled(rt: &impl Abort, alloc: Global, marks: &mut TopicLabels) -> R
     }
     let labelled: &[DocId] = &[DocId(A), DocId(B)];
     assert_eq!(rt; marks.docs(), labelled);
-    for (doc, count) in [(A, Some(1)), (B, Some(1)), (C, None)] {
-        let labels = marks.labels(DocId(doc));
-        assert_eq!(rt; labels.map(|labels| labels.count()), count);
-    }
+    let counts = [A, B, C].map(|doc| count_at(marks, DocId(doc)));
+    assert_eq!(rt; counts, [Some(1), Some(1), None]);
     Ok(())
+}
+
+fn count_at(marks: &TopicLabels, doc: DocId) -> Option<u32> {
+    let labels = marks.labels(doc)?;
+    Some(labels.count())
 }

@@ -2,7 +2,8 @@
 ghost use Rattle.std.specs.Prelude.{◌≡◌, ◌<◌, All, length};
 ghost use Rattle.std.specs.Bool.{OnTrue};
 
-use decimal_rank::{DocId, Names, Text};
+use crate::docnos::add_docnos;
+use decimal_rank::{DocId, Names};
 use qrels_view::{DocnoOrder, View};
 use std::alloc::Global;
 use std::process::Abort;
@@ -122,20 +123,7 @@ fn text_after(alloc: Global, line: &[u8], view: &View, names: &Names) -> Result<
 }
 
 /// Four docnos, of the documents 0 to 3.
-fn docnos(alloc: Global) -> Result<Names, Fail> {
-    let mut names = Names::new(alloc);
-    for name in [b"d9", b"d3", b"E9", b"d1"] {
-        add(alloc, &mut names, name)?;
-    }
-    Ok(names)
-}
-
-fn add(alloc: Global, names: &mut Names, name: &[u8]) -> Result<(), Fail> {
-    if names.len() < 1000 {
-        names.add(Text::from_slice(alloc, name)?)?;
-    }
-    Ok(())
-}
+const DOCNOS: [&[u8]; 4] = [b"d9", b"d3", b"E9", b"d1"];
 
 /// A document and its new grade.
 type Grade = (u32, Option<u8>);
@@ -151,7 +139,8 @@ const GRADES: [Grade; 5] = [
 #[test]
 fn lines_stand_by_docno(rt: HostRuntime) -> Result<(), Fail> {
     let alloc = rt.alloc();
-    let names = docnos(alloc)?;
+    let mut names = Names::new(alloc);
+    add_docnos(alloc, &mut names, &DOCNOS)?;
     expect_lines(&rt, alloc, &names, &mut View::new(alloc, 1))
 }
 
@@ -175,27 +164,37 @@ fn expect_lines(
 #[test]
 fn a_kept_order_gives_the_same_lines(rt: HostRuntime) -> Result<(), Fail> {
     let alloc = rt.alloc();
-    let names = docnos(alloc)?;
-    let mut order = DocnoOrder::new(alloc);
-    expect_same_lines(&rt, alloc, &names, &GRADES, &mut order)?;
-    // what is kept is the order of a longer view
-    expect_same_lines(&rt, alloc, &names, &GRADES[2..3], &mut order)
+    let mut names = Names::new(alloc);
+    add_docnos(alloc, &mut names, &DOCNOS)?;
+    expect_same_lines(&rt, alloc, &names, &mut DocnoOrder::new(alloc))
 }
 
-/// After each of these grades a reading with the kept order gives the lines of one without.
 fn expect_same_lines(
     rt: &impl Abort,
     alloc: Global,
     names: &Names,
-    grades: &[Grade],
     order: &mut DocnoOrder,
 ) -> Result<(), Fail> {
-    let mut view = View::new(alloc, 1);
-    for (doc, new) in grades {
-        assert!(rt; grade(&mut view, *doc, *new)?);
-        assert!(rt; is_same_text(alloc, &view, names, order)?);
-    }
+    assert!(rt; are_same_texts(alloc, &mut View::new(alloc, 1), &GRADES, names, order)?);
+    // what is kept is the order of a longer view
+    assert!(rt; are_same_texts(alloc, &mut View::new(alloc, 1), &GRADES[2..3], names, order)?);
     Ok(())
+}
+
+/// Whether after each of these grades a reading with the kept order gives the text of one without.
+fn are_same_texts(
+    alloc: Global,
+    view: &mut View,
+    grades: &[Grade],
+    names: &Names,
+    order: &mut DocnoOrder,
+) -> Result<bool, Fail> {
+    for (doc, new) in grades {
+        if !grade(view, *doc, *new)? || !is_same_text(alloc, view, names, order)? {
+            return Ok(false);
+        }
+    }
+    Ok(true)
 }
 
 /// Whether a reading with a kept order gives the text of a reading without one.
@@ -214,9 +213,11 @@ fn is_same_text(
 
 #[test]
 fn no_grade_no_line(rt: HostRuntime) -> Result<(), Fail> {
-    let alloc = rt.alloc();
-    let view = View::new(alloc, 1);
-    let text = text_after(alloc, b"", &view, &Names::new(alloc))?;
-    assert_eq!(rt; text.as_slice(), b"".as_slice());
+    let names = Names::new(rt.alloc());
+    assert!(rt; has_no_line(rt.alloc(), &View::new(rt.alloc(), 1), &names)?);
     Ok(())
+}
+
+fn has_no_line(alloc: Global, view: &View, names: &Names) -> Result<bool, Fail> {
+    Ok(text_after(alloc, b"", view, names)?.is_empty())
 }

@@ -1,12 +1,14 @@
 //! Tests of pools, labels, effective grades, measures and their lines; and of the board of scores,
-//! the desk of leases and the judging order, each also along random courses against what is worked
-//! out from nothing.
+//! the desk of leases and the judging order. Random courses are played through the whole program
+//! (`tests/courses`).
 #![tactic(auto)]
 
 #[cfg(test)]
 mod boards;
 #[cfg(test)]
 mod desks;
+#[cfg(test)]
+mod docnos;
 #[cfg(test)]
 mod document_labels;
 #[cfg(test)]

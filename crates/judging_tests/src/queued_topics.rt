@@ -14,7 +14,7 @@ use std::sync::ledger::{Blank, Ledger};
 use std::test::Fail;
 
 /// How many documents a topic of the tests has.
-pub(crate) const DOCS: u32 = 12;
+const DOCS: u32 = 12;
 
 /// A topic of the tests. Contracts see the queue's order.
 #[derive(Drop)]
@@ -97,10 +97,6 @@ impl QueuedTopic {
 
     pub(crate) fn order(&self) -> &[RunId] {
         self.queue.order()
-    }
-
-    pub(crate) fn trail(&self) -> &[Judged] {
-        self.trail.as_slice()
     }
 }
 

@@ -4,10 +4,12 @@ ghost use Rattle.std.specs.Prelude.{◌≡◌, ◌≢◌, ◌<◌, [], ◌∷◌
 ghost use Rattle.decimal_rank.specs.declared.naming.DocId.{DocId};
 ghost use Rattle.depth_pool.specs.Holdings.{KeepsOthers, has_run};
 
-use decimal_rank::{DocId, Names, Ranking, Steps, Text};
+use crate::docnos::add_docnos;
+use decimal_rank::{DocId, Names, Ranking, Steps};
 use depth_pool::{Pool, RunId};
 use std::alloc::Global;
 use std::marker::Brand;
+use std::process::Abort;
 use std::sync::ledger::{Blank, Ledger};
 use std::test::Fail;
 
@@ -37,6 +39,26 @@ fn submit(alloc: Global, pool: &mut Pool, run: RunId) -> Result<(), Fail>
     Ok(())
 }
 
+/// Adds three runs in this order to an empty pool.
+fn fill(
+    alloc: Global,
+    pool: &mut Pool,
+    first: RunId,
+    second: RunId,
+    third: RunId,
+) -> Result<(), Fail>
+    requires empty { pool.old.runs ≡ [] }
+    requires before { first ≢ second }
+    requires between { first ≢ third }
+    requires after { second ≢ third }
+    ensures is_in { OnOk result (has_run second pool.new.runs ≡ true) }
+    ensures named { OnOk result (All (λ held. All (λ doc. doc.0 < 6) held.docs) pool.new.runs) }
+{
+    submit(alloc, pool, first)?;
+    submit(alloc, pool, second)?;
+    submit(alloc, pool, third)
+}
+
 /// A pool of depth 3 with three runs that came in this order.
 fn filled(alloc: Global, first: RunId, second: RunId, third: RunId) -> Result<Pool, Fail>
     requires before { first ≢ second }
@@ -46,10 +68,10 @@ fn filled(alloc: Global, first: RunId, second: RunId, third: RunId) -> Result<Po
     ensures named { IfOk result (λ pool. All (λ held. All (λ doc. doc.0 < 6) held.docs) pool.runs) }
 {
     let mut pool = Pool::new(alloc, 3);
-    submit(alloc, &mut pool, first)?;
-    submit(alloc, &mut pool, second)?;
-    submit(alloc, &mut pool, third)?;
-    Ok(pool)
+    match fill(alloc, &mut pool, first, second, third) {
+        Ok(()) => Ok(pool),
+        Err(fail) => Err(fail),
+    }
 }
 
 /// Each document and each run that holds it.
@@ -101,6 +123,37 @@ fn holders_told<L: Ledger>(pool: &Pool, doc: u32, blank: Blank) -> [bool; 3]
     ]
 }
 
+/// The pairs of a pool of three runs that came in this order.
+fn pairs_of(
+    alloc: Global,
+    first: RunId,
+    second: RunId,
+    third: RunId,
+) -> Result<Vec<(u32, u16)>, Fail>
+    requires before { first ≢ second }
+    requires between { first ≢ third }
+    requires after { second ≢ third }
+{
+    let pool = filled(alloc, first, second, third)?;
+    held::<Brand>(alloc, &pool, Blank::new(1))
+}
+
+/// The pairs that are left of such a pool, once the second run is dropped.
+fn pairs_left(
+    alloc: Global,
+    first: RunId,
+    dropped: RunId,
+    third: RunId,
+) -> Result<Vec<(u32, u16)>, Fail>
+    requires before { first ≢ dropped }
+    requires between { first ≢ third }
+    requires after { dropped ≢ third }
+{
+    let mut pool = filled(alloc, first, dropped, third)?;
+    pool.drop_run(dropped);
+    held::<Brand>(alloc, &pool, Blank::new(1))
+}
+
 #[test]
 fn holders_ascend_whatever_the_order_of_the_runs(rt: HostRuntime) -> Result<(), Fail> {
     let alloc = rt.alloc();
@@ -116,8 +169,7 @@ fn holders_ascend_whatever_the_order_of_the_runs(rt: HostRuntime) -> Result<(), 
     ];
     for [first, second, third] in [[0, 1, 2], [2, 1, 0], [1, 2, 0]] {
         assert!(rt; first != second && first != third && second != third);
-        let pool = filled(alloc, RunId(first), RunId(second), RunId(third))?;
-        let pairs = held::<Brand>(alloc, &pool, Blank::new(1))?;
+        let pairs = pairs_of(alloc, RunId(first), RunId(second), RunId(third))?;
         assert_eq!(rt; pairs.as_slice(), all.as_slice());
     }
     Ok(())
@@ -133,9 +185,7 @@ fn a_dropped_run_holds_nothing(rt: HostRuntime) -> Result<(), Fail> {
     ];
     for ([first, dropped, third], left) in cases {
         assert!(rt; first != dropped && first != third && dropped != third);
-        let mut pool = filled(alloc, RunId(first), RunId(dropped), RunId(third))?;
-        pool.drop_run(RunId(dropped));
-        let pairs = held::<Brand>(alloc, &pool, Blank::new(1))?;
+        let pairs = pairs_left(alloc, RunId(first), RunId(dropped), RunId(third))?;
         assert_eq!(rt; pairs.as_slice(), left);
     }
     Ok(())
@@ -143,7 +193,11 @@ fn a_dropped_run_holds_nothing(rt: HostRuntime) -> Result<(), Fail> {
 
 #[test]
 fn a_run_holds_what_stands_within_the_depth(rt: HostRuntime) -> Result<(), Fail> {
-    let pool = filled(rt.alloc(), RunId(0), RunId(1), RunId(2))?;
+    expect_holders(&rt, &filled(rt.alloc(), RunId(0), RunId(1), RunId(2))?);
+    Ok(())
+}
+
+fn expect_holders(rt: &impl Abort, pool: &Pool) {
     let cases = [
         (0, [true, false, false]),
         (2, [false, true, true]),
@@ -152,9 +206,8 @@ fn a_run_holds_what_stands_within_the_depth(rt: HostRuntime) -> Result<(), Fail>
         (6, [false, false, false]),
     ];
     for (doc, told) in cases {
-        assert_eq!(rt; holders_told::<Brand>(&pool, doc, Blank::new(1)), told);
+        assert_eq!(rt; holders_told::<Brand>(pool, doc, Blank::new(1)), told);
     }
-    Ok(())
 }
 
 #[test]
@@ -174,35 +227,38 @@ fn the_documents_of_a_run_stand_by_rank(rt: HostRuntime) -> Result<(), Fail> {
     Ok(())
 }
 
-/// Names of the documents 0 to 5, whose order isn't that of the numbers.
-fn six_names(alloc: Global) -> Result<Names, Fail> {
-    let mut names = Names::new(alloc);
-    for docno in [b"F", b"B", b"E", b"A", b"D", b"C"] {
-        let name = Text::from_slice(alloc, docno)?;
-        if names.len() < 6 {
-            names.add(name)?;
-        }
-    }
-    Ok(names)
-}
+/// Docnos of the documents 0 to 5, whose order isn't that of the numbers.
+const DOCNOS: [&[u8]; 6] = [b"F", b"B", b"E", b"A", b"D", b"C"];
 
 #[test]
 fn the_documents_of_a_pool_stand_by_docno(rt: HostRuntime) -> Result<(), Fail> {
     let alloc = rt.alloc();
-    let names = six_names(alloc)?;
+    let mut names = Names::new(alloc);
+    add_docnos(alloc, &mut names, &DOCNOS)?;
+    let mut pool = filled(alloc, RunId(0), RunId(1), RunId(2))?;
+    expect_docs(&rt, &names, &mut pool, RunId(1))?;
+    let mut pool = filled(alloc, RunId(2), RunId(1), RunId(0))?;
+    expect_docs(&rt, &names, &mut pool, RunId(1))
+}
+
+/// The documents of three runs, and those left once the run between is dropped.
+fn expect_docs(rt: &impl Abort, names: &Names, pool: &mut Pool, dropped: RunId) -> Result<(), Fail>
+    requires is_in { has_run dropped pool.old.runs ≡ true }
+    requires named { All (λ held. All (λ doc. doc.0 < 6) held.docs) pool.old.runs }
+{
     assert_eq!(rt; names.len(), 6);
     let all = [3, 1, 5, 4, 2, 0].map(|doc| DocId(doc));
+    assert!(rt; are_docs(names, pool, &all)?);
+    pool.drop_run(dropped);
     let left = [1, 4, 2, 0].map(|doc| DocId(doc));
-    for [first, third] in [[0, 2], [2, 0]] {
-        assert!(rt; first != 1 && first != third && third != 1);
-        let mut pool = filled(alloc, RunId(first), RunId(1), RunId(third))?;
-        let docs = pool.docs(&names)?;
-        assert_eq!(rt; docs.as_slice(), all.as_slice());
-        assert_eq!(rt; pool.len(), 6);
-        pool.drop_run(RunId(1));
-        let docs = pool.docs(&names)?;
-        assert_eq!(rt; docs.as_slice(), left.as_slice());
-        assert_eq!(rt; pool.len(), 4);
-    }
+    assert!(rt; are_docs(names, pool, &left)?);
     Ok(())
+}
+
+/// Whether a pool holds just these documents, by docno.
+fn are_docs(names: &Names, pool: &Pool, wanted: &[DocId]) -> Result<bool, Fail>
+    requires named { All (λ held. All (λ doc. doc.0 < length names.now) held.docs) pool.now.runs }
+{
+    let docs = pool.docs(names)?;
+    Ok(docs.as_slice() == wanted && pool.len() == wanted.len())
 }

@@ -1,5 +1,6 @@
 //! Tries payloads: bundles and single entries are read as what they are, and other bytes are none.
 use crate::bundle_bytes::{EACH_KIND, ITS_ENTRIES, NO_PAYLOADS, THREE};
+use crate::entries::has_fields;
 use record_codec::{CodecFault, read_entry, read_payload};
 use rulebook::EntryCore;
 use std::alloc::Global;
@@ -9,27 +10,30 @@ fn is_no_payload(alloc: Global, bytes: &[u8]) -> bool {
     matches!(read_payload(alloc, bytes), Err(CodecFault::NoEntry))
 }
 
-fn is_same(core: &EntryCore, other: &EntryCore) -> bool {
-    core.caller.name.bytes() == other.caller.name.bytes()
-        && core.caller.role == other.caller.role
-        && core.number == other.number
-        && core.moment == other.moment
-        && core.command.is_same(&other.command)
-}
-
 /// Whether the bytes are a payload of these entries, each line of which spells one.
 fn are_read(alloc: Global, bytes: &[u8], entries: &str) -> Result<bool, Fail> {
     let cores = read_payload(alloc, bytes).ok().ok_or("a payload")?;
     let mut left = cores.iter();
     for digits in entries.lines() {
-        let bytes = hex::decode(alloc, digits)?;
-        let entry = read_entry(alloc, &bytes).ok().ok_or("an entry")?;
-        let core = left.next().ok_or("as many entries")?;
-        if !is_same(core, &entry) {
+        if !is_spelled(alloc, left.next().ok_or("as many entries")?, digits)? {
             return Ok(false);
         }
     }
     Ok(left.next().is_none())
+}
+
+/// Whether the digits spell an entry.
+fn is_spelled(alloc: Global, core: &EntryCore, digits: &str) -> Result<bool, Fail> {
+    let bytes = hex::decode(alloc, digits)?;
+    let entry = read_entry(alloc, &bytes).ok().ok_or("an entry")?;
+    let fields = (
+        entry.caller.name.bytes(),
+        entry.caller.role,
+        entry.number,
+        entry.moment,
+        &entry.command,
+    );
+    Ok(has_fields(core, &fields))
 }
 
 #[test]

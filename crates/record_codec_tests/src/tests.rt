@@ -1,5 +1,6 @@
 //! Tries spellings of entries: each command's is read and written again as it was, other and cut
 //! bytes are none, and lists and texts are as many and as long as they may be.
+use crate::entries::has_fields;
 use crate::spellings::{FULL_LISTS, LONG_TEXTS, NO_SPELLINGS, SPELLINGS};
 use decimal_rank::Text;
 use record_codec::{CodecFault, read_entry, write_entry};
@@ -63,11 +64,8 @@ fn a_spelling_that_is_cut_is_none(rt: HostRuntime) {
 #[test]
 fn the_fields_of_a_grade(rt: HostRuntime) -> Result<(), Fail> {
     let core = read_entry(rt.alloc(), &GRADE).ok().ok_or("an entry")?;
-    assert_eq!(rt; core.caller.name.bytes(), b"p".as_slice());
-    assert_eq!(rt; core.caller.role, Role::Assessor);
-    assert_eq!(rt; core.number, Some(7));
-    assert_eq!(rt; core.moment, 1000);
-    assert!(rt; core.command.is_same(&Command::Grade { lease: 1, grade: 2 }));
+    let grade = Command::Grade { lease: 1, grade: 2 };
+    assert!(rt; has_fields(&core, &(b"p", Role::Assessor, Some(7), 1000, &grade)));
     Ok(())
 }
 

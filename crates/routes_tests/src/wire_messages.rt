@@ -57,6 +57,11 @@ fn tell(step: &Step, told: &mut Vec<u8>) -> Result<(), Fail> {
     Ok(())
 }
 
+fn tell_next(wire: &mut Wire, told: &mut Vec<u8>) -> Result<(), Fail> {
+    let step = wire.next()?;
+    tell(&step, told)
+}
+
 fn feed_head(wire: &mut Wire, lines: &str) -> Result<(), Memory> {
     for line in lines.split('|') {
         wire.feed(line.as_bytes())?;
@@ -65,17 +70,22 @@ fn feed_head(wire: &mut Wire, lines: &str) -> Result<(), Memory> {
     Ok(())
 }
 
+/// Tells a message, and where it is a request what comes behind its head.
+fn tell_message(wire: &mut Wire, lines: &str, told: &mut Vec<u8>) -> Result<(), Fail> {
+    feed_head(wire, lines)?;
+    tell_next(wire, told)?;
+    if told.as_slice().starts_with(b"GET") || told.as_slice().starts_with(b"POST") {
+        tell_next(wire, told)?;
+    }
+    Ok(())
+}
+
 #[test]
 fn each_message_is_a_request_or_its_fault(rt: HostRuntime) -> Result<(), Fail> {
     for row in MESSAGES.lines() {
         let (lines, want) = row.split_once(" => ").ok_or("no row")?;
-        let mut wire = Wire::new(rt.alloc());
         let mut told = Vec::new(rt.alloc());
-        feed_head(&mut wire, lines)?;
-        tell(&wire.next()?, &mut told)?;
-        if told.as_slice().starts_with(b"GET") || told.as_slice().starts_with(b"POST") {
-            tell(&wire.next()?, &mut told)?;
-        }
+        tell_message(&mut Wire::new(rt.alloc()), lines, &mut told)?;
         assert_eq!(rt; told.as_slice(), want.as_bytes(), "at {row}");
     }
     Ok(())
@@ -149,20 +159,27 @@ fn feed_fields(wire: &mut Wire, count: usize) -> Result<(), Memory> {
     wire.feed(b"\r\n")
 }
 
+fn tell_long_head(wire: &mut Wire, told: &mut Vec<u8>) -> Result<(), Fail> {
+    feed_long_head(wire, 8191)?;
+    tell_next(wire, told)?;
+    feed_long_head(wire, 1)?;
+    tell_next(wire, told)
+}
+
+fn tell_many_fields(wire: &mut Wire, told: &mut Vec<u8>) -> Result<(), Fail> {
+    feed_fields(wire, 32)?;
+    feed_fields(wire, 33)?;
+    for _ in 0..3 {
+        tell_next(wire, told)?;
+    }
+    Ok(())
+}
+
 #[test]
 fn a_head_has_8192_bytes_and_32_fields_at_most(rt: HostRuntime) -> Result<(), Fail> {
     let mut told = Vec::new(rt.alloc());
-    let mut long = Wire::new(rt.alloc());
-    feed_long_head(&mut long, 8191)?;
-    tell(&long.next()?, &mut told)?;
-    feed_long_head(&mut long, 1)?;
-    tell(&long.next()?, &mut told)?;
-    let mut many = Wire::new(rt.alloc());
-    feed_fields(&mut many, 32)?;
-    feed_fields(&mut many, 33)?;
-    tell(&many.next()?, &mut told)?;
-    tell(&many.next()?, &mut told)?;
-    tell(&many.next()?, &mut told)?;
+    tell_long_head(&mut Wire::new(rt.alloc()), &mut told)?;
+    tell_many_fields(&mut Wire::new(rt.alloc()), &mut told)?;
     assert_eq!(rt; told.as_slice(), b" more431GET /a.400".as_slice());
     Ok(())
 }

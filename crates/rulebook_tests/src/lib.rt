@@ -1,5 +1,0 @@
-//! Tests of callers, replies and commands.
-#![tactic(auto)]
-
-#[cfg(test)]
-mod tests;
