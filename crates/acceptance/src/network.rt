@@ -1,8 +1,10 @@
 //! The door on the network, over the machine's own.
+ghost use Rattle.campaign_server.specs.Doors.{IsOpen};
+
 use campaign_server::{Door, End, Failed, Link, TcpDoor, write_all};
+use decimal_rank::Memory;
 use std::io::{Read, Write};
 use std::net::{Ipv4Addr, Net, OpenListener, OpenStream, Shutdown, TcpListener, TcpStream};
-use std::process::Abort;
 use std::test::Fail;
 
 /// A port that nobody listens on.
@@ -11,19 +13,48 @@ fn free_port(rt: &HostRuntime) -> Result<u16, Fail> {
     Ok(listener.local_addr()?.port())
 }
 
-/// One exchange on a link, and the end of its peer's side.
-fn assert_talks(rt: &impl Abort, link: &mut impl Link, peer: &mut TcpStream) -> Result<(), Fail> {
-    let mut out = [0; 8];
+/// Whether a link reads what its peer asks, writes what it is told, and knows the moment, and the
+/// end of its peer's side.
+fn talk(link: &mut impl Link, peer: &mut TcpStream) -> Result<[bool; 4], Fail> {
     peer.write_all(b"ask")?;
-    assert_eq!(rt; link.read(&mut out), Ok(3));
-    assert_eq!(rt; &out[..3], b"ask".as_slice());
-    assert_eq!(rt; write_all(link, b"told"), Ok(()));
-    assert_eq!(rt; peer.read(&mut out)?, 4);
-    assert_eq!(rt; &out[..4], b"told".as_slice());
-    assert!(rt; link.moment() > 1_700_000_000);
+    let asked = reads(link, b"ask");
+    let told = write_all(link, b"told").is_ok() && is_sent(peer, b"told")?;
+    let is_late = link.moment() > 1_700_000_000;
     peer.shutdown(Shutdown::Write)?;
-    assert_eq!(rt; link.read(&mut out), Ok(0));
-    Ok(())
+    Ok([asked, told, is_late, reads(link, b"")])
+}
+
+fn reads(link: &mut impl Link, wanted: &[u8]) -> bool {
+    let mut out = [0; 8];
+    link.read(&mut out) == Ok(wanted.len()) && out.starts_with(wanted)
+}
+
+fn is_sent(peer: &mut TcpStream, wanted: &[u8]) -> Result<bool, Fail> {
+    let mut out = [0; 8];
+    Ok(peer.read(&mut out)? == wanted.len() && out.starts_with(wanted))
+}
+
+/// How a door serves its next link: what the two say, whether the peer reads to the end once the
+/// link is finished, and what the door says of it.
+fn served<R: Door>(
+    door: &mut R,
+    peer: &mut TcpStream,
+) -> Result<([bool; 4], bool, Result<(), Memory>, u64), Fail>
+    requires { IsOpen (R.seen door.old) }
+{
+    let Ok(Some(mut link)) = door.accept() else {
+        return Err(Fail::from("no link was taken"));
+    };
+    let talked = talk(&mut link, peer);
+    let record = R::finish(link);
+    let done = door.done(record, End::Ended);
+    Ok((talked?, is_sent(peer, b"")?, done, door.faults()))
+}
+
+/// What a door says of a port that is taken.
+fn refused(rt: &HostRuntime, port: u16) -> (Result<(), Failed>, u64) {
+    let mut door = TcpDoor::new(rt);
+    (door.open(port), door.faults())
 }
 
 #[test]
@@ -32,18 +63,7 @@ fn a_door_on_the_network(rt: HostRuntime) -> Result<(), Fail> {
     let mut door = TcpDoor::new(&rt);
     assert_eq!(rt; door.open(port), Ok(()));
     let mut peer = TcpStream::connect(&rt, (Ipv4Addr::LOCALHOST, port))?;
-    let Ok(Some(mut link)) = door.accept() else {
-        panic!(rt; "no link was taken");
-    };
-    assert_talks(&rt, &mut link, &mut peer)?;
-    // what is sent behind the last answer is dropped, and the peer reads to the end
-    TcpDoor::<&HostRuntime>::finish(link);
-    assert_eq!(rt; peer.read(&mut [0; 8])?, 0);
-    assert_eq!(rt; door.done((), End::Ended), Ok(()));
-    assert_eq!(rt; door.faults(), 0);
-    // a port that is taken
-    let mut other = TcpDoor::new(&rt);
-    assert_eq!(rt; other.open(port), Err(Failed));
-    assert_eq!(rt; other.faults(), 1);
+    assert_eq!(rt; served(&mut door, &mut peer)?, ([true; 4], true, Ok(()), 0));
+    assert_eq!(rt; refused(&rt, port), (Err(Failed), 1));
     Ok(())
 }
