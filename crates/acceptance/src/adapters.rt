@@ -1,6 +1,6 @@
 //! The adapters over standard input and output, and the link in memory.
-use crate::links::pieces;
 use campaign_server::{Failed, Link, MemoryLink, StreamLink, write_all};
+use decimal_rank::Text;
 use std::process::Abort;
 use std::test::Fail;
 
@@ -43,8 +43,10 @@ fn assert_writes(rt: &impl Abort, link: &mut MemoryLink) {
 #[test]
 fn a_link_in_memory(rt: HostRuntime) -> Result<(), Fail> {
     let alloc = rt.alloc();
+    let first = Text::from_slice(alloc, b"abc")?;
+    let second = Text::from_slice(alloc, b"de")?;
     let mut link = MemoryLink::new(
-        pieces(alloc, b"abc", b"de")?,
+        vec![in alloc; first, second]?,
         vec![in alloc; 5, 7]?,
         vec![in alloc; 2]?,
         vec![in alloc; 1]?,

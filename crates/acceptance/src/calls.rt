@@ -1,11 +1,12 @@
-//! Calls of the program, its words apart by blanks, over files, output, links, disks and doors in
-//! memory.
+//! Calls of the program, its words apart by blanks, over files, output, a disk and a door in memory
+//! and the link of the tests.
 ghost use Rattle.campaign_server.specs.Doors.{IsShut};
 ghost use Rattle.campaign_server.specs.MemoryForms.MemoryDoors.{told_by};
 
+use crate::links::PlannedLink;
 use crate::settings::{SETTINGS, settings_shelf};
 use campaign_cli::{MemoryShelf, MemorySink, campaign};
-use campaign_server::{Door, Link, MemoryDoor, MemoryLink};
+use campaign_server::MemoryDoor;
 use disk_model::MemoryDisk;
 use release_archive::MemoryKeeper;
 use std::alloc::Global;
@@ -22,16 +23,16 @@ fn words_of(alloc: Global, text: &str) -> Result<Vec<String>, Fail> {
 }
 
 /// The status of the program, and the disk.
-pub(crate) fn ended_at<W: Threads + Wait + Sync + AllocGlobal, I: Link, R: Door>(
+pub(crate) fn ended_at<W: Threads + Wait + Sync + AllocGlobal>(
     rt: &W,
     words: &str,
     shelf: &mut MemoryShelf,
     out: &mut MemorySink,
-    own: &mut I,
+    own: &mut PlannedLink,
     disk: MemoryDisk,
-    door: &mut R,
+    door: &mut MemoryDoor<PlannedLink>,
 ) -> Result<(u8, MemoryDisk), Fail>
-    requires { IsShut (R.seen door.old) }
+    requires { IsShut (told_by door.old) }
 {
     let alloc = rt.alloc();
     let words = words_of(alloc, words)?;
@@ -41,7 +42,7 @@ pub(crate) fn ended_at<W: Threads + Wait + Sync + AllocGlobal, I: Link, R: Door>
 }
 
 /// A door without links.
-fn shut_door(alloc: Global) -> MemoryDoor<MemoryLink>
+fn shut_door(alloc: Global) -> MemoryDoor<PlannedLink>
     ensures { IsShut (told_by result) }
 {
     MemoryDoor::new(Vec::new(alloc), Vec::new(alloc))
@@ -49,11 +50,11 @@ fn shut_door(alloc: Global) -> MemoryDoor<MemoryLink>
 
 /// The status of the program under these settings over a disk and a link, what it prints, and the
 /// disk.
-pub(crate) fn ended_under<W: Threads + Wait + Sync + AllocGlobal, I: Link>(
+pub(crate) fn ended_under<W: Threads + Wait + Sync + AllocGlobal>(
     rt: &W,
     words: &str,
     settings: &str,
-    own: &mut I,
+    own: &mut PlannedLink,
     disk: MemoryDisk,
 ) -> Result<(u8, MemorySink, MemoryDisk), Fail> {
     let alloc = rt.alloc();
@@ -69,9 +70,9 @@ pub(crate) fn empty_disk(alloc: Global) -> MemoryDisk {
 }
 
 /// The status of a session over a link on an empty disk, and what it prints.
-pub(crate) fn session_over<W: Threads + Wait + Sync + AllocGlobal, I: Link>(
+pub(crate) fn session_over<W: Threads + Wait + Sync + AllocGlobal>(
     rt: &W,
-    link: &mut I,
+    link: &mut PlannedLink,
 ) -> Result<(u8, MemorySink), Fail> {
     let disk = empty_disk(rt.alloc());
     let (status, out, _) = ended_under(rt, "session", SETTINGS, link, disk)?;

@@ -12,7 +12,7 @@ fn drilled<W: Threads + Wait + Sync + AllocGlobal>(
     words: &str,
 ) -> Result<(u8, Vec<u8>), Fail> {
     let alloc = rt.alloc();
-    let mut own = idle_link(alloc);
+    let mut own = idle_link(alloc)?;
     let (status, out, _) = ended_under(rt, words, SETTINGS, &mut own, empty_disk(alloc))?;
     Ok((status, Vec::from_slice(alloc, out.written())?))
 }

@@ -19,5 +19,3 @@ mod session;
 mod settings;
 #[cfg(test)]
 mod shelves;
-#[cfg(test)]
-mod waiting_link;

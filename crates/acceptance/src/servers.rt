@@ -1,37 +1,37 @@
 //! `serve` through the top call.
 ghost use Rattle.std.specs.Prelude.{◌≡◌, ◌≤◌, All, IfOk};
 ghost use Rattle.campaign_server.specs.Doors.{IsNew, IsShut};
-ghost use Rattle.campaign_server.specs.MemoryForms.MemoryLinks.{told_by};
+ghost use Rattle.campaign_server.specs.MemoryForms.MemoryDoors.{told_by};
 
 use crate::calls::{empty_disk, ended_at, ended_under};
-use crate::links::{idle_link, link_of};
+use crate::links::{
+    Answers, Faults, NO_FAULTS, PlannedLink, idle_link, link_of, no_answers, waiting_link,
+};
 use crate::session::{POOL, POOL_SHOWN, SUBMIT, SUBMITTED, TOPICS, TOPICS_TAKEN, both};
 use crate::settings::{SETTINGS, settings_shelf};
-use crate::waiting_link::WaitingLink;
 use campaign_cli::MemorySink;
-use campaign_server::{Door, End, Link, MemoryDoor, MemoryLink};
+use campaign_server::{End, Link, MemoryDoor};
 use decimal_rank::Memory;
 use disk_model::MemoryDisk;
 use std::alloc::Global;
 use std::process::Abort;
-use std::sync::atomic::AtomicU64;
-use std::sync::{Arc, Wait};
+use std::sync::Wait;
 use std::test::Fail;
 use std::thread::Threads;
 
 /// The status of the program with these words over a door and an empty disk, and what the disk has
 /// then.
-fn served_at<W: Threads + Wait + Sync + AllocGlobal, R: Door>(
+fn served_at<W: Threads + Wait + Sync + AllocGlobal>(
     rt: &W,
     words: &str,
-    door: &mut R,
+    door: &mut MemoryDoor<PlannedLink>,
 ) -> Result<(u8, Vec<u8>), Fail>
-    requires { IsShut (R.seen door.old) }
+    requires { IsShut (told_by door.old) }
 {
     let alloc = rt.alloc();
     let mut shelf = settings_shelf(alloc, SETTINGS)?;
     let mut out = MemorySink::new(Vec::new(alloc));
-    let mut own = idle_link(alloc);
+    let mut own = idle_link(alloc)?;
     let disk = empty_disk(alloc);
     let (status, disk) = ended_at(rt, words, &mut shelf, &mut out, &mut own, disk, door)?;
     Ok((status, content_of(alloc, disk)?))
@@ -44,26 +44,10 @@ fn content_of(alloc: Global, disk: MemoryDisk) -> Result<Vec<u8>, Fail> {
 /// What `check` prints of a disk with these bytes.
 fn page_of<W: Threads + Wait + Sync + AllocGlobal>(rt: &W, held: &[u8]) -> Result<Vec<u8>, Fail> {
     let alloc = rt.alloc();
-    let mut own = idle_link(alloc);
+    let mut own = idle_link(alloc)?;
     let disk = MemoryDisk::new(Vec::from_slice(alloc, held)?, Vec::new(alloc));
     let (_, out, _) = ended_under(rt, "check", SETTINGS, &mut own, disk)?;
     Ok(Vec::from_slice(alloc, out.written())?)
-}
-
-/// A link that gives these bytes. The read and the write at these places fail; none where a place
-/// is 0.
-fn link_with(alloc: Global, bytes: &[u8], read: u64, write: u64) -> Result<MemoryLink, Fail>
-    ensures { IfOk result (λ link. IsNew (told_by link)) }
-{
-    let mut reads = Vec::new(alloc);
-    if read > 0 {
-        reads.push(read)?;
-    }
-    let mut writes = Vec::new(alloc);
-    if write > 0 {
-        writes.push(write)?;
-    }
-    Ok(link_of(alloc, bytes, b"", reads, writes)?)
 }
 
 /// The links and one more, all of them new.
@@ -77,18 +61,19 @@ fn with_link<I: Link + Drop>(links: Vec<I>, link: I) -> Result<Vec<I>, Memory>
     Ok(links)
 }
 
-/// Three links: one with these bytes, of which the read and the write at these places fail, and two
-/// that give a submission and its page.
-fn three_links(alloc: Global, bytes: &[u8], read: u64, write: u64) -> Result<Vec<MemoryLink>, Fail>
-    ensures { IfOk result (λ links. All (λ link. IsNew (told_by link)) links.items) }
+/// Three links: one that gives the topics and fails so, and two that give a submission and ask for
+/// the pool.
+fn three_links(alloc: Global, faults: Faults) -> Result<Vec<PlannedLink>, Fail>
+    ensures { IfOk result
+        (λ links. All (λ link. IsNew (⟦<PlannedLink as Link>⟧.seen link)) links.items) }
 {
-    let links = with_link(Vec::new(alloc), link_with(alloc, bytes, read, write)?)?;
-    let links = with_link(links, link_with(alloc, SUBMIT, 0, 0)?)?;
-    Ok(with_link(links, link_with(alloc, POOL, 0, 0)?)?)
+    let links = with_link(Vec::new(alloc), link_of(alloc, TOPICS, b"", faults)?)?;
+    let links = with_link(links, link_of(alloc, SUBMIT, b"", NO_FAULTS)?)?;
+    Ok(with_link(links, link_of(alloc, POOL, b"", NO_FAULTS)?)?)
 }
 
 /// The ends and the written bytes of the links that a door was handed, in order.
-fn assert_served(rt: &impl Abort, door: &MemoryDoor<MemoryLink>, rows: &[(End, &[u8])]) {
+fn assert_served(rt: &impl Abort, door: &MemoryDoor<PlannedLink>, rows: &[(End, &[u8])]) {
     let served = door.served();
     assert_eq!(rt; served.len(), rows.len());
     for place in 0..rows.len() {
@@ -109,7 +94,7 @@ fn a_failing_link_leaves_the_others_answered(rt: HostRuntime) -> Result<(), Fail
         (0, 0, End::Ended, TOPICS_TAKEN),
     ];
     for (read, write, end, answer) in cases {
-        let links = three_links(alloc, TOPICS, read, write)?;
+        let links = three_links(alloc, Faults { read, write })?;
         let mut door = MemoryDoor::new(links, Vec::new(alloc));
         let words = "serve --port 7000 --workers 1 --connections 3";
         let (status, _) = served_at(&rt, words, &mut door)?;
@@ -142,7 +127,7 @@ fn a_server_ends_with_its_door_or_its_connections(rt: HostRuntime) -> Result<(),
         if fail > 0 {
             fails.push(fail)?;
         }
-        let links = three_links(alloc, TOPICS, 0, 0)?;
+        let links = three_links(alloc, NO_FAULTS)?;
         let mut door = MemoryDoor::new(links, fails);
         let words = format!(in alloc;
             "serve --port 65535 --workers 1 --connections {connections}"
@@ -160,54 +145,49 @@ fn a_server_ends_with_its_door_or_its_connections(rt: HostRuntime) -> Result<(),
 /// A link that asks for the pool once so many answers were written on the next link.
 fn asking_link(
     alloc: Global,
-    answers: &Arc<AtomicU64, Global>,
-    next_answers: &Arc<AtomicU64, Global>,
-    awaited: u64,
-) -> Result<WaitingLink, Fail>
-    ensures { IfOk result (λ link. IsNew (⟦<WaitingLink as Link>⟧.seen link)) }
+    answers: &Answers,
+    next_answers: &Answers,
+    awaited_count: u64,
+) -> Result<PlannedLink, Fail>
+    ensures { IfOk result (λ link. IsNew (⟦<PlannedLink as Link>⟧.seen link)) }
 {
-    Ok(WaitingLink::new(
-        Vec::from_slice(alloc, &POOL[..20])?,
-        Vec::from_slice(alloc, &POOL[20..])?,
-        Arc::try_clone(answers)?,
-        Arc::try_clone(next_answers)?,
-        awaited,
-    ))
+    waiting_link(
+        alloc,
+        &POOL[..20],
+        &POOL[20..],
+        answers,
+        next_answers,
+        awaited_count,
+    )
 }
 
 /// A link that waits for none and gives the topics and a run.
-fn beginning_link(alloc: Global, answers: &Arc<AtomicU64, Global>) -> Result<WaitingLink, Fail>
-    ensures { IfOk result (λ link. IsNew (⟦<WaitingLink as Link>⟧.seen link)) }
+fn beginning_link(alloc: Global, answers: &Answers) -> Result<PlannedLink, Fail>
+    ensures { IfOk result (λ link. IsNew (⟦<PlannedLink as Link>⟧.seen link)) }
 {
-    Ok(WaitingLink::new(
-        Vec::from_slice(alloc, TOPICS)?,
-        Vec::from_slice(alloc, SUBMIT)?,
-        Arc::try_clone(answers)?,
-        Arc::try_clone(answers)?,
-        0,
-    ))
+    waiting_link(alloc, TOPICS, SUBMIT, answers, answers, 0)
 }
 
 /// Two links, of which the first waits for the second to be answered twice.
-fn two_waiting(alloc: Global) -> Result<Vec<WaitingLink>, Fail>
+fn two_waiting(alloc: Global) -> Result<Vec<PlannedLink>, Fail>
     ensures { IfOk result
-        (λ links. All (λ link. IsNew (⟦<WaitingLink as Link>⟧.seen link)) links.items) }
+        (λ links. All (λ link. IsNew (⟦<PlannedLink as Link>⟧.seen link)) links.items) }
 {
-    let one = Arc::new(alloc, AtomicU64::new(0))?;
-    let two = Arc::new(alloc, AtomicU64::new(0))?;
+    let one = no_answers(alloc)?;
+    let two = no_answers(alloc)?;
     let links = with_link(Vec::new(alloc), asking_link(alloc, &one, &two, 2)?)?;
     Ok(with_link(links, beginning_link(alloc, &two)?)?)
 }
 
 /// Two links in front of these two, of which each waits for the next to be answered.
-fn four_waiting(alloc: Global) -> Result<Vec<WaitingLink>, Fail>
+fn four_waiting(alloc: Global) -> Result<Vec<PlannedLink>, Fail>
     ensures { IfOk result
-        (λ links. All (λ link. IsNew (⟦<WaitingLink as Link>⟧.seen link)) links.items) }
+        (λ links. All (λ link. IsNew (⟦<PlannedLink as Link>⟧.seen link)) links.items) }
 {
-    let one = Arc::new(alloc, AtomicU64::new(0))?;
-    let two = Arc::new(alloc, AtomicU64::new(0))?;
-    let three = Arc::new(alloc, AtomicU64::new(0))?;
-    let four = Arc::new(alloc, AtomicU64::new(0))?;
+    let one = no_answers(alloc)?;
+    let two = no_answers(alloc)?;
+    let three = no_answers(alloc)?;
+    let four = no_answers(alloc)?;
     let links = with_link(Vec::new(alloc), asking_link(alloc, &one, &two, 1)?)?;
     let links = with_link(links, asking_link(alloc, &two, &three, 1)?)?;
     let links = with_link(links, asking_link(alloc, &three, &four, 2)?)?;
@@ -215,7 +195,7 @@ fn four_waiting(alloc: Global) -> Result<Vec<WaitingLink>, Fail>
 }
 
 /// Each link but one shows the pool with the run that came on that one.
-fn assert_waited(rt: &impl Abort, door: &MemoryDoor<WaitingLink>, last: &[u8], count: usize) {
+fn assert_waited(rt: &impl Abort, door: &MemoryDoor<PlannedLink>, last: &[u8], count: usize) {
     let served = door.served();
     let mut shown = 0usize;
     for place in 0..served.len() {
@@ -233,9 +213,9 @@ fn assert_waited(rt: &impl Abort, door: &MemoryDoor<WaitingLink>, last: &[u8], c
 /// As many workers as links take these links, each of which waits for the next but the last.
 fn assert_all_answered<W: Threads + Wait + Sync + AllocGlobal + Abort>(
     rt: &W,
-    links: Vec<WaitingLink>,
+    links: Vec<PlannedLink>,
 ) -> Result<(), Fail>
-    requires { All (λ link. IsNew (⟦<WaitingLink as Link>⟧.seen link)) links.items }
+    requires { All (λ link. IsNew (⟦<PlannedLink as Link>⟧.seen link)) links.items }
 {
     let alloc = rt.alloc();
     let count = links.len();
@@ -271,7 +251,7 @@ fn numbers_out_of_their_ranges_are_usage(rt: HostRuntime) -> Result<(), Fail> {
         ("serve --connections 4294967295 --workers 1 --port 65535", 0),
     ];
     for (words, status) in cases {
-        let links = three_links(alloc, TOPICS, 0, 0)?;
+        let links = three_links(alloc, NO_FAULTS)?;
         let mut door = MemoryDoor::new(links, Vec::new(alloc));
         let (ended, _) = served_at(&rt, words, &mut door)?;
         assert_eq!(rt; ended, status);

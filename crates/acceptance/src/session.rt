@@ -1,6 +1,6 @@
 //! `session` through the top call, where a link or a body is none that a line of a case could tell.
 use crate::calls::session_over;
-use crate::links::{AnsweredFirst, link_of};
+use crate::links::{NO_FAULTS, link_of, no_answers, waiting_link};
 use std::alloc::Global;
 use std::process::Abort;
 use std::sync::Wait;
@@ -58,7 +58,7 @@ fn assert_answers<W: Threads + Wait + Sync + AllocGlobal + Abort>(
 ) -> Result<(), Fail> {
     let alloc = rt.alloc();
     let first = both(alloc, TOPICS, first)?;
-    let mut link = link_of(alloc, &first, second, Vec::new(alloc), Vec::new(alloc))?;
+    let mut link = link_of(alloc, &first, second, NO_FAULTS)?;
     let (ended, out) = session_over(rt, &mut link)?;
     assert_eq!(rt; ended, status);
     assert!(rt; out.written().is_empty());
@@ -76,7 +76,9 @@ fn the_longest_body_is_taken(rt: HostRuntime) -> Result<(), Fail> {
 
 #[test]
 fn an_answer_is_written_before_more_is_read(rt: HostRuntime) -> Result<(), Fail> {
-    let mut link = AnsweredFirst::new(TOPICS, POOL);
+    let answers = no_answers(rt.alloc())?;
+    // waits for its own answer
+    let mut link = waiting_link(rt.alloc(), TOPICS, POOL, &answers, &answers, 1)?;
     let (status, _) = session_over(&rt, &mut link)?;
     assert_eq!(rt; status, 0);
     Ok(())
