@@ -17,19 +17,19 @@ fn drilled<W: Threads + Wait + Sync + AllocGlobal>(
     Ok((status, Vec::from_slice(alloc, out.written())?))
 }
 
-/// Whether a drill ends well, and tells first what it plays.
-fn is_played(drill: &(u8, Vec<u8>)) -> bool {
-    drill.0 == 0 && drill.1.starts_with(b"runs 20\ntopics 10\nlines 20000\n")
-}
-
-fn are_alike(one: &(u8, Vec<u8>), other: &(u8, Vec<u8>)) -> bool {
-    one.0 == other.0 && one.1.as_slice() == other.1.as_slice()
+/// Whether a drill ends well, tells first what it plays, and prints the same a second time.
+fn is_played_alike<W: Threads + Wait + Sync + AllocGlobal>(rt: &W) -> Result<bool, Fail> {
+    let (status, first) = drilled(rt, "drill 1 20 10 100")?;
+    let (status_then, second) = drilled(rt, "drill 1 20 10 100")?;
+    Ok(
+        (status, status_then) == (0, 0)
+            && first.starts_with(b"runs 20\ntopics 10\nlines 20000\n")
+            && first == second,
+    )
 }
 
 #[test]
 fn a_campaign_is_played_alike_each_time(rt: HostRuntime) -> Result<(), Fail> {
-    let first = drilled(&rt, "drill 1 20 10 100")?;
-    let second = drilled(&rt, "drill 1 20 10 100")?;
-    assert!(rt; is_played(&first) && are_alike(&first, &second));
+    assert!(rt; is_played_alike(&rt)?);
     Ok(())
 }

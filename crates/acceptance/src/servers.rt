@@ -14,7 +14,6 @@ use campaign_server::{End, Link, MemoryDoor};
 use decimal_rank::Memory;
 use disk_model::MemoryDisk;
 use std::alloc::Global;
-use std::process::Abort;
 use std::sync::Wait;
 use std::test::Fail;
 use std::thread::Threads;
@@ -72,21 +71,32 @@ fn three_links(alloc: Global, faults: Faults) -> Result<Vec<PlannedLink>, Fail>
     Ok(with_link(links, link_of(alloc, POOL, b"", NO_FAULTS)?)?)
 }
 
-/// The ends and the written bytes of the links that a door was handed, in order.
-fn assert_served(rt: &impl Abort, door: &MemoryDoor<PlannedLink>, rows: &[(End, &[u8])]) {
+/// Whether these are the ends and the written bytes of the links that a door was handed, in order.
+fn are_served(door: &MemoryDoor<PlannedLink>, rows: &[(End, &[u8])]) -> bool {
     let served = door.served();
-    assert_eq!(rt; served.len(), rows.len());
-    for place in 0..rows.len() {
-        if place < served.len() {
-            assert_eq!(rt; served[place].1, rows[place].0);
-            assert_eq!(rt; served[place].0.written(), rows[place].1);
-        }
-    }
+    served.len() == rows.len()
+        && served
+            .iter()
+            .zip(rows)
+            .all(|(link, row)| link.1 == row.0 && link.0.written() == row.1)
+}
+
+/// Whether a server whose first link fails so ends well, that link with this end and answer.
+fn leaves_others_answered<W: Threads + Wait + Sync + AllocGlobal>(
+    rt: &W,
+    faults: Faults,
+    first: (End, &[u8]),
+) -> Result<bool, Fail> {
+    let alloc = rt.alloc();
+    let mut door = MemoryDoor::new(three_links(alloc, faults)?, Vec::new(alloc));
+    let words = "serve --port 7000 --workers 1 --connections 3";
+    let (status, _) = served_at(rt, words, &mut door)?;
+    let rows = [first, (End::Ended, SUBMITTED), (End::Ended, POOL_SHOWN)];
+    Ok(status == 0 && door.opened() == Some(7000) && are_served(&door, &rows))
 }
 
 #[test]
 fn a_failing_link_leaves_the_others_answered(rt: HostRuntime) -> Result<(), Fail> {
-    let alloc = rt.alloc();
     // the read or the write that fails on the first link, its end and its bytes
     let cases: [(u64, u64, End, &[u8]); 3] = [
         (2, 0, End::ReadFault, TOPICS_TAKEN),
@@ -94,50 +104,67 @@ fn a_failing_link_leaves_the_others_answered(rt: HostRuntime) -> Result<(), Fail
         (0, 0, End::Ended, TOPICS_TAKEN),
     ];
     for (read, write, end, answer) in cases {
-        let links = three_links(alloc, Faults { read, write })?;
-        let mut door = MemoryDoor::new(links, Vec::new(alloc));
-        let words = "serve --port 7000 --workers 1 --connections 3";
-        let (status, _) = served_at(&rt, words, &mut door)?;
-        assert_eq!(rt; status, 0);
-        assert_eq!(rt; door.opened(), Some(7000));
-        let rows: [(End, &[u8]); 3] = [
-            (end, answer),
-            (End::Ended, SUBMITTED),
-            (End::Ended, POOL_SHOWN),
-        ];
-        assert_served(&rt, &door, &rows);
+        assert!(rt; leaves_others_answered(&rt, Faults { read, write }, (end, answer))?);
     }
     Ok(())
 }
 
+/// A door with three links, of whose calls this one fails; none where it is 0.
+fn door_of_three(alloc: Global, fail: u64) -> Result<MemoryDoor<PlannedLink>, Fail>
+    ensures { IfOk result (λ door. IsShut (told_by door)) }
+{
+    let mut fails = Vec::new(alloc);
+    if fail > 0 {
+        fails.push(fail)?;
+    }
+    Ok(MemoryDoor::new(three_links(alloc, NO_FAULTS)?, fails))
+}
+
+/// The status of the program with these words over a door and an empty disk, and what `check` prints
+/// then.
+fn served_and_checked<W: Threads + Wait + Sync + AllocGlobal>(
+    rt: &W,
+    words: &str,
+    door: &mut MemoryDoor<PlannedLink>,
+) -> Result<(u8, Vec<u8>), Fail>
+    requires { IsShut (told_by door.old) }
+{
+    let (status, held) = served_at(rt, words, door)?;
+    Ok((status, page_of(rt, &held)?))
+}
+
+/// The most connections of a server, the call on its door that fails, the status, how many links are
+/// served, and the entries.
+type Ending<'a> = (&'a str, u64, u8, usize, &'a str);
+
+fn ends_so<W: Threads + Wait + Sync + AllocGlobal>(
+    rt: &W,
+    (connections, fail, status, count, entries): Ending<'_>,
+) -> Result<bool, Fail> {
+    let mut door = door_of_three(rt.alloc(), fail)?;
+    let words = format!(in rt.alloc();
+        "serve --port 65535 --workers 1 --connections {connections}"
+    )?;
+    let (ended, page) = served_and_checked(rt, words.as_str(), &mut door)?;
+    Ok(
+        ended == status
+            && door.served().len() == count
+            && door.opened().is_some() == (fail != 1)
+            && page.starts_with(entries.as_bytes()),
+    )
+}
+
 #[test]
 fn a_server_ends_with_its_door_or_its_connections(rt: HostRuntime) -> Result<(), Fail> {
-    let alloc = rt.alloc();
-    // the most connections, the call on the door that fails, the status, how many links were
-    // served, and the entries
-    let cases: [(&str, u64, u8, usize, &str); 5] = [
+    let cases = [
         ("9", 0, 0, 3, "entries 3\n"),
         ("3", 0, 0, 3, "entries 3\n"),
         ("1", 0, 0, 1, "entries 2\n"),
         ("3", 3, 6, 1, "entries 2\n"),
         ("3", 1, 6, 0, "entries 1\n"),
     ];
-    for (connections, fail, status, count, entries) in cases {
-        let mut fails = Vec::new(alloc);
-        if fail > 0 {
-            fails.push(fail)?;
-        }
-        let links = three_links(alloc, NO_FAULTS)?;
-        let mut door = MemoryDoor::new(links, fails);
-        let words = format!(in alloc;
-            "serve --port 65535 --workers 1 --connections {connections}"
-        )?;
-        let (ended, held) = served_at(&rt, words.as_str(), &mut door)?;
-        assert_eq!(rt; ended, status);
-        assert_eq!(rt; door.served().len(), count);
-        assert_eq!(rt; door.opened().is_some(), fail != 1);
-        let page = page_of(&rt, &held)?;
-        assert!(rt; page.starts_with(entries.as_bytes()));
+    for case in cases {
+        assert!(rt; ends_so(&rt, case)?);
     }
     Ok(())
 }
@@ -194,27 +221,27 @@ fn four_waiting(alloc: Global) -> Result<Vec<PlannedLink>, Fail>
     Ok(with_link(links, beginning_link(alloc, &four)?)?)
 }
 
-/// Each link but one shows the pool with the run that came on that one.
-fn assert_waited(rt: &impl Abort, door: &MemoryDoor<PlannedLink>, last: &[u8], count: usize) {
+/// Whether so many links were served, of which each but one shows the pool with the run that came
+/// on that one.
+fn have_waited(door: &MemoryDoor<PlannedLink>, last: &[u8], count: usize) -> bool {
     let served = door.served();
-    let mut shown = 0usize;
-    for place in 0..served.len() {
-        assert_eq!(rt; served[place].1, End::Ended);
-        if served[place].0.written() == POOL_SHOWN {
-            shown = shown.saturating_add(1);
-        } else {
-            assert_eq!(rt; served[place].0.written(), last);
-        }
-    }
-    assert_eq!(rt; served.len(), count);
-    assert_eq!(rt; shown.saturating_add(1), count);
+    let shown = served
+        .iter()
+        .filter(|link| link.0.written() == POOL_SHOWN)
+        .count();
+    served.len() == count
+        && shown.saturating_add(1) == count
+        && served.iter().all(|link| {
+            link.1 == End::Ended && (link.0.written() == POOL_SHOWN || link.0.written() == last)
+        })
 }
 
-/// As many workers as links take these links, each of which waits for the next but the last.
-fn assert_all_answered<W: Threads + Wait + Sync + AllocGlobal + Abort>(
+/// Whether as many workers as links answer these links, each of which waits for the next but the
+/// last.
+fn are_all_answered<W: Threads + Wait + Sync + AllocGlobal>(
     rt: &W,
     links: Vec<PlannedLink>,
-) -> Result<(), Fail>
+) -> Result<bool, Fail>
     requires { All (λ link. IsNew (⟦<PlannedLink as Link>⟧.seen link)) links.items }
 {
     let alloc = rt.alloc();
@@ -223,20 +250,35 @@ fn assert_all_answered<W: Threads + Wait + Sync + AllocGlobal + Abort>(
     let mut door = MemoryDoor::new(links, Vec::new(alloc));
     let words = format!(in alloc; "serve --port 7000 --workers {count} --connections {count}")?;
     let (status, _) = served_at(rt, words.as_str(), &mut door)?;
-    assert_eq!(rt; status, 0);
-    assert_waited(rt, &door, &last, count);
-    Ok(())
+    Ok(status == 0 && have_waited(&door, &last, count))
+}
+
+/// Whether two links are all answered, and four.
+fn are_answered_that_wait<W: Threads + Wait + Sync + AllocGlobal>(rt: &W) -> Result<bool, Fail> {
+    Ok(
+        are_all_answered(rt, two_waiting(rt.alloc())?)?
+            && are_all_answered(rt, four_waiting(rt.alloc())?)?,
+    )
 }
 
 #[test]
 fn connections_that_wait_are_answered(rt: HostRuntime) -> Result<(), Fail> {
-    assert_all_answered(&rt, two_waiting(rt.alloc())?)?;
-    assert_all_answered(&rt, four_waiting(rt.alloc())?)
+    assert!(rt; are_answered_that_wait(&rt)?);
+    Ok(())
+}
+
+/// The status of the program with these words, and whether its door was opened.
+fn status_and_door<W: Threads + Wait + Sync + AllocGlobal>(
+    rt: &W,
+    words: &str,
+) -> Result<(u8, bool), Fail> {
+    let mut door = door_of_three(rt.alloc(), 0)?;
+    let (status, _) = served_at(rt, words, &mut door)?;
+    Ok((status, door.opened().is_some()))
 }
 
 #[test]
 fn numbers_out_of_their_ranges_are_usage(rt: HostRuntime) -> Result<(), Fail> {
-    let alloc = rt.alloc();
     let cases = [
         ("serve --port 0 --workers 1 --connections 1", 2),
         ("serve --port 65536 --workers 1 --connections 1", 2),
@@ -251,11 +293,7 @@ fn numbers_out_of_their_ranges_are_usage(rt: HostRuntime) -> Result<(), Fail> {
         ("serve --connections 4294967295 --workers 1 --port 65535", 0),
     ];
     for (words, status) in cases {
-        let links = three_links(alloc, NO_FAULTS)?;
-        let mut door = MemoryDoor::new(links, Vec::new(alloc));
-        let (ended, _) = served_at(&rt, words, &mut door)?;
-        assert_eq!(rt; ended, status);
-        assert_eq!(rt; door.opened().is_some(), status == 0);
+        assert!(rt; status_and_door(&rt, words)? == (status, status == 0));
     }
     Ok(())
 }

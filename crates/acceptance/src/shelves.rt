@@ -5,7 +5,8 @@ ghost use Rattle.campaign_cli.specs.Surroundings.Sinks.{told_by};
 use campaign_cli::{
     Failed, FileShelf, MemoryShelf, MemorySink, OutputSink, Shelf, ShelfFault, Sink, write_all,
 };
-use decimal_rank::Text;
+use decimal_rank::{Memory, Text};
+use std::alloc::Global;
 use std::test::Fail;
 use std::{env, fs, process};
 
@@ -27,18 +28,31 @@ impl Sink for ByteSink {
     }
 }
 
+fn file(alloc: Global, name: &[u8], bytes: &[u8]) -> Result<(Text, Text), Memory> {
+    Ok((
+        Text::from_slice(alloc, name)?,
+        Text::from_slice(alloc, bytes)?,
+    ))
+}
+
+/// Whether a read of a file gives these bytes or this fault.
+fn gives<S: Shelf>(
+    alloc: Global,
+    shelf: &mut S,
+    name: &[u8],
+    wanted: Result<&[u8], ShelfFault>,
+) -> bool {
+    match shelf.read_file(alloc, name) {
+        Ok(bytes) => wanted == Ok(bytes.as_slice()),
+        Err(fault) => wanted == Err(fault),
+    }
+}
+
 #[test]
 fn a_shelf_in_memory(rt: HostRuntime) -> Result<(), Fail> {
     let alloc = rt.alloc();
-    let a = (
-        Text::from_slice(alloc, b"a")?,
-        Text::from_slice(alloc, b"one")?,
-    );
-    let b = (
-        Text::from_slice(alloc, b"b")?,
-        Text::from_slice(alloc, b"")?,
-    );
-    let mut shelf = MemoryShelf::new(vec![in alloc; a, b]?, vec![in alloc; 2, 5]?);
+    let files = vec![in alloc; file(alloc, b"a", b"one")?, file(alloc, b"b", b"")?]?;
+    let mut shelf = MemoryShelf::new(files, vec![in alloc; 2, 5]?);
     let rows: [(&[u8], Result<&[u8], ShelfFault>); 6] = [
         (b"a", Ok(b"one")),
         (b"a", Err(ShelfFault::Failed)),
@@ -47,38 +61,40 @@ fn a_shelf_in_memory(rt: HostRuntime) -> Result<(), Fail> {
         (b"c", Err(ShelfFault::Failed)),
         (b"a", Ok(b"one")),
     ];
-    for (name, expected) in rows {
-        let result = shelf.read_file(alloc, name);
-        let found = match &result {
-            Ok(bytes) => Ok(bytes.as_slice()),
-            Err(fault) => Err(*fault),
-        };
-        assert_eq!(rt; found, expected);
+    for (name, wanted) in rows {
+        assert!(rt; gives(alloc, &mut shelf, name, wanted));
     }
-    assert_eq!(rt; shelf.wants(), 0);
+    assert!(rt; shelf.wants() == 0);
     Ok(())
 }
 
 #[test]
 fn a_sink_in_memory(rt: HostRuntime) -> Result<(), Fail> {
     let mut sink = MemorySink::new(vec![in rt.alloc(); 2]?);
-    assert_eq!(rt; sink.write(b"one"), Ok(3));
-    assert_eq!(rt; sink.write(b"two"), Err(Failed));
-    assert_eq!(rt; sink.write(b" three"), Ok(6));
-    assert_eq!(rt; sink.written(), b"one three".as_slice());
-    assert_eq!(rt; sink.wants(), 0);
+    assert!(rt; sink.write(b"one") == Ok(3));
+    assert!(rt; sink.write(b"two") == Err(Failed));
+    assert!(rt; sink.write(b" three") == Ok(6));
+    assert!(rt; sink.written() == b"one three".as_slice());
+    assert!(rt; sink.wants() == 0);
     Ok(())
+}
+
+/// What three texts come to.
+fn written_in_turn(sink: &mut ByteSink) -> [Result<(), Failed>; 3] {
+    [
+        write_all(sink, b"pool"),
+        write_all(sink, b""),
+        write_all(sink, b"rank list"),
+    ]
 }
 
 #[test]
 fn a_text_in_many_writes(rt: HostRuntime) -> Result<(), Fail> {
     let mut sink = ByteSink(MemorySink::new(vec![in rt.alloc(); 8]?));
-    assert_eq!(rt; write_all(&mut sink, b"pool"), Ok(()));
-    assert_eq!(rt; write_all(&mut sink, b""), Ok(()));
-    assert_eq!(rt; write_all(&mut sink, b"rank list"), Err(Failed));
-    assert_eq!(rt; sink.0.written(), b"poolran".as_slice());
-    assert_eq!(rt; write_all(&mut sink, b"!"), Ok(()));
-    assert_eq!(rt; sink.0.written(), b"poolran!".as_slice());
+    assert!(rt; written_in_turn(&mut sink) == [Ok(()), Ok(()), Err(Failed)]);
+    assert!(rt; sink.0.written() == b"poolran".as_slice());
+    assert!(rt; write_all(&mut sink, b"!") == Ok(()));
+    assert!(rt; sink.0.written() == b"poolran!".as_slice());
     Ok(())
 }
 
@@ -91,26 +107,20 @@ fn files_of_the_system(rt: HostRuntime) -> Result<(), Fail> {
         process::id(rt.process())
     )?;
     let mut shelf = FileShelf::new(rt.clone()?);
-    assert_eq!(rt;
-        shelf.read_file(rt.alloc(), path.as_bytes()).err(),
-        Some(ShelfFault::Absent)
-    );
+    let name = path.as_bytes();
+    let is_absent = gives(rt.alloc(), &mut shelf, name, Err(ShelfFault::Absent));
     fs::write(&rt, path.as_str(), b"1 0 A 1\n")?;
-    let found = shelf.read_file(rt.alloc(), path.as_bytes());
+    let is_read = gives(rt.alloc(), &mut shelf, name, Ok(b"1 0 A 1\n"));
     fs::remove_file(&rt, path.as_str())?;
-    let bytes = found.ok().ok_or("not read")?;
-    assert_eq!(rt; bytes.as_slice(), b"1 0 A 1\n".as_slice());
-    assert_eq!(rt;
-        shelf.read_file(rt.alloc(), b"/").err(),
-        Some(ShelfFault::Failed)
-    );
+    let is_failing = gives(rt.alloc(), &mut shelf, b"/", Err(ShelfFault::Failed));
+    assert!(rt; (is_absent, is_read, is_failing) == (true, true, true));
     Ok(())
 }
 
 #[test]
 fn standard_output(rt: HostRuntime) -> Result<(), Fail> {
     let mut sink = OutputSink::new(rt.clone()?);
-    assert_eq!(rt; write_all(&mut sink, b"scores\n"), Ok(()));
-    assert_eq!(rt; sink.write(b""), Ok(0));
+    assert!(rt; write_all(&mut sink, b"scores\n") == Ok(()));
+    assert!(rt; sink.write(b"") == Ok(0));
     Ok(())
 }

@@ -127,6 +127,6 @@ fn numbers_of_words(rt: HostRuntime) -> Result<(), Fail> {
     }
     let words = ["4294967295", "4294967296", ""];
     let numbers = words.map(|word| number_in(0, u32::MAX, word));
-    assert_eq!(rt; numbers, [Some(u32::MAX), None, None]);
+    assert!(rt; numbers == [Some(u32::MAX), None, None]);
     Ok(())
 }

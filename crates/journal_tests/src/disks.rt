@@ -48,21 +48,36 @@ fn read_five<R: std::rt::Files<File = fs::File> + Drop>(
     (fails, before, disk.faults())
 }
 
+/// A file that one disk writes, another reads and a third reads too far.
+fn reopened<R: std::rt::Files<File = fs::File> + Drop>(
+    rt: &R,
+    path: &str,
+) -> (
+    Result<u64, Failed>,
+    Result<([u8; 3], [u8; 2], u64), Failed>,
+    (bool, u64, u64),
+) {
+    // each disk holds the file until it is dropped, at the end of its line
+    let written = write_four(&mut FileDisk::new(rt, path));
+    let read = read_four(&mut FileDisk::new(rt, path));
+    (written, read, read_five(&mut FileDisk::new(rt, path)))
+}
+
 #[test]
 fn a_file_is_written_cut_synced_and_opened_again(rt: HostRuntime) -> Result<(), Fail> {
     let path = path_of(&rt, "reopened")?;
-    assert_eq!(rt; write_four(&mut FileDisk::new(&rt, path.as_str())), Ok(0));
-    let read = read_four(&mut FileDisk::new(&rt, path.as_str()));
-    assert_eq!(rt; read, Ok((*b"aXY", *b"Yd", 4)));
-    let past = read_five(&mut FileDisk::new(&rt, path.as_str()));
-    assert_eq!(rt; past, (true, 0, 1));
+    let told = reopened(&rt, path.as_str());
+    assert!(rt; told == (Ok(0), Ok((*b"aXY", *b"Yd", 4)), (true, 0, 1)));
     fs::remove_file(&rt, path.as_str())?;
     Ok(())
 }
 
 /// Whether the first of two disks of a file can be synced, the second not beside it, its faults
 /// then, and whether it can once the first is dropped.
-fn held_in_turn(rt: &HostRuntime, path: &str) -> (bool, bool, u64, bool) {
+fn held_in_turn<R: std::rt::Files<File = fs::File> + Drop>(
+    rt: &R,
+    path: &str,
+) -> (bool, bool, u64, bool) {
     let mut first = FileDisk::new(rt, path);
     let mut second = FileDisk::new(rt, path);
     let holds = first.sync().is_ok();
@@ -75,7 +90,7 @@ fn held_in_turn(rt: &HostRuntime, path: &str) -> (bool, bool, u64, bool) {
 #[test]
 fn a_file_is_the_disk_of_one_alone(rt: HostRuntime) -> Result<(), Fail> {
     let path = path_of(&rt, "locked")?;
-    assert_eq!(rt; held_in_turn(&rt, path.as_str()), (true, true, 1, true));
+    assert!(rt; held_in_turn(&rt, path.as_str()) == (true, true, 1, true));
     fs::remove_file(&rt, path.as_str())?;
     Ok(())
 }
@@ -94,8 +109,8 @@ fn play(disk: &mut MemoryDisk) -> ([bool; 3], Result<u64, Failed>, u64, u64) {
 fn a_disk_in_memory_fails_the_calls_of_its_plan(rt: HostRuntime) -> Result<(), Fail> {
     let alloc = rt.alloc();
     let mut disk = MemoryDisk::new(Vec::new(alloc), vec![in alloc; 2, 4]?);
-    assert_eq!(rt; play(&mut disk), ([false, true, true], Ok(3), 2, 0));
-    assert_eq!(rt; disk.content(), b"abc".as_slice());
-    assert_eq!(rt; disk.calls().len(), 2);
+    assert!(rt; play(&mut disk) == ([false, true, true], Ok(3), 2, 0));
+    assert!(rt; disk.content() == b"abc".as_slice());
+    assert!(rt; disk.calls().len() == 2);
     Ok(())
 }

@@ -60,11 +60,9 @@ fn length_of(alloc: Global, bytes: &[u8]) -> Result<Option<u64>, Fail> {
 #[test]
 fn an_area_tells_its_bytes_and_a_journal_its_length(rt: HostRuntime) -> Result<(), Fail> {
     let alloc = rt.alloc();
-    match area_of(alloc, b"abc") {
-        Some(area) => assert_eq!(rt; area.bytes(), 9),
-        None => assert!(rt; false),
-    }
-    assert_eq!(rt; length_of(alloc, &WHOLE)?, Some(30));
+    let area = area_of(alloc, b"abc").ok_or("no area")?;
+    assert!(rt; area.bytes() == 9);
+    assert!(rt; length_of(alloc, &WHOLE)? == Some(30));
     Ok(())
 }
 
@@ -81,18 +79,18 @@ fn an_area_that_takes_no_more_bytes_is_moved_in(rt: HostRuntime) -> Result<(), F
         (b"123456789", ReplaceEnd::Larger, &WHOLE),
     ];
     for (payload, wanted, content) in &cases {
-        match replaced_where(alloc, payload, 100)? {
-            Some((disk, end)) => {
-                assert_eq!(rt; end, *wanted);
-                assert_eq!(rt; disk.content(), *content);
-            }
-            None => assert!(rt; false),
-        }
+        let (disk, end) = replaced_where(alloc, payload, 100)?.ok_or("no move")?;
+        assert!(rt; end == *wanted && disk.content() == *content);
     }
     Ok(())
 }
 
-/// What an opening leaves where this call failed in a replacement.
+/// Whether an opening leaves these bytes.
+fn leaves(alloc: Global, bytes: &[u8], wanted: &[u8]) -> Result<bool, Fail> {
+    let (_text, left) = text_and_rest(alloc, bytes)?;
+    Ok(left.as_slice() == wanted)
+}
+
 #[test]
 fn a_move_that_failed_at_a_call_is_undone_or_goes_on(rt: HostRuntime) -> Result<(), Fail> {
     let alloc = rt.alloc();
@@ -105,14 +103,8 @@ fn a_move_that_failed_at_a_call_is_undone_or_goes_on(rt: HostRuntime) -> Result<
         } else {
             &MOVED
         };
-        match replaced_where(alloc, b"abc", fail)? {
-            Some((disk, end)) => {
-                assert_eq!(rt; end, ReplaceEnd::Failed);
-                let (_text, left) = text_and_rest(alloc, disk.content())?;
-                assert_eq!(rt; left.as_slice(), wanted);
-            }
-            None => assert!(rt; false),
-        }
+        let (disk, end) = replaced_where(alloc, b"abc", fail)?.ok_or("no move")?;
+        assert!(rt; end == ReplaceEnd::Failed && leaves(alloc, disk.content(), wanted)?);
     }
     Ok(())
 }
@@ -133,6 +125,12 @@ fn replaced_behind_a_fault(
     Ok(replaced(journal, area))
 }
 
+/// Whether these bytes give these records.
+fn has_records(alloc: Global, bytes: &[u8], wanted: &[u8]) -> Result<bool, Fail> {
+    let (text, _left) = text_and_rest(alloc, bytes)?;
+    Ok(text.as_slice() == wanted)
+}
+
 #[test]
 fn what_is_due_is_mended_before_a_move(rt: HostRuntime) -> Result<(), Fail> {
     let alloc = rt.alloc();
@@ -143,14 +141,8 @@ fn what_is_due_is_mended_before_a_move(rt: HostRuntime) -> Result<(), Fail> {
         (100, ReplaceEnd::Done, b"abc|"),
     ];
     for (fail, wanted, wanted_text) in &cases {
-        match replaced_behind_a_fault(alloc, *fail)? {
-            Some((disk, end)) => {
-                assert_eq!(rt; end, *wanted);
-                let (text, _left) = text_and_rest(alloc, disk.content())?;
-                assert_eq!(rt; text.as_slice(), *wanted_text);
-            }
-            None => assert!(rt; false),
-        }
+        let (disk, end) = replaced_behind_a_fault(alloc, *fail)?.ok_or("no move")?;
+        assert!(rt; end == *wanted && has_records(alloc, disk.content(), wanted_text)?);
     }
     Ok(())
 }

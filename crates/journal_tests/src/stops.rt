@@ -10,13 +10,9 @@ use std::test::Fail;
 #[test]
 fn a_stop_in_a_move_leaves_the_old_records_or_the_new(rt: HostRuntime) -> Result<(), Fail> {
     let alloc = rt.alloc();
-    match replaced_where(alloc, b"abc", 100)? {
-        Some((disk, _end)) => {
-            let given = texts_given(alloc, &WHOLE, disk.calls())?;
-            assert_eq!(rt; given.as_slice(), b"ab|c|\nabc|\n".as_slice());
-        }
-        None => assert!(rt; false),
-    }
+    let (disk, _end) = replaced_where(alloc, b"abc", 100)?.ok_or("no move")?;
+    let given = texts_given(alloc, &WHOLE, disk.calls())?;
+    assert!(rt; given.as_slice() == b"ab|c|\nabc|\n".as_slice());
     Ok(())
 }
 
@@ -32,6 +28,13 @@ fn after_two(alloc: Global, fail: u64) -> Result<Option<MemoryDisk>, Fail> {
     }
 }
 
+/// Whether stops in the calls of a disk give these texts, and the last records are there.
+fn gives(alloc: Global, disk: &MemoryDisk, wanted: &[u8]) -> Result<bool, Fail> {
+    let given = texts_given(alloc, &WHOLE, disk.calls())?;
+    let (text, _left) = text_and_rest(alloc, disk.content())?;
+    Ok(given.as_slice() == wanted && text.as_slice() == b"ab|c|d|".as_slice())
+}
+
 #[test]
 fn a_stop_in_an_append_or_a_mend_leaves_one_record_more_or_none(
     rt: HostRuntime,
@@ -45,15 +48,8 @@ fn a_stop_in_an_append_or_a_mend_leaves_one_record_more_or_none(
         (9, b"ab|c|\nab|c|x|\nab|c|d|\n"),
     ];
     for (fail, wanted) in &cases {
-        match after_two(alloc, *fail)? {
-            Some(disk) => {
-                let given = texts_given(alloc, &WHOLE, disk.calls())?;
-                assert_eq!(rt; given.as_slice(), *wanted);
-                let (text, _left) = text_and_rest(alloc, disk.content())?;
-                assert_eq!(rt; text.as_slice(), b"ab|c|d|".as_slice());
-            }
-            None => assert!(rt; false),
-        }
+        let disk = after_two(alloc, *fail)?.ok_or("no journal")?;
+        assert!(rt; gives(alloc, &disk, wanted)?);
     }
     Ok(())
 }
@@ -66,6 +62,12 @@ fn after_opening(alloc: Global, bytes: &[u8], fail: u64) -> Result<(MemoryDisk, 
     }
 }
 
+/// Whether stops in these calls give no record.
+fn gives_none(alloc: Global, start: &[u8], disk: &MemoryDisk) -> Result<bool, Fail> {
+    let given = texts_given(alloc, start, disk.calls())?;
+    Ok(given.is_empty() || given.as_slice() == b"\n".as_slice())
+}
+
 #[test]
 fn a_stop_in_an_opening_that_founds_leaves_no_record(rt: HostRuntime) -> Result<(), Fail> {
     let alloc = rt.alloc();
@@ -74,9 +76,8 @@ fn a_stop_in_an_opening_that_founds_leaves_no_record(rt: HostRuntime) -> Result<
         for fail in 1..8 {
             let (disk, is_opened) = after_opening(alloc, start, fail)?;
             // sync, len, read, write, cut, sync
-            assert_eq!(rt; is_opened, fail == 7);
-            let given = texts_given(alloc, start, disk.calls())?;
-            assert!(rt; given.is_empty() || given.as_slice() == b"\n".as_slice());
+            assert!(rt; is_opened == (fail == 7));
+            assert!(rt; gives_none(alloc, start, &disk)?);
         }
     }
     Ok(())
@@ -122,13 +123,8 @@ fn a_mend_that_fails_at_a_call_is_due_again(rt: HostRuntime) -> Result<(), Fail>
         (9, 13),
     ];
     for (first, then) in &cases {
-        match mended(alloc, *first, *then)? {
-            Some((answers, left)) => {
-                assert_eq!(rt; answers, (false, true, true));
-                assert_eq!(rt; left.as_slice(), WHOLE.as_slice());
-            }
-            None => assert!(rt; false),
-        }
+        let (answers, left) = mended(alloc, *first, *then)?.ok_or("no journal")?;
+        assert!(rt; answers == (false, true, true) && left.as_slice() == WHOLE.as_slice());
     }
     Ok(())
 }

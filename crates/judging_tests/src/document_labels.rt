@@ -89,7 +89,7 @@ fn the_effective_grade_where_two_labels_are_needed(rt: HostRuntime) -> Result<()
         ),
     ];
     for (calls, effective, disagrees) in rows {
-        assert_eq!(rt; effective_after(alloc, 2, calls)?, (effective, disagrees));
+        assert!(rt; effective_after(alloc, 2, calls)? == (effective, disagrees));
     }
     Ok(())
 }
@@ -105,7 +105,7 @@ fn the_effective_grade_where_one_label_is_needed(rt: HostRuntime) -> Result<(), 
         (&[Call::Set(P, 1), Call::Rule(2), Call::Rule(0)], Some(0)),
     ];
     for (calls, effective) in rows {
-        assert_eq!(rt; effective_after(alloc, 1, calls)?, (effective, false));
+        assert!(rt; effective_after(alloc, 1, calls)? == (effective, false));
     }
     Ok(())
 }
@@ -123,9 +123,9 @@ fn the_label_of_each_assessor(rt: HostRuntime) -> Result<(), Fail> {
 }
 
 fn expect_two_labels(rt: &impl Abort, labels: &Labels) {
-    assert_eq!(rt; labels.count(), 2);
+    assert!(rt; labels.count() == 2);
     let grades = [P, Q, R].map(|assessor| labels.grade_of(assessor));
-    assert_eq!(rt; grades, [Some(0), Some(2), None]);
+    assert!(rt; grades == [Some(0), Some(2), None]);
 }
 
 #[test]
@@ -145,7 +145,7 @@ fn the_grades_of_the_first_two_assessors(rt: HostRuntime) -> Result<(), Fail> {
         ),
     ];
     for (calls, grades) in rows {
-        assert_eq!(rt; grades_after(alloc, calls)?, grades);
+        assert!(rt; grades_after(alloc, calls)? == grades);
     }
     Ok(())
 }
@@ -232,10 +232,7 @@ fn expect_marks(rt: &impl Abort, alloc: Global, marks: &mut TopicLabels) -> Resu
     for (call, doc, count, effective, disagreements) in rows() {
         assert!(rt; play_at(alloc, marks, &call)?);
         let doc = DocId(doc);
-        assert_eq!(rt;
-            (marks.count(doc), marks.effective(2, doc)),
-            (count, effective)
-        );
+        assert!(rt; (marks.count(doc), marks.effective(2, doc)) == (count, effective));
         assert!(rt; are_disagreements(alloc, marks, 2, disagreements)?);
     }
     assert!(rt; are_disagreements(alloc, marks, 1, &[])?);
@@ -255,8 +252,14 @@ fn are_disagreements(
 
 #[test]
 fn the_label_of_each_assessor_of_each_document(rt: HostRuntime) -> Result<(), Fail> {
-    let alloc = rt.alloc();
-    let mut marks = TopicLabels::new(alloc);
+    let mut marks = TopicLabels::new(rt.alloc());
+    expect_calls(&rt, rt.alloc(), &mut marks)?;
+    expect_grades(&rt, &marks);
+    Ok(())
+}
+
+/// Labels of A and B; a ruling of C, which has no label, isn't taken.
+fn expect_calls(rt: &impl Abort, alloc: Global, marks: &mut TopicLabels) -> Result<(), Fail> {
     let calls = [
         LabelStep::Set(A, P, 1),
         LabelStep::Set(B, Q, 2),
@@ -264,9 +267,13 @@ fn the_label_of_each_assessor_of_each_document(rt: HostRuntime) -> Result<(), Fa
         LabelStep::Set(A, P, 0),
     ];
     for call in &calls {
-        assert!(rt; play_at(alloc, &mut marks, call)?);
+        assert!(rt; play_at(alloc, marks, call)?);
     }
-    assert!(rt; !rule_at(&mut marks, DocId(C), 1));
+    assert!(rt; !rule_at(marks, DocId(C), 1));
+    Ok(())
+}
+
+fn expect_grades(rt: &impl Abort, marks: &TopicLabels) {
     let labels = [
         (P, A, Some(0)),
         (Q, A, None),
@@ -275,14 +282,12 @@ fn the_label_of_each_assessor_of_each_document(rt: HostRuntime) -> Result<(), Fa
         (P, C, None),
     ];
     for (assessor, doc, grade) in labels {
-        assert_eq!(rt; marks.grade_of(assessor, DocId(doc)), grade);
-        assert_eq!(rt; marks.has_label(assessor, DocId(doc)), grade.is_some());
+        assert!(rt; marks.grade_of(assessor, DocId(doc)) == grade);
+        assert!(rt; marks.has_label(assessor, DocId(doc)) == grade.is_some());
     }
-    let effective = [(A, Some(3)), (B, Some(2)), (C, None)];
-    for (doc, grade) in effective {
-        assert_eq!(rt; marks.effective(1, DocId(doc)), grade);
+    for (doc, grade) in [(A, Some(3)), (B, Some(2)), (C, None)] {
+        assert!(rt; marks.effective(1, DocId(doc)) == grade);
     }
-    Ok(())
 }
 
 #[test]
@@ -300,10 +305,18 @@ fn expect_labelled(rt: &impl Abort, alloc: Global, marks: &mut TopicLabels) -> R
         assert!(rt; play_at(alloc, marks, &call)?);
     }
     let labelled: &[DocId] = &[DocId(A), DocId(B)];
-    assert_eq!(rt; marks.docs(), labelled);
-    let counts = [A, B, C].map(|doc| count_at(marks, DocId(doc)));
-    assert_eq!(rt; counts, [Some(1), Some(1), None]);
+    assert!(rt; marks.docs() == labelled);
+    assert!(rt; counts_of(marks) == [Some(1), Some(1), None]);
     Ok(())
+}
+
+/// How many labels A, B and C have.
+fn counts_of(marks: &TopicLabels) -> [Option<u32>; 3] {
+    [
+        count_at(marks, DocId(A)),
+        count_at(marks, DocId(B)),
+        count_at(marks, DocId(C)),
+    ]
 }
 
 fn count_at(marks: &TopicLabels, doc: DocId) -> Option<u32> {

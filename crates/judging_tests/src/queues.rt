@@ -61,13 +61,17 @@ fn the_order_after_each_call(rt: HostRuntime) -> Result<(), Fail> {
         ],
     ];
     for row in rows {
-        let mut topic = QueuedTopic::new(alloc);
-        expect_orders(&rt, alloc, &mut topic, row)?;
+        expect_orders(&rt, alloc, row)?;
     }
     Ok(())
 }
 
-fn expect_orders(
+fn expect_orders(rt: &impl Abort, alloc: Global, row: &[(Call, &[RunId])]) -> Result<(), Fail> {
+    let mut topic = QueuedTopic::new(alloc);
+    expect_orders_of(rt, alloc, &mut topic, row)
+}
+
+fn expect_orders_of(
     rt: &impl Abort,
     alloc: Global,
     topic: &mut QueuedTopic,
@@ -75,7 +79,7 @@ fn expect_orders(
 ) -> Result<(), Fail> {
     for (call, order) in row {
         assert!(rt; play(alloc, topic, call)?);
-        assert_eq!(rt; topic.order(), *order);
+        assert!(rt; topic.order() == *order);
     }
     Ok(())
 }

@@ -170,7 +170,7 @@ fn holders_ascend_whatever_the_order_of_the_runs(rt: HostRuntime) -> Result<(), 
     for [first, second, third] in [[0, 1, 2], [2, 1, 0], [1, 2, 0]] {
         assert!(rt; first != second && first != third && second != third);
         let pairs = pairs_of(alloc, RunId(first), RunId(second), RunId(third))?;
-        assert_eq!(rt; pairs.as_slice(), all.as_slice());
+        assert!(rt; pairs.as_slice() == all.as_slice());
     }
     Ok(())
 }
@@ -186,7 +186,7 @@ fn a_dropped_run_holds_nothing(rt: HostRuntime) -> Result<(), Fail> {
     for ([first, dropped, third], left) in cases {
         assert!(rt; first != dropped && first != third && dropped != third);
         let pairs = pairs_left(alloc, RunId(first), RunId(dropped), RunId(third))?;
-        assert_eq!(rt; pairs.as_slice(), left);
+        assert!(rt; pairs.as_slice() == left);
     }
     Ok(())
 }
@@ -206,7 +206,7 @@ fn expect_holders(rt: &impl Abort, pool: &Pool) {
         (6, [false, false, false]),
     ];
     for (doc, told) in cases {
-        assert_eq!(rt; holders_told::<Brand>(pool, doc, Blank::new(1)), told);
+        assert!(rt; holders_told::<Brand>(pool, doc, Blank::new(1)) == told);
     }
 }
 
@@ -223,7 +223,7 @@ fn the_documents_of_a_run_stand_by_rank(rt: HostRuntime) -> Result<(), Fail> {
         assert!(rt; are_held::<Brand>(&pool, RunId(run), docs, Blank::new(1)));
     }
     pool.drop_run(RunId(1));
-    assert_eq!(rt; pool.count_of(RunId(1)), 0);
+    assert!(rt; pool.count_of(RunId(1)) == 0);
     Ok(())
 }
 
@@ -235,18 +235,34 @@ fn the_documents_of_a_pool_stand_by_docno(rt: HostRuntime) -> Result<(), Fail> {
     let alloc = rt.alloc();
     let mut names = Names::new(alloc);
     add_docnos(alloc, &mut names, &DOCNOS)?;
-    let mut pool = filled(alloc, RunId(0), RunId(1), RunId(2))?;
-    expect_docs(&rt, &names, &mut pool, RunId(1))?;
-    let mut pool = filled(alloc, RunId(2), RunId(1), RunId(0))?;
-    expect_docs(&rt, &names, &mut pool, RunId(1))
+    expect_docs(&rt, alloc, &names, RunId(0), RunId(2))?;
+    expect_docs(&rt, alloc, &names, RunId(2), RunId(0))
+}
+
+/// The run 1 came between these two.
+fn expect_docs(
+    rt: &impl Abort,
+    alloc: Global,
+    names: &Names,
+    first: RunId,
+    third: RunId,
+) -> Result<(), Fail> {
+    assert!(rt; first != RunId(1) && third != RunId(1) && first != third);
+    let mut pool = filled(alloc, first, RunId(1), third)?;
+    expect_docs_left(rt, names, &mut pool, RunId(1))
 }
 
 /// The documents of three runs, and those left once the run between is dropped.
-fn expect_docs(rt: &impl Abort, names: &Names, pool: &mut Pool, dropped: RunId) -> Result<(), Fail>
+fn expect_docs_left(
+    rt: &impl Abort,
+    names: &Names,
+    pool: &mut Pool,
+    dropped: RunId,
+) -> Result<(), Fail>
     requires is_in { has_run dropped pool.old.runs ≡ true }
     requires named { All (λ held. All (λ doc. doc.0 < 6) held.docs) pool.old.runs }
 {
-    assert_eq!(rt; names.len(), 6);
+    assert!(rt; names.len() == 6);
     let all = [3, 1, 5, 4, 2, 0].map(|doc| DocId(doc));
     assert!(rt; are_docs(names, pool, &all)?);
     pool.drop_run(dropped);

@@ -43,10 +43,12 @@ fn three_entries_are_bundled(rt: HostRuntime) -> Result<(), Fail> {
     ];
     let mut out = vec![in alloc; 9]?;
     assert!(rt; write_bundle(&cores, &mut out).is_ok());
-    assert_eq!(rt; out.len(), 1 + THREE.len() / 2);
-    assert_eq!(rt; out[0], 9);
-    assert_eq!(rt; &out[1..], hex::decode(alloc, THREE)?.as_slice());
+    assert!(rt; is_behind_9(&out, &hex::decode(alloc, THREE)?));
     Ok(())
+}
+
+fn is_behind_9(out: &[u8], wanted: &[u8]) -> bool {
+    out.strip_prefix(&[9]) == Some(wanted)
 }
 
 #[test]

@@ -82,9 +82,7 @@ fn a_spelling_is_appended(rt: HostRuntime) -> Result<(), Fail> {
     };
     let mut out = vec![in rt.alloc(); 9]?;
     assert!(rt; write_entry(&core, &mut out).is_ok());
-    assert_eq!(rt; out.len(), 1 + GRADE.len());
-    assert_eq!(rt; out[0], 9);
-    assert_eq!(rt; &out[1..], GRADE.as_slice());
+    assert!(rt; out.as_slice().strip_prefix(&[9]) == Some(GRADE.as_slice()));
     Ok(())
 }
 

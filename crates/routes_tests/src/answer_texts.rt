@@ -5,7 +5,6 @@ use http_wire::WireFault;
 use routes::{Answered, RouteFault, render};
 use rulebook::{Phase, Quantity, Refusal, Reply};
 use std::alloc::Global;
-use std::process::Abort;
 use std::test::Fail;
 
 const SUBMITTED: &str = "\
@@ -59,18 +58,12 @@ fn is_written(alloc: Global, answer: &Answered, close: bool, text: &str) -> Resu
     Ok(out.as_slice() == text.as_bytes())
 }
 
-fn ends(
-    rt: &impl Abort,
-    out: &mut Vec<u8>,
-    answer: &Answered,
-    status: &str,
-    end: &str,
-) -> Result<(), Memory> {
-    out.clear();
-    render(answer, false, out)?;
-    assert!(rt; out.as_slice().starts_with(status.as_bytes()), "at {end}");
-    assert!(rt; out.as_slice().ends_with(end.as_bytes()), "at {end}");
-    Ok(())
+/// Whether an answer begins with this status and has this end.
+fn ends(alloc: Global, answer: &Answered, status: &str, end: &str) -> Result<bool, Memory> {
+    let mut out = Vec::new(alloc);
+    render(answer, false, &mut out)?;
+    let written = out.as_slice();
+    Ok(written.starts_with(status.as_bytes()) && written.ends_with(end.as_bytes()))
 }
 
 fn refused(refusal: Refusal) -> Answered {
@@ -130,9 +123,11 @@ const REFUSALS: [(Refusal, &str, &str); 8] = [
 
 #[test]
 fn refusals_are_told_with_their_status(rt: HostRuntime) -> Result<(), Fail> {
-    let mut out = Vec::new(rt.alloc());
     for (refusal, status, end) in &REFUSALS {
-        ends(&rt, &mut out, &refused(*refusal), status, end)?;
+        assert!(rt;
+            ends(rt.alloc(), &refused(*refusal), status, end)?,
+            "at {end}"
+        );
     }
     Ok(())
 }
@@ -182,61 +177,68 @@ fn pool(alloc: Global) -> Result<Answered, Memory> {
 
 #[test]
 fn replies_are_objects(rt: HostRuntime) -> Result<(), Fail> {
-    let mut out = Vec::new(rt.alloc());
-    ends(
-        &rt,
-        &mut out,
-        &leased(rt.alloc())?,
-        "HTTP/1.1 201 Created\r\n",
-        "\r\n{\"doc\":\"a\\\"b\\\\c\",\"lease\":1,\"title\":\"a \\\"title\\\"\",\"topic\":\"1\",\"until\":1600}\n",
-    )?;
-    ends(
-        &rt,
-        &mut out,
-        &graded(rt.alloc())?,
-        "HTTP/1.1 201 Created\r\n",
-        "\r\n{\"doc\":\"a\",\"grade\":0,\"topic\":\"1\"}\n",
-    )?;
-    ends(
-        &rt,
-        &mut out,
-        &pool(rt.alloc())?,
-        "HTTP/1.1 200 OK\r\n",
-        "\r\n{\"docs\":[\"a\",\"b\\\"\"],\"topic\":\"1\"}\n",
-    )?;
+    let alloc = rt.alloc();
+    assert!(rt;
+        ends(
+            alloc,
+            &leased(alloc)?,
+            "HTTP/1.1 201 Created\r\n",
+            "\r\n{\"doc\":\"a\\\"b\\\\c\",\"lease\":1,\"title\":\"a \\\"title\\\"\",\"topic\":\"1\",\"until\":1600}\n"
+        )?
+    );
+    assert!(rt;
+        ends(
+            alloc,
+            &graded(alloc)?,
+            "HTTP/1.1 201 Created\r\n",
+            "\r\n{\"doc\":\"a\",\"grade\":0,\"topic\":\"1\"}\n"
+        )?
+    );
+    assert!(rt;
+        ends(
+            alloc,
+            &pool(alloc)?,
+            "HTTP/1.1 200 OK\r\n",
+            "\r\n{\"docs\":[\"a\",\"b\\\"\"],\"topic\":\"1\"}\n"
+        )?
+    );
     Ok(())
 }
 
 #[test]
 fn faults_are_told_with_their_status(rt: HostRuntime) -> Result<(), Fail> {
-    let mut out = Vec::new(rt.alloc());
-    ends(
-        &rt,
-        &mut out,
-        &Answered::Wire(WireFault::HeadSize),
-        "HTTP/1.1 431 Request Header Fields Too Large\r\n",
-        "\r\n{\"fault\":\"head-size\"}\n",
-    )?;
-    ends(
-        &rt,
-        &mut out,
-        &Answered::DiskFault,
-        "HTTP/1.1 503 Service Unavailable\r\n",
-        "\r\n{\"fault\":\"disk\"}\n",
-    )?;
-    ends(
-        &rt,
-        &mut out,
-        &Answered::Memory,
-        "HTTP/1.1 507 Insufficient Storage\r\n",
-        "\r\n{\"fault\":\"memory\"}\n",
-    )?;
-    ends(
-        &rt,
-        &mut out,
-        &Answered::Route(RouteFault::Key),
-        "HTTP/1.1 401 Unauthorized\r\n",
-        "\r\n{\"fault\":\"key\"}\n",
-    )?;
+    let alloc = rt.alloc();
+    assert!(rt;
+        ends(
+            alloc,
+            &Answered::Wire(WireFault::HeadSize),
+            "HTTP/1.1 431 Request Header Fields Too Large\r\n",
+            "\r\n{\"fault\":\"head-size\"}\n"
+        )?
+    );
+    assert!(rt;
+        ends(
+            alloc,
+            &Answered::DiskFault,
+            "HTTP/1.1 503 Service Unavailable\r\n",
+            "\r\n{\"fault\":\"disk\"}\n"
+        )?
+    );
+    assert!(rt;
+        ends(
+            alloc,
+            &Answered::Memory,
+            "HTTP/1.1 507 Insufficient Storage\r\n",
+            "\r\n{\"fault\":\"memory\"}\n"
+        )?
+    );
+    assert!(rt;
+        ends(
+            alloc,
+            &Answered::Route(RouteFault::Key),
+            "HTTP/1.1 401 Unauthorized\r\n",
+            "\r\n{\"fault\":\"key\"}\n"
+        )?
+    );
     Ok(())
 }

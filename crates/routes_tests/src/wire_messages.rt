@@ -1,7 +1,7 @@
 //! Tries which messages are requests and which faults others have, that it is the same however they
 //! are cut, the limits of a head, the texts of answers, and the search for a field by its name.
 use decimal_rank::Memory;
-use http_wire::{HttpHead, Step, Wire, WireFault, find_named, write_answer};
+use http_wire::{HttpField, HttpHead, Step, Wire, WireFault, find_named, write_answer};
 use std::alloc::Global;
 use std::test::Fail;
 
@@ -80,13 +80,23 @@ fn tell_message(wire: &mut Wire, lines: &str, told: &mut Vec<u8>) -> Result<(), 
     Ok(())
 }
 
+/// A message in words, as it is told to a wire of its own.
+fn message_told(alloc: Global, lines: &str) -> Result<Vec<u8>, Fail> {
+    let mut told = Vec::new(alloc);
+    tell_message(&mut Wire::new(alloc), lines, &mut told)?;
+    Ok(told)
+}
+
+/// Whether a row's message is told as the row has it.
+fn is_told(alloc: Global, row: &str) -> Result<bool, Fail> {
+    let (lines, want) = row.split_once(" => ").ok_or("no row")?;
+    Ok(message_told(alloc, lines)?.as_slice() == want.as_bytes())
+}
+
 #[test]
 fn each_message_is_a_request_or_its_fault(rt: HostRuntime) -> Result<(), Fail> {
     for row in MESSAGES.lines() {
-        let (lines, want) = row.split_once(" => ").ok_or("no row")?;
-        let mut told = Vec::new(rt.alloc());
-        tell_message(&mut Wire::new(rt.alloc()), lines, &mut told)?;
-        assert_eq!(rt; told.as_slice(), want.as_bytes(), "at {row}");
+        assert!(rt; is_told(rt.alloc(), row)?, "at {row}");
     }
     Ok(())
 }
@@ -120,16 +130,22 @@ fn tell_requests(wire: &mut Wire, told: &mut Vec<u8>) -> Result<(), Fail> {
 }
 
 fn tell_in_two_pieces(
-    alloc: Global,
+    wire: &mut Wire,
     first: &[u8],
     second: &[u8],
     told: &mut Vec<u8>,
 ) -> Result<(), Fail> {
-    let mut wire = Wire::new(alloc);
     wire.feed(first)?;
-    tell_requests(&mut wire, told)?;
+    tell_requests(wire, told)?;
     wire.feed(second)?;
-    tell_requests(&mut wire, told)
+    tell_requests(wire, told)
+}
+
+/// Two requests in words, told to a wire of their own in two pieces.
+fn cut_told(alloc: Global, first: &[u8], second: &[u8]) -> Result<Vec<u8>, Fail> {
+    let mut told = Vec::new(alloc);
+    tell_in_two_pieces(&mut Wire::new(alloc), first, second, &mut told)?;
+    Ok(told)
 }
 
 #[test]
@@ -137,9 +153,8 @@ fn requests_are_the_same_however_they_are_cut(rt: HostRuntime) -> Result<(), Fai
     let bytes = TWO_REQUESTS.as_bytes();
     let want = b"POST /runs/X1 Q0 a 1 3 X\n1 Q0 b 2 2 X\n1 Q0 e 3 1 X\n.GET /table.";
     for cut in 0..=bytes.len() {
-        let mut told = Vec::new(rt.alloc());
-        tell_in_two_pieces(rt.alloc(), &bytes[..cut], &bytes[cut..], &mut told)?;
-        assert_eq!(rt; told.as_slice(), want.as_slice(), "cut at {cut}");
+        let told = cut_told(rt.alloc(), &bytes[..cut], &bytes[cut..])?;
+        assert!(rt; told.as_slice() == want.as_slice(), "cut at {cut}");
     }
     Ok(())
 }
@@ -180,7 +195,7 @@ fn a_head_has_8192_bytes_and_32_fields_at_most(rt: HostRuntime) -> Result<(), Fa
     let mut told = Vec::new(rt.alloc());
     tell_long_head(&mut Wire::new(rt.alloc()), &mut told)?;
     tell_many_fields(&mut Wire::new(rt.alloc()), &mut told)?;
-    assert_eq!(rt; told.as_slice(), b" more431GET /a.400".as_slice());
+    assert!(rt; told.as_slice() == b" more431GET /a.400".as_slice());
     Ok(())
 }
 
@@ -200,15 +215,25 @@ Connection: close\r
 \r
 page";
 
+/// Whether these are the bytes of two answers, one behind the other.
+fn are_two_answers(out: &mut Vec<u8>) -> Result<bool, Memory> {
+    write_answer(201, true, false, b"{\"lease\":7}\n", out)?;
+    write_answer(431, false, true, b"page", out)?;
+    Ok(out.as_slice().strip_prefix(CREATED.as_bytes()) == Some(REFUSED.as_bytes()))
+}
+
 #[test]
 fn answers_have_a_head_and_the_body(rt: HostRuntime) -> Result<(), Fail> {
-    let mut out = Vec::new(rt.alloc());
-    write_answer(201, true, false, b"{\"lease\":7}\n", &mut out)?;
-    assert_eq!(rt; out.as_slice(), CREATED.as_bytes());
-    out.clear();
-    write_answer(431, false, true, b"page", &mut out)?;
-    assert_eq!(rt; out.as_slice(), REFUSED.as_bytes());
+    assert!(rt; are_two_answers(&mut Vec::new(rt.alloc()))?);
     Ok(())
+}
+
+/// Whether the field of the key alone is found, with nothing behind it.
+fn are_found(fields: &[HttpField]) -> bool {
+    let found = find_named(fields, "x-campaign-key");
+    find_named(fields, "x-request-number").is_none()
+        && found.is_some_and(|found| found.0 == b"GROUPGROUPGROUP1".as_slice()
+            && found.1.is_empty())
 }
 
 #[test]
@@ -221,10 +246,6 @@ fn a_field_is_found_by_its_name(rt: HostRuntime) -> Result<(), Fail> {
     let Step::Head(head) = wire.next()? else {
         return Err(Fail::from("no head"));
     };
-    let found = find_named(head.fields.items(), "x-campaign-key");
-    assert!(rt;
-        found.is_some_and(|found| found.0 == b"GROUPGROUPGROUP1".as_slice() && found.1.is_empty())
-    );
-    assert!(rt; find_named(head.fields.items(), "x-request-number").is_none());
+    assert!(rt; are_found(head.fields.items()));
     Ok(())
 }

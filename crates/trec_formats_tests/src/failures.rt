@@ -6,8 +6,8 @@ use std::test::Fail;
 fn calls_fail_at_their_places(rt: HostRuntime) -> Result<(), Fail> {
     let mut plan = FailurePlan::new(vec![in rt.alloc(); 2, 4]?);
     for fails in [false, true, false, true, false] {
-        assert_eq!(rt; plan.call(), fails);
+        assert!(rt; plan.call() == fails);
     }
-    assert_eq!(rt; count_more(u64::MAX), u64::MAX);
+    assert!(rt; count_more(u64::MAX) == u64::MAX);
     Ok(())
 }

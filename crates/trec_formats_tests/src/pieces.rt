@@ -8,9 +8,8 @@ use crate::runs_and_qrels::is_list;
 use decimal_rank::Memory;
 use std::alloc::Global;
 use std::cmp::Ordering;
-use std::fmt::Write;
 use std::test::Fail;
-use trec_formats::{FormatEnd, Kind, RunLine, RunReader};
+use trec_formats::{FormatEnd, Kind, RunLine, RunReader, TopicList};
 
 fn feed_bytes(reader: &mut RunReader, text: &[u8]) -> Result<(), Memory>
     requires { reader.old.fed + length text.now ≤ 268435456 }
@@ -42,15 +41,17 @@ fn are_same(a: &RunLine, b: &RunLine) -> bool {
         && a.score.compare(&b.score) == Ordering::Equal
 }
 
+fn are_all_same(pieces: &[RunLine], whole: &[RunLine]) -> bool {
+    pieces.len() == whole.len() && pieces.iter().zip(whole).all(|(a, b)| are_same(a, b))
+}
+
 #[test]
 fn a_run_in_pieces_of_one_byte(rt: HostRuntime) -> Result<(), Fail> {
     let text =
         "\n \t\n401\x0bQ0\tFR940-1~\x0c 7  010 x \r\nb.c_D-9 ? ! ? 999 ?\r\n\r\n401 0 a 0 0 0";
     let pieces = byte_by_byte(rt.alloc(), text)?;
     let whole = run_of(rt.alloc(), text)?;
-    assert_eq!(rt; pieces.len(), 3);
-    assert_eq!(rt; whole.len(), 3);
-    assert!(rt; pieces.iter().zip(&whole).all(|(a, b)| are_same(a, b)));
+    assert!(rt; pieces.len() == 3 && are_all_same(&pieces, &whole));
     Ok(())
 }
 
@@ -80,35 +81,51 @@ fn a_line_cut_inside_it(rt: HostRuntime) {
     assert!(rt; is_fault(end, 2, Kind::Fields));
 }
 
+/// A run of A and B, in whose first line the second field is long.
+fn long_run(alloc: Global) -> Result<String, Fail> {
+    let mut text = String::from_str(alloc, "1 ")?;
+    for _ in 0..100_000 {
+        text.push('Q')?;
+    }
+    text.push_str(" A 1 3 t\n1 Q0 B 2 2 t\n")?;
+    Ok(text)
+}
+
+fn are_a_and_b(lines: &[RunLine]) -> bool {
+    lines.len() == 2
+        && lines[0].doc.bytes() == b"A".as_slice()
+        && lines[1].doc.bytes() == b"B".as_slice()
+}
+
 #[test]
 fn a_long_field_that_is_not_looked_at(rt: HostRuntime) -> Result<(), Fail> {
-    let mut text = String::new(rt.alloc());
-    write!(text, "1 ")?;
-    for _ in 0..100_000 {
-        write!(text, "Q")?;
-    }
-    write!(text, " A 1 3 t\n1 Q0 B 2 2 t\n")?;
-    let lines = byte_by_byte(rt.alloc(), text.as_str())?;
-    assert_eq!(rt; lines.len(), 2);
-    assert!(rt; lines[0].doc.bytes() == "A".as_bytes());
-    assert!(rt; lines[1].doc.bytes() == "B".as_bytes());
+    let text = long_run(rt.alloc())?;
+    assert!(rt; are_a_and_b(&byte_by_byte(rt.alloc(), text.as_str())?));
     Ok(())
+}
+
+/// The lists of a run that is fed in pieces of one byte.
+fn lists_fed(alloc: Global, text: &str) -> Result<Vec<TopicList>, FormatEnd> {
+    let reader = fed(alloc, text)?;
+    reader.finish_lists()
+}
+
+fn are_two_lists(lists: &[TopicList]) -> bool {
+    lists.len() == 2
+        && is_list(&lists[0], "1", 2, &["D", "C"])
+        && is_list(&lists[1], "2", 1, &["B", "A"])
 }
 
 #[test]
 fn lists_of_a_run_in_pieces_of_one_byte(rt: HostRuntime) -> Result<(), Fail> {
-    let reader = fed(
+    let lists = lists_fed(
         rt.alloc(),
         "2 Q0 A 1 3 t\n1 Q0 C 1 1 t\n2 Q0 B 2 4 t\n\n1 Q0 D 1 2 t",
     )?;
-    let lists = reader.finish_lists()?;
-    assert_eq!(rt; lists.len(), 2);
-    assert!(rt; is_list(&lists[0], "1", 2, &["D", "C"]));
-    assert!(rt; is_list(&lists[1], "2", 1, &["B", "A"]));
-
-    let reader = fed(rt.alloc(), "1 Q0 A 1 3 t\n1 Q0 A 2 2 t\n")?;
-    assert!(rt; is_fault(reader.finish_lists().err(), 2, Kind::Twice { first: 1 }));
-    let reader = fed(rt.alloc(), "1 Q0 A 1 3 t\n1 Q0 A 2\n")?;
-    assert!(rt; is_fault(reader.finish_lists().err(), 2, Kind::Fields));
+    assert!(rt; are_two_lists(&lists));
+    let twice = lists_fed(rt.alloc(), "1 Q0 A 1 3 t\n1 Q0 A 2 2 t\n").err();
+    assert!(rt; is_fault(twice, 2, Kind::Twice { first: 1 }));
+    let cut = lists_fed(rt.alloc(), "1 Q0 A 1 3 t\n1 Q0 A 2\n").err();
+    assert!(rt; is_fault(cut, 2, Kind::Fields));
     Ok(())
 }

@@ -5,7 +5,7 @@ use std::test::Fail;
 #[test]
 fn equal_texts_share_a_key(rt: HostRuntime) {
     let secret = Secret::drawn();
-    assert_eq!(rt; secret.key_of(b"FT911-3"), secret.key_of(b"FT911-3"));
+    assert!(rt; secret.key_of(b"FT911-3") == secret.key_of(b"FT911-3"));
     assert_ne!(rt;
         secret.key_of(b"FT911-3"),
         Secret::drawn().key_of(b"FT911-3")
@@ -18,8 +18,8 @@ fn items_of_a_bucket_are_found_from_the_newest_on(rt: HostRuntime) -> Result<(),
     let mut chains = Chains::with_room(rt.alloc(), 4)?;
     chains.push(1)?;
     chains.push(5)?;
-    assert_eq!(rt; chains.newest(9), Some(1));
-    assert_eq!(rt; chains.earlier(1), Some(0));
-    assert_eq!(rt; chains.newest(4), None);
+    assert!(rt;
+        [chains.newest(9), chains.earlier(1), chains.newest(4)] == [Some(1), Some(0), None]
+    );
     Ok(())
 }

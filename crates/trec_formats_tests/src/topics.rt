@@ -27,7 +27,7 @@ fn is_topic(topic: &Topic, wanted: &(&str, &str, &str, &str)) -> bool {
 #[test]
 fn the_example_is_read(rt: HostRuntime) -> Result<(), Fail> {
     let topics = topics_of(rt.alloc(), EXAMPLE.as_bytes())?;
-    assert_eq!(rt; topics.len(), 1);
+    assert!(rt; topics.len() == 1);
     assert!(rt;
         is_topic(
             &topics[0],
@@ -40,6 +40,14 @@ fn the_example_is_read(rt: HostRuntime) -> Result<(), Fail> {
         )
     );
     Ok(())
+}
+
+fn are_topics(topics: &[Topic], wanted: &[(&str, &str, &str, &str)]) -> bool {
+    topics.len() == wanted.len()
+        && topics
+            .iter()
+            .zip(wanted)
+            .all(|(topic, wanted)| is_topic(topic, wanted))
 }
 
 #[test]
@@ -69,13 +77,7 @@ too
         ("2", "", "", ""),
     ];
     let topics = topics_of(rt.alloc(), text)?;
-    assert_eq!(rt; topics.len(), wanted.len());
-    assert!(rt;
-        topics
-            .iter()
-            .zip(&wanted)
-            .all(|(topic, wanted)| is_topic(topic, wanted))
-    );
+    assert!(rt; are_topics(&topics, &wanted));
     Ok(())
 }
 
@@ -104,30 +106,25 @@ fn long_topic(alloc: Global, title: usize, desc: usize) -> Result<Vec<u8>, Fail>
     Ok(text)
 }
 
+/// Whether one topic has the longest texts.
+fn are_longest(topics: &[Topic]) -> bool {
+    topics.len() == 1
+        && topics[0].title.bytes().len() == 1000
+        && topics[0].desc.bytes().len() == 8192
+}
+
+/// Whether a topic of such texts is refused at this line.
+fn is_too_long(alloc: Global, title: usize, desc: usize, line: u32) -> Result<bool, Fail> {
+    let text = long_topic(alloc, title, desc)?;
+    Ok(is_fault(topics_of(alloc, &text).err(), line, Kind::TooLong))
+}
+
 #[test]
 fn texts_have_limits(rt: HostRuntime) -> Result<(), Fail> {
     let text = long_topic(rt.alloc(), 1000, 4191)?;
-    let topics = topics_of(rt.alloc(), text.as_slice())?;
-    assert_eq!(rt; topics.len(), 1);
-    assert_eq!(rt; topics[0].title.bytes().len(), 1000);
-    assert_eq!(rt; topics[0].desc.bytes().len(), 8192);
-
-    let text = long_topic(rt.alloc(), 1001, 4191)?;
-    assert!(rt;
-        is_fault(
-            topics_of(rt.alloc(), text.as_slice()).err(),
-            3,
-            Kind::TooLong
-        )
-    );
-    let text = long_topic(rt.alloc(), 1000, 4192)?;
-    assert!(rt;
-        is_fault(
-            topics_of(rt.alloc(), text.as_slice()).err(),
-            5,
-            Kind::TooLong
-        )
-    );
+    assert!(rt; are_longest(&topics_of(rt.alloc(), &text)?));
+    assert!(rt; is_too_long(rt.alloc(), 1001, 4191, 3)?);
+    assert!(rt; is_too_long(rt.alloc(), 1000, 4192, 5)?);
     Ok(())
 }
 
@@ -135,22 +132,28 @@ fn text_of(alloc: Global, bytes: &str) -> Result<Text, Fail> {
     Ok(Text::new(Vec::from_slice(alloc, bytes.as_bytes())?))
 }
 
+fn judgement(alloc: Global, doc: &str, grade: u8) -> Result<QrelLine, Fail> {
+    Ok(QrelLine {
+        line: 1,
+        topic: text_of(alloc, "1")?,
+        doc: text_of(alloc, doc)?,
+        grade,
+    })
+}
+
+fn judgements(alloc: Global) -> Result<Vec<QrelLine>, Fail> {
+    let mut lines = Vec::new(alloc);
+    for (doc, grade) in [("a", 0), ("b", 1), ("c", 1), ("d", 0), ("e", 0), ("f", 255)] {
+        lines.push(judgement(alloc, doc, grade)?)?;
+    }
+    Ok(lines)
+}
+
 #[test]
 fn qrels_are_written(rt: HostRuntime) -> Result<(), Fail> {
-    let judgements = [("a", 0), ("b", 1), ("c", 1), ("d", 0), ("e", 0), ("f", 255)];
-    let mut lines = Vec::new(rt.alloc());
-    for (doc, grade) in judgements {
-        lines.push(QrelLine {
-            line: 1,
-            topic: text_of(rt.alloc(), "1")?,
-            doc: text_of(rt.alloc(), doc)?,
-            grade,
-        })?;
-    }
-    let text = write_qrels(rt.alloc(), lines.as_slice())?;
-    assert_eq!(rt;
-        text.bytes(),
-        b"1 0 a 0\n1 0 b 1\n1 0 c 1\n1 0 d 0\n1 0 e 0\n1 0 f 255\n".as_slice()
+    let text = write_qrels(rt.alloc(), &judgements(rt.alloc())?)?;
+    assert!(rt;
+        text.bytes() == b"1 0 a 0\n1 0 b 1\n1 0 c 1\n1 0 d 0\n1 0 e 0\n1 0 f 255\n".as_slice()
     );
     Ok(())
 }

@@ -3,7 +3,7 @@ use Rattle.std.specs.List.{All}
 use Rattle.std.proofs.lemmas.List.Elements.{All-filter}
 use Rattle.decimal_rank.specs.declared.naming.DocId.{DocId}
 use Rattle.depth_pool.specs.Holdings.{Held}
-use Rattle.judging_tests.proofs.topic_pools.expect_docs.Goals as goal
+use Rattle.judging_tests.proofs.topic_pools.expect_docs_left.Goals as goal
 
 pub are_docs-requires-2 : goal.are_docs-requires-2
 are_docs-requires-2 g c =
